@@ -1,0 +1,51 @@
+-- A `List` may hold the type that holds it, as a list of values inside a value: the shape of its
+-- items, and that its memory and its codes go along with those of the items.
+use mathlib.Core.Path.{◌≡◌, refl, sym}
+use mathlib.Core.List as lists
+use mathlib.Core.Former.{Former, this, list, via, children}
+use base.Stored.{code_map}
+use denote.RattleType.{RattleType}
+use denote.HoleLaws.{Alike}
+use denote.HolePlaces.{Recodes, struct_places, laid}
+use denote.Hole.Carrier.{listed, list-listed}
+use denote.Hole.Fix.{over}
+use denote.Param.Weighed.{Weighed, w_list}
+use denote.Model.Placed.{view_places}
+use Rattle.std.specs.formers.vec.Vec as vec
+use Rattle.std.specs.declared.alloc.Global.{Global}
+use Rattle.std.specs.contracts.alloc.Global as heap
+use Rattle.std.specs.contracts.impls.GlobalAllocator.TheImpl.{ghosts}
+use Rattle.st_base.specs.declared.list.List.TheInside.{Inside}
+use Rattle.st_base.specs.declared.list.List.TheView.{view, invariant}
+use Rattle.st_base.specs.contracts.list.List as L
+use Rattle.st_base.specs.contracts.list.List.TheInside as I
+
+-- a list of items is seen as a list
+abbrev pub the_former : Former {0} → Former {0}
+the_former item = list item
+
+abbrev pub the_weighed : {item : Former {0}} → Weighed item → Weighed (the_former item)
+the_weighed weighed = w_list weighed
+
+pub the_empty : lists.List ⊥
+the_empty = lists.[]
+
+abbrev pub the_items : (X : Type 0) → lists.List X → lists.List X
+the_items X items = items
+
+pub the_items_listed : (X : Type 0) (items : lists.List X) → listed _ (children (the_former this) X items) ≡ the_items X items
+the_items_listed X items = list-listed X items
+
+-- inside it is a struct round a vector
+abbrev inside : Former {0}
+inside = via (vec.the_former this Global) Inside (λ X held. held.items) (λ X items. record { items = items }) (λ X held. refl) (λ X items. refl)
+
+module _ (R S : RattleType) (h : R.Denot → S.Denot) where
+  pub the_places : Alike R S h → Alike (L.the_row R) (L.the_row S) ((the_former this).map R.Denot S.Denot h)
+  the_places alike = view_places inside (list this) view (λ X Y k u. refl) (λ X u. refl) R.Denot S.Denot h (L.the_row R).coded (L.the_row S).coded
+      (invariant R.Denot) (invariant S.Denot) (λ u p q. refl) (λ u p q. refl) (λ u e. tt) (λ u e. tt)
+      (over (I.the_row R)) (over (I.the_row S))
+      (struct_places (I.the_type R) (I.the_type S) (vec.mapped h, tt) _ (λ d. refl) refl (laid _ _ _ (vec.the_places heap.the_row ghosts R S h alike), tt))
+
+  pub the_codes_placed : Recodes R S h → Recodes (L.the_row R) (L.the_row S) ((the_former this).map R.Denot S.Denot h)
+  the_codes_placed recodes items = sym (code_map R.coded.code S.coded.code h (λ x. sym (recodes x)) items)

@@ -1,0 +1,68 @@
+use crate::{Bytes, Copied, List, Text, Work};
+use std::test::Fail;
+
+#[test]
+fn a_list_is_edited_and_copied(rt: HostRuntime) -> Result<(), Fail> {
+    let mut list: List<u64> = List::new(rt.alloc());
+    list.push(1)?;
+    list.push(3)?;
+    list.insert(1, 2)?;
+    let copied = list.copy(rt.alloc())?;
+    assert_eq!(rt; list.as_slice(), [1, 2, 3].as_slice());
+    let first = list.remove(0);
+    assert_eq!(rt; first, 1);
+    assert_eq!(rt; list.as_slice(), [2, 3].as_slice());
+    assert_eq!(rt;
+        List::from_vec(copied.into_vec()).as_slice(),
+        [1, 2, 3].as_slice()
+    );
+    Ok(())
+}
+
+#[test]
+fn bytes_grow_and_are_copied(rt: HostRuntime) -> Result<(), Fail> {
+    let mut bytes = Bytes::from_slice(rt.alloc(), b"ab")?;
+    bytes.push_all(b"c")?;
+    let copied = bytes.copy(rt.alloc())?;
+    assert_eq!(rt; copied.as_slice(), b"abc".as_slice());
+    assert_eq!(rt;
+        Bytes::from_vec(bytes.into_vec()).as_slice(),
+        b"abc".as_slice()
+    );
+    assert_eq!(rt; Bytes::new(rt.alloc()).as_slice(), b"".as_slice());
+    Ok(())
+}
+
+#[test]
+fn a_text_is_copied(rt: HostRuntime) -> Result<(), Fail> {
+    let text = Text::from_text(rt.alloc(), "did")?;
+    assert_eq!(rt; text.copy(rt.alloc())?.as_str(), "did");
+    assert_eq!(rt; Text::from_string(text.into_string()).as_str(), "did");
+    Ok(())
+}
+
+#[test]
+fn whole_numbers_are_copied(rt: HostRuntime) -> Result<(), Fail> {
+    let alloc = rt.alloc();
+    assert_eq!(rt; u8::MAX.copy(alloc)?, u8::MAX);
+    assert_eq!(rt; u16::MAX.copy(alloc)?, u16::MAX);
+    assert_eq!(rt; u32::MAX.copy(alloc)?, u32::MAX);
+    assert_eq!(rt; usize::MAX.copy(alloc)?, usize::MAX);
+    assert_eq!(rt; i64::MIN.copy(alloc)?, i64::MIN);
+    Ok(())
+}
+
+#[test]
+fn each_tick_counts_its_own_kind(rt: HostRuntime) -> Result<(), Fail> {
+    let mut work = Work::new(&rt);
+    work.tick_files();
+    work.tick_proofs();
+    work.tick_proofs();
+    work.tick_applies();
+    work.tick_applies();
+    work.tick_applies();
+    assert_eq!(rt; work.files(), 1);
+    assert_eq!(rt; work.proofs(), 2);
+    assert_eq!(rt; work.applies(), 3);
+    Ok(())
+}

@@ -1,0 +1,75 @@
+ghost use Rattle.std.specs.Prelude.{◌≡◌};
+ghost use Rattle.st_base.specs.Work.{Counts, no_work, counted};
+
+use std::marker::Model;
+
+/// How much work was done: files read, signed texts opened, operations applied.
+///
+/// A count stays at `u64::MAX` once it is there. Only `main` and tests are handed the runtime that
+/// `new` asks for, so no library makes a counter of its own, and none can be copied.
+#[derive(Debug, Drop)]
+pub struct Work {
+    files: u64,
+    proofs: u64,
+    applies: u64,
+}
+
+impl Model for Work {
+    ghost use Rattle.st_base.specs.Work.{Counts};
+
+    ghost Value = { Counts };
+
+    ghost view = { λ w. record { files = w.files; proofs = w.proofs; applies = w.applies } };
+}
+
+impl Work {
+    /// No work yet.
+    pub fn new(_rt: &HostRuntime) -> Work
+        ensures { result ≡ no_work }
+    {
+        Work {
+            files: 0,
+            proofs: 0,
+            applies: 0,
+        }
+    }
+
+    /// How many files were read.
+    pub fn files(&self) -> u64
+        ensures { result ≡ self.now.files }
+    {
+        self.files
+    }
+
+    /// How many signed texts were opened.
+    pub fn proofs(&self) -> u64
+        ensures { result ≡ self.now.proofs }
+    {
+        self.proofs
+    }
+
+    /// How many operations were applied.
+    pub fn applies(&self) -> u64
+        ensures { result ≡ self.now.applies }
+    {
+        self.applies
+    }
+
+    pub fn tick_files(&mut self)
+        ensures { self.new ≡ record self.old { files = counted self.old.files } }
+    {
+        self.files = self.files.saturating_add(1);
+    }
+
+    pub fn tick_proofs(&mut self)
+        ensures { self.new ≡ record self.old { proofs = counted self.old.proofs } }
+    {
+        self.proofs = self.proofs.saturating_add(1);
+    }
+
+    pub fn tick_applies(&mut self)
+        ensures { self.new ≡ record self.old { applies = counted self.old.applies } }
+    {
+        self.applies = self.applies.saturating_add(1);
+    }
+}
