@@ -1,0 +1,46 @@
+ghost use Rattle.std.specs.Prelude.{◌≡◌, ◌≢◌, ℕ, List, None, Some, IfOk, Err};
+ghost use Rattle.base64.specs.GeneralPurpose.{IsBytes};
+ghost use Rattle.st_hash.specs.Base64url.{base64url, bytes_of_text};
+
+use base64::DecodeAllocError;
+use base64::engine::general_purpose::URL_SAFE_NO_PAD;
+use st_base::{Bytes, Text, WantOfMemory};
+use std::alloc::Global;
+use thiserror::Error;
+
+/// Why a text was not decoded.
+#[derive(Clone, Copy, Debug, PartialEq, Eq, Error)]
+pub enum DecRefused {
+    /// The text is the base64url of no bytes: a character of another alphabet, padding, a length
+    /// that no bytes have, or spare bits that are not zero.
+    #[error("not base64url")]
+    BadBase64,
+    /// Memory could not be had.
+    #[error("out of memory")]
+    WantOfMemory,
+}
+
+/// The base64url text of the bytes, without padding (RFC 4648, section 5).
+pub fn enc(alloc: Global, bytes: &[u8]) -> Result<Text, WantOfMemory>
+    ensures { IfOk result (λ text. text ≡ base64url bytes.now) }
+{
+    Ok(Text::from_string(URL_SAFE_NO_PAD.encode(alloc, bytes)?))
+}
+
+/// The bytes whose base64url text this is.
+///
+/// `BadBase64` comes exactly where there are no such bytes.
+pub fn dec(alloc: Global, text: &[u8]) -> Result<Bytes, DecRefused>
+    ensures spelled { IfOk result (λ bytes. text.now ≡ base64url bytes) }
+    ensures bytes { IfOk result IsBytes }
+    ensures found { IfOk result (λ bytes. bytes_of_text text.now ≡ Some bytes) }
+    ensures no_spelling { result ≡ Err DecRefused.BadBase64
+        → (bytes : List ℕ) → IsBytes bytes → text.now ≢ base64url bytes }
+    ensures not_found { result ≡ Err DecRefused.BadBase64 → bytes_of_text text.now ≡ None }
+{
+    match URL_SAFE_NO_PAD.decode(alloc, text) {
+        Ok(bytes) => Ok(Bytes::from_vec(bytes)),
+        Err(DecodeAllocError::OutOfMemory) => Err(DecRefused::WantOfMemory),
+        Err(DecodeAllocError::DecodeError(_)) => Err(DecRefused::BadBase64),
+    }
+}
