@@ -2,6 +2,9 @@
 use Rattle.std.specs.Prelude.{◌≡◌, ℕ, List, ◌∷◌, ◌==◌, ◌&&◌, length, drop, slice_index, if◌then◌else◌, Option, Some, None, option_and_then}
 use Rattle.base64.specs.GeneralPurpose.{IsBytes}
 use Rattle.sha2.specs.Sha256.{sha256}
+use Rattle.std.specs.Cmp.Lexicographic.{slice_cmp}
+use Rattle.std.specs.Ordering.{nat_cmp, ordering_then}
+use Rattle.std.specs.declared.cmp.Ordering.{Ordering}
 use Rattle.st_hash.specs.Base64url.{base64url, bytes_of_text}
 
 -- the multihash code of the algorithm, and the digest
@@ -39,3 +42,7 @@ hash_of_multihash bytes =
 -- the hash that has this text
 abbrev pub hash_of_text : List ℕ → Option HashValue
 hash_of_text text = option_and_then hash_of_multihash (bytes_of_text text)
+
+-- hashes in order: by the code, then by the bytes of the digest
+abbrev pub hash_cmp : HashValue → HashValue → Ordering
+hash_cmp first second = ordering_then (nat_cmp first.code second.code) (slice_cmp nat_cmp first.digest second.digest)

@@ -1,0 +1,8 @@
+//! The content that has come to a node: files by their URI. The first file of a URI stays.
+#![tactic(auto)]
+
+mod content;
+#[cfg(test)]
+mod tests;
+
+pub use content::{Content, Put};

@@ -1,0 +1,5 @@
+pub mod Words
+pub mod Command
+pub mod Ledger
+pub mod Anchor
+pub mod Identifier

@@ -1,0 +1,127 @@
+ghost use Rattle.std.specs.Option.{option_copied};
+ghost use Rattle.st_node.specs.Command.{Reads, command_of, content_of, anchor_of, resolve_of, behind_space, command_of_words};
+
+use crate::cut::cut_at;
+use crate::number::read_number;
+use st_base::{Bytes, WantOfMemory};
+use st_hash::{DecRefused, dec};
+use std::alloc::Global;
+use thiserror::Error;
+
+const CONTENT: &[u8] = b"content";
+
+const ANCHOR: &[u8] = b"anchor";
+
+const RESOLVE: &[u8] = b"resolve";
+
+/// What a line asks for.
+#[derive(Debug, Drop)]
+pub enum Command {
+    /// `content <base64url>`: here are the bytes of a file.
+    Content(Bytes),
+    /// `anchor <height> <text>`: append this entry to the ledger.
+    Anchor { height: u32, text: Bytes },
+    /// `resolve <did>`: what does this identifier resolve to?
+    Resolve(Bytes),
+}
+
+/// Why a line is no command: the first of these that holds, in this order.
+#[derive(Clone, Copy, Debug, PartialEq, Eq)]
+pub enum LineCause {
+    /// The command word is unknown. It is what stands before the first space, or the whole line.
+    Command,
+    /// A space is missing.
+    Words,
+    /// A number is not decimal from 0 to 4,294,967,295 without a leading zero.
+    Number,
+    /// A text is the base64url of no bytes.
+    Base64,
+}
+
+/// Why a line was not read as a command.
+#[derive(Clone, Copy, Debug, PartialEq, Eq, Error)]
+pub enum LineRefused {
+    /// The line is no command, for this cause.
+    #[error("not a command")]
+    BadLine(LineCause),
+    /// Memory could not be had.
+    #[error("out of memory")]
+    WantOfMemory,
+}
+
+impl From<WantOfMemory> for LineRefused {
+    ghost use Rattle.std.specs.Prelude.{◌≡◌};
+    ghost use Rattle.st_node.specs.declared.command.LineRefused.TheVariants.{WantOfMemory};
+
+    ghost from_gives = { λ _ refused. refused ≡ WantOfMemory };
+
+    fn from(_want: WantOfMemory) -> LineRefused {
+        LineRefused::WantOfMemory
+    }
+}
+
+/// The command of a line, which comes without its line feed.
+///
+/// `BadLine` comes exactly where the line is no command, with the first cause that holds.
+pub fn read_command(alloc: Global, line: &[u8]) -> Result<Command, LineRefused>
+    ensures { Reads (command_of line.now) result }
+{
+    match cut_at(line, b' ') {
+        Some((word, rest)) => read_words(alloc, word, Some(rest)),
+        None => read_words(alloc, line, None),
+    }
+}
+
+// The command of this word and of what stands behind its space, where there is one.
+fn read_words(alloc: Global, word: &[u8], rest: Option<&[u8]>) -> Result<Command, LineRefused>
+    ensures { Reads (command_of_words word.now (option_copied rest.entry)) result }
+{
+    if word == CONTENT {
+        read_content(alloc, rest)
+    } else if word == ANCHOR {
+        read_entry(alloc, rest)
+    } else if word == RESOLVE {
+        read_resolve(alloc, rest)
+    } else {
+        Err(LineRefused::BadLine(LineCause::Command))
+    }
+}
+
+fn read_content(alloc: Global, rest: Option<&[u8]>) -> Result<Command, LineRefused>
+    ensures { Reads (behind_space (option_copied rest.entry) content_of) result }
+{
+    let Some(text) = rest else {
+        return Err(LineRefused::BadLine(LineCause::Words));
+    };
+    match dec(alloc, text) {
+        Ok(bytes) => Ok(Command::Content(bytes)),
+        Err(DecRefused::BadBase64) => Err(LineRefused::BadLine(LineCause::Base64)),
+        Err(DecRefused::WantOfMemory) => Err(LineRefused::WantOfMemory),
+    }
+}
+
+fn read_entry(alloc: Global, rest: Option<&[u8]>) -> Result<Command, LineRefused>
+    ensures { Reads (behind_space (option_copied rest.entry) anchor_of) result }
+{
+    let Some(rest) = rest else {
+        return Err(LineRefused::BadLine(LineCause::Words));
+    };
+    let Some((height, text)) = cut_at(rest, b' ') else {
+        return Err(LineRefused::BadLine(LineCause::Words));
+    };
+    let Some(height) = read_number(height, u32::MAX) else {
+        return Err(LineRefused::BadLine(LineCause::Number));
+    };
+    let text = Bytes::from_slice(alloc, text)?;
+    Ok(Command::Anchor { height, text })
+}
+
+fn read_resolve(alloc: Global, rest: Option<&[u8]>) -> Result<Command, LineRefused>
+    ensures { Reads (behind_space (option_copied rest.entry) resolve_of) result }
+{
+    let Some(did) = rest else {
+        return Err(LineRefused::BadLine(LineCause::Words));
+    };
+    let did = Bytes::from_slice(alloc, did)?;
+    Ok(Command::Resolve(did))
+}

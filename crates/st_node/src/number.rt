@@ -1,0 +1,41 @@
+ghost use Rattle.std.specs.Prelude.{◌≡◌, ◌<◌, ◌^◌, ◌↔◌, ℕ, Some, IsTrue};
+ghost use Rattle.std.specs.Fmt.{decimal};
+ghost use Rattle.st_node.specs.Words.{number_of};
+
+use itoa::Buffer;
+
+// The number that is spelled so in decimal without a leading zero, where it is at most `most`.
+pub fn read_number(text: &[u8], most: u32) -> Option<u32>
+    ensures { result ≡ number_of most text.now }
+{
+    let Some(number) = parse(text) else {
+        return None;
+    };
+    if number > most {
+        return None;
+    }
+    if is_spelling(text, number) {
+        Some(number)
+    } else {
+        None
+    }
+}
+
+// The number in some decimal spelling.
+fn parse(text: &[u8]) -> Option<u32>
+    ensures { (number : ℕ) → number < 2 ^ 32 → text.now ≡ decimal number → result ≡ Some number }
+{
+    match str::from_utf8(text) {
+        Ok(text) => match text.parse() {
+            Ok(number) => Some(number),
+            Err(_) => None,
+        },
+        Err(_) => None,
+    }
+}
+
+fn is_spelling(text: &[u8], number: u32) -> bool
+    ensures { IsTrue result ↔ (text.now ≡ decimal number) }
+{
+    Buffer::new().format(number).as_bytes() == text
+}
