@@ -1,8 +1,8 @@
 -- Hashes, as multihashes of SHA-256 (FIPS 180-4), and their texts.
-use Rattle.std.specs.Prelude.{◌≡◌, ℕ, List, ◌∷◌, ◌==◌, ◌&&◌, length, drop, slice_index, if◌then◌else◌, Option, Some, None, option_and_then}
+use Rattle.std.specs.Prelude.{◌≡◌, ℕ, Bool, nat_eq, List, ◌∷◌, ◌==◌, ◌&&◌, length, drop, slice_index, if◌then◌else◌, Option, Some, None, option_and_then}
 use Rattle.base64.specs.GeneralPurpose.{IsBytes}
 use Rattle.sha2.specs.Sha256.{sha256}
-use Rattle.std.specs.Cmp.Lexicographic.{slice_cmp}
+use Rattle.std.specs.Cmp.Lexicographic.{slice_cmp, pointwise}
 use Rattle.std.specs.Ordering.{nat_cmp, ordering_then}
 use Rattle.std.specs.declared.cmp.Ordering.{Ordering}
 use Rattle.st_hash.specs.Base64url.{base64url, bytes_of_text}
@@ -46,3 +46,7 @@ hash_of_text text = option_and_then hash_of_multihash (bytes_of_text text)
 -- hashes in order: by the code, then by the bytes of the digest
 abbrev pub hash_cmp : HashValue → HashValue → Ordering
 hash_cmp first second = ordering_then (nat_cmp first.code second.code) (slice_cmp nat_cmp first.digest second.digest)
+
+-- the two hashes are the same
+abbrev pub same_hash : HashValue → HashValue → Bool
+same_hash first second = (first.code == second.code) && pointwise nat_eq first.digest second.digest

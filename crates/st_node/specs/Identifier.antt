@@ -1,13 +1,17 @@
 -- Identifiers: `did:sidetree:` and the suffix; a long form has a `:` behind the suffix.
-use Rattle.std.specs.Prelude.{ℕ, List, codes, length, drop, nat_eq, if◌then◌else◌, Option, Some, None}
+use Rattle.std.specs.Prelude.{ℕ, List, ◌++◌, codes, length, drop, nat_eq, if◌then◌else◌, Option, Some, None}
 use Rattle.std.specs.List.{starts_with}
-use Rattle.st_hash.specs.Hash.{HashValue, hash_of_text}
+use Rattle.st_hash.specs.Hash.{HashValue, hash_of_text, hash_text}
 use Rattle.st_node.specs.Words.{cut_at}
 use Rattle.st_node.specs.declared.identifier.Asked.{Asked}
 use Rattle.st_node.specs.declared.identifier.Asked.TheVariants.{Nothing, LongForm, ShortForm}
 
 abbrev pub did_prefix : List ℕ
 did_prefix = codes "did:sidetree:"
+
+-- the identifier of a suffix, in its short form
+abbrev pub did_of : HashValue → List ℕ
+did_of suffix = did_prefix ++ hash_text suffix
 
 abbrev pub short_form : Option HashValue → Asked
 short_form None = Nothing

@@ -1,10 +1,13 @@
-ghost use Rattle.std.specs.Prelude.{◌≡◌};
-ghost use Rattle.st_node.specs.Identifier.{asked_of, asked_behind};
+ghost use Rattle.std.specs.Prelude.{◌≡◌, IfOk};
+ghost use Rattle.st_hash.specs.Hash.{HashValue, hash_text};
+ghost use Rattle.st_node.specs.Identifier.{asked_of, asked_behind, did_of};
 
 use crate::cut::cut_at;
-use st_hash::{Hash, read_hash};
+use st_base::{Text, WantOfMemory};
+use st_hash::{Hash, hash_text, read_hash};
+use std::alloc::Global;
 
-const DID_PREFIX: &[u8] = b"did:sidetree:";
+const DID_PREFIX: &str = "did:sidetree:";
 
 // Which identifier a text asks for.
 #[derive(Clone, Copy, Debug, PartialEq, Eq)]
@@ -18,9 +21,10 @@ pub enum Asked {
 }
 
 pub fn read_identifier(text: &[u8]) -> Asked
-    ensures { result ≡ asked_of text.now }
+    ensures value { result ≡ asked_of text.now }
+    ensures spelled { (suffix : HashValue) → result ≡ Asked.ShortForm suffix → text.now ≡ did_of suffix }
 {
-    if text.starts_with(DID_PREFIX) {
+    if text.starts_with(DID_PREFIX.as_bytes()) {
         read_suffix(&text[DID_PREFIX.len()..])
     } else {
         Asked::Nothing
@@ -29,7 +33,8 @@ pub fn read_identifier(text: &[u8]) -> Asked
 
 // The suffix behind the method's name, alone or up to a `:`.
 fn read_suffix(rest: &[u8]) -> Asked
-    ensures { result ≡ asked_behind rest.now }
+    ensures value { result ≡ asked_behind rest.now }
+    ensures spelled { (suffix : HashValue) → result ≡ Asked.ShortForm suffix → rest.now ≡ hash_text suffix }
 {
     match cut_at(rest, b':') {
         Some((suffix, _)) => match read_hash(suffix) {
@@ -41,4 +46,13 @@ fn read_suffix(rest: &[u8]) -> Asked
             Err(_) => Asked::Nothing,
         },
     }
+}
+
+// The identifier of this suffix: its short form.
+pub fn short_form(alloc: Global, suffix: &Hash) -> Result<Text, WantOfMemory>
+    ensures { IfOk result (λ text. text ≡ did_of suffix.now) }
+{
+    let mut did = String::from_str(alloc, DID_PREFIX)?;
+    did.push_str(hash_text(alloc, suffix)?.as_str())?;
+    Ok(Text::from_string(did))
 }
