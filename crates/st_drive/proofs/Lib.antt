@@ -1,0 +1,7 @@
+pub mod LineLemmas
+pub mod CutLemmas
+pub mod Laws
+pub mod RunLemmas
+pub mod ReplyLemmas
+pub mod Fed
+pub mod Ends

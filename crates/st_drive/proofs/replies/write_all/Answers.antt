@@ -1,0 +1,23 @@
+use Rattle.std.proofs.Common.{◌≡◌, ◌∙◌, ◌-◌, ◌++◌, List, ℕ, length, take, drop, ap, arith, append_assoc, take-append-drop}
+use Rattle.std.specs.declared.option.Option.{Option}
+use Rattle.std.specs.Io.KnownBytes.{Appends}
+use Rattle.std.proofs.KnownBytes.{Appends-trans}
+use Rattle.std.proofs.lemmas.List.{take_rest}
+use Rattle.st_drive.proofs.replies.write_all.Goals as goal
+
+-- the sink took n more bytes
+further : (part rest all : List ℕ) (n : ℕ) (w v u : Option (List ℕ)) → part ++ rest ≡ all → Appends w v part → Appends v u (take n rest)
+    → (front : List ℕ) × (front ++ take (length rest - n) (drop n rest) ≡ all) × Appends w u front
+further part rest all n w v u e p q = (
+  part ++ take n rest,
+  append_assoc part (take n rest) _ ∙ ap (λ xs. part ++ (take n rest ++ xs)) (take_rest rest n) ∙ ap (λ xs. part ++ xs) (take-append-drop n rest) ∙ e,
+  Appends-trans w v u part (take n rest) p q,
+)
+
+pub loop-rest-preserved : goal.loop-rest-preserved
+loop-rest-preserved g c =
+    let held = c.loop-rest.invariant.part in
+    record {
+      part = further held.0 c.loop-rest.rest.now c.args.bytes.now c.in_ok-count.count _ _ _ held.1 held.2 c.in_ok-count.ensures.bytes;
+      later = omega (arith, c.in_ok-count.ensures.cause.later);
+    }

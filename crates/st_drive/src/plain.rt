@@ -1,0 +1,81 @@
+ghost use Rattle.std.specs.Prelude.{◌≡◌, ◌≤◌, ◌++◌, ◌∷◌, [], List, ℕ, IfOk, OnOk, IsErrOf};
+ghost use Rattle.st_io.specs.Causes.{Rose};
+ghost use Rattle.st_drive.specs.Lines.{all_lines, last_line};
+ghost use Rattle.st_drive.specs.Runs.{RanOver};
+
+use crate::lines::cut_line;
+use crate::machine::{Machine, StepError};
+use st_base::Bytes;
+use std::alloc::Global;
+
+// Answers one line, and adds the reply.
+fn answer_next<M: Machine>(
+    alloc: Global,
+    machine: M,
+    context: &mut M::Context,
+    replies: &mut Bytes,
+    line: &[u8],
+) -> Result<M, StepError>
+    requires { M.fits machine context.old }
+    ensures reply { IfOk result (λ next. (more : List (List ℕ)) → replies.old ++ M.answers machine (line.now ∷ more) ≡ replies.new ++ M.answers next more) }
+    ensures ran { IfOk result (λ next. M.ran machine context.old (line.now ∷ []) next context.new) }
+    ensures fits { IfOk result (λ next. M.fits next context.new) }
+    ensures later { M.faults context.old ≤ M.faults context.new }
+    ensures cause { IsErrOf result StepError.DeviceFault → Rose (M.faults context.old) (M.faults context.new) }
+{
+    let (next, reply) = machine.step(alloc, context, line)?;
+    match replies.push_all(reply.as_slice()) {
+        Ok(()) => Ok(next),
+        Err(_) => Err(StepError::Memory),
+    }
+}
+
+// Answers what no line feed ends, as a line where it has a byte.
+fn answer_rest<M: Machine>(
+    alloc: Global,
+    machine: M,
+    context: &mut M::Context,
+    replies: &mut Bytes,
+    rest: &[u8],
+) -> Result<(), StepError>
+    requires { M.fits machine context.old }
+    ensures replies { OnOk result (replies.new ≡ replies.old ++ M.answers machine (last_line rest.now)) }
+    ensures ran { OnOk result (RanOver M.ran machine context.old context.new (last_line rest.now)) }
+    ensures later { M.faults context.old ≤ M.faults context.new }
+    ensures cause { IsErrOf result StepError.DeviceFault → Rose (M.faults context.old) (M.faults context.new) }
+{
+    if rest.is_empty() {
+        return Ok(());
+    }
+    match answer_next(alloc, machine, context, replies, rest) {
+        Ok(_) => Ok(()),
+        Err(e) => Err(e),
+    }
+}
+
+/// All that the machine replies to the lines of these bytes, in memory: the plain program beside
+/// `drive`. It cuts no line and has no limit.
+///
+/// `DeviceFault` comes only where the context's count of faults rose. Want of memory is free.
+pub fn answer_all<M: Machine>(
+    alloc: Global,
+    machine: M,
+    context: &mut M::Context,
+    bytes: &[u8],
+) -> Result<Bytes, StepError>
+    requires { M.fits machine context.old }
+    ensures replies { IfOk result (λ replies. replies ≡ M.answers machine (all_lines bytes.now)) }
+    ensures ran { IfOk result (λ replies. RanOver M.ran machine context.old context.new (all_lines bytes.now)) }
+    ensures later { M.faults context.old ≤ M.faults context.new }
+    ensures cause { IsErrOf result StepError.DeviceFault → Rose (M.faults context.old) (M.faults context.new) }
+{
+    let mut machine = machine;
+    let mut replies = Bytes::new(alloc);
+    let mut rest = bytes;
+    'lines: while let Some((line, after)) = cut_line(rest) {
+        machine = answer_next(alloc, machine, context, &mut replies, line)?;
+        rest = after;
+    }
+    answer_rest(alloc, machine, context, &mut replies, rest)?;
+    Ok(replies)
+}

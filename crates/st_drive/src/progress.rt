@@ -1,0 +1,158 @@
+ghost use Rattle.std.specs.Prelude.{◌≡◌, ◌≤◌, ℕ, List, [], ◌∷◌, ◌++◌, take, vec_len, true, IfOk, IfErr, OnOk, OnErr};
+ghost use Rattle.std.specs.Io.KnownBytes.{Appends};
+ghost use Rattle.st_io.specs.Causes.{Rose};
+ghost use Rattle.st_drive.specs.Lines.{capped, has_no_feed};
+ghost use Rattle.st_drive.specs.Runs.{Went, Stopped, Passes, PassesSome};
+ghost use Rattle.st_drive.specs.Stops.{IsAnswerStop};
+
+use crate::lines::{cut_line, keep_front};
+use crate::machine::{Machine, StepError};
+use crate::replies::{gather, write_gathered};
+use crate::stop::Stop;
+use st_io::Sink;
+use std::alloc::Global;
+
+// Answers one line, and gathers the reply.
+fn answer_line<M: Machine, K: Sink>(
+    alloc: Global,
+    machine: M,
+    context: &mut M::Context,
+    sink: &mut K,
+    gathered: &mut Vec<u8>,
+    line: &[u8],
+) -> Result<M, Stop>
+    requires { M.fits machine context.old }
+    ensures fits { IfOk result (λ next. M.fits next context.new) }
+    ensures ok { IfOk result (λ next. (reply : List ℕ) × Went M.answers M.ran M.CAP machine context.old (line.now ∷ []) reply next context.new
+        × Passes (K.written sink.old) (K.written sink.new) gathered.old.items reply gathered.new.items) }
+    ensures err { OnErr result ((reply : List ℕ) × Stopped M.answers M.ran M.gave_up M.CAP machine context.old (line.now ∷ []) reply context.new
+        × PassesSome (K.written sink.old) (K.written sink.new) gathered.old.items reply gathered.new.items) }
+    ensures later { K.faults sink.old ≤ K.faults sink.new }
+    ensures context_later { M.faults context.old ≤ M.faults context.new }
+    ensures cause { IfErr result (IsAnswerStop (Rose (K.faults sink.old) (K.faults sink.new)) (Rose (M.faults context.old) (M.faults context.new))) }
+{
+    match machine.step(alloc, context, line) {
+        Err(StepError::Memory) => Err(Stop::Memory),
+        Err(StepError::DeviceFault) => Err(Stop::DeviceFault),
+        Ok((next, reply)) => match gather(sink, gathered, reply) {
+            Err(stop) => Err(stop),
+            Ok(()) => Ok(next),
+        },
+    }
+}
+
+// Answers the line that ends with `front`, and begins a new one.
+fn end_line<M: Machine, K: Sink>(
+    alloc: Global,
+    machine: M,
+    context: &mut M::Context,
+    line: &mut Vec<u8>,
+    sink: &mut K,
+    gathered: &mut Vec<u8>,
+    front: &[u8],
+) -> Result<M, Stop>
+    requires cap { vec_len line.old ≤ M.CAP }
+    requires fits { M.fits machine context.old }
+    ensures fits { IfOk result (λ next. M.fits next context.new) }
+    ensures ok { IfOk result (λ next. (reply : List ℕ) × Went M.answers M.ran M.CAP machine context.old (take M.CAP (line.old.items ++ front.now) ∷ []) reply next context.new
+        × Passes (K.written sink.old) (K.written sink.new) gathered.old.items reply gathered.new.items) }
+    ensures emptied { OnOk result (line.new.items ≡ []) }
+    ensures err { OnErr result ((reply : List ℕ) × Stopped M.answers M.ran M.gave_up M.CAP machine context.old (take M.CAP (line.old.items ++ front.now) ∷ []) reply context.new
+        × PassesSome (K.written sink.old) (K.written sink.new) gathered.old.items reply gathered.new.items) }
+    ensures later { K.faults sink.old ≤ K.faults sink.new }
+    ensures context_later { M.faults context.old ≤ M.faults context.new }
+    ensures cause { IfErr result (IsAnswerStop (Rose (K.faults sink.old) (K.faults sink.new)) (Rose (M.faults context.old) (M.faults context.new))) }
+{
+    if keep_front(M::CAP, line, front).is_err() {
+        return Err(Stop::Memory);
+    }
+    let next = answer_line(alloc, machine, context, sink, gathered, line)?;
+    line.clear();
+    Ok(next)
+}
+
+// A machine, and the first bytes of the line that isn't whole yet.
+#[derive(Drop)]
+pub struct Progress<M> {
+    pub machine: M,
+    pub line: Vec<u8>,
+}
+
+impl<M: Machine> Progress<M> {
+    // Takes the next bytes, answers each line that is whole now, and gathers the replies.
+    fn answer_lines<K: Sink>(
+        self,
+        alloc: Global,
+        context: &mut M::Context,
+        sink: &mut K,
+        gathered: &mut Vec<u8>,
+        piece: &[u8],
+    ) -> Result<Self, Stop>
+        requires cap { vec_len self.line ≤ M.CAP }
+        requires partial { has_no_feed self.line.items ≡ true }
+        requires fits { M.fits self.machine context.old }
+        requires empty { gathered.old.items ≡ [] }
+        ensures fits { IfOk result (λ next. M.fits next.machine context.new) }
+        ensures ok { IfOk result (λ next. (written : List ℕ)
+            × Went M.answers M.ran M.CAP self.machine context.old (capped M.CAP (self.line.items ++ piece.now)).0 (written ++ gathered.new.items) next.machine context.new
+            × Appends (K.written sink.old) (K.written sink.new) written) }
+        ensures cap { IfOk result (λ next. vec_len next.line ≤ M.CAP) }
+        ensures line { IfOk result (λ next. next.line.items ≡ (capped M.CAP (self.line.items ++ piece.now)).1) }
+        ensures err { OnErr result ((written : List ℕ)
+            × Stopped M.answers M.ran M.gave_up M.CAP self.machine context.old (capped M.CAP (self.line.items ++ piece.now)).0 (written ++ gathered.new.items) context.new
+            × Appends (K.written sink.old) (K.written sink.new) written) }
+        ensures later { K.faults sink.old ≤ K.faults sink.new }
+        ensures context_later { M.faults context.old ≤ M.faults context.new }
+        ensures cause { IfErr result (IsAnswerStop (Rose (K.faults sink.old) (K.faults sink.new)) (Rose (M.faults context.old) (M.faults context.new))) }
+    {
+        let Progress {
+            mut machine,
+            mut line,
+        } = self;
+        let mut rest = piece;
+        'lines: while let Some((front, after)) = cut_line(rest) {
+            machine = end_line(alloc, machine, context, &mut line, sink, gathered, front)?;
+            rest = after;
+        }
+        if keep_front(M::CAP, &mut line, rest).is_err() {
+            return Err(Stop::Memory);
+        }
+        Ok(Progress { machine, line })
+    }
+
+    // Takes the next bytes, answers each line that is whole now, and writes the replies. Where the
+    // machine gives up, the replies to the lines before are still written.
+    pub fn feed<K: Sink>(
+        self,
+        alloc: Global,
+        context: &mut M::Context,
+        sink: &mut K,
+        piece: &[u8],
+    ) -> Result<Self, Stop>
+        requires cap { vec_len self.line ≤ M.CAP }
+        requires partial { has_no_feed self.line.items ≡ true }
+        requires fits { M.fits self.machine context.old }
+        ensures fits { IfOk result (λ next. M.fits next.machine context.new) }
+        ensures ok { IfOk result (λ next. (written : List ℕ)
+            × Went M.answers M.ran M.CAP self.machine context.old (capped M.CAP (self.line.items ++ piece.now)).0 written next.machine context.new
+            × Appends (K.written sink.old) (K.written sink.new) written) }
+        ensures cap { IfOk result (λ next. vec_len next.line ≤ M.CAP) }
+        ensures line { IfOk result (λ next. next.line.items ≡ (capped M.CAP (self.line.items ++ piece.now)).1) }
+        ensures err { OnErr result ((written : List ℕ)
+            × Stopped M.answers M.ran M.gave_up M.CAP self.machine context.old (capped M.CAP (self.line.items ++ piece.now)).0 written context.new
+            × Appends (K.written sink.old) (K.written sink.new) written) }
+        ensures later { K.faults sink.old ≤ K.faults sink.new }
+        ensures context_later { M.faults context.old ≤ M.faults context.new }
+        ensures cause { IfErr result (IsAnswerStop (Rose (K.faults sink.old) (K.faults sink.new)) (Rose (M.faults context.old) (M.faults context.new))) }
+    {
+        let mut gathered = Vec::new(alloc);
+        let outcome = self.answer_lines(alloc, context, sink, &mut gathered, piece);
+        if write_gathered(sink, &mut gathered).is_err() {
+            return Err(Stop::WriteFault);
+        }
+        match outcome {
+            Ok(next) => Ok(next),
+            Err(stop) => Err(stop),
+        }
+    }
+}

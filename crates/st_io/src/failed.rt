@@ -1,0 +1,14 @@
+use std::error::Error;
+use std::fmt;
+
+/// A device has failed in this call, and has counted it.
+#[derive(Clone, Copy, Debug, PartialEq, Eq)]
+pub struct Failed;
+
+impl fmt::Display for Failed {
+    fn fmt<W: fmt::Write>(&self, f: &mut fmt::Formatter<W>) -> fmt::Result {
+        write!(f, "device failed")
+    }
+}
+
+impl Error for Failed {}

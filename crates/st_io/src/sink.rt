@@ -1,0 +1,41 @@
+ghost use Rattle.std.specs.Prelude.{◌≡◌, ◌<◌, ℕ, Bool, List, true, length, IfOk, OnOk, OnErr};
+ghost use Rattle.std.specs.Io.{WritesAtMost};
+ghost use Rattle.std.specs.Io.KnownBytes.{WriteAppends, Keeps};
+ghost use Rattle.std.specs.declared.option.Option.{Option};
+ghost use Rattle.st_io.specs.Causes.{HasCause};
+ghost use Rattle.st_io.specs.Sinks.{WriteUnfinishes};
+
+use crate::failed::Failed;
+
+/// What takes bytes.
+pub trait Sink {
+    /// The bytes that were written, in order, where the implementation tells them.
+    ghost written: { Self → Option (List ℕ) };
+
+    /// All that was written is complete: `finish` has answered Ok, and nothing was written since.
+    ghost is_finished: { Self → Bool };
+
+    /// How often the sink has failed. It never falls, and stays at `u64::MAX` once it is there.
+    ghost faults: { Self → ℕ };
+
+    /// Appends the first bytes of `from`, and answers how many: at least one where there is one.
+    ///
+    /// `Failed` comes only where the count of faults rose in this call, and all else is then as
+    /// before.
+    fn write(&mut self, from: &[u8]) -> Result<usize, Failed>
+        ensures bound { WritesAtMost result from.now }
+        ensures takes { 0 < length from.now → IfOk result (λ n. 0 < n) }
+        ensures bytes { WriteAppends (written self.old) (written self.new) result from.now }
+        ensures finished { WriteUnfinishes (is_finished self.old) (is_finished self.new) result }
+        ensures cause { HasCause (faults self.old) (faults self.new) result };
+
+    /// Ends what was written, and appends nothing.
+    ///
+    /// `Failed` comes only where the count of faults rose in this call, and all else is then as
+    /// before.
+    fn finish(&mut self) -> Result<(), Failed>
+        ensures bytes { Keeps (written self.old) (written self.new) }
+        ensures ok { OnOk result (is_finished self.new ≡ true) }
+        ensures err { OnErr result (is_finished self.new ≡ is_finished self.old) }
+        ensures cause { HasCause (faults self.old) (faults self.new) result };
+}

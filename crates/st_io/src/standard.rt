@@ -1,0 +1,95 @@
+ghost use Rattle.std.specs.Prelude.{◌≡◌, None, false};
+ghost use Rattle.std.specs.Io.{WritesAtMost};
+
+use crate::failed::Failed;
+use crate::sink::Sink;
+use crate::source::Source;
+use std::io;
+use std::io::{Read, Write};
+
+/// Standard input as a source. What is left isn't told.
+#[derive(Drop)]
+pub struct StdSource<'a, R> {
+    rt: &'a R,
+    faults: u64,
+}
+
+impl<'a, R> StdSource<'a, R> {
+    /// No fault yet.
+    pub fn new(rt: &'a R) -> Self {
+        StdSource { rt, faults: 0 }
+    }
+}
+
+impl<'a, R: Input> Source for StdSource<'a, R> {
+    ghost left = { λ _. None };
+
+    ghost faults = { λ s. s.faults };
+
+    fn read(&mut self, into: &mut [u8]) -> Result<usize, Failed> {
+        match self.rt.reader().read(into) {
+            Ok(count) => Ok(count),
+            Err(_) => {
+                self.faults = self.faults.saturating_add(1);
+                Err(Failed)
+            }
+        }
+    }
+}
+
+/// Standard output as a sink that flushes after each write. What was written isn't told.
+#[derive(Drop)]
+pub struct StdSink<'a, R> {
+    rt: &'a R,
+    finished: bool,
+    faults: u64,
+}
+
+impl<'a, R> StdSink<'a, R> {
+    /// Nothing is written, and it isn't finished.
+    pub fn new(rt: &'a R) -> Self {
+        StdSink {
+            rt,
+            finished: false,
+            faults: 0,
+        }
+    }
+}
+
+fn write_and_flush(rt: &impl Print, from: &[u8]) -> io::Result<usize>
+    ensures { WritesAtMost result from.now }
+{
+    let mut writer = io::writer(rt);
+    let count = writer.write(from)?;
+    writer.flush()?;
+    Ok(count)
+}
+
+impl<'a, R: Print> Sink for StdSink<'a, R> {
+    ghost written = { λ _. None };
+
+    ghost is_finished = { λ s. s.finished };
+
+    ghost faults = { λ s. s.faults };
+
+    fn write(&mut self, from: &[u8]) -> Result<usize, Failed> {
+        match write_and_flush(self.rt, from) {
+            // A device that takes none of a nonempty piece has failed.
+            Ok(count) if count > 0 || from.is_empty() => {
+                if count > 0 {
+                    self.finished = false;
+                }
+                Ok(count)
+            }
+            _ => {
+                self.faults = self.faults.saturating_add(1);
+                Err(Failed)
+            }
+        }
+    }
+
+    fn finish(&mut self) -> Result<(), Failed> {
+        self.finished = true;
+        Ok(())
+    }
+}
