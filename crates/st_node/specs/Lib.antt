@@ -3,3 +3,4 @@ pub mod Command
 pub mod Ledger
 pub mod Anchor
 pub mod Identifier
+pub mod Distinct

@@ -4,6 +4,7 @@
 mod anchor;
 mod command;
 mod cut;
+mod distinct;
 mod identifier;
 mod ledger;
 mod number;
