@@ -1,0 +1,168 @@
+-- Items and members that are converted one after another.
+use Rattle.std.proofs.Common.{◌≡◌, ℕ, ◌+◌, ◌<◌, List, [], ◌∷◌, ◌++◌, length, get_or, drop, map, String, Global, string_bytes, Option, Some, None, option_map, option_and_then, Result, Ok, Err, Less, Equal, refl, sym, ap, ◌∙◌, subst, arith, add-one, suc, length-drop, append-nil, append_assoc, is_eq, true, false}
+use mathlib.Core.Bool.{true≢false}
+use Rattle.std.proofs.lemmas.List.{nil_from_length}
+use Rattle.std.proofs.Math.Seq.{drop-cons}
+use Rattle.std.specs.List.{AllByRecursion}
+use Rattle.std.specs.List.Sorted.{IsStrictlySortedBy}
+use Rattle.std.specs.Map.{keys_of}
+use Rattle.std.specs.Str.{bytes_eq}
+use Rattle.std.specs.String.{string_cmp}
+use Rattle.std.proofs.lemmas.Map.Text.{is_eq-slice_cmp}
+use Rattle.std.proofs.lemmas.Slice.Eq.{bytes_eq-Decides}
+use Rattle.std.proofs.lemmas.Str.{IsUtf8-string_bytes}
+use Rattle.serde_json.specs.Data as data'
+use Rattle.serde_json.specs.View.{view, items_view, members_view}
+use Rattle.serde_json.specs.declared.value.Value.{Value}
+use Rattle.st_canon.specs.Find.{put}
+use Rattle.st_canon.specs.InOrder.{in_order, AreApart, NamesDiffer}
+use Rattle.st_canon.specs.Names.{name_cmp}
+use Rattle.st_canon.specs.Plain.{Plain, Items, no_items, item, Members, no_members}
+use Rattle.st_canon.specs.Reading.{Converts, whole_value, whole_items, whole_members}
+use Rattle.st_canon.specs.View.{plain, items_of, plain_items, plain_members}
+use Rattle.st_canon.specs.declared.refused.ReadRefused.{ReadRefused}
+use Rattle.st_canon.specs.declared.refused.ReadRefused.TheVariants.{NotJson, NotWhole, WantOfMemory}
+use Rattle.st_canon.specs.declared.value.Json.{Json}
+use Rattle.st_canon.proofs.Order.{same_from_tied}
+use Rattle.st_canon.proofs.Places.{plain_members-placed}
+
+-- ---- what is refused inside is refused as a whole
+
+refused_outside : {A B P Q : Type 0} (view : A → P) (outer : B → Q) (o : Option P) (all : Option Q) (e : ReadRefused) → Converts view o (Err e) → (o ≡ None → all ≡ None) → Converts outer all (Err e)
+refused_outside view outer o all NotJson h none = absurd h
+refused_outside view outer o all NotWhole h none = none h
+refused_outside view outer o all WantOfMemory h none = tt
+
+pub refused_also : {A B P Q : Type 0} (view : A → P) (outer : B → Q) (o : Option P) (all : Option Q) (e : ReadRefused) (r : Result B ReadRefused) → r ≡ Err e → Converts view o (Err e) → (o ≡ None → all ≡ None)
+    → Converts outer all r
+refused_also view outer o all e r is h none = subst (Converts outer all) (sym is) (refused_outside view outer o all e h none)
+
+-- ---- items
+
+-- the items before the others
+abbrev pub items_after : List Plain → Items → Items
+items_after [] rest = rest
+items_after (p ∷ ps) rest = item p (items_after ps rest)
+
+items_after-nil : (ps : List Plain) → items_after ps no_items ≡ items_of ps
+items_after-nil [] = refl
+items_after-nil (p ∷ ps) = ap (item p) (items_after-nil ps)
+
+items_after_push : (js : List Json) (j : Json) (rest : Items) → items_after (map plain (js ++ j ∷ [])) rest ≡ items_after (map plain js) (item (plain j) rest)
+items_after_push [] j rest = refl
+items_after_push (k ∷ js) j rest = ap (item (plain k)) (items_after_push js j rest)
+
+item_pushed : (js : List Json) (j : Json) (o : Option Items) → option_map (items_after (map plain js)) (option_map (item (plain j)) o) ≡ option_map (items_after (map plain (js ++ j ∷ []))) o
+item_pushed js j None = refl
+item_pushed js j (Some rest) = ap Some (sym (items_after_push js j rest))
+
+-- so far these items of the vector were converted
+abbrev pub ItemsSoFar : List Value → ℕ → List Json → Type 0
+ItemsSoFar vs i js = whole_items (items_view vs) ≡ option_map (items_after (map plain js)) (whole_items (items_view (drop i vs)))
+
+module _ (vs : List Value) (i : ℕ) (js : List Json) (so_far : ItemsSoFar vs i js) where
+  module _ (v : Value) (lt : i < length vs) (is : v ≡ get_or vs i v) where
+    split : drop i vs ≡ v ∷ drop (suc i) vs
+    split = drop-cons vs i v lt ∙ ap (λ x. x ∷ drop (suc i) vs) (sym is)
+
+    pub one_more_item : (j : Json) → whole_value (view v) ≡ Some (plain j) → ItemsSoFar vs (i + 1) (js ++ j ∷ [])
+    one_more_item j w =
+        let step : whole_items (items_view (v ∷ drop (suc i) vs)) ≡ option_map (item (plain j)) (whole_items (items_view (drop (suc i) vs))) = rw w refl in
+        rw add-one (so_far ∙ ap (λ r. option_map (items_after (map plain js)) (whole_items (items_view r))) split
+        ∙ ap (option_map (items_after (map plain js))) step ∙ item_pushed js j _)
+
+    pub one_item_not_whole : whole_value (view v) ≡ None → whole_items (items_view vs) ≡ None
+    one_item_not_whole w =
+        let step : whole_items (items_view (v ∷ drop (suc i) vs)) ≡ None = rw w refl in
+        so_far ∙ ap (λ r. option_map (items_after (map plain js)) (whole_items (items_view r))) split ∙ ap (option_map (items_after (map plain js))) step
+
+  pub all_items : length vs ≡ i → whole_items (items_view vs) ≡ Some (plain_items js)
+  all_items e =
+      let none : drop i vs ≡ [] = nil_from_length (drop i vs) (omega (arith, length-drop i vs)) in
+      so_far ∙ ap (λ r. option_map (items_after (map plain js)) (whole_items (items_view r))) none ∙ ap Some (items_after-nil (map plain js))
+
+-- ---- members
+
+abbrev Entry : Type 0
+Entry = String Global × Value
+
+abbrev Pairs : Type 0
+Pairs = List (List ℕ × Json)
+
+-- the pairs put among the others, the last one first
+abbrev pub puts : Pairs → Members → Members
+puts [] rest = rest
+puts (e ∷ es) rest = put e.0 (plain e.1) (puts es rest)
+
+puts_push : (es : Pairs) (e : List ℕ × Json) (rest : Members) → puts (es ++ e ∷ []) rest ≡ puts es (put e.0 (plain e.1) rest)
+puts_push [] e rest = refl
+puts_push (f ∷ es) e rest = ap (put f.0 (plain f.1)) (puts_push es e rest)
+
+member_pushed : (es : Pairs) (e : List ℕ × Json) (o : Option Members) → option_map (puts es) (option_map (put e.0 (plain e.1)) o) ≡ option_map (puts (es ++ e ∷ [])) o
+member_pushed es e None = refl
+member_pushed es e (Some rest) = ap Some (sym (puts_push es e rest))
+
+puts_in_order : (es : Pairs) → puts es no_members ≡ plain_members (in_order es)
+puts_in_order [] = refl
+puts_in_order (e ∷ es) = ap (put e.0 (plain e.1)) (puts_in_order es) ∙ sym (plain_members-placed e.0 e.1 (in_order es))
+
+-- so far these members of the map were converted, and the entries are left
+abbrev pub MembersSoFar : List Entry → List Entry → Pairs → Type 0
+MembersSoFar all left es = whole_members (members_view all) ≡ option_map (puts es) (whole_members (members_view left))
+
+abbrev pub names_in : List Entry → List (List ℕ)
+names_in entries = map (λ e. string_bytes e.0) entries
+
+module _ (all left : List Entry) (es : Pairs) (name : String Global) (v : Value) (so_far : MembersSoFar all ((name, v) ∷ left) es) where
+  pub one_more_member : (k : List ℕ) (j : Json) → k ≡ string_bytes name → whole_value (view v) ≡ Some (plain j) → MembersSoFar all left (es ++ (k, j) ∷ [])
+  one_more_member k j named w =
+      let step : whole_members (members_view ((name, v) ∷ left)) ≡ option_map (put k (plain j)) (whole_members (members_view left)) = rw (w, named) refl in
+      so_far ∙ ap (option_map (puts es)) step ∙ member_pushed es (k, j) (whole_members (members_view left))
+
+  pub one_member_not_whole : whole_value (view v) ≡ None → whole_members (members_view all) ≡ None
+  one_member_not_whole w =
+      let step : whole_members (members_view ((name, v) ∷ left)) ≡ None = rw w refl in
+      so_far ∙ ap (option_map (puts es)) step
+
+pub all_members : (all : List Entry) (es : Pairs) → MembersSoFar all [] es → whole_members (members_view all) ≡ Some (plain_members (in_order es))
+all_members all es so_far = so_far ∙ ap Some (puts_in_order es)
+
+start : (o : Option Members) → o ≡ option_map (puts []) o
+start None = refl
+start (Some ms) = refl
+
+pub no_member_yet : (all left : List Entry) (es : Pairs) → left ≡ all → es ≡ [] → MembersSoFar all left es
+no_member_yet all left es same none = rw (same, none) (start (whole_members (members_view all)))
+
+-- ---- the names of a map differ
+
+apart_from_below : (s t : String Global) → string_cmp s t ≡ Less → name_cmp (string_bytes s) (string_bytes t) ≡ Equal → ⊥
+apart_from_below s t below tied =
+    let same = same_from_tied (string_bytes s) (string_bytes t) (IsUtf8-string_bytes s) (IsUtf8-string_bytes t) tied in
+    let equal : bytes_eq (string_bytes s) (string_bytes t) ≡ true = (bytes_eq-Decides (string_bytes s) (string_bytes t)).1 same in
+    let test : is_eq (string_cmp s t) ≡ bytes_eq (string_bytes s) (string_bytes t) = is_eq-slice_cmp (string_bytes s) (string_bytes t) in
+    let not : is_eq (string_cmp s t) ≡ false = ap is_eq below in
+    true≢false (sym equal ∙ sym test ∙ not)
+
+all_apart : (s : String Global) (entries : List Entry) → AllByRecursion (λ t. string_cmp s t ≡ Less) (keys_of entries) → AllByRecursion (λ n. name_cmp (string_bytes s) n ≡ Equal → ⊥) (names_in entries)
+all_apart s [] all = tt
+all_apart s (e ∷ es) all = (apart_from_below s e.0 all.0, all_apart s es all.1)
+
+apart_from_sorted : (entries : List Entry) → IsStrictlySortedBy string_cmp (keys_of entries) → AreApart (names_in entries)
+unfolding IsStrictlySortedBy
+apart_from_sorted [] sorted = tt
+apart_from_sorted (e ∷ es) sorted = (all_apart e.0 es sorted.0, apart_from_sorted es sorted.1)
+
+pub names_differ : (entries left : List Entry) (es : Pairs) → IsStrictlySortedBy string_cmp (keys_of entries) → left ≡ [] → names_in entries ≡ keys_of es ++ names_in left → NamesDiffer es
+names_differ entries left es sorted none names =
+    let same : names_in entries ≡ keys_of es = names ∙ ap (λ l. keys_of es ++ names_in l) none ∙ append-nil (keys_of es) in
+    subst AreApart same (apart_from_sorted entries sorted)
+
+pub one_more_name : (entries left next : List Entry) (es : Pairs) (name : String Global) (v : Value) (k : List ℕ) (j : Json) → left ≡ (name, v) ∷ next → k ≡ string_bytes name
+    → names_in entries ≡ keys_of es ++ names_in left → names_in entries ≡ keys_of (es ++ (k, j) ∷ []) ++ names_in next
+one_more_name entries left next es name v k j step named names =
+    names ∙ ap (λ l. keys_of es ++ names_in l) step ∙ ap (λ n. keys_of es ++ n ∷ names_in next) (sym named) ∙ sym (append_assoc (keys_of es) (k ∷ []) (names_in next)) ∙ ap (λ l. l ++ names_in next) (sym (keys_pushed es))
+  where
+    keys_pushed : (fs : Pairs) → keys_of (fs ++ (k, j) ∷ []) ≡ keys_of fs ++ k ∷ []
+    keys_pushed [] = refl
+    keys_pushed (f ∷ fs) = ap (λ l. f.0 ∷ l) (keys_pushed fs)

@@ -1,0 +1,10 @@
+pub mod Converting
+pub mod Depths
+pub mod Kept
+pub mod Named
+pub mod Order
+pub mod Outcomes
+pub mod Places
+pub mod Searching
+pub mod Sorting
+pub mod Units

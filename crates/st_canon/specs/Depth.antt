@@ -1,0 +1,20 @@
+-- How deep a plain value nests: a scalar and what is empty have depth 1.
+use Rattle.std.specs.Prelude.{ℕ, ◌+◌, max}
+use Rattle.st_canon.specs.Plain.{Plain, null, boolean, whole, text, list, object, Items, no_items, item, Members, no_members, member}
+
+abbrev mutual
+  pub depth_of : Plain → ℕ
+  depth_of null = 1
+  depth_of (boolean b) = 1
+  depth_of (whole z) = 1
+  depth_of (text t) = 1
+  depth_of (list ps) = items_depth ps + 1
+  depth_of (object ms) = members_depth ms + 1
+
+  pub items_depth : Items → ℕ
+  items_depth no_items = 0
+  items_depth (item p ps) = max (depth_of p) (items_depth ps)
+
+  pub members_depth : Members → ℕ
+  members_depth no_members = 0
+  members_depth (member k p ms) = max (depth_of p) (members_depth ms)

@@ -1,0 +1,11 @@
+pub mod Canonical
+pub mod Depth
+pub mod Find
+pub mod InOrder
+pub mod Names
+pub mod Place
+pub mod Plain
+pub mod Proper
+pub mod Reading
+pub mod View
+pub mod formers

@@ -1,0 +1,26 @@
+-- The names of members, and their order (RFC 8785, section 3.2.3).
+use Rattle.std.specs.Prelude.{ℕ, List, Bool, nat_eq}
+use Rattle.std.specs.Char.Escape.{encode_utf16}
+use Rattle.std.specs.Cmp.Lexicographic.{slice_cmp, pointwise}
+use Rattle.std.specs.List.{flat_map}
+use Rattle.std.specs.List.Sorted.{IsStrictlySortedBy}
+use Rattle.std.specs.Map.{keys_of}
+use Rattle.std.specs.Ordering.{nat_cmp}
+use Rattle.std.specs.Str.{chars}
+use Rattle.std.specs.declared.cmp.Ordering.{Ordering}
+
+-- the UTF-16 code units of a text, which is given by its bytes in UTF-8
+abbrev pub utf16_units : List ℕ → List ℕ
+utf16_units text = flat_map encode_utf16 (chars text)
+
+-- Two names, compared code unit by code unit, a proper prefix first.
+abbrev pub name_cmp : List ℕ → List ℕ → Ordering
+name_cmp first second = slice_cmp nat_cmp (utf16_units first) (utf16_units second)
+
+-- the same name
+abbrev pub is_name : List ℕ → List ℕ → Bool
+is_name name other = pointwise nat_eq name other
+
+-- each name is below those after it
+abbrev pub NamesAscend : {X : Type 0} → List (List ℕ × X) → Type 0
+NamesAscend pairs = IsStrictlySortedBy name_cmp (keys_of pairs)

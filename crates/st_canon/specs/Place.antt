@@ -1,0 +1,14 @@
+-- Where a name stands among pairs whose names ascend, or would go.
+use Rattle.std.specs.Prelude.{◌≡◌, ℕ, ◌<◌, ◌≤◌, List, length, slice_index_or}
+use Rattle.std.specs.declared.cmp.Ordering.TheVariants.{Less, Greater}
+use Rattle.st_canon.specs.Names.{name_cmp}
+
+pub record IsPlaceOf {X : Type 0} (name : List ℕ) (pairs : List (List ℕ × X)) (at : ℕ) : Type 0 where
+  pub in_range : at < length pairs
+  pub named : (d : List ℕ × X) → (slice_index_or pairs at d).0 ≡ name
+
+-- the names before it are below, and those from it on above
+pub record IsGapFor {X : Type 0} (name : List ℕ) (pairs : List (List ℕ × X)) (at : ℕ) : Type 0 where
+  pub in_range : at ≤ length pairs
+  pub below : (i : ℕ) (d : List ℕ × X) → i < at → name_cmp (slice_index_or pairs i d).0 name ≡ Less
+  pub above : (i : ℕ) (d : List ℕ × X) → at ≤ i → i < length pairs → name_cmp (slice_index_or pairs i d).0 name ≡ Greater

@@ -1,0 +1,31 @@
+-- The plain value that a `Json` stands for.
+use Rattle.std.specs.Prelude.{ℕ, List, [], ◌∷◌, map}
+use Rattle.st_canon.specs.Plain.{Plain, null, boolean, whole, text, list, object, Items, no_items, item, Members, no_members, member}
+use Rattle.st_canon.specs.declared.value.Json.{Json, fold-Json}
+use Rattle.st_canon.specs.declared.value.Json.TheOpen.{Json-F}
+
+abbrev pub items_of : List Plain → Items
+items_of [] = no_items
+items_of (p ∷ ps) = item p (items_of ps)
+
+abbrev pub members_of : List (List ℕ × Plain) → Members
+members_of [] = no_members
+members_of (m ∷ ms) = member m.0 m.1 (members_of ms)
+
+-- one level, once each value inside is plain
+abbrev pub plain_step : Json-F Plain → Plain
+plain_step Json-F.Null = null
+plain_step (Json-F.Bool b) = boolean b
+plain_step (Json-F.Whole z) = whole z
+plain_step (Json-F.Text t) = text t
+plain_step (Json-F.List ps) = list (items_of ps)
+plain_step (Json-F.Object ms) = object (members_of ms)
+
+abbrev pub plain : Json → Plain
+plain = fold-Json Plain plain_step
+
+abbrev pub plain_items : List Json → Items
+plain_items values = items_of (map plain values)
+
+abbrev pub plain_members : List (List ℕ × Json) → Members
+plain_members pairs = members_of (map (λ e. (e.0, plain e.1)) pairs)

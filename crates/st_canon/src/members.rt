@@ -1,0 +1,84 @@
+ghost use Rattle.std.specs.Prelude.{◌≡◌, [], IfOk, OnOk, OnErr};
+ghost use Rattle.st_canon.specs.Names.{NamesAscend};
+ghost use Rattle.st_canon.specs.InOrder.{in_order, placed, NamesDiffer};
+
+use crate::names::compare;
+use crate::place::place_of;
+use st_base::{Text, WantOfMemory};
+use std::alloc::Global;
+use std::marker::Model;
+
+/// Named values, each name once. Contracts see them as their pairs of a name and a value, whose
+/// names ascend strictly as UTF-16 code units.
+#[derive(Drop)]
+pub struct Members<T> {
+    pub(crate) pairs: Vec<(Text, T)>,
+}
+
+impl<T> Model for Members<T> {
+    ghost use Rattle.std.specs.Prelude.{List, ℕ};
+    ghost use Rattle.std.specs.Coded.{coded_list, coded_ℕ, coded×};
+    ghost use Rattle.st_canon.specs.Names.{NamesAscend};
+
+    ghost Value = { List (List ℕ × T) };
+
+    ghost coded = { coded_list (coded× (coded_list coded_ℕ) T.code) };
+
+    ghost view = { λ o. o.pairs.items };
+
+    ghost invariant = { λ o. NamesAscend o.pairs.items };
+}
+
+impl<T> Members<T> {
+    /// No members. It takes no memory yet.
+    pub fn new(alloc: Global) -> Members<T>
+        ensures { result ≡ [] }
+    {
+        Members {
+            pairs: Vec::new(alloc),
+        }
+    }
+
+    /// All members, in the order of their names.
+    pub fn pairs(&self) -> &[(Text, T)]
+        ensures all { result.now ≡ self.now }
+        ensures ascend { NamesAscend self.now }
+    {
+        self.pairs.as_slice()
+    }
+
+    // Takes pairs over that are in order already.
+    pub(crate) fn from_pairs(pairs: Vec<(Text, T)>) -> Members<T>
+        requires { NamesAscend pairs.items }
+        ensures { result ≡ pairs.items }
+    {
+        Members { pairs }
+    }
+}
+
+impl<T: Drop> Members<T> {
+    // Takes pairs over in any order, whose names are all different.
+    pub(crate) fn sorted(mut pairs: Vec<(Text, T)>) -> Result<Members<T>, WantOfMemory>
+        requires { NamesDiffer pairs.items }
+        ensures { IfOk result (λ members. members ≡ in_order pairs.items) }
+    {
+        pairs.sort_by(|first, second| compare(first.0.as_str(), second.0.as_str()))?;
+        Ok(Members { pairs })
+    }
+
+    // Adds the member, or replaces the one of its name.
+    pub(crate) fn place(&mut self, name: Text, value: T) -> Result<(), WantOfMemory>
+        ensures ok { OnOk result (self.new ≡ placed (name, value) self.old) }
+        ensures err { OnErr result (self.new ≡ self.old) }
+    {
+        match place_of(self.pairs.as_slice(), name.as_str()) {
+            Ok(at) => {
+                self.pairs[at] = (name, value);
+            }
+            Err(at) => {
+                self.pairs.insert(at, (name, value))?;
+            }
+        }
+        Ok(())
+    }
+}

@@ -1,0 +1,73 @@
+ghost use Rattle.std.specs.Prelude.{◌≡◌, map, option_map, OnOk, OnErr};
+ghost use Rattle.std.specs.List.{list_any};
+ghost use Rattle.std.specs.Map.{lookup};
+ghost use Rattle.std.specs.Option.{option_copied};
+ghost use Rattle.st_canon.specs.Find.{has_only, member_at, put, without};
+ghost use Rattle.st_canon.specs.Names.{is_name};
+ghost use Rattle.st_canon.specs.View.{plain, plain_members};
+
+use crate::place::place_of;
+use crate::value::{Json, Object};
+use st_base::{Text, WantOfMemory};
+use std::alloc::Global;
+
+impl Object {
+    /// The value of the member of this name.
+    pub fn get(&self, name: &str) -> Option<&Json>
+        ensures plain { option_map plain (option_copied result) ≡ member_at name.now (plain_members self.now) }
+        ensures found { option_copied result ≡ lookup (is_name name.now) self.now }
+    {
+        match place_of(self.pairs.as_slice(), name) {
+            Ok(at) => Some(&self.pairs[at].1),
+            Err(_) => None,
+        }
+    }
+
+    /// Adds the member, or replaces the one of its name.
+    pub fn insert(&mut self, _alloc: Global, name: Text, value: Json) -> Result<(), WantOfMemory>
+        ensures ok { OnOk result (plain_members self.new ≡ put name (plain value) (plain_members self.old)) }
+        ensures err { OnErr result (self.new ≡ self.old) }
+    {
+        match self.place(name, value) {
+            Ok(()) => Ok(()),
+            Err(want) => Err(want),
+        }
+    }
+
+    /// Takes the member of this name out. Where there is none, nothing changes.
+    pub fn remove(&mut self, name: &str) -> Option<Json>
+        ensures value { option_map plain result ≡ member_at name.now (plain_members self.old) }
+        ensures rest { plain_members self.new ≡ without name.now (plain_members self.old) }
+    {
+        match place_of(self.pairs.as_slice(), name) {
+            Ok(at) => {
+                let (_name, value) = self.pairs.remove(at);
+                Some(value)
+            }
+            Err(_) => None,
+        }
+    }
+
+    /// Whether each member has one of these names.
+    pub fn has_only(&self, names: &[&str]) -> bool
+        ensures { result ≡ has_only (map (λ n. n.now) names.now) (plain_members self.now) }
+    {
+        for (name, _) in self.pairs() {
+            if !is_among(name.as_str(), names) {
+                return false;
+            }
+        }
+        true
+    }
+}
+
+fn is_among(name: &str, names: &[&str]) -> bool
+    ensures { result ≡ list_any (is_name name.now) (map (λ n. n.now) names.now) }
+{
+    for other in names {
+        if name == *other {
+            return true;
+        }
+    }
+    false
+}

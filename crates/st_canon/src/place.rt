@@ -1,0 +1,15 @@
+ghost use Rattle.std.specs.Prelude.{IfOk, IfErr};
+ghost use Rattle.st_canon.specs.Names.{NamesAscend};
+ghost use Rattle.st_canon.specs.Place.{IsPlaceOf, IsGapFor};
+
+use crate::names::compare;
+use st_base::Text;
+
+// Where the member of this name is, or would go.
+pub(crate) fn place_of<T>(pairs: &[(Text, T)], name: &str) -> Result<usize, usize>
+    requires { NamesAscend pairs.now }
+    ensures place { IfOk result (IsPlaceOf name.now pairs.now) }
+    ensures gap { IfErr result (IsGapFor name.now pairs.now) }
+{
+    pairs.binary_search_by(|pair| compare(pair.0.as_str(), name))
+}

@@ -1,0 +1,17 @@
+use crate::members::Members;
+use crate::whole::Whole;
+use st_base::{List, Text};
+
+/// A JSON value (RFC 8259) whose numbers are whole. Contracts speak of its plain value.
+#[derive(Drop)]
+pub enum Json {
+    Null,
+    Bool(bool),
+    Whole(Whole),
+    Text(Text),
+    List(List<Json>),
+    Object(Object),
+}
+
+/// The members of a JSON object, in the order that RFC 8785 gives their names.
+pub type Object = Members<Json>;

@@ -1,0 +1,89 @@
+ghost use Rattle.std.specs.Prelude.{◌≡◌, ◌++◌, IfOk, OnOk, false};
+ghost use Rattle.std.specs.Fmt.{signed_decimal};
+ghost use Rattle.st_canon.specs.Canonical.{canonical, canonical_items, canonical_members};
+ghost use Rattle.st_canon.specs.Proper.{IsProper, ItemsAreProper, MembersAreProper};
+ghost use Rattle.st_canon.specs.View.{plain, plain_items, plain_members};
+
+use crate::escape::append_text;
+use crate::value::{Json, Object};
+use st_base::{Bytes, List, WantOfMemory};
+use std::alloc::Global;
+
+/// The canonical text of a value (RFC 8785), as bytes in UTF-8.
+pub fn write(alloc: Global, value: &Json) -> Result<Bytes, WantOfMemory>
+    ensures text { IfOk result (λ text. text ≡ canonical (plain value.now)) }
+    ensures proper { OnOk result (IsProper (plain value.now)) }
+{
+    let mut out = Bytes::new(alloc);
+    append(alloc, &mut out, value)?;
+    Ok(out)
+}
+
+#[cycle(append)]
+fn append(alloc: Global, out: &mut Bytes, value: &Json) -> Result<(), WantOfMemory>
+    ensures text { OnOk result (out.new ≡ out.old ++ canonical (plain value.now)) }
+    ensures proper { OnOk result (IsProper (plain value.now)) }
+{
+    match value {
+        Json::Null => out.push_all(b"null"),
+        Json::Bool(b) => if *b {
+            out.push_all(b"true")
+        } else {
+            out.push_all(b"false")
+        },
+        Json::Whole(w) => append_whole(alloc, out, w.value()),
+        Json::Text(text) => append_text(out, text.as_str()),
+        Json::List(items) => {
+            out.push_all(b"[")?;
+            append_items(alloc, out, items)?;
+            out.push_all(b"]")
+        }
+        Json::Object(members) => {
+            out.push_all(b"{")?;
+            append_members(alloc, out, members)?;
+            out.push_all(b"}")
+        }
+    }
+}
+
+#[cycle(append)]
+fn append_items(alloc: Global, out: &mut Bytes, items: &List<Json>) -> Result<(), WantOfMemory>
+    ensures text { OnOk result (out.new ≡ out.old ++ canonical_items false (plain_items items.now)) }
+    ensures proper { OnOk result (ItemsAreProper (plain_items items.now)) }
+{
+    let mut comma = false;
+    for item in items.as_slice() {
+        if comma {
+            out.push_all(b",")?;
+        }
+        append(alloc, out, item)?;
+        comma = true;
+    }
+    Ok(())
+}
+
+#[cycle(append)]
+#[tactic(auto, using(crate::proofs::Depths::value_below, crate::proofs::Kept::one_more_member))]
+fn append_members(alloc: Global, out: &mut Bytes, members: &Object) -> Result<(), WantOfMemory>
+    ensures text { OnOk result (out.new ≡ out.old ++ canonical_members false (plain_members members.now)) }
+    ensures proper { OnOk result (MembersAreProper (plain_members members.now)) }
+{
+    let mut comma = false;
+    for (name, member) in members.pairs() {
+        if comma {
+            out.push_all(b",")?;
+        }
+        append_text(out, name.as_str())?;
+        out.push_all(b":")?;
+        append(alloc, out, member)?;
+        comma = true;
+    }
+    Ok(())
+}
+
+fn append_whole(alloc: Global, out: &mut Bytes, value: i64) -> Result<(), WantOfMemory>
+    ensures { OnOk result (out.new ≡ out.old ++ signed_decimal value) }
+{
+    let digits = value.to_string(alloc)?;
+    out.push_all(digits.as_bytes())
+}
