@@ -1,9 +1,8 @@
 -- Texts that are the same, and numbers by their spelling.
-use Rattle.std.proofs.Common.{◌≡◌, ◌≢◌, ◌∙◌, ℕ, ◌<◌, ◌≤◌, ◌^◌, ◌&&◌, ◌==◌, Bool, true, false, List, [], ◌∷◌, cond, nat_eq, nat_le, Option, Some, None, refl, sym, ap, arith, inl, inr}
-use Rattle.std.proofs.lemmas.Bool.{cases_Bool, eqb-true, eq-eqb}
+use Rattle.std.proofs.Common.{◌≡◌, ◌≢◌, ℕ, ◌<◌, ◌≤◌, ◌^◌, ◌&&◌, Bool, true, false, List, [], ◌∷◌, cond, nat_le, Some, None, refl, sym, arith}
+use Rattle.std.proofs.lemmas.Bool.{eqb-true, eq-eqb}
 use Rattle.std.proofs.lemmas.Bool.Decides.{nat_tests}
 use Rattle.std.proofs.lemmas.Fmt.{decimal_is_IsNumeral}
-use Rattle.std.specs.Cmp.Lexicographic.{pointwise}
 use Rattle.std.specs.Fmt.{decimal}
 use Rattle.std.specs.Str.Parse.{digits_value}
 use Rattle.st_node.specs.Words.{is_text, number_of}
@@ -41,6 +40,6 @@ pub number_of-none : (most : ℕ) (text : List ℕ) → ((number : ℕ) → numb
 number_of-none most text none =
     let number = digits_value 10 text in
     chosen _ number (λ e.
-        let parts = both (nat_le number most) (is_text (decimal number) text) e in
-        let small : number ≤ most = grind (arith, nat_tests) in
-        none number small (sym (is_text-same (decimal number) text parts.1)))
+    let parts = both (nat_le number most) (is_text (decimal number) text) e in
+    let small : number ≤ most = grind (arith, nat_tests) in
+    none number small (sym (is_text-same (decimal number) text parts.1)))

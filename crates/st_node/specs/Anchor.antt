@@ -1,6 +1,6 @@
 -- Anchor strings: the count, a dot, the URI of the core index file.
 use Rattle.std.specs.Prelude.{ℕ, List, nat_le, if◌then◌else◌, Option, Some, None, option_map, option_and_then}
-use Rattle.st_hash.specs.Hash.{HashValue, hash_of_text}
+use Rattle.st_hash.specs.Hash.{hash_of_text}
 use Rattle.st_node.specs.Words.{cut_at, number_of}
 use Rattle.st_node.specs.declared.anchor.Anchor.{Anchor}
 

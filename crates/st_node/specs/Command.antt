@@ -1,5 +1,5 @@
 -- What a line asks for.
-use Rattle.std.specs.Prelude.{◌≡◌, ⊤, ℕ, ◌-◌, ◌^◌, List, codes, if◌then◌else◌, Option, Some, None, option_map, Result, Ok, Err}
+use Rattle.std.specs.Prelude.{◌≡◌, ⊤, ℕ, ◌-◌, ◌^◌, List, codes, if◌then◌else◌, Option, Some, None, Result, Ok, Err}
 use Rattle.st_hash.specs.Base64url.{bytes_of_text}
 use Rattle.st_node.specs.Words.{cut_at, is_text, number_of}
 use Rattle.st_node.specs.declared.command.Command.{Command}

@@ -3,4 +3,8 @@ pub mod Command
 pub mod Ledger
 pub mod Anchor
 pub mod Identifier
+pub mod SuffixData
 pub mod Distinct
+pub mod CoreIndex
+pub mod Resolution
+pub mod Machine

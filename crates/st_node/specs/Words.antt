@@ -1,5 +1,5 @@
 -- Words of a line or an anchor string, and numbers.
-use Rattle.std.specs.Prelude.{ℕ, List, ◌==◌, ◌&&◌, ◌+◌, nat_eq, nat_le, take, drop, position, Bool, if◌then◌else◌, Option, Some, None, option_map, unwrap_or}
+use Rattle.std.specs.Prelude.{ℕ, List, ◌==◌, ◌&&◌, ◌+◌, nat_eq, nat_le, take, drop, position, Bool, if◌then◌else◌, Option, Some, None, option_map}
 use Rattle.std.specs.Cmp.Lexicographic.{pointwise}
 use Rattle.std.specs.Fmt.{decimal}
 use Rattle.std.specs.Str.Parse.{digits_value}

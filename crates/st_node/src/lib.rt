@@ -3,12 +3,20 @@
 
 mod anchor;
 mod command;
+mod core_index;
 mod cut;
 mod distinct;
 mod identifier;
 mod ledger;
+mod node;
 mod number;
+mod reply;
+mod resolution;
+mod suffix_data;
 
 pub use anchor::{Anchor, read_anchor};
 pub use command::{Command, LineCause, LineRefused, read_command};
+pub use core_index::{CreatesRefused, read_creates};
 pub use ledger::{Entry, Ledger};
+pub use node::Node;
+pub use suffix_data::{SuffixData, suffix_of};

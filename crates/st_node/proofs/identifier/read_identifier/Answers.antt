@@ -1,4 +1,4 @@
-use Rattle.std.proofs.Common.{◌≡◌, ◌∙◌, ◌++◌, nat_eq, ap, sym}
+use Rattle.std.proofs.Common.{◌∙◌, ◌++◌, nat_eq, ap, sym}
 use Rattle.std.specs.List.{starts_with}
 use Rattle.std.proofs.lemmas.List.{take_rest}
 use Rattle.st_node.specs.Identifier.{asked_behind, did_prefix}

@@ -1,4 +1,4 @@
-use Rattle.std.proofs.Common.{◌≡◌, sym, arith, refl}
+use Rattle.std.proofs.Common.{sym, arith, refl}
 use Rattle.st_node.proofs.Spelled.{number_of-decimal}
 use Rattle.st_node.proofs.number.read_number.Goals as goal
 
