@@ -1,0 +1,4 @@
+pub mod Driven
+pub mod NodeLines
+pub mod Replies
+pub mod Status

@@ -1,0 +1,67 @@
+ghost use Rattle.std.specs.Prelude.{◌≡◌, ◌≤◌, ◌<◌, ◌^◌, true, IsTrue, IfOk, vec_len};
+ghost use Rattle.st_io.specs.Causes.{Rose};
+ghost use Rattle.st_drive.specs.Lines.{all_lines, whole_lines};
+ghost use Rattle.st_cli.specs.Driven.{WentOver};
+ghost use Rattle.st_cli.specs.Status.{StatusTable, is_end, status_of};
+
+use st_drive::{Machine, Stop, drive};
+use st_io::{Sink, Source};
+use std::alloc::{AllocError, Global};
+
+// How many bytes one read may give.
+const PIECE: usize = 65_536;
+
+// Runs a machine over a source of at most `limit` bytes.
+pub fn run_machine<M: Machine, S: Source, K: Sink>(
+    alloc: Global,
+    limit: usize,
+    machine: M,
+    context: &mut M::Context,
+    source: &mut S,
+    sink: &mut K,
+) -> u8
+    requires limit { limit < 2 ^ 62 }
+    requires fits { M.fits machine context.old }
+    ensures table { StatusTable (λ bytes. M.answers machine (all_lines bytes)) (λ bytes. M.answers machine (whole_lines bytes)) limit
+        (S.left source.old) (S.left source.new) (K.written sink.old) (K.written sink.new) result }
+    ensures finished { result ≡ 0 → K.is_finished sink.new ≡ true }
+    ensures read_fault { result ≡ 2 → Rose (S.faults source.old) (S.faults source.new) }
+    ensures write_fault { result ≡ 3 → Rose (K.faults sink.old) (K.faults sink.new) }
+    ensures device_fault { result ≡ 4 → Rose (M.faults context.old) (M.faults context.new) }
+    ensures statuses { IsTrue (is_end result) }
+    ensures context { WentOver M.ran M.gave_up machine context.old context.new }
+{
+    match new_buffer(alloc) {
+        Ok(mut buffer) => status(drive(
+            alloc,
+            buffer.as_mut_slice(),
+            limit,
+            machine,
+            context,
+            source,
+            sink,
+        )),
+        Err(_) => 6,
+    }
+}
+
+fn new_buffer(alloc: Global) -> Result<Vec<u8>, AllocError>
+    ensures { IfOk result (λ buffer. 0 < vec_len buffer) }
+{
+    vec![in alloc; 0u8; PIECE]
+}
+
+// The status of a run that ended so.
+fn status(ending: Result<(), Stop>) -> u8
+    ensures value { result ≡ status_of ending }
+    ensures known { IsTrue (is_end result) }
+{
+    match ending {
+        Ok(()) => 0,
+        Err(Stop::ReadFault) => 2,
+        Err(Stop::WriteFault) => 3,
+        Err(Stop::DeviceFault) => 4,
+        Err(Stop::OverLimit) => 5,
+        Err(Stop::Memory) => 6,
+    }
+}

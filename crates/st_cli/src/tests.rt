@@ -1,0 +1,5 @@
+mod faults;
+mod files;
+mod lines;
+mod sessions;
+mod support;
