@@ -1,3 +1,5 @@
+ghost use Rattle.std.specs.Prelude.{◌<◌};
+
 use crate::run::run;
 use crate::tests::support::{OF_ABC, OF_NOTHING, one_word};
 use st_base::{Bytes, Copied, List, WantOfMemory, Work};
