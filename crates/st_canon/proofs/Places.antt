@@ -1,5 +1,5 @@
 -- What stands at the place of a name, and at its gap, among pairs whose names ascend.
-use Rattle.std.proofs.Common.{◌≡◌, ℕ, zero, suc, ◌<◌, ◌≤◌, Bool, true, false, cond, List, [], ◌∷◌, length, get_or, set, Option, Some, None, option_map, Ordering, Less, Equal, Greater, refl, sym, ap, ◌∙◌, subst, arith}
+use Rattle.std.proofs.Common.{◌≡◌, ℕ, zero, suc, ◌<◌, Bool, true, false, cond, List, [], ◌∷◌, length, get_or, set, Option, Some, None, option_map, Ordering, Less, Equal, Greater, refl, sym, ap, ◌∙◌, subst, arith}
 use Rattle.std.specs.List.{insert, remove, AllByRecursion}
 use Rattle.std.specs.List.Sorted.{IsStrictlySortedBy}
 use Rattle.std.specs.Map.{keys_of, lookup}
@@ -9,10 +9,10 @@ use Rattle.st_canon.specs.Find.{member_at, put, without}
 use Rattle.st_canon.specs.InOrder.{placed}
 use Rattle.st_canon.specs.Names.{name_cmp, is_name, NamesAscend}
 use Rattle.st_canon.specs.Place.{IsPlaceOf, IsGapFor}
-use Rattle.st_canon.specs.Plain.{Plain, Members, member}
+use Rattle.st_canon.specs.Plain.{Plain, member}
 use Rattle.st_canon.specs.View.{plain, plain_members}
 use Rattle.st_canon.specs.declared.value.Json.{Json}
-use Rattle.st_canon.proofs.Order.{name_total, greater_from_less, less_from_greater, tied_from_same, is_name_from_same, not_name_from_less, not_name_from_greater}
+use Rattle.st_canon.proofs.Order.{greater_from_less, less_from_greater, tied_from_same, is_name_from_same, not_name_from_less, not_name_from_greater}
 
 module _ {X : Type 0} where
   pub place_moved : {name other : List ℕ} {es fs : List (List ℕ × X)} {i : ℕ} → other ≡ name → fs ≡ es → IsPlaceOf other fs i → IsPlaceOf name es i

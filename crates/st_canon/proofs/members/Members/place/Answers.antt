@@ -1,4 +1,4 @@
-use Rattle.std.proofs.Common.{◌≡◌, ap, sym, subst, ◌∙◌}
+use Rattle.std.proofs.Common.{sym, subst, ◌∙◌}
 use Rattle.st_canon.specs.Names.{NamesAscend}
 use Rattle.st_canon.proofs.Places.{place_moved, gap_moved, placed_at_place, placed_at_gap}
 use Rattle.st_canon.proofs.Sorting.{ascend_placed}

@@ -1,4 +1,4 @@
-use Rattle.std.proofs.Common.{◌≡◌, ap, sym, subst, ◌∙◌, Some, None}
+use Rattle.std.proofs.Common.{ap, sym, subst, ◌∙◌, Some}
 use Rattle.st_canon.specs.Place.{IsPlaceOf, IsGapFor}
 use Rattle.st_canon.specs.View.{plain}
 use Rattle.st_canon.proofs.Places.{found_at_place, none_at_gap, value_at_place, no_value_at_gap}
