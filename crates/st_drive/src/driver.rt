@@ -44,6 +44,7 @@ fn answer_last<M: Machine, K: Sink>(
     ensures err { OnErr result ((written : List ℕ)
         × Stopped M.answers M.ran M.gave_up M.CAP progress.machine context.old (last_line progress.line.items) written context.new
         × Appends (K.written sink.old) (K.written sink.new) written) }
+    ensures unfinished { K.is_finished sink.new ≡ true → K.is_finished sink.old ≡ true }
     ensures later { K.faults sink.old ≤ K.faults sink.new }
     ensures context_later { M.faults context.old ≤ M.faults context.new }
     ensures cause { IfErr result (IsAnswerStop (Rose (K.faults sink.old) (K.faults sink.new)) (Rose (M.faults context.old) (M.faults context.new))) }
@@ -75,6 +76,7 @@ fn end_run<M: Machine, K: Sink>(
     ensures err { OnErr result ((written : List ℕ)
         × Stopped M.answers M.ran M.gave_up M.CAP progress.machine context.old (last_line progress.line.items) written context.new
         × Appends (K.written sink.old) (K.written sink.new) written) }
+    ensures unfinished { OnErr result (K.is_finished sink.new ≡ true → K.is_finished sink.old ≡ true) }
     ensures later { K.faults sink.old ≤ K.faults sink.new }
     ensures context_later { M.faults context.old ≤ M.faults context.new }
     ensures cause { IfErr result (IsAnswerStop (Rose (K.faults sink.old) (K.faults sink.new)) (Rose (M.faults context.old) (M.faults context.new))) }
@@ -91,11 +93,12 @@ fn end_run<M: Machine, K: Sink>(
 /// Runs the machine over all lines of a source of at most `limit` bytes, and writes its replies.
 ///
 /// A line is answered once its line feed was read, and the last line also at the end of the input,
-/// where it has a byte. The replies to what one read gave are gathered and written before the next
-/// read. Reads go through `buffer`, and at most `limit + 1` bytes are taken. The machine gets the
-/// first `CAP` bytes of a line; all clauses speak of the whole line.
+/// where it has a byte. The replies to what one read gave are gathered, and all are written before
+/// the next read. Reads go through `buffer`, and at most `limit + 1` bytes are taken. The machine
+/// gets the first `CAP` bytes of a line; all clauses speak of the whole line.
 ///
-/// `Ok` comes at the end of the input, when all is answered and written and the sink is finished.
+/// `Ok` comes at the end of the input, when all is answered and written and the sink was finished,
+/// as the last act; no other end finishes it.
 /// `ReadFault`, `WriteFault` and `DeviceFault` come only where the count of faults of the source,
 /// the sink or the context rose. `OverLimit` comes exactly where `limit` bytes were taken and the
 /// source gave one more, unless a fault or want of memory ended the run; that byte isn't answered.
@@ -117,6 +120,7 @@ pub fn drive<M: Machine, S: Source, K: Sink>(
     ensures table { Table (M.answers machine) (RanOver M.ran machine context.old context.new) (GaveUpOver M.gave_up machine context.old context.new) limit
         (S.left source.old) (S.left source.new) (K.written sink.old) (K.written sink.new) result }
     ensures finished { OnOk result (K.is_finished sink.new ≡ true) }
+    ensures unfinished { OnErr result (K.is_finished sink.new ≡ true → K.is_finished sink.old ≡ true) }
     ensures source_later { S.faults source.old ≤ S.faults source.new }
     ensures sink_later { K.faults sink.old ≤ K.faults sink.new }
     ensures context_later { M.faults context.old ≤ M.faults context.new }

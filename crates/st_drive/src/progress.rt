@@ -27,6 +27,7 @@ fn answer_line<M: Machine, K: Sink>(
         × Passes (K.written sink.old) (K.written sink.new) gathered.old.items reply gathered.new.items) }
     ensures err { OnErr result ((reply : List ℕ) × Stopped M.answers M.ran M.gave_up M.CAP machine context.old (line.now ∷ []) reply context.new
         × PassesSome (K.written sink.old) (K.written sink.new) gathered.old.items reply gathered.new.items) }
+    ensures unfinished { K.is_finished sink.new ≡ true → K.is_finished sink.old ≡ true }
     ensures later { K.faults sink.old ≤ K.faults sink.new }
     ensures context_later { M.faults context.old ≤ M.faults context.new }
     ensures cause { IfErr result (IsAnswerStop (Rose (K.faults sink.old) (K.faults sink.new)) (Rose (M.faults context.old) (M.faults context.new))) }
@@ -59,6 +60,7 @@ fn end_line<M: Machine, K: Sink>(
     ensures emptied { OnOk result (line.new.items ≡ []) }
     ensures err { OnErr result ((reply : List ℕ) × Stopped M.answers M.ran M.gave_up M.CAP machine context.old (take M.CAP (line.old.items ++ front.now) ∷ []) reply context.new
         × PassesSome (K.written sink.old) (K.written sink.new) gathered.old.items reply gathered.new.items) }
+    ensures unfinished { K.is_finished sink.new ≡ true → K.is_finished sink.old ≡ true }
     ensures later { K.faults sink.old ≤ K.faults sink.new }
     ensures context_later { M.faults context.old ≤ M.faults context.new }
     ensures cause { IfErr result (IsAnswerStop (Rose (K.faults sink.old) (K.faults sink.new)) (Rose (M.faults context.old) (M.faults context.new))) }
@@ -101,6 +103,7 @@ impl<M: Machine> Progress<M> {
         ensures err { OnErr result ((written : List ℕ)
             × Stopped M.answers M.ran M.gave_up M.CAP self.machine context.old (capped M.CAP (self.line.items ++ piece.now)).0 (written ++ gathered.new.items) context.new
             × Appends (K.written sink.old) (K.written sink.new) written) }
+        ensures unfinished { K.is_finished sink.new ≡ true → K.is_finished sink.old ≡ true }
         ensures later { K.faults sink.old ≤ K.faults sink.new }
         ensures context_later { M.faults context.old ≤ M.faults context.new }
         ensures cause { IfErr result (IsAnswerStop (Rose (K.faults sink.old) (K.faults sink.new)) (Rose (M.faults context.old) (M.faults context.new))) }
@@ -141,6 +144,7 @@ impl<M: Machine> Progress<M> {
         ensures err { OnErr result ((written : List ℕ)
             × Stopped M.answers M.ran M.gave_up M.CAP self.machine context.old (capped M.CAP (self.line.items ++ piece.now)).0 written context.new
             × Appends (K.written sink.old) (K.written sink.new) written) }
+        ensures unfinished { K.is_finished sink.new ≡ true → K.is_finished sink.old ≡ true }
         ensures later { K.faults sink.old ≤ K.faults sink.new }
         ensures context_later { M.faults context.old ≤ M.faults context.new }
         ensures cause { IfErr result (IsAnswerStop (Rose (K.faults sink.old) (K.faults sink.new)) (Rose (M.faults context.old) (M.faults context.new))) }

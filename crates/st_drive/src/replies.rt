@@ -1,5 +1,5 @@
 // Replies that are gathered, so that many short ones become one write.
-ghost use Rattle.std.specs.Prelude.{◌≡◌, ◌≤◌, ◌++◌, ℕ, List, [], OnOk, OnErr, IfErr};
+ghost use Rattle.std.specs.Prelude.{◌≡◌, ◌≤◌, ◌++◌, ℕ, List, [], true, OnOk, OnErr, IfErr};
 ghost use Rattle.std.specs.Io.KnownBytes.{Appends};
 ghost use Rattle.st_io.specs.Causes.{HasCause, Rose};
 ghost use Rattle.st_drive.specs.Runs.{Begins, Passes, PassesSome};
@@ -16,6 +16,7 @@ const FULL: usize = 65_536;
 pub fn write_all<K: Sink>(sink: &mut K, bytes: &[u8]) -> Result<(), Failed>
     ensures ok { OnOk result (Appends (K.written sink.old) (K.written sink.new) bytes.now) }
     ensures err { OnErr result ((part : List ℕ) × Begins part bytes.now × Appends (K.written sink.old) (K.written sink.new) part) }
+    ensures unfinished { K.is_finished sink.new ≡ true → K.is_finished sink.old ≡ true }
     ensures cause { HasCause (K.faults sink.old) (K.faults sink.new) result }
 {
     let mut rest = bytes;
@@ -31,6 +32,7 @@ pub fn write_gathered<K: Sink>(sink: &mut K, gathered: &mut Vec<u8>) -> Result<(
     ensures emptied { gathered.new.items ≡ [] }
     ensures ok { OnOk result (Appends (K.written sink.old) (K.written sink.new) gathered.old.items) }
     ensures err { OnErr result ((part : List ℕ) × Begins part gathered.old.items × Appends (K.written sink.old) (K.written sink.new) part) }
+    ensures unfinished { K.is_finished sink.new ≡ true → K.is_finished sink.old ≡ true }
     ensures cause { HasCause (K.faults sink.old) (K.faults sink.new) result }
 {
     let result = write_all(sink, gathered);
@@ -58,6 +60,7 @@ fn add_reply(gathered: &mut Vec<u8>, reply: Bytes) -> Result<(), Stop>
 pub fn gather<K: Sink>(sink: &mut K, gathered: &mut Vec<u8>, reply: Bytes) -> Result<(), Stop>
     ensures ok { OnOk result (Passes (K.written sink.old) (K.written sink.new) gathered.old.items reply gathered.new.items) }
     ensures err { OnErr result (PassesSome (K.written sink.old) (K.written sink.new) gathered.old.items reply gathered.new.items) }
+    ensures unfinished { K.is_finished sink.new ≡ true → K.is_finished sink.old ≡ true }
     ensures later { K.faults sink.old ≤ K.faults sink.new }
     ensures cause { IfErr result (IsAnswerStop (Rose (K.faults sink.old) (K.faults sink.new)) ⊥) }
 {

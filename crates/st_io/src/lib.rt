@@ -4,15 +4,23 @@
 
 mod failed;
 mod front;
-mod plain;
-mod script;
+mod plain_sink;
+mod plain_source;
+mod script_sink;
+mod script_source;
 mod sink;
 mod source;
-mod standard;
+mod std_sink;
+mod std_source;
+#[cfg(test)]
+mod tests;
 
 pub use failed::Failed;
-pub use plain::{PlainSink, PlainSource};
-pub use script::{ScriptSink, ScriptSource};
+pub use plain_sink::PlainSink;
+pub use plain_source::PlainSource;
+pub use script_sink::ScriptSink;
+pub use script_source::ScriptSource;
 pub use sink::Sink;
 pub use source::Source;
-pub use standard::{StdSink, StdSource};
+pub use std_sink::StdSink;
+pub use std_source::StdSource;

@@ -26,6 +26,7 @@ pieces-init g c = record {
   context_later = omega arith;
   source_later = omega arith;
   sink_later = omega arith;
+  unfinished = λ done. done;
   taken = rw c.new.ensures.items (taken_start g.M.Machine.answers g.M.Machine.ran g.M.Machine.gave_up g.M.Machine.CAP (laws g) c.args.machine c.args.context.now c.args.limit _ _);
 }
 
@@ -53,6 +54,7 @@ pieces-preserved g c =
       context_later = omega (arith, fed.context_later);
       source_later = omega (arith, read.cause.later);
       sink_later = omega (arith, fed.later);
+      unfinished = λ done. i.unfinished (fed.unfinished done);
       taken = taken_more g.M.Machine.answers g.M.Machine.ran g.M.Machine.gave_up g.M.Machine.CAP (laws g) c.args.machine c.pieces.progress.machine c.in-Ok-feed-2.next.machine c.args.context.now c.pieces.context c.feed-in-pieces.new.context
           c.pieces.progress.line.items (take c.in-Ok.count buffer) c.in-Ok-feed-2.next.line.items c.args.limit c.pieces.room (c.pieces.room - c.in-Ok.count) _ _ _ _ _ _ i.taken read.bytes (omega arith) fed.ok fed.line;
     }

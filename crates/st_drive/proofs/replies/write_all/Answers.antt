@@ -3,6 +3,7 @@ use Rattle.std.specs.declared.option.Option.{Option}
 use Rattle.std.specs.Io.KnownBytes.{Appends}
 use Rattle.std.proofs.KnownBytes.{Appends-trans}
 use Rattle.std.proofs.lemmas.List.{take_rest}
+use Rattle.st_drive.proofs.ReplyLemmas.{still_unfinished}
 use Rattle.st_drive.proofs.replies.write_all.Goals as goal
 
 -- the sink took n more bytes
@@ -20,4 +21,5 @@ loop-rest-preserved g c =
     record {
       part = further held.0 c.loop-rest.rest.now c.args.bytes.now c.in_ok-count.count _ _ _ held.1 held.2 c.in_ok-count.ensures.bytes;
       later = omega (arith, c.in_ok-count.ensures.cause.later);
+      unfinished = still_unfinished _ _ _ c.in_ok-count.count c.in_ok-count.ensures.finished c.loop-rest.invariant.unfinished;
     }

@@ -28,6 +28,7 @@ lines-init g c =
       cap = c.requires.cap;
       partial = c.requires.partial;
       later = omega arith;
+      unfinished = λ done. done;
       fed = subst (Fed g.M.Machine.answers g.M.Machine.ran g.M.Machine.CAP c.args.self.machine c.args.context.now c.args.self.machine c.args.context.now (c.args.self.line.items ++ c.args.piece.now) (c.args.self.line.items ++ c.args.piece.now) (g.K.Sink.written c.args.sink.now) (g.K.Sink.written c.args.sink.now)) (sym c.requires.empty) fed;
     }
 
@@ -52,6 +53,7 @@ lines-preserved g c =
       cap = (let n = ap length empty in omega arith);
       partial = ap has_no_feed empty;
       later = omega (arith, c.in_ok-machine.ensures.later);
+      unfinished = λ done. i.unfinished (c.in_ok-machine.ensures.unfinished done);
       fed = rw empty new;
     }
 

@@ -1,0 +1,186 @@
+// The machines of the tests.
+ghost use Rattle.std.specs.Prelude.{◌≡◌, ◌+◌, ◌%◌, ◌<◌, ◌++◌, [], ◌∷◌, refl, take, ⊤, IfOk};
+ghost use Rattle.std.proofs.Common.{rules};
+ghost use Rattle.st_drive.specs.Numbered.{numbered, numbered_reply, numbered_cut, Spends, SpendsLess, spends_none, spends_more, spends_less_more, spends_cut, spends_less_cut, echoed};
+ghost use Rattle.st_drive.specs.Uncut.{no_cap, uncut_answers};
+
+use crate::machine::{Machine, StepError};
+use st_base::{Bytes, WantOfMemory};
+use std::alloc::Global;
+use std::marker::Model;
+
+// How many lines may still be answered, before the device fails.
+#[derive(Drop)]
+pub struct Allowance {
+    left: u64,
+    faults: u64,
+}
+
+impl Model for Allowance {
+    ghost use Rattle.st_drive.specs.Numbered.{Allowance as Allowed};
+
+    ghost Value = { Allowed };
+
+    ghost view = { λ a. record { left = a.left; faults = a.faults } };
+}
+
+impl Allowance {
+    pub fn new(left: u64) -> Self {
+        Allowance { left, faults: 0 }
+    }
+
+    pub fn left(&self) -> u64 {
+        self.left
+    }
+}
+
+// Numbers the lines by one digit, and shows the first four bytes of each.
+#[derive(Drop)]
+pub struct Numbered {
+    digit: u8,
+}
+
+impl Model for Numbered {
+    ghost use Rattle.std.specs.Prelude.{ℕ, ◌<◌};
+
+    ghost Value = { ℕ };
+
+    ghost view = { λ n. n.digit };
+
+    ghost invariant = { λ n. n.digit < 10 };
+}
+
+impl Numbered {
+    pub fn new() -> Self
+        ensures { result ≡ 0 }
+    {
+        Numbered { digit: 0 }
+    }
+
+    fn next(self) -> Self
+        ensures { result ≡ (self + 1) % 10 }
+    {
+        Numbered {
+            digit: (self.digit + 1) % 10,
+        }
+    }
+
+    fn reply(&self, alloc: Global, line: &[u8]) -> Result<Bytes, WantOfMemory>
+        ensures { IfOk result (λ reply. reply ≡ numbered_reply self.now line.now) }
+    {
+        let mut reply = Bytes::from_slice(alloc, &[b'0' + self.digit])?;
+        reply.push_all(&line[..line.len().min(4)])?;
+        reply.push_all(b"\n")?;
+        Ok(reply)
+    }
+}
+
+impl Machine for Numbered {
+    type Context = Allowance;
+
+    ghost answers = { numbered };
+
+    ghost CAP = { 4 };
+
+    const CAP: usize = 4;
+
+    ghost fits = { λ _ _. ⊤ };
+
+    ghost ran = { Spends };
+
+    ghost gave_up = { SpendsLess };
+
+    ghost faults = { λ c. c.faults };
+
+    fn step(
+        self,
+        alloc: Global,
+        context: &mut Allowance,
+        line: &[u8],
+    ) -> Result<(Self, Bytes), StepError> {
+        let reply = match self.reply(alloc, line) {
+            Ok(reply) => reply,
+            Err(_) => return Err(StepError::Memory),
+        };
+        if context.left == 0 {
+            context.faults = context.faults.saturating_add(1);
+            return Err(StepError::DeviceFault);
+        }
+        context.left -= 1;
+        Ok((self.next(), reply))
+    }
+
+    ghost silent = { λ _. refl };
+
+    ghost positive = { Prim.search rules };
+
+    ghost cut_answers = { numbered_cut };
+
+    ghost cut_ran = { spends_cut };
+
+    ghost cut_gave_up = { spends_less_cut };
+
+    ghost ran_none = { spends_none };
+
+    ghost ran_more = { spends_more };
+
+    ghost gave_up_more = { spends_less_more };
+}
+
+// Says each line again, however long it is.
+#[derive(Drop)]
+pub struct Echo {}
+
+impl Machine for Echo {
+    type Context = ();
+
+    ghost answers = { λ _. echoed };
+
+    ghost CAP = { no_cap };
+
+    const CAP: usize = usize::MAX;
+
+    ghost fits = { λ _ _. ⊤ };
+
+    ghost ran = { λ _ _ _ _ _. ⊤ };
+
+    ghost gave_up = { λ _ _ _ _. ⊤ };
+
+    ghost faults = { λ _. 0 };
+
+    fn step(
+        self,
+        alloc: Global,
+        _context: &mut (),
+        line: &[u8],
+    ) -> Result<(Self, Bytes), StepError> {
+        match with_line_feed(alloc, line) {
+            Ok(reply) => Ok((self, reply)),
+            Err(_) => Err(StepError::Memory),
+        }
+    }
+
+    ghost silent = { λ _. refl };
+
+    ghost positive = { Prim.search rules };
+
+    ghost cut_answers = { uncut_answers (λ _. echoed) };
+
+    ghost cut_ran = { λ _ _ _ _ _ _ _. tt };
+
+    ghost cut_gave_up = { λ _ _ _ _ _ _. tt };
+
+    ghost ran_none = { λ _ _. tt };
+
+    ghost ran_more = { λ _ _ _ _ _ _ _ _ _ _. tt };
+
+    ghost gave_up_more = { λ _ _ _ _ _ _ _ _ _. tt };
+}
+
+fn with_line_feed(alloc: Global, line: &[u8]) -> Result<Bytes, WantOfMemory>
+    ensures { IfOk result (λ reply. reply ≡ line.now ++ 10 ∷ []) }
+{
+    let mut reply = Bytes::from_slice(alloc, line)?;
+    reply.push_all(b"\n")?;
+    Ok(reply)
+}
