@@ -8,7 +8,7 @@ use Rattle.st_lms.proofs.Chains.{chain-add}
 use Rattle.st_lms.proofs.DigitLemmas.{coef-greatest}
 use Rattle.st_lms.proofs.Hashing.{length-joined, value_at-joined, joined-same}
 
-length-secret_element : (id : List ℕ) (q i : ℕ) (seed : List ℕ) → length (secret_element id q i seed) ≡ 32
+pub length-secret_element : (id : List ℕ) (q i : ℕ) (seed : List ℕ) → length (secret_element id q i seed) ≡ 32
 unfolding secret_element
 length-secret_element id q i seed = length-sha256 _
 
