@@ -1,0 +1,14 @@
+pub mod TypeLemmas
+pub mod Widths
+pub mod StringLemmas
+pub mod DigitLemmas
+pub mod Hashing
+pub mod Texts
+pub mod Links
+pub mod Chains
+pub mod OneTimeLaw
+pub mod PathLemmas
+pub mod PublicTexts
+pub mod Nodes
+pub mod SignatureParts
+pub mod Law
