@@ -13,6 +13,8 @@ mod number;
 mod reply;
 mod resolution;
 mod suffix_data;
+#[cfg(test)]
+mod tests;
 
 pub use anchor::{Anchor, read_anchor};
 pub use command::{Command, LineCause, LineRefused, read_command};
