@@ -104,6 +104,9 @@ module _ {X : Type 0} where
     placed_at_gap (e ∷ es) zero v gap = rw (first_above_gap e es gap) refl
     placed_at_gap (e ∷ es) (suc i) v gap = rw (first_below_gap e es i gap) (ap (λ l. e ∷ l) (placed_at_gap es i v (rest_of_gap e es i gap)))
 
+  pub placed_from_gap : (name : List ℕ) (v : X) {es fs : List (List ℕ × X)} {i : ℕ} → fs ≡ insert es i (name, v) → IsGapFor name es i → fs ≡ placed (name, v) es
+  placed_from_gap name v {es} {fs} {i} is gap = is ∙ placed_at_gap name es i v gap
+
 -- ---- the same of plain members
 chosen : (t : Bool) (v : Json) (found : Option Json) (p : Option Plain) → option_map plain found ≡ p → option_map plain (cond t (Some v) found) ≡ cond t (Some (plain v)) p
 chosen true v found p is = refl
