@@ -8,7 +8,7 @@ use Rattle.std.proofs.KnownBytes.{Appends-nil, Appends-trans, Consumes-nil, Cons
 use Rattle.st_drive.specs.declared.stop.Stop.{Stop}
 use Rattle.st_drive.specs.declared.stop.Stop.TheVariants.{ReadFault, WriteFault, DeviceFault, OverLimit, Memory}
 use Rattle.st_drive.specs.Lines.{split, capped, whole_lines, last_line, all_lines, has_no_feed, CutTo}
-use Rattle.st_drive.specs.Runs.{Begins, RanOver, GaveUpOver, Goes, Stops, Went, Stopped}
+use Rattle.st_drive.specs.Runs.{Begins, RanOver, GaveUpOver, Goes, Stops, GoesOverCut, StopsOverCut}
 use Rattle.st_drive.specs.Stops.{IsAnswerStop}
 use Rattle.st_drive.specs.Tables.{Answered, EndsEarly, Row, Table}
 use Rattle.st_drive.proofs.LineLemmas.{split_append, capped_append, capped_rest, capped_nil}
@@ -54,7 +54,7 @@ module _ {M C : Type 0} (answers : M → List (List ℕ) → List ℕ) (ran : M 
 
   -- the lines of a piece were answered
   pub taken_more : (m n o : M) (c d e : C) (line piece next : List ℕ) (limit room less : ℕ) (had left rest held holds new : Option (List ℕ)) → Taken answers ran cap m c n d line limit room had left held holds
-      → Consumes left rest piece → length piece + less ≡ room → ((written : List ℕ) × Went answers ran cap n d (capped cap (line ++ piece)).0 written o e × Appends holds new written) → next ≡ (capped cap (line ++ piece)).1
+      → Consumes left rest piece → length piece + less ≡ room → ((written : List ℕ) × GoesOverCut answers ran cap n d (capped cap (line ++ piece)).0 written o e × Appends holds new written) → next ≡ (capped cap (line ++ piece)).1
       → Taken answers ran cap m c o e next limit less had rest held new
   taken_more m n o c d e line piece next limit room less had left rest held holds new t takes count more line_is =
       let lines = piece_lines t.taken line piece t.line_is in
@@ -63,7 +63,7 @@ module _ {M C : Type 0} (answers : M → List (List ℕ) → List ℕ) (ran : M 
         written = t.written ++ more.0;
         takes = Consumes-trans had left rest t.taken piece t.takes takes;
         line_is = line_is ∙ sym (ap (λ p. p.1) lines);
-        went = subst (λ ls. Went answers ran cap m c ls (t.written ++ more.0) o e) (sym (ap (λ p. p.0) lines)) (went_more answers ran gave_up cap laws m n o c d e _ _ t.written more.0 t.went more.1);
+        went = subst (λ ls. GoesOverCut answers ran cap m c ls (t.written ++ more.0) o e) (sym (ap (λ p. p.0) lines)) (went_more answers ran gave_up cap laws m n o c d e _ _ t.written more.0 t.went more.1);
         writes = Appends-trans held holds new t.written more.0 t.writes more.2;
         budget = (let b = t.budget in omega (arith, length-append t.taken piece));
       }
@@ -72,7 +72,7 @@ module _ {M C : Type 0} (answers : M → List (List ℕ) → List ℕ) (ran : M 
   answered_of : (m n : M) (c d : C) (lines : List (List ℕ)) (written : List ℕ) → Goes answers ran m c lines written n d → Answered (answers m) (RanOver ran m c d) written lines
   answered_of m n c d lines written p = (sym (append-nil written) ∙ ap (λ xs. written ++ xs) (sym (laws.silent n)) ∙ sym (p.on []) ∙ ap (answers m) (append-nil lines), (n, p.context))
 
-  answered_whole : (m n : M) (c d : C) (bytes written : List ℕ) → length bytes < 2 ^ 62 → Went answers ran cap m c (capped cap bytes).0 written n d → Answered (answers m) (RanOver ran m c d) written (whole_lines bytes)
+  answered_whole : (m n : M) (c d : C) (bytes written : List ℕ) → length bytes < 2 ^ 62 → GoesOverCut answers ran cap m c (capped cap bytes).0 written n d → Answered (answers m) (RanOver ran m c d) written (whole_lines bytes)
   answered_whole m n c d bytes written short p = answered_of m n c d (whole_lines bytes) written (p.of (whole_lines bytes) (whole_cut cap bytes short))
 
   pub table_read_fault : {T : Type 0} (m n : M) (c d : C) (line : List ℕ) (limit room : ℕ) (had left rest held holds : Option (List ℕ)) → limit < 2 ^ 62 → Taken answers ran cap m c n d line limit room had left held holds → Keeps left rest
@@ -113,7 +113,7 @@ module _ {M C : Type 0} (answers : M → List (List ℕ) → List ℕ) (ran : M 
   -- the run stopped while it answered the lines of a piece; one byte more may have been taken
   pub table_cut : {T : Type 0} (m n : M) (c d e : C) (line piece extra : List ℕ) (limit room : ℕ) (had left rest held holds new : Option (List ℕ)) (rose device : Type 0) (stop : Stop) → limit < 2 ^ 62
       → Taken answers ran cap m c n d line limit room had left held holds → Consumes left rest (piece ++ extra) → length piece ≤ room → length (piece ++ extra) ≤ room + 1
-      → ((written : List ℕ) × Stopped answers ran gave_up cap n d (capped cap (line ++ piece)).0 written e × Appends holds new written) → IsAnswerStop rose device stop
+      → ((written : List ℕ) × StopsOverCut answers ran gave_up cap n d (capped cap (line ++ piece)).0 written e × Appends holds new written) → IsAnswerStop rose device stop
       → Table {T = T} (answers m) (RanOver ran m c e) (GaveUpOver gave_up m c e) limit had rest held new (Err stop)
   table_cut {T} m n c d e line piece extra limit room had left rest held holds new rose device stop small t takes fits most cut cause =
       let kept = piece_lines t.taken line piece t.line_is in
@@ -121,7 +121,7 @@ module _ {M C : Type 0} (answers : M → List (List ℕ) → List ℕ) (ran : M 
       let bytes = t.taken ++ piece in
       let b = t.budget in
       let len = length-append t.taken piece in
-      let stopped : Stopped answers ran gave_up cap m c (capped cap bytes).0 written e = subst (λ ls. Stopped answers ran gave_up cap m c ls written e) (sym (ap (λ p. p.0) kept)) (stopped_more answers ran gave_up cap laws m n c d e _ _ t.written cut.0 t.went cut.1) in
+      let stopped : StopsOverCut answers ran gave_up cap m c (capped cap bytes).0 written e = subst (λ ls. StopsOverCut answers ran gave_up cap m c ls written e) (sym (ap (λ p. p.0) kept)) (stopped_more answers ran gave_up cap laws m n c d e _ _ t.written cut.0 t.went cut.1) in
       let stops : Stops answers ran gave_up m c (whole_lines bytes) written e = stopped.of (whole_lines bytes) (whole_cut cap bytes (omega arith)) in
       let assoc : (more : List ℕ) → bytes ++ (extra ++ more) ≡ (t.taken ++ (piece ++ extra)) ++ more =
       λ more. append_assoc t.taken piece (extra ++ more) ∙ ap (λ xs. t.taken ++ xs) (sym (append_assoc piece extra more)) ∙ sym (append_assoc t.taken (piece ++ extra) more) in
@@ -138,13 +138,13 @@ module _ {M C : Type 0} (answers : M → List (List ℕ) → List ℕ) (ran : M 
 
   pub table_over : {T : Type 0} (m n o : M) (c d e : C) (line piece extra : List ℕ) (limit room : ℕ) (had left rest held holds new : Option (List ℕ)) → limit < 2 ^ 62
       → Taken answers ran cap m c n d line limit room had left held holds → Consumes left rest (piece ++ extra) → length piece ≡ room → length extra ≡ 1
-      → ((written : List ℕ) × Went answers ran cap n d (capped cap (line ++ piece)).0 written o e × Appends holds new written)
+      → ((written : List ℕ) × GoesOverCut answers ran cap n d (capped cap (line ++ piece)).0 written o e × Appends holds new written)
       → Table {T = T} (answers m) (RanOver ran m c e) (GaveUpOver gave_up m c e) limit had rest held new (Err OverLimit)
   table_over m n o c d e line piece extra limit room had left rest held holds new small t takes full one more =
       let kept = piece_lines t.taken line piece t.line_is in
       let written = t.written ++ more.0 in
       let bytes = t.taken ++ piece in
-      let went : Went answers ran cap m c (capped cap bytes).0 written o e = subst (λ ls. Went answers ran cap m c ls written o e) (sym (ap (λ p. p.0) kept)) (went_more answers ran gave_up cap laws m n o c d e _ _ t.written more.0 t.went more.1) in
+      let went : GoesOverCut answers ran cap m c (capped cap bytes).0 written o e = subst (λ ls. GoesOverCut answers ran cap m c ls written o e) (sym (ap (λ p. p.0) kept)) (went_more answers ran gave_up cap laws m n o c d e _ _ t.written more.0 t.went more.1) in
       let b = t.budget in
       let len : length bytes ≡ limit = omega (arith, length-append t.taken piece) in
       let first : take limit (t.taken ++ (piece ++ extra)) ≡ bytes = ap (take limit) (sym (append_assoc t.taken piece extra)) ∙ take_at bytes extra limit len in
@@ -161,7 +161,7 @@ module _ {M C : Type 0} (answers : M → List (List ℕ) → List ℕ) (ran : M 
 
   pub table_end : {T : Type 0} (x : T) (m n o : M) (c d e : C) (line : List ℕ) (limit room : ℕ) (had left rest held holds new : Option (List ℕ)) → limit < 2 ^ 62
       → Taken answers ran cap m c n d line limit room had left held holds → Consumes left rest [] → IsAtEnd rest
-      → ((written : List ℕ) × Went answers ran cap n d (last_line line) written o e × Appends holds new written)
+      → ((written : List ℕ) × GoesOverCut answers ran cap n d (last_line line) written o e × Appends holds new written)
       → Table (answers m) (RanOver ran m c e) (GaveUpOver gave_up m c e) limit had rest held new (Ok x)
   table_end x m n o c d e line limit room had left rest held holds new small t takes end last =
       let written = t.written ++ last.0 in
@@ -183,7 +183,7 @@ module _ {M C : Type 0} (answers : M → List (List ℕ) → List ℕ) (ran : M 
 
   pub table_end_cut : {T : Type 0} (m n : M) (c d e : C) (line : List ℕ) (limit room : ℕ) (had left rest held holds new : Option (List ℕ)) (rose device : Type 0) (stop : Stop) → limit < 2 ^ 62
       → Taken answers ran cap m c n d line limit room had left held holds → Consumes left rest [] → IsAtEnd rest
-      → ((written : List ℕ) × Stopped answers ran gave_up cap n d (last_line line) written e × Appends holds new written) → IsAnswerStop rose device stop
+      → ((written : List ℕ) × StopsOverCut answers ran gave_up cap n d (last_line line) written e × Appends holds new written) → IsAnswerStop rose device stop
       → Table {T = T} (answers m) (RanOver ran m c e) (GaveUpOver gave_up m c e) limit had rest held new (Err stop)
   table_end_cut {T} m n c d e line limit room had left rest held holds new rose device stop small t takes end cut cause =
       let written = t.written ++ cut.0 in
@@ -203,8 +203,8 @@ module _ {M C : Type 0} (answers : M → List (List ℕ) → List ℕ) (ran : M 
 
   pub table_of_end : (T : Type 0) (r : Result T Stop) (m n : M) (c d e : C) (line : List ℕ) (limit room : ℕ) (had left rest held holds new : Option (List ℕ)) (rose device : Type 0) → limit < 2 ^ 62
       → Taken answers ran cap m c n d line limit room had left held holds → Consumes left rest [] → IsAtEnd rest
-      → OnOk r ((written : List ℕ) × (next : M) × Went answers ran cap n d (last_line line) written next e × Appends holds new written)
-      → OnErr r ((written : List ℕ) × Stopped answers ran gave_up cap n d (last_line line) written e × Appends holds new written) → IfErr r (IsAnswerStop rose device)
+      → OnOk r ((written : List ℕ) × (next : M) × GoesOverCut answers ran cap n d (last_line line) written next e × Appends holds new written)
+      → OnErr r ((written : List ℕ) × StopsOverCut answers ran gave_up cap n d (last_line line) written e × Appends holds new written) → IfErr r (IsAnswerStop rose device)
       → Table (answers m) (RanOver ran m c e) (GaveUpOver gave_up m c e) limit had rest held new r
   table_of_end T (Ok x) m n c d e line limit room had left rest held holds new rose device small t takes end ok err cause = table_end x m n ok.1 c d e line limit room had left rest held holds new small t takes end (ok.0, ok.2, ok.3)
   table_of_end T (Err stop) m n c d e line limit room had left rest held holds new rose device small t takes end ok err cause = table_end_cut m n c d e line limit room had left rest held holds new rose device stop small t takes end err cause

@@ -2,7 +2,7 @@
 use Rattle.std.proofs.Common.{◌≡◌, ◌∙◌, ◌++◌, ℕ, List, [], ◌∷◌, refl, ap, sym, subst, inl, inr, append_assoc}
 use Rattle.std.specs.Prelude.{Result, Ok, Err, OnErr}
 use Rattle.st_drive.specs.Lines.{CutTo}
-use Rattle.st_drive.specs.Runs.{Begins, RanOver, GaveUpOver, EndsWithin, Goes, Stops, Went, Stopped}
+use Rattle.st_drive.specs.Runs.{Begins, RanOver, GaveUpOver, EndsWithin, Goes, Stops, GoesOverCut, StopsOverCut}
 use Rattle.st_drive.proofs.CutLemmas.{cut_append}
 use Rattle.st_drive.proofs.Laws.{Laws}
 
@@ -78,34 +78,34 @@ module _ {M C : Type 0} (answers : M → List (List ℕ) → List ℕ) (ran : M 
   goes_none m c [] cut = record { on = λ more. refl; context = laws.ran_none m c }
   goes_none m c (line ∷ lines) cut = absurd cut
 
-  pub went_none : (m : M) (c : C) → Went answers ran cap m c [] [] m c
+  pub went_none : (m : M) (c : C) → GoesOverCut answers ran cap m c [] [] m c
   went_none m c = record { of = goes_none m c }
 
-  pub went_more : (m n o : M) (c d e : C) (ls ks : List (List ℕ)) (w v : List ℕ) → Went answers ran cap m c ls w n d → Went answers ran cap n d ks v o e → Went answers ran cap m c (ls ++ ks) (w ++ v) o e
+  pub went_more : (m n o : M) (c d e : C) (ls ks : List (List ℕ)) (w v : List ℕ) → GoesOverCut answers ran cap m c ls w n d → GoesOverCut answers ran cap n d ks v o e → GoesOverCut answers ran cap m c (ls ++ ks) (w ++ v) o e
   went_more m n o c d e ls ks w v p q = record {
     of = λ lines cut. let s = cut_append cap lines ls ks cut in subst (λ xs. Goes answers ran m c xs (w ++ v) o e) s.2 (goes_more m n o c d e s.0 s.1 w v (p.of s.0 s.3) (q.of s.1 s.4));
   }
 
-  pub stopped_more : (m n : M) (c d e : C) (ls ks : List (List ℕ)) (w v : List ℕ) → Went answers ran cap m c ls w n d → Stopped answers ran gave_up cap n d ks v e → Stopped answers ran gave_up cap m c (ls ++ ks) (w ++ v) e
+  pub stopped_more : (m n : M) (c d e : C) (ls ks : List (List ℕ)) (w v : List ℕ) → GoesOverCut answers ran cap m c ls w n d → StopsOverCut answers ran gave_up cap n d ks v e → StopsOverCut answers ran gave_up cap m c (ls ++ ks) (w ++ v) e
   stopped_more m n c d e ls ks w v p q = record {
     of = λ lines cut. let s = cut_append cap lines ls ks cut in subst (λ xs. Stops answers ran gave_up m c xs (w ++ v) e) s.2 (stops_more m n c d e s.0 s.1 w v (p.of s.0 s.3) (q.of s.1 s.4));
   }
 
-  pub went_stopped : (m n : M) (c d : C) (ls ks : List (List ℕ)) (w : List ℕ) → Went answers ran cap m c ls w n d → Stopped answers ran gave_up cap m c (ls ++ ks) w d
+  pub went_stopped : (m n : M) (c d : C) (ls ks : List (List ℕ)) (w : List ℕ) → GoesOverCut answers ran cap m c ls w n d → StopsOverCut answers ran gave_up cap m c (ls ++ ks) w d
   went_stopped m n c d ls ks w p = record {
     of = λ lines cut. let s = cut_append cap lines ls ks cut in subst (λ xs. Stops answers ran gave_up m c xs w d) s.2 (goes_stops m n c d s.0 s.1 w (p.of s.0 s.3));
   }
 
-  pub stopped_longer : (m : M) (c d : C) (ls ks : List (List ℕ)) (w : List ℕ) → Stopped answers ran gave_up cap m c ls w d → Stopped answers ran gave_up cap m c (ls ++ ks) w d
+  pub stopped_longer : (m : M) (c d : C) (ls ks : List (List ℕ)) (w : List ℕ) → StopsOverCut answers ran gave_up cap m c ls w d → StopsOverCut answers ran gave_up cap m c (ls ++ ks) w d
   stopped_longer m c d ls ks w p = record {
     of = λ lines cut. let s = cut_append cap lines ls ks cut in subst (λ xs. Stops answers ran gave_up m c xs w d) s.2 (stops_longer m c d s.0 s.1 w (p.of s.0 s.3));
   }
 
-  pub stopped_shorter : (m : M) (c d : C) (ls : List (List ℕ)) (w v : List ℕ) → Stopped answers ran gave_up cap m c ls w d → Begins v w → Stopped answers ran gave_up cap m c ls v d
+  pub stopped_shorter : (m : M) (c d : C) (ls : List (List ℕ)) (w v : List ℕ) → StopsOverCut answers ran gave_up cap m c ls w d → Begins v w → StopsOverCut answers ran gave_up cap m c ls v d
   stopped_shorter m c d ls w v p q = record { of = λ lines cut. stops_shorter m c d lines w v (p.of lines cut) q }
 
   -- nothing is done yet
-  pub stopped_none : (m : M) (c : C) (ls : List (List ℕ)) → Stopped answers ran gave_up cap m c ls [] c
+  pub stopped_none : (m : M) (c : C) (ls : List (List ℕ)) → StopsOverCut answers ran gave_up cap m c ls [] c
   stopped_none m c ls = record {
     of = λ lines cut. record { answered = []; later = lines; all = refl; off = λ more. (answers m more, refl); context = inl (m, laws.ran_none m c) };
   }
@@ -121,7 +121,7 @@ module _ {M C : Type 0} (answers : M → List (List ℕ) → List ℕ) (ran : M 
   }
   goes_one m n c d line reply p r (f ∷ g ∷ gs) cut = absurd cut.2
 
-  pub went_one : (m n : M) (c d : C) (line reply : List ℕ) → ((more : List (List ℕ)) → answers m (line ∷ more) ≡ reply ++ answers n more) → ran m c (line ∷ []) n d → Went answers ran cap m c (line ∷ []) reply n d
+  pub went_one : (m n : M) (c d : C) (line reply : List ℕ) → ((more : List (List ℕ)) → answers m (line ∷ more) ≡ reply ++ answers n more) → ran m c (line ∷ []) n d → GoesOverCut answers ran cap m c (line ∷ []) reply n d
   went_one m n c d line reply p r = record { of = goes_one m n c d line reply p r }
 
   stops_one : (m : M) (c d : C) (line : List ℕ) → gave_up m c (line ∷ []) d → (lines : List (List ℕ)) → CutTo cap lines (line ∷ []) → Stops answers ran gave_up m c lines [] d
@@ -135,5 +135,5 @@ module _ {M C : Type 0} (answers : M → List (List ℕ) → List ℕ) (ran : M 
   }
   stops_one m c d line r (f ∷ g ∷ gs) cut = absurd cut.2
 
-  pub stopped_one : (m : M) (c d : C) (line : List ℕ) → gave_up m c (line ∷ []) d → Stopped answers ran gave_up cap m c (line ∷ []) [] d
+  pub stopped_one : (m : M) (c d : C) (line : List ℕ) → gave_up m c (line ∷ []) d → StopsOverCut answers ran gave_up cap m c (line ∷ []) [] d
   stopped_one m c d line r = record { of = stops_one m c d line r }

@@ -37,11 +37,11 @@ pub record Stops {M C : Type 0} (answers : M → List (List ℕ) → List ℕ) (
   pub context : EndsWithin (RanOver ran m c d) (GaveUpOver gave_up m c d) answered later
 
 -- the same of all lines that are cut to these
-pub record Went {M C : Type 0} (answers : M → List (List ℕ) → List ℕ) (ran : M → C → List (List ℕ) → M → C → Type 0) (cap : ℕ)
+pub record GoesOverCut {M C : Type 0} (answers : M → List (List ℕ) → List ℕ) (ran : M → C → List (List ℕ) → M → C → Type 0) (cap : ℕ)
     (m : M) (c : C) (kept : List (List ℕ)) (written : List ℕ) (n : M) (d : C) : Type 0 where
   pub of : (lines : List (List ℕ)) → CutTo cap lines kept → Goes answers ran m c lines written n d
 
-pub record Stopped {M C : Type 0} (answers : M → List (List ℕ) → List ℕ) (ran : M → C → List (List ℕ) → M → C → Type 0) (gave_up : M → C → List (List ℕ) → C → Type 0)
+pub record StopsOverCut {M C : Type 0} (answers : M → List (List ℕ) → List ℕ) (ran : M → C → List (List ℕ) → M → C → Type 0) (gave_up : M → C → List (List ℕ) → C → Type 0)
     (cap : ℕ) (m : M) (c : C) (kept : List (List ℕ)) (written : List ℕ) (d : C) : Type 0 where
   pub of : (lines : List (List ℕ)) → CutTo cap lines kept → Stops answers ran gave_up m c lines written d
 

@@ -2,7 +2,7 @@ ghost use Rattle.std.specs.Prelude.{◌≡◌, ◌≤◌, ◌<◌, ◌^◌, List
 ghost use Rattle.std.specs.Io.KnownBytes.{Appends, Consumes, Keeps, IsAtEnd};
 ghost use Rattle.st_io.specs.Causes.{Rose, HasCause};
 ghost use Rattle.st_drive.specs.Lines.{last_line, has_no_feed};
-ghost use Rattle.st_drive.specs.Runs.{RanOver, GaveUpOver, Went, Stopped};
+ghost use Rattle.st_drive.specs.Runs.{RanOver, GaveUpOver, GoesOverCut, StopsOverCut};
 ghost use Rattle.st_drive.specs.Stops.{IsRunStop, IsAnswerStop};
 ghost use Rattle.st_drive.specs.Tables.{Table};
 
@@ -17,7 +17,8 @@ fn read_some<S: Source>(source: &mut S, buffer: &mut [u8], want: usize) -> Resul
     requires some { 0 < want }
     requires room { want ≤ length buffer.old }
     ensures count { IfOk result (λ count. count ≤ want) }
-    ensures bytes { IfOk result (λ count. Consumes (S.left source.old) (S.left source.new) (take count buffer.new)) }
+    ensures bytes { IfOk result (λ count.
+        Consumes (S.left source.old) (S.left source.new) (take count buffer.new)) }
     ensures end { IfOk result (λ count. count ≡ 0 → IsAtEnd (S.left source.new)) }
     ensures err { OnErr result (Keeps (S.left source.old) (S.left source.new)) }
     ensures cause { HasCause (S.faults source.old) (S.faults source.new) result }
@@ -39,15 +40,18 @@ fn answer_last<M: Machine, K: Sink>(
     requires partial { has_no_feed progress.line.items ≡ true }
     requires fits { M.fits progress.machine context.old }
     ensures ok { IfOk result (λ next. (written : List ℕ)
-        × Went M.answers M.ran M.CAP progress.machine context.old (last_line progress.line.items) written next context.new
+        × GoesOverCut M.answers M.ran M.CAP
+        progress.machine context.old (last_line progress.line.items) written next context.new
         × Appends (K.written sink.old) (K.written sink.new) written) }
     ensures err { OnErr result ((written : List ℕ)
-        × Stopped M.answers M.ran M.gave_up M.CAP progress.machine context.old (last_line progress.line.items) written context.new
+        × StopsOverCut M.answers M.ran M.gave_up M.CAP
+        progress.machine context.old (last_line progress.line.items) written context.new
         × Appends (K.written sink.old) (K.written sink.new) written) }
     ensures unfinished { K.is_finished sink.new ≡ true → K.is_finished sink.old ≡ true }
     ensures later { K.faults sink.old ≤ K.faults sink.new }
     ensures context_later { M.faults context.old ≤ M.faults context.new }
-    ensures cause { IfErr result (IsAnswerStop (Rose (K.faults sink.old) (K.faults sink.new)) (Rose (M.faults context.old) (M.faults context.new))) }
+    ensures cause { IfErr result (IsAnswerStop (Rose (K.faults sink.old) (K.faults sink.new))
+        (Rose (M.faults context.old) (M.faults context.new))) }
 {
     if progress.line.is_empty() {
         return Ok(progress.machine);
@@ -70,16 +74,20 @@ fn end_run<M: Machine, K: Sink>(
     requires partial { has_no_feed progress.line.items ≡ true }
     requires fits { M.fits progress.machine context.old }
     ensures ok { OnOk result ((written : List ℕ) × (next : _)
-        × Went M.answers M.ran M.CAP progress.machine context.old (last_line progress.line.items) written next context.new
+        × GoesOverCut M.answers M.ran M.CAP
+        progress.machine context.old (last_line progress.line.items) written next context.new
         × Appends (K.written sink.old) (K.written sink.new) written) }
     ensures finished { OnOk result (K.is_finished sink.new ≡ true) }
     ensures err { OnErr result ((written : List ℕ)
-        × Stopped M.answers M.ran M.gave_up M.CAP progress.machine context.old (last_line progress.line.items) written context.new
+        × StopsOverCut M.answers M.ran M.gave_up M.CAP
+        progress.machine context.old (last_line progress.line.items) written context.new
         × Appends (K.written sink.old) (K.written sink.new) written) }
-    ensures unfinished { OnErr result (K.is_finished sink.new ≡ true → K.is_finished sink.old ≡ true) }
+    ensures unfinished { OnErr result
+        (K.is_finished sink.new ≡ true → K.is_finished sink.old ≡ true) }
     ensures later { K.faults sink.old ≤ K.faults sink.new }
     ensures context_later { M.faults context.old ≤ M.faults context.new }
-    ensures cause { IfErr result (IsAnswerStop (Rose (K.faults sink.old) (K.faults sink.new)) (Rose (M.faults context.old) (M.faults context.new))) }
+    ensures cause { IfErr result (IsAnswerStop (Rose (K.faults sink.old) (K.faults sink.new))
+        (Rose (M.faults context.old) (M.faults context.new))) }
 {
     match answer_last(alloc, progress, context, sink) {
         Err(stop) => Err(stop),
@@ -98,13 +106,12 @@ fn end_run<M: Machine, K: Sink>(
 /// gets the first `CAP` bytes of a line; all clauses speak of the whole line.
 ///
 /// `Ok` comes at the end of the input, when all is answered and written and the sink was finished,
-/// as the last act; no other end finishes it.
-/// `ReadFault`, `WriteFault` and `DeviceFault` come only where the count of faults of the source,
-/// the sink or the context rose. `OverLimit` comes exactly where `limit` bytes were taken and the
-/// source gave one more, unless a fault or want of memory ended the run; that byte isn't answered.
-/// Under `ReadFault` and `OverLimit` every whole line is answered and the replies are written;
-/// under `WriteFault`, `DeviceFault` and `Memory` a beginning of the replies is. Want of memory is
-/// free.
+/// as the last act; no other end finishes it. `ReadFault`, `WriteFault` and `DeviceFault` come only
+/// where the count of faults of the source, the sink or the context rose. `OverLimit` comes exactly
+/// where `limit` bytes were taken and the source gave one more, unless a fault or want of memory
+/// ended the run; that byte isn't answered. Under `ReadFault` and `OverLimit` every whole line is
+/// answered and the replies are written; under `WriteFault`, `DeviceFault` and `Memory` a beginning
+/// of the replies is. Want of memory is free.
 pub fn drive<M: Machine, S: Source, K: Sink>(
     alloc: Global,
     buffer: &mut [u8],
@@ -117,14 +124,18 @@ pub fn drive<M: Machine, S: Source, K: Sink>(
     requires some { 0 < length buffer.old }
     requires fits { M.fits machine context.old }
     requires limit { limit < 2 ^ 62 }
-    ensures table { Table (M.answers machine) (RanOver M.ran machine context.old context.new) (GaveUpOver M.gave_up machine context.old context.new) limit
+    ensures table { Table (M.answers machine)
+        (RanOver M.ran machine context.old context.new)
+        (GaveUpOver M.gave_up machine context.old context.new) limit
         (S.left source.old) (S.left source.new) (K.written sink.old) (K.written sink.new) result }
     ensures finished { OnOk result (K.is_finished sink.new ≡ true) }
-    ensures unfinished { OnErr result (K.is_finished sink.new ≡ true → K.is_finished sink.old ≡ true) }
+    ensures unfinished { OnErr result
+        (K.is_finished sink.new ≡ true → K.is_finished sink.old ≡ true) }
     ensures source_later { S.faults source.old ≤ S.faults source.new }
     ensures sink_later { K.faults sink.old ≤ K.faults sink.new }
     ensures context_later { M.faults context.old ≤ M.faults context.new }
-    ensures cause { IfErr result (IsRunStop (Rose (S.faults source.old) (S.faults source.new)) (Rose (K.faults sink.old) (K.faults sink.new))
+    ensures cause { IfErr result (IsRunStop (Rose (S.faults source.old) (S.faults source.new))
+        (Rose (K.faults sink.old) (K.faults sink.new))
         (Rose (M.faults context.old) (M.faults context.new))) }
 {
     let mut progress = Progress {

@@ -58,12 +58,15 @@ pub trait Machine: Sized + Drop {
         line: &[u8],
     ) -> Result<(Self, Bytes), StepError>
         requires { fits self context.old }
-        ensures reply { IfOk result (λ done. (more : List (List ℕ)) → answers self (line.now ∷ more) ≡ done.1 ++ answers done.0 more) }
-        ensures ran { IfOk result (λ done. ran self context.old (line.now ∷ []) done.0 context.new) }
+        ensures reply { IfOk result (λ done. (more : List (List ℕ))
+            → answers self (line.now ∷ more) ≡ done.1 ++ answers done.0 more) }
+        ensures ran { IfOk result
+            (λ done. ran self context.old (line.now ∷ []) done.0 context.new) }
         ensures fits { IfOk result (λ done. fits done.0 context.new) }
         ensures gave_up { OnErr result (gave_up self context.old (line.now ∷ []) context.new) }
         ensures later { faults context.old ≤ faults context.new }
-        ensures cause { IsErrOf result StepError.DeviceFault → Rose (faults context.old) (faults context.new) };
+        ensures cause { IsErrOf result StepError.DeviceFault
+            → Rose (faults context.old) (faults context.new) };
 
     /// To no lines it replies nothing.
     ghost silent: { (m : Self) → answers m [] ≡ [] };

@@ -17,11 +17,13 @@ fn answer_next<M: Machine>(
     line: &[u8],
 ) -> Result<M, StepError>
     requires { M.fits machine context.old }
-    ensures reply { IfOk result (λ next. (more : List (List ℕ)) → replies.old ++ M.answers machine (line.now ∷ more) ≡ replies.new ++ M.answers next more) }
+    ensures reply { IfOk result (λ next. (more : List (List ℕ))
+        → replies.old ++ M.answers machine (line.now ∷ more) ≡ replies.new ++ M.answers next more) }
     ensures ran { IfOk result (λ next. M.ran machine context.old (line.now ∷ []) next context.new) }
     ensures fits { IfOk result (λ next. M.fits next context.new) }
     ensures later { M.faults context.old ≤ M.faults context.new }
-    ensures cause { IsErrOf result StepError.DeviceFault → Rose (M.faults context.old) (M.faults context.new) }
+    ensures cause { IsErrOf result StepError.DeviceFault
+        → Rose (M.faults context.old) (M.faults context.new) }
 {
     let (next, reply) = machine.step(alloc, context, line)?;
     match replies.push_all(reply.as_slice()) {
@@ -39,10 +41,12 @@ fn answer_rest<M: Machine>(
     rest: &[u8],
 ) -> Result<(), StepError>
     requires { M.fits machine context.old }
-    ensures replies { OnOk result (replies.new ≡ replies.old ++ M.answers machine (last_line rest.now)) }
+    ensures replies { OnOk result (replies.new ≡ replies.old ++
+        M.answers machine (last_line rest.now)) }
     ensures ran { OnOk result (RanOver M.ran machine context.old context.new (last_line rest.now)) }
     ensures later { M.faults context.old ≤ M.faults context.new }
-    ensures cause { IsErrOf result StepError.DeviceFault → Rose (M.faults context.old) (M.faults context.new) }
+    ensures cause { IsErrOf result StepError.DeviceFault
+        → Rose (M.faults context.old) (M.faults context.new) }
 {
     if rest.is_empty() {
         return Ok(());
@@ -65,9 +69,11 @@ pub fn answer_all<M: Machine>(
 ) -> Result<Bytes, StepError>
     requires { M.fits machine context.old }
     ensures replies { IfOk result (λ replies. replies ≡ M.answers machine (all_lines bytes.now)) }
-    ensures ran { IfOk result (λ replies. RanOver M.ran machine context.old context.new (all_lines bytes.now)) }
+    ensures ran { IfOk result (λ _.
+        RanOver M.ran machine context.old context.new (all_lines bytes.now)) }
     ensures later { M.faults context.old ≤ M.faults context.new }
-    ensures cause { IsErrOf result StepError.DeviceFault → Rose (M.faults context.old) (M.faults context.new) }
+    ensures cause { IsErrOf result StepError.DeviceFault
+        → Rose (M.faults context.old) (M.faults context.new) }
 {
     let mut machine = machine;
     let mut replies = Bytes::new(alloc);

@@ -2,7 +2,7 @@ ghost use Rattle.std.specs.Prelude.{◌≡◌, ◌≤◌, ℕ, List, [], ◌∷�
 ghost use Rattle.std.specs.Io.KnownBytes.{Appends};
 ghost use Rattle.st_io.specs.Causes.{Rose};
 ghost use Rattle.st_drive.specs.Lines.{capped, has_no_feed};
-ghost use Rattle.st_drive.specs.Runs.{Went, Stopped, Passes, PassesSome};
+ghost use Rattle.st_drive.specs.Runs.{GoesOverCut, StopsOverCut, Passes, PassesSome};
 ghost use Rattle.st_drive.specs.Stops.{IsAnswerStop};
 
 use crate::lines::{cut_line, keep_front};
@@ -23,14 +23,19 @@ fn answer_line<M: Machine, K: Sink>(
 ) -> Result<M, Stop>
     requires { M.fits machine context.old }
     ensures fits { IfOk result (λ next. M.fits next context.new) }
-    ensures ok { IfOk result (λ next. (reply : List ℕ) × Went M.answers M.ran M.CAP machine context.old (line.now ∷ []) reply next context.new
-        × Passes (K.written sink.old) (K.written sink.new) gathered.old.items reply gathered.new.items) }
-    ensures err { OnErr result ((reply : List ℕ) × Stopped M.answers M.ran M.gave_up M.CAP machine context.old (line.now ∷ []) reply context.new
-        × PassesSome (K.written sink.old) (K.written sink.new) gathered.old.items reply gathered.new.items) }
+    ensures ok { IfOk result (λ next. (reply : List ℕ) × GoesOverCut M.answers M.ran M.CAP
+        machine context.old (line.now ∷ []) reply next context.new
+        × Passes (K.written sink.old) (K.written sink.new)
+        gathered.old.items reply gathered.new.items) }
+    ensures err { OnErr result ((reply : List ℕ) × StopsOverCut M.answers M.ran M.gave_up M.CAP
+        machine context.old (line.now ∷ []) reply context.new
+        × PassesSome (K.written sink.old) (K.written sink.new)
+        gathered.old.items reply gathered.new.items) }
     ensures unfinished { K.is_finished sink.new ≡ true → K.is_finished sink.old ≡ true }
     ensures later { K.faults sink.old ≤ K.faults sink.new }
     ensures context_later { M.faults context.old ≤ M.faults context.new }
-    ensures cause { IfErr result (IsAnswerStop (Rose (K.faults sink.old) (K.faults sink.new)) (Rose (M.faults context.old) (M.faults context.new))) }
+    ensures cause { IfErr result (IsAnswerStop (Rose (K.faults sink.old) (K.faults sink.new))
+        (Rose (M.faults context.old) (M.faults context.new))) }
 {
     match machine.step(alloc, context, line) {
         Err(StepError::Memory) => Err(Stop::Memory),
@@ -55,15 +60,20 @@ fn end_line<M: Machine, K: Sink>(
     requires cap { vec_len line.old ≤ M.CAP }
     requires fits { M.fits machine context.old }
     ensures fits { IfOk result (λ next. M.fits next context.new) }
-    ensures ok { IfOk result (λ next. (reply : List ℕ) × Went M.answers M.ran M.CAP machine context.old (take M.CAP (line.old.items ++ front.now) ∷ []) reply next context.new
-        × Passes (K.written sink.old) (K.written sink.new) gathered.old.items reply gathered.new.items) }
+    ensures ok { IfOk result (λ next. (reply : List ℕ) × GoesOverCut M.answers M.ran M.CAP
+        machine context.old (take M.CAP (line.old.items ++ front.now) ∷ []) reply next context.new
+        × Passes (K.written sink.old) (K.written sink.new)
+        gathered.old.items reply gathered.new.items) }
     ensures emptied { OnOk result (line.new.items ≡ []) }
-    ensures err { OnErr result ((reply : List ℕ) × Stopped M.answers M.ran M.gave_up M.CAP machine context.old (take M.CAP (line.old.items ++ front.now) ∷ []) reply context.new
-        × PassesSome (K.written sink.old) (K.written sink.new) gathered.old.items reply gathered.new.items) }
+    ensures err { OnErr result ((reply : List ℕ) × StopsOverCut M.answers M.ran M.gave_up M.CAP
+        machine context.old (take M.CAP (line.old.items ++ front.now) ∷ []) reply context.new
+        × PassesSome (K.written sink.old) (K.written sink.new)
+        gathered.old.items reply gathered.new.items) }
     ensures unfinished { K.is_finished sink.new ≡ true → K.is_finished sink.old ≡ true }
     ensures later { K.faults sink.old ≤ K.faults sink.new }
     ensures context_later { M.faults context.old ≤ M.faults context.new }
-    ensures cause { IfErr result (IsAnswerStop (Rose (K.faults sink.old) (K.faults sink.new)) (Rose (M.faults context.old) (M.faults context.new))) }
+    ensures cause { IfErr result (IsAnswerStop (Rose (K.faults sink.old) (K.faults sink.new))
+        (Rose (M.faults context.old) (M.faults context.new))) }
 {
     if keep_front(M::CAP, line, front).is_err() {
         return Err(Stop::Memory);
@@ -96,17 +106,23 @@ impl<M: Machine> Progress<M> {
         requires empty { gathered.old.items ≡ [] }
         ensures fits { IfOk result (λ next. M.fits next.machine context.new) }
         ensures ok { IfOk result (λ next. (written : List ℕ)
-            × Went M.answers M.ran M.CAP self.machine context.old (capped M.CAP (self.line.items ++ piece.now)).0 (written ++ gathered.new.items) next.machine context.new
+            × GoesOverCut M.answers M.ran M.CAP
+            self.machine context.old (capped M.CAP (self.line.items ++ piece.now)).0
+            (written ++ gathered.new.items) next.machine context.new
             × Appends (K.written sink.old) (K.written sink.new) written) }
         ensures cap { IfOk result (λ next. vec_len next.line ≤ M.CAP) }
-        ensures line { IfOk result (λ next. next.line.items ≡ (capped M.CAP (self.line.items ++ piece.now)).1) }
+        ensures line { IfOk result (λ next. next.line.items
+            ≡ (capped M.CAP (self.line.items ++ piece.now)).1) }
         ensures err { OnErr result ((written : List ℕ)
-            × Stopped M.answers M.ran M.gave_up M.CAP self.machine context.old (capped M.CAP (self.line.items ++ piece.now)).0 (written ++ gathered.new.items) context.new
+            × StopsOverCut M.answers M.ran M.gave_up M.CAP
+            self.machine context.old (capped M.CAP (self.line.items ++ piece.now)).0
+            (written ++ gathered.new.items) context.new
             × Appends (K.written sink.old) (K.written sink.new) written) }
         ensures unfinished { K.is_finished sink.new ≡ true → K.is_finished sink.old ≡ true }
         ensures later { K.faults sink.old ≤ K.faults sink.new }
         ensures context_later { M.faults context.old ≤ M.faults context.new }
-        ensures cause { IfErr result (IsAnswerStop (Rose (K.faults sink.old) (K.faults sink.new)) (Rose (M.faults context.old) (M.faults context.new))) }
+        ensures cause { IfErr result (IsAnswerStop (Rose (K.faults sink.old) (K.faults sink.new))
+            (Rose (M.faults context.old) (M.faults context.new))) }
     {
         let Progress {
             mut machine,
@@ -137,17 +153,23 @@ impl<M: Machine> Progress<M> {
         requires fits { M.fits self.machine context.old }
         ensures fits { IfOk result (λ next. M.fits next.machine context.new) }
         ensures ok { IfOk result (λ next. (written : List ℕ)
-            × Went M.answers M.ran M.CAP self.machine context.old (capped M.CAP (self.line.items ++ piece.now)).0 written next.machine context.new
+            × GoesOverCut M.answers M.ran M.CAP
+            self.machine context.old (capped M.CAP (self.line.items ++ piece.now)).0
+            written next.machine context.new
             × Appends (K.written sink.old) (K.written sink.new) written) }
         ensures cap { IfOk result (λ next. vec_len next.line ≤ M.CAP) }
-        ensures line { IfOk result (λ next. next.line.items ≡ (capped M.CAP (self.line.items ++ piece.now)).1) }
+        ensures line { IfOk result (λ next. next.line.items
+            ≡ (capped M.CAP (self.line.items ++ piece.now)).1) }
         ensures err { OnErr result ((written : List ℕ)
-            × Stopped M.answers M.ran M.gave_up M.CAP self.machine context.old (capped M.CAP (self.line.items ++ piece.now)).0 written context.new
+            × StopsOverCut M.answers M.ran M.gave_up M.CAP
+            self.machine context.old (capped M.CAP (self.line.items ++ piece.now)).0
+            written context.new
             × Appends (K.written sink.old) (K.written sink.new) written) }
         ensures unfinished { K.is_finished sink.new ≡ true → K.is_finished sink.old ≡ true }
         ensures later { K.faults sink.old ≤ K.faults sink.new }
         ensures context_later { M.faults context.old ≤ M.faults context.new }
-        ensures cause { IfErr result (IsAnswerStop (Rose (K.faults sink.old) (K.faults sink.new)) (Rose (M.faults context.old) (M.faults context.new))) }
+        ensures cause { IfErr result (IsAnswerStop (Rose (K.faults sink.old) (K.faults sink.new))
+            (Rose (M.faults context.old) (M.faults context.new))) }
     {
         let mut gathered = Vec::new(alloc);
         let outcome = self.answer_lines(alloc, context, sink, &mut gathered, piece);

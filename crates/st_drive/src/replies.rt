@@ -15,7 +15,8 @@ const FULL: usize = 65_536;
 // Writes all of it, or a front of it where the sink fails.
 pub fn write_all<K: Sink>(sink: &mut K, bytes: &[u8]) -> Result<(), Failed>
     ensures ok { OnOk result (Appends (K.written sink.old) (K.written sink.new) bytes.now) }
-    ensures err { OnErr result ((part : List ℕ) × Begins part bytes.now × Appends (K.written sink.old) (K.written sink.new) part) }
+    ensures err { OnErr result ((part : List ℕ) × Begins part bytes.now
+        × Appends (K.written sink.old) (K.written sink.new) part) }
     ensures unfinished { K.is_finished sink.new ≡ true → K.is_finished sink.old ≡ true }
     ensures cause { HasCause (K.faults sink.old) (K.faults sink.new) result }
 {
@@ -30,8 +31,10 @@ pub fn write_all<K: Sink>(sink: &mut K, bytes: &[u8]) -> Result<(), Failed>
 // Writes what was gathered, and gathers anew. What the sink doesn't take is lost.
 pub fn write_gathered<K: Sink>(sink: &mut K, gathered: &mut Vec<u8>) -> Result<(), Failed>
     ensures emptied { gathered.new.items ≡ [] }
-    ensures ok { OnOk result (Appends (K.written sink.old) (K.written sink.new) gathered.old.items) }
-    ensures err { OnErr result ((part : List ℕ) × Begins part gathered.old.items × Appends (K.written sink.old) (K.written sink.new) part) }
+    ensures ok { OnOk result
+        (Appends (K.written sink.old) (K.written sink.new) gathered.old.items) }
+    ensures err { OnErr result ((part : List ℕ) × Begins part gathered.old.items
+        × Appends (K.written sink.old) (K.written sink.new) part) }
     ensures unfinished { K.is_finished sink.new ≡ true → K.is_finished sink.old ≡ true }
     ensures cause { HasCause (K.faults sink.old) (K.faults sink.new) result }
 {
@@ -58,8 +61,10 @@ fn add_reply(gathered: &mut Vec<u8>, reply: Bytes) -> Result<(), Stop>
 
 // Gathers the reply, and writes what was gathered before where that or the reply is long.
 pub fn gather<K: Sink>(sink: &mut K, gathered: &mut Vec<u8>, reply: Bytes) -> Result<(), Stop>
-    ensures ok { OnOk result (Passes (K.written sink.old) (K.written sink.new) gathered.old.items reply gathered.new.items) }
-    ensures err { OnErr result (PassesSome (K.written sink.old) (K.written sink.new) gathered.old.items reply gathered.new.items) }
+    ensures ok { OnOk result (Passes (K.written sink.old) (K.written sink.new)
+        gathered.old.items reply gathered.new.items) }
+    ensures err { OnErr result (PassesSome (K.written sink.old) (K.written sink.new)
+        gathered.old.items reply gathered.new.items) }
     ensures unfinished { K.is_finished sink.new ≡ true → K.is_finished sink.old ≡ true }
     ensures later { K.faults sink.old ≤ K.faults sink.new }
     ensures cause { IfErr result (IsAnswerStop (Rose (K.faults sink.old) (K.faults sink.new)) ⊥) }

@@ -9,7 +9,7 @@ use st_io::{PlainSink, PlainSource, ScriptSink, ScriptSource};
 use std::alloc::Global;
 use std::test::Fail;
 
-// Nine lines: an empty one, long ones, one with a carriage return, and the last without a line feed.
+// Nine lines: empty ones, long ones, one with a carriage return, the last without a line feed.
 const INPUT: &[u8] = b"ab\n\nabcdef\nq\r\nabcd\nabcde\n\n\nxyz";
 
 const REPLIES: &[u8] = b"0ab\n1\n2abcd\n3q\r\n4abcd\n5abcd\n6\n7\n8xyz\n";

@@ -1,9 +1,15 @@
-ghost use Rattle.std.specs.Prelude.{◌≡◌, ◌<◌, [], Some, false};
+ghost use Rattle.std.specs.Prelude.{◌≡◌, ◌≤◌, ◌<◌, ◌↔◌, [], Some, Contains, IsErr, IfOk, OnOk, OnErr, length, true, false};
+ghost use Rattle.std.specs.Io.{WritesAtMost};
+ghost use Rattle.std.specs.Io.KnownBytes.{WriteAppends, Keeps};
+ghost use Rattle.st_io.specs.Causes.{HasCause};
+ghost use Rattle.st_io.specs.Scripts.{next_call};
+ghost use Rattle.st_io.specs.Sinks.{WriteUnfinishes};
 
 use crate::failed::Failed;
 use crate::sink::Sink;
 use st_base::{Bytes, List};
 use std::alloc::Global;
+use std::marker::Model;
 
 /// A sink in memory that takes small pieces and fails at listed calls.
 #[derive(Drop)]
@@ -14,18 +20,26 @@ pub struct ScriptSink {
     calls: u64,
     finished: bool,
     faults: u64,
-    ghost some: { 0 < piece },
+}
+
+impl Model for ScriptSink {
+    ghost use Rattle.std.specs.Prelude.{◌<◌};
+    ghost use Rattle.st_io.specs.Scripts.{SinkScript};
+
+    ghost Value = { SinkScript };
+
+    ghost view = { λ s. record { written = s.bytes; piece = s.piece; failing = s.failing; calls = s.calls; finished = s.finished; faults = s.faults } };
+
+    ghost invariant = { λ s. 0 < s.piece };
 }
 
 impl ScriptSink {
     /// Takes at most `piece` bytes a call. Calls of `write` and `finish` are numbered from 1, and
-    /// the numbers stay at `u64::MAX`; the calls whose numbers are listed fail. One whose growth is
-    /// refused fails too.
+    /// the numbers stay at `u64::MAX`; the calls whose numbers are listed fail. A write whose growth
+    /// is refused fails too.
     pub fn new(alloc: Global, piece: usize, failing: List<u64>) -> Self
         requires { 0 < piece }
-        ensures written { ⟦<ScriptSink as Sink>⟧.written result ≡ Some [] }
-        ensures finished { ⟦<ScriptSink as Sink>⟧.is_finished result ≡ false }
-        ensures faults { ⟦<ScriptSink as Sink>⟧.faults result ≡ 0 }
+        ensures { result ≡ record { written = []; piece = piece; failing = failing; calls = 0; finished = false; faults = 0 } }
     {
         ScriptSink {
             bytes: Bytes::new(alloc),
@@ -39,20 +53,29 @@ impl ScriptSink {
 
     /// All that was written.
     pub fn written(&self) -> &Bytes
-        ensures { ⟦<ScriptSink as Sink>⟧.written self.now ≡ Some result.now }
+        ensures { result.now ≡ self.now.written }
     {
         &self.bytes
     }
 }
 
 impl Sink for ScriptSink {
-    ghost written = { λ s. Some s.bytes };
+    ghost written = { λ s. Some s.written };
 
     ghost is_finished = { λ s. s.finished };
 
     ghost faults = { λ s. s.faults };
 
-    fn write(&mut self, from: &[u8]) -> Result<usize, Failed> {
+    fn write(&mut self, from: &[u8]) -> Result<usize, Failed>
+        ensures bound { WritesAtMost result from.now }
+        ensures takes { 0 < length from.now → IfOk result (λ n. 0 < n) }
+        ensures bytes { WriteAppends (Some self.old.written) (Some self.new.written) result from.now }
+        ensures finished { WriteUnfinishes self.old.finished self.new.finished result }
+        ensures cause { HasCause self.old.faults self.new.faults result }
+        ensures piece { IfOk result (λ n. n ≤ self.old.piece) }
+        ensures listed { Contains self.old.failing (next_call self.old.calls) → IsErr result }
+        ensures script { (self.new.calls ≡ next_call self.old.calls) × (self.new.failing ≡ self.old.failing) × (self.new.piece ≡ self.old.piece) }
+    {
         self.calls = self.calls.saturating_add(1);
         let count = from.len().min(self.piece);
         if self.failing.as_slice().contains(&self.calls)
@@ -67,7 +90,14 @@ impl Sink for ScriptSink {
         Ok(count)
     }
 
-    fn finish(&mut self) -> Result<(), Failed> {
+    fn finish(&mut self) -> Result<(), Failed>
+        ensures bytes { Keeps (Some self.old.written) (Some self.new.written) }
+        ensures ok { OnOk result (self.new.finished ≡ true) }
+        ensures err { OnErr result (self.new.finished ≡ self.old.finished) }
+        ensures cause { HasCause self.old.faults self.new.faults result }
+        ensures listed { IsErr result ↔ Contains self.old.failing (next_call self.old.calls) }
+        ensures script { (self.new.calls ≡ next_call self.old.calls) × (self.new.failing ≡ self.old.failing) × (self.new.piece ≡ self.old.piece) }
+    {
         self.calls = self.calls.saturating_add(1);
         if self.failing.as_slice().contains(&self.calls) {
             self.faults = self.faults.saturating_add(1);

@@ -1,7 +1,7 @@
 use Rattle.std.proofs.Common.{subst, append-nil, []}
 use Rattle.std.proofs.KnownBytes.{Appends-kept}
 use Rattle.st_drive.specs.Lines.{last_line}
-use Rattle.st_drive.specs.Runs.{Stopped}
+use Rattle.st_drive.specs.Runs.{StopsOverCut}
 use Rattle.st_drive.proofs.Laws.{Laws}
 use Rattle.st_drive.proofs.RunLemmas.{went_stopped}
 use Rattle.st_drive.proofs.driver.end_run.Given as given
@@ -24,4 +24,4 @@ returns-clause-err g c =
     let last = c.in-Ok.ensures.ok in
     let lines = last_line c.args.progress.line.items in
     let stopped = went_stopped g.M.Machine.answers g.M.Machine.ran g.M.Machine.gave_up g.M.Machine.CAP (laws g) c.args.progress.machine _ c.args.context.now _ lines [] last.0 last.1 in
-    (last.0, subst (λ ls. Stopped g.M.Machine.answers g.M.Machine.ran g.M.Machine.gave_up g.M.Machine.CAP c.args.progress.machine c.args.context.now ls last.0 c.answer_last.new.context) (append-nil lines) stopped, Appends-kept _ _ _ last.0 last.2 c.finish.ensures.bytes)
+    (last.0, subst (λ ls. StopsOverCut g.M.Machine.answers g.M.Machine.ran g.M.Machine.gave_up g.M.Machine.CAP c.args.progress.machine c.args.context.now ls last.0 c.answer_last.new.context) (append-nil lines) stopped, Appends-kept _ _ _ last.0 last.2 c.finish.ensures.bytes)
