@@ -1,14 +1,12 @@
 -- What a secret signs is a signature under its public key.
-use Rattle.std.proofs.Common.{◌≡◌, ℕ, zero, suc, ◌+◌, ◌-◌, ◌*◌, ◌/◌, ◌%◌, ◌^◌, ◌<◌, ◌≤◌, List, ◌++◌, length, take, drop, true, false, inl, inr, sym, ap, ◌∙◌, refl, arith}
-use Rattle.std.specs.Prelude.{if◌then◌else◌, ◌==◌}
+use Rattle.std.proofs.Common.{◌≡◌, ℕ, zero, suc, ◌+◌, ◌-◌, ◌*◌, ◌/◌, ◌%◌, ◌^◌, ◌<◌, List, ◌++◌, length, take, drop, inl, inr, sym, ap, ◌∙◌, refl, arith}
 use Rattle.std.proofs.lemmas.Bool.{cases_lt}
 use Rattle.std.proofs.lemmas.List.{take_at, drop_at, length-append}
-use Rattle.std.proofs.lemmas.Nat.{shr-shr, div-mul-add, pow_pos}
+use Rattle.std.proofs.lemmas.Nat.{shr-shr, div-mul-add}
 use Rattle.sha2.proofs.Facts256.{length-sha256}
-use Rattle.st_lms.specs.Strings.{u32str}
-use Rattle.st_lms.specs.Parameters.{chains, height}
-use Rattle.st_lms.specs.Keys.{SecretKey, PublicKey}
-use Rattle.st_lms.specs.OneTime.{message_hash, checked, candidate_key, signed_values, one_time_public, secret_element}
+use Rattle.st_lms.specs.Parameters.{height}
+use Rattle.st_lms.specs.Keys.{SecretKey}
+use Rattle.st_lms.specs.OneTime.{message_hash, checked, signed_values, one_time_public}
 use Rattle.st_lms.specs.Tree.{leaf, inner, node, parent, sibling, node_above, path_from}
 use Rattle.st_lms.specs.Signature.{IsSignature, root_of, public_of, randomizer_of, signature_of}
 use Rattle.st_lms.proofs.OneTimeLaw.{candidate_key-signed, length-signed_values, length-secret_element}

@@ -1,8 +1,7 @@
 -- The text of a public key, written and read.
-use Rattle.std.proofs.Common.{◌≡◌, ℕ, ◌+◌, ◌<◌, ◌≤◌, ◌^◌, List, ◌++◌, length, take, drop, ap, sym, ◌∙◌, refl, append_assoc, arith}
+use Rattle.std.proofs.Common.{◌≡◌, ℕ, ◌<◌, ◌^◌, List, ◌++◌, length, take, drop, ap, ◌∙◌, append_assoc, arith}
 use Rattle.std.proofs.lemmas.List.{take_at, drop_at, take-append-drop, length-take-le, length-drop, length-append}
 use Rattle.st_lms.specs.Strings.{u32str, str_to_u32}
-use Rattle.st_lms.specs.Parameters.{IsOneTimeType, IsTreeType}
 use Rattle.st_lms.specs.Keys.{PublicKey, IsPublicKey, public_text, tree_type_in, one_time_type_in}
 use Rattle.st_lms.proofs.StringLemmas.{length-u32str}
 use Rattle.st_lms.proofs.Texts.{AreBytes, bytes_of_take, bytes_of_drop, u32str-str_to_u32, str_to_u32-u32str}

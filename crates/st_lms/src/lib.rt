@@ -11,6 +11,8 @@ mod public;
 mod secret;
 mod sign;
 mod strings;
+#[cfg(test)]
+mod tests;
 mod tree;
 mod verification;
 

@@ -1,4 +1,4 @@
-use Rattle.std.proofs.Common.{◌≡◌, ◌∙◌, ◌∷◌, ◌++◌, [], length, refl}
+use Rattle.std.proofs.Common.{◌∙◌, []}
 use Rattle.st_lms.specs.OneTime.{checked, checksum}
 use Rattle.st_lms.specs.Strings.{u16str}
 use Rattle.st_lms.specs.TypeNumbers.{one_time_number}

@@ -1,4 +1,4 @@
-use Rattle.std.proofs.Common.{◌∙◌, ap}
+use Rattle.std.proofs.Common.{ap}
 use Rattle.st_lms.specs.Tree.{node}
 use Rattle.st_lms.proofs.secret.leaf_of.Goals as goal
 

@@ -1,7 +1,7 @@
-use Rattle.std.proofs.Common.{◌≡◌, ◌∙◌, ◌+◌, ◌^◌, ◌<◌, ◌≤◌, ap, arith}
+use Rattle.std.proofs.Common.{◌≡◌, ◌∙◌, ◌^◌, ◌<◌, ◌≤◌, ap, arith}
 use Rattle.st_lms.specs.Parameters.{height}
 use Rattle.st_lms.proofs.Nodes.{node_small, sibling_node}
-use Rattle.st_lms.proofs.PathLemmas.{IsOnWay, on_way_first, on_way_next, on_way_last}
+use Rattle.st_lms.proofs.PathLemmas.{on_way_first, on_way_next, on_way_last}
 use Rattle.st_lms.proofs.sign.push_path.Goals as goal
 
 pub levels-init : goal.levels-init

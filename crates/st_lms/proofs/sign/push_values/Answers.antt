@@ -1,4 +1,4 @@
-use Rattle.std.proofs.Common.{◌≡◌, ◌∙◌, ◌++◌, ◌≤◌, ap, sym, append-nil, arith}
+use Rattle.std.proofs.Common.{◌≡◌, ◌∙◌, ◌++◌, ap, append-nil, arith}
 use Rattle.st_lms.specs.OneTime.{signed_value, signed_values}
 use Rattle.st_lms.specs.Parameters.{chains}
 use Rattle.st_lms.specs.Strings.{joined}

@@ -1,6 +1,6 @@
-use Rattle.std.proofs.Common.{◌≡◌, ◌∙◌, ap}
+use Rattle.std.proofs.Common.{◌≡◌, ap}
 use Rattle.st_lms.specs.OneTime.{checked, message_hash}
-use Rattle.st_lms.specs.Signature.{IsSignature, public_of, randomizer_of, signature_of}
+use Rattle.st_lms.specs.Signature.{randomizer_of, signature_of}
 use Rattle.st_lms.proofs.Law.{signature_of-IsSignature}
 use Rattle.st_lms.proofs.sign.sign_at.Goals as goal
 use Rattle.st_lms.proofs.sign.sign_at.Goals.{In_ok-push_path}

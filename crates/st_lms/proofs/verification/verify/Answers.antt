@@ -1,7 +1,5 @@
-use Rattle.std.proofs.Common.{◌≡◌, ◌∙◌, ◌+◌, ◌*◌, ◌<◌, ◌^◌, length, ap, sym, arith}
-use Rattle.st_lms.specs.Parameters.{chains, height}
-use Rattle.st_lms.specs.Signature.{IsSignature, root_of}
-use Rattle.st_lms.specs.Strings.{u32str}
+use Rattle.std.proofs.Common.{◌≡◌, ◌∙◌, ◌<◌, ◌^◌, sym, arith}
+use Rattle.st_lms.specs.Parameters.{height}
 use Rattle.st_lms.proofs.SignatureParts.{IsCut, length-signature, cut_of, same_parts, same_number, signature_of_parts}
 use Rattle.st_lms.proofs.verification.verify.Goals as goal
 use Rattle.st_lms.proofs.verification.verify.Goals.{Then-not-has_types, Then-q-leaf_count, After-is_same}

@@ -1,5 +1,5 @@
-use Rattle.std.proofs.Common.{◌≡◌, ◌∙◌, ◌≢◌, sym, ap, refl, take, drop, Ok, arith}
-use Rattle.st_lms.specs.Keys.{PublicKey, IsPublicKey, public_text, tree_type_in, one_time_type_in}
+use Rattle.std.proofs.Common.{◌≡◌, ◌∙◌, sym, ap, refl, take, Ok, arith}
+use Rattle.st_lms.specs.Keys.{PublicKey, public_text, tree_type_in, one_time_type_in}
 use Rattle.st_lms.specs.Parameters.{IsOneTimeType, IsTreeType}
 use Rattle.st_lms.specs.Strings.{str_to_u32}
 use Rattle.st_lms.specs.TypeNumbers.{one_time_number, tree_number}

@@ -1,5 +1,5 @@
-use Rattle.std.proofs.Common.{◌≡◌, ◌∙◌, ap}
-use Rattle.st_lms.specs.Keys.{IsPublicKey, public_text}
+use Rattle.std.proofs.Common.{◌∙◌, ap}
+use Rattle.st_lms.specs.Keys.{public_text}
 use Rattle.st_lms.specs.Strings.{u32str}
 use Rattle.st_lms.specs.TypeNumbers.{one_time_number, tree_number}
 use Rattle.st_lms.proofs.StringLemmas.{length-u32str}
