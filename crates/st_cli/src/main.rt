@@ -4,6 +4,8 @@
 
 mod driven;
 mod node_lines;
+#[cfg(test)]
+mod plain;
 mod run;
 #[cfg(test)]
 mod tests;

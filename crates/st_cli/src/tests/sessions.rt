@@ -1,3 +1,4 @@
+use crate::plain::plain_replies;
 use crate::run::run;
 use crate::tests::support::{OF_ABC, OF_BRACES, OF_NOTHING, node_replies, node_run, one_word};
 use st_base::{Bytes, List, Work};
@@ -86,5 +87,24 @@ fn a_create_resolves_once_its_file_has_come(rt: HostRuntime) -> Result<(), Fail>
     let input = format!(in rt.alloc(); "{ANCHOR}{RESOLVE}{CREATE}{RESOLVE}")?;
     let replies = format!(in rt.alloc(); "anchored 0\nunresolved notFound\n{HAVE}{RESOLVED}")?;
     assert!(rt; node_replies(&rt, input.as_str(), replies.as_str())?);
+    Ok(())
+}
+
+#[test]
+fn the_plain_program_replies_alike(rt: HostRuntime) -> Result<(), Fail> {
+    let alloc = rt.alloc();
+    for input in [
+        CREATE,
+        ANCHOR,
+        RESOLVE,
+        "\n\nwan",
+        "anchor 3 x\nanchor 2 y\ncontent e31",
+    ] {
+        let session = format!(in alloc; "{ANCHOR}{RESOLVE}{input}{CREATE}{RESOLVE}{input}")?;
+        let (_, written) = node_run(&rt, session.as_bytes())?;
+        let mut work = Work::new(&rt);
+        let plain = plain_replies(alloc, session.as_bytes(), &mut work)?;
+        assert_eq!(rt; plain.as_slice(), written.as_slice());
+    }
     Ok(())
 }
