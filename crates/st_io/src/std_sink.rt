@@ -14,9 +14,12 @@ pub struct StdSink<'a, R> {
     faults: u64,
 }
 
-impl<'a, R> StdSink<'a, R> {
+impl<'a, R: Print> StdSink<'a, R> {
     /// Nothing is written, and it isn't finished.
-    pub fn new(rt: &'a R) -> Self {
+    pub fn new(rt: &'a R) -> Self
+        ensures finished { ⟦<StdSink<'a, R> as Sink>⟧.is_finished result ≡ false }
+        ensures faults { ⟦<StdSink<'a, R> as Sink>⟧.faults result ≡ 0 }
+    {
         StdSink {
             rt,
             finished: false,

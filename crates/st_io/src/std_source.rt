@@ -1,4 +1,4 @@
-ghost use Rattle.std.specs.Prelude.{None};
+ghost use Rattle.std.specs.Prelude.{◌≡◌, None};
 
 use crate::failed::Failed;
 use crate::source::Source;
@@ -11,9 +11,11 @@ pub struct StdSource<'a, R> {
     faults: u64,
 }
 
-impl<'a, R> StdSource<'a, R> {
+impl<'a, R: Input> StdSource<'a, R> {
     /// No fault yet.
-    pub fn new(rt: &'a R) -> Self {
+    pub fn new(rt: &'a R) -> Self
+        ensures { ⟦<StdSource<'a, R> as Source>⟧.faults result ≡ 0 }
+    {
         StdSource { rt, faults: 0 }
     }
 }
