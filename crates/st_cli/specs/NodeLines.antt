@@ -1,9 +1,8 @@
 -- What a node does to the counters of work over its lines: nothing.
-use Rattle.std.specs.Prelude.{◌≡◌, ◌<◌, ◌^◌, ◌-◌, ℕ, List, ◌∷◌, ◌++◌, length, take}
-use Rattle.std.proofs.Common.{◌∙◌, ap, arith}
-use Rattle.std.proofs.lemmas.List.{take_all}
+use Rattle.std.specs.Prelude.{◌≡◌, ℕ, List, ◌++◌}
+use Rattle.std.proofs.Common.{◌∙◌}
 use Rattle.st_base.specs.Work.{Counts}
-use Rattle.st_node.specs.Machine.{State, replies}
+use Rattle.st_node.specs.Machine.{State}
 
 abbrev pub KeepsWork : State → Counts → List (List ℕ) → State → Counts → Type 0
 KeepsWork node work lines next after = after ≡ work
@@ -18,8 +17,3 @@ keeps_more node next last work between after lines more first second = second �
 pub leaves_more : (node next : State) (work between after : Counts) (lines more : List (List ℕ))
     → KeepsWork node work lines next between → LeavesWork next between more after → LeavesWork node work (lines ++ more) after
 leaves_more node next work between after lines more first second = second ∙ first
-
--- a line is shorter than what is looked at
-pub whole_line : (node : State) (line : List ℕ) (more : List (List ℕ)) → length line < 2 ^ 62
-    → replies node (take (2 ^ 64 - 1) line ∷ more) ≡ replies node (line ∷ more)
-whole_line node line more short = ap (λ cut. replies node (cut ∷ more)) (take_all (2 ^ 64 - 1) line (omega arith))

@@ -1,7 +1,8 @@
-ghost use Rattle.std.specs.Prelude.{◌≡◌, ◌+◌, ◌-◌, ◌^◌, ⊤, refl};
+ghost use Rattle.std.specs.Prelude.{◌≡◌, ⊤, refl};
 ghost use Rattle.st_node.specs.Machine.{State, replies};
 ghost use Rattle.std.proofs.Common.{rules};
-ghost use Rattle.st_cli.specs.NodeLines.{KeepsWork, LeavesWork, keeps_more, leaves_more, whole_line};
+ghost use Rattle.st_drive.specs.Uncut.{no_cap, uncut_answers};
+ghost use Rattle.st_cli.specs.NodeLines.{KeepsWork, LeavesWork, keeps_more, leaves_more};
 
 use st_base::{Bytes, Work};
 use st_drive::{Machine, StepError};
@@ -37,7 +38,7 @@ impl Machine for NodeLines {
 
     ghost answers = { replies };
 
-    ghost CAP = { 2 ^ 64 - 1 };
+    ghost CAP = { no_cap };
 
     const CAP: usize = usize::MAX;
 
@@ -65,7 +66,7 @@ impl Machine for NodeLines {
 
     ghost positive = { Prim.search rules };
 
-    ghost cut_answers = { whole_line };
+    ghost cut_answers = { uncut_answers replies };
 
     ghost cut_ran = { λ _ _ _ _ _ _ kept. kept };
 
