@@ -1,5 +1,4 @@
-use Rattle.std.proofs.Common.{◌≡◌, Some, None, rules, arith}
-use Rattle.st_hash.specs.Hash.{hash_of_text}
+use Rattle.std.proofs.Common.{rules, arith}
 use Rattle.st_hash.proofs.Spelling.{hash_of_text-spelled, hash_of_text-none}
 use Rattle.st_hash.proofs.text.read_hash.Goals as goal
 
