@@ -1,0 +1,10 @@
+use Rattle.std.proofs.Common.{◌≡◌, ◌++◌}
+use Rattle.sha2.specs.Hashers.{Holds256}
+use Rattle.st_lms.specs.OneTime.{d_pblc, end_of_secret, end_of_value}
+use Rattle.st_lms.specs.Strings.{u32str, u16str, joined}
+use Rattle.st_lms.specs.TypeNumbers.{one_time_number}
+use Rattle.st_lms.proofs.one_time.candidate_key.Given as goal
+
+abbrev pub invariant-ends : goal.invariant-ends
+invariant-ends l =
+    Holds256 l.hasher (l.id ++ u32str l.q ++ u16str d_pblc ++ joined (end_of_value (one_time_number l.kind) l.id l.q l.digits l.values) l.i)

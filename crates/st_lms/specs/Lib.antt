@@ -1,0 +1,4 @@
+pub mod Strings
+pub mod Parameters
+pub mod TypeNumbers
+pub mod OneTime

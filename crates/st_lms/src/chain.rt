@@ -1,0 +1,80 @@
+ghost use Rattle.std.specs.Prelude.{◌≡◌, ◌≤◌, ◌+◌, ◌-◌, length, ◌∷◌, ◌++◌, take, drop};
+ghost use Rattle.sha2.specs.Sha256.{sha256};
+ghost use Rattle.st_lms.specs.OneTime.{chain, secret_element};
+ghost use Rattle.st_lms.specs.Strings.{u32str, u16str};
+
+use crate::strings::{u16str, u32str};
+use sha2::{Digest, Sha256};
+
+/// What the steps of one chain hash: identifier, number of the key and of the chain, number of the
+/// step, value. With its padding it fills one block of SHA-256, so a step costs one compression.
+type Link = [u8; 55];
+
+const STEP: usize = 22;
+
+const VALUE: usize = 23;
+
+fn blank() -> Link {
+    [0; 55]
+}
+
+/// Writes these bytes from place `at` on.
+#[inline(always)]
+fn put(link: &mut Link, at: usize, bytes: &[u8])
+    requires { at + length bytes.now ≤ 55 }
+    ensures { take (at + length bytes.now) link.new ≡ take at link.old ++ bytes.now }
+{
+    link[at..at + bytes.len()].copy_from_slice(bytes);
+}
+
+fn link(id: &[u8; 16], q: u32, i: u16, value: &[u8; 32]) -> Link
+    ensures head { take 22 result ≡ id.now ++ u32str q ++ u16str i }
+    ensures value { drop 23 result ≡ value.now }
+{
+    let mut link = blank();
+    put(&mut link, 0, id);
+    put(&mut link, 16, &u32str(q));
+    put(&mut link, 20, &u16str(i));
+    put(&mut link, VALUE, value);
+    link
+}
+
+/// Puts the value after step `j` in place of the value.
+fn take_step(link: &mut Link, j: u8)
+    ensures head { take 22 link.new ≡ take 22 link.old }
+    ensures value { drop 23 link.new ≡ sha256 (take 22 link.old ++ j ∷ drop 23 link.old) }
+{
+    link[STEP] = j;
+    let value = Sha256::digest(link.as_slice());
+    put(link, VALUE, &value);
+}
+
+fn value_of(link: &Link) -> [u8; 32]
+    ensures { result ≡ drop 23 link.now }
+{
+    let mut value = [0u8; 32];
+    value.copy_from_slice(&link[VALUE..]);
+    value
+}
+
+/// Secret element `i` of the key with number `q`, which is hashed as a step with the number 0xff.
+#[tactic(auto, unfolding(crate::specs::OneTime::secret_element))]
+pub(crate) fn secret_element(id: &[u8; 16], q: u32, i: u16, seed: &[u8; 32]) -> [u8; 32]
+    ensures { result ≡ secret_element id.now q i seed.now }
+{
+    let mut link = link(id, q, i, seed);
+    take_step(&mut link, 0xff);
+    value_of(&link)
+}
+
+/// The value of chain `i` after the steps from `from` on and before `to`.
+pub(crate) fn chain(id: &[u8; 16], q: u32, i: u16, from: u8, to: u8, value: &[u8; 32]) -> [u8; 32]
+    requires { from ≤ to }
+    ensures { result ≡ chain id.now q i from (to - from) value.now }
+{
+    let mut link = link(id, q, i, value);
+    'steps: for j in from..to {
+        take_step(&mut link, j);
+    }
+    value_of(&link)
+}

@@ -1,0 +1,10 @@
+//! LMS signatures (RFC 8554) with SHA-256: LM-OTS types 1 to 4, LMS types 5 and 6, strings of 32
+//! bytes.
+#![tactic(auto)]
+
+mod chain;
+mod digits;
+mod hasher;
+mod one_time;
+mod parameters;
+mod strings;

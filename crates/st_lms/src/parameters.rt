@@ -1,0 +1,99 @@
+ghost use Rattle.std.specs.Prelude.{◌≡◌, MatchOption};
+ghost use Rattle.st_lms.specs.Parameters.{IsOneTimeType, IsTreeType, width, chains, shift, greatest_digit, height};
+ghost use Rattle.st_lms.specs.TypeNumbers.{one_time_number, tree_number};
+
+/// An LM-OTS parameter set, named by how many bits a digit has.
+#[derive(Clone, Copy, Debug, PartialEq, Eq)]
+pub(crate) enum OneTimeType {
+    W1,
+    W2,
+    W4,
+    W8,
+}
+
+/// A row of the table of LM-OTS parameter sets (RFC 8554, section 4.1).
+#[derive(Clone, Copy, Debug)]
+pub(crate) struct Parameters {
+    pub(crate) number: u32,
+    pub(crate) width: usize,
+    pub(crate) greatest_digit: u8,
+    pub(crate) chains: u16,
+    pub(crate) shift: u32,
+}
+
+impl OneTimeType {
+    pub(crate) fn read(number: u32) -> Option<OneTimeType>
+        ensures { MatchOption result (¬ IsOneTimeType number) (λ kind. one_time_number kind ≡ number) }
+    {
+        match number {
+            1 => Some(OneTimeType::W1),
+            2 => Some(OneTimeType::W2),
+            3 => Some(OneTimeType::W4),
+            4 => Some(OneTimeType::W8),
+            _ => None,
+        }
+    }
+
+    #[tactic(auto, unfolding(crate::specs::Parameters::width, crate::specs::Parameters::greatest_digit, crate::specs::Parameters::chains, crate::specs::Parameters::shift))]
+    pub(crate) fn parameters(self) -> Parameters
+        ensures number { result.number ≡ one_time_number self }
+        ensures width { result.width ≡ width (one_time_number self) }
+        ensures greatest_digit { result.greatest_digit ≡ greatest_digit (one_time_number self) }
+        ensures chains { result.chains ≡ chains (one_time_number self) }
+        ensures shift { result.shift ≡ shift (one_time_number self) }
+        ensures known { IsOneTimeType (one_time_number self) }
+    {
+        let (number, width, greatest_digit, chains, shift) = match self {
+            OneTimeType::W1 => (1, 1, 1, 265, 7),
+            OneTimeType::W2 => (2, 2, 3, 133, 6),
+            OneTimeType::W4 => (3, 4, 15, 67, 4),
+            OneTimeType::W8 => (4, 8, 255, 34, 0),
+        };
+        Parameters {
+            number,
+            width,
+            greatest_digit,
+            chains,
+            shift,
+        }
+    }
+}
+
+/// An LMS parameter set, named by the height of its tree.
+#[derive(Clone, Copy, Debug, PartialEq, Eq)]
+pub(crate) enum TreeType {
+    H5,
+    H10,
+}
+
+impl TreeType {
+    pub(crate) fn read(number: u32) -> Option<TreeType>
+        ensures { MatchOption result (¬ IsTreeType number) (λ kind. tree_number kind ≡ number) }
+    {
+        match number {
+            5 => Some(TreeType::H5),
+            6 => Some(TreeType::H10),
+            _ => None,
+        }
+    }
+
+    pub(crate) fn number(self) -> u32
+        ensures number { result ≡ tree_number self }
+        ensures known { IsTreeType (tree_number self) }
+    {
+        match self {
+            TreeType::H5 => 5,
+            TreeType::H10 => 6,
+        }
+    }
+
+    #[tactic(auto, unfolding(crate::specs::Parameters::height))]
+    pub(crate) fn height(self) -> u32
+        ensures { result ≡ height (tree_number self) }
+    {
+        match self {
+            TreeType::H5 => 5,
+            TreeType::H10 => 10,
+        }
+    }
+}

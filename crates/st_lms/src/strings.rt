@@ -1,0 +1,53 @@
+ghost use Rattle.std.specs.Prelude.{◌≡◌, ◌+◌, ◌<◌, ◌≤◌, ◌*◌, length};
+ghost use Rattle.st_lms.specs.Parameters.{width};
+ghost use Rattle.st_lms.specs.Strings.{u32str, u16str, str_to_u32, coef, value_at};
+ghost use Rattle.st_lms.specs.TypeNumbers.{one_time_number};
+
+use crate::parameters::OneTimeType;
+
+#[tactic(auto, unfolding(crate::specs::Strings::u32str))]
+pub(crate) fn u32str(n: u32) -> [u8; 4]
+    ensures { result ≡ u32str n }
+{
+    n.to_be_bytes()
+}
+
+#[tactic(auto, unfolding(crate::specs::Strings::u16str))]
+pub(crate) fn u16str(n: u16) -> [u8; 2]
+    ensures { result ≡ u16str n }
+{
+    n.to_be_bytes()
+}
+
+#[tactic(auto, unfolding(crate::specs::Strings::str_to_u32))]
+pub(crate) fn str_to_u32(bytes: &[u8]) -> u32
+    requires { length bytes.now ≡ 4 }
+    ensures { result ≡ str_to_u32 bytes.now }
+{
+    let mut copied = [0u8; 4];
+    copied.copy_from_slice(bytes);
+    u32::from_be_bytes(copied)
+}
+
+/// String `i` of the strings of 32 bytes that stand in a row.
+#[tactic(auto, unfolding(crate::specs::Strings::value_at))]
+pub(crate) fn value_at(row: &[u8], i: usize) -> [u8; 32]
+    requires { 32 * i + 32 ≤ length row.now }
+    ensures { result ≡ value_at row.now i }
+{
+    let mut value = [0u8; 32];
+    value.copy_from_slice(&row[32 * i..32 * i + 32]);
+    value
+}
+
+/// Digit `i` of a string.
+pub(crate) fn coef(s: &[u8], i: u16, kind: OneTimeType) -> u8
+    requires { i * width (one_time_number kind) < 8 * length s.now }
+    ensures { result ≡ coef s.now i (width (one_time_number kind)) }
+{
+    let parameters = kind.parameters();
+    let width = parameters.width;
+    let i = i as usize;
+    let below = 8 - (width * (i % (8 / width)) + width);
+    (s[i * width / 8] >> below) & parameters.greatest_digit
+}
