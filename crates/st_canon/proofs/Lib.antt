@@ -2,6 +2,7 @@ pub mod Converting
 pub mod Depths
 pub mod Kept
 pub mod Named
+pub mod OnLiterals
 pub mod Order
 pub mod Outcomes
 pub mod Places

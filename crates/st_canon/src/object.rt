@@ -34,6 +34,15 @@ impl Object {
         }
     }
 
+    /// `insert` at a copy of the name.
+    pub fn set(&mut self, alloc: Global, name: &str, value: Json) -> Result<(), WantOfMemory>
+        ensures ok { OnOk result (plain_members self.new ≡ put name.now (plain value) (plain_members self.old)) }
+        ensures err { OnErr result (self.new ≡ self.old) }
+    {
+        let name = Text::from_text(alloc, name)?;
+        self.insert(alloc, name, value)
+    }
+
     /// Takes the member of this name out. Where there is none, nothing changes.
     pub fn remove(&mut self, name: &str) -> Option<Json>
         ensures value { option_map plain result ≡ member_at name.now (plain_members self.old) }

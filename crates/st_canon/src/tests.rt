@@ -3,18 +3,18 @@ ghost use Rattle.st_canon.specs.Plain.{object, member, no_members};
 ghost use Rattle.st_canon.specs.View.{plain};
 
 use crate::{Json, Object, ReadRefused, read, write};
-use st_base::{Text, WantOfMemory};
+use st_base::WantOfMemory;
 use std::alloc::Global;
 use std::test::Fail;
 
 // An object of fixed members, put in any order.
-#[tactic(auto, unfolding(std::specs::Str::chars))]
+#[tactic(auto, unfolding(crate::proofs::OnLiterals::names_on_literals))]
 fn pair_of(alloc: Global, first: Json, second: Json) -> Result<Json, WantOfMemory>
     ensures { IfOk result (λ json. plain json ≡ object (member (codes "a") (plain first) (member (codes "b") (plain second) no_members))) }
 {
     let mut pair = Object::new(alloc);
-    pair.insert(alloc, Text::from_text(alloc, "b")?, second)?;
-    pair.insert(alloc, Text::from_text(alloc, "a")?, first)?;
+    pair.set(alloc, "b", second)?;
+    pair.set(alloc, "a", first)?;
     Ok(Json::Object(pair))
 }
 
