@@ -3,6 +3,11 @@ pub mod Widths
 pub mod StringLemmas
 pub mod DigitLemmas
 pub mod Hashing
+pub mod Texts
 pub mod Links
 pub mod Chains
 pub mod OneTimeLaw
+pub mod PathLemmas
+pub mod PublicTexts
+pub mod Nodes
+pub mod SignatureParts

@@ -3,7 +3,7 @@ ghost use Rattle.sha2.specs.Sha256.{sha256};
 ghost use Rattle.st_lms.specs.OneTime.{chain, secret_element};
 ghost use Rattle.st_lms.specs.Strings.{u32str, u16str};
 
-use crate::strings::{u16str, u32str};
+use crate::strings::{copied, put, u16str, u32str};
 use sha2::{Digest, Sha256};
 
 /// What the steps of one chain hash: identifier, number of the key and of the chain, number of the
@@ -14,17 +14,10 @@ const STEP: usize = 22;
 
 const VALUE: usize = 23;
 
-fn blank() -> Link {
-    [0; 55]
-}
-
-/// Writes these bytes from place `at` on.
-#[inline(always)]
-fn put(link: &mut Link, at: usize, bytes: &[u8])
-    requires { at + length bytes.now ≤ 55 }
-    ensures { take (at + length bytes.now) link.new ≡ take at link.old ++ bytes.now }
+fn blank() -> Link
+    ensures { length result ≡ 55 }
 {
-    link[at..at + bytes.len()].copy_from_slice(bytes);
+    [0; 55]
 }
 
 fn link(id: &[u8; 16], q: u32, i: u16, value: &[u8; 32]) -> Link
@@ -52,9 +45,7 @@ fn take_step(link: &mut Link, j: u8)
 fn value_of(link: &Link) -> [u8; 32]
     ensures { result ≡ drop 23 link.now }
 {
-    let mut value = [0u8; 32];
-    value.copy_from_slice(&link[VALUE..]);
-    value
+    copied(&link[VALUE..])
 }
 
 /// Secret element `i` of the key with number `q`, which is hashed as a step with the number 0xff.

@@ -3,7 +3,7 @@ ghost use Rattle.st_lms.specs.OneTime.{checked, checksum};
 ghost use Rattle.st_lms.specs.TypeNumbers.{one_time_number};
 
 use crate::parameters::OneTimeType;
-use crate::strings::{coef, u16str};
+use crate::strings::{coef, put, u16str};
 
 /// A hash and its checksum.
 pub(crate) type Digits = [u8; 34];
@@ -24,8 +24,8 @@ fn checksum(hash: &[u8; 32], kind: OneTimeType) -> u16
 pub(crate) fn checked(hash: &[u8; 32], kind: OneTimeType) -> Digits
     ensures { result ≡ checked (one_time_number kind) hash.now }
 {
-    let mut digits = [0u8; 34];
-    digits[..32].copy_from_slice(hash);
-    digits[32..].copy_from_slice(&u16str(checksum(hash, kind)));
+    let mut digits = [0; 34];
+    put(&mut digits, 0, hash);
+    put(&mut digits, 32, &u16str(checksum(hash, kind)));
     digits
 }

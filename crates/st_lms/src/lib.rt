@@ -7,4 +7,12 @@ mod digits;
 mod hasher;
 mod one_time;
 mod parameters;
+mod public;
+mod secret;
 mod strings;
+mod tree;
+mod verification;
+
+pub use public::{Public, PublicRefused};
+pub use secret::{BadType, Secret};
+pub use verification::verify;

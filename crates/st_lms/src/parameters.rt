@@ -1,4 +1,4 @@
-ghost use Rattle.std.specs.Prelude.{◌≡◌, MatchOption};
+ghost use Rattle.std.specs.Prelude.{◌≡◌, ◌≤◌, ◌^◌, MatchOption};
 ghost use Rattle.st_lms.specs.Parameters.{IsOneTimeType, IsTreeType, width, chains, shift, greatest_digit, height};
 ghost use Rattle.st_lms.specs.TypeNumbers.{one_time_number, tree_number};
 
@@ -94,6 +94,18 @@ impl TreeType {
         match self {
             TreeType::H5 => 5,
             TreeType::H10 => 10,
+        }
+    }
+
+    /// How many leaves the tree has.
+    #[tactic(auto, unfolding(crate::specs::Parameters::height))]
+    pub(crate) fn leaf_count(self) -> u32
+        ensures count { result ≡ 2 ^ height (tree_number self) }
+        ensures small { result ≤ 1024 }
+    {
+        match self {
+            TreeType::H5 => 32,
+            TreeType::H10 => 1024,
         }
     }
 }

@@ -1,9 +1,29 @@
-ghost use Rattle.std.specs.Prelude.{◌≡◌, ◌+◌, ◌<◌, ◌≤◌, ◌*◌, length};
+ghost use Rattle.std.specs.Prelude.{◌≡◌, ◌+◌, ◌<◌, ◌≤◌, ◌*◌, ◌++◌, length, take};
 ghost use Rattle.st_lms.specs.Parameters.{width};
 ghost use Rattle.st_lms.specs.Strings.{u32str, u16str, str_to_u32, coef, value_at};
 ghost use Rattle.st_lms.specs.TypeNumbers.{one_time_number};
 
 use crate::parameters::OneTimeType;
+
+/// These bytes as an array.
+#[inline(always)]
+pub(crate) fn copied<const N: usize>(bytes: &[u8]) -> [u8; N]
+    requires { length bytes.now ≡ N }
+    ensures { result ≡ bytes.now }
+{
+    let mut copied = [0u8; N];
+    copied.copy_from_slice(bytes);
+    copied
+}
+
+/// Writes these bytes over what stands in `row` from place `at` on.
+#[inline(always)]
+pub(crate) fn put(row: &mut [u8], at: usize, bytes: &[u8])
+    requires { at + length bytes.now ≤ length row.old }
+    ensures { take (at + length bytes.now) row.new ≡ take at row.old ++ bytes.now }
+{
+    row[at..at + bytes.len()].copy_from_slice(bytes);
+}
 
 #[tactic(auto, unfolding(crate::specs::Strings::u32str))]
 pub(crate) fn u32str(n: u32) -> [u8; 4]
@@ -24,9 +44,7 @@ pub(crate) fn str_to_u32(bytes: &[u8]) -> u32
     requires { length bytes.now ≡ 4 }
     ensures { result ≡ str_to_u32 bytes.now }
 {
-    let mut copied = [0u8; 4];
-    copied.copy_from_slice(bytes);
-    u32::from_be_bytes(copied)
+    u32::from_be_bytes(copied(bytes))
 }
 
 /// String `i` of the strings of 32 bytes that stand in a row.
@@ -35,9 +53,7 @@ pub(crate) fn value_at(row: &[u8], i: usize) -> [u8; 32]
     requires { 32 * i + 32 ≤ length row.now }
     ensures { result ≡ value_at row.now i }
 {
-    let mut value = [0u8; 32];
-    value.copy_from_slice(&row[32 * i..32 * i + 32]);
-    value
+    copied(&row[32 * i..32 * i + 32])
 }
 
 /// Digit `i` of a string.

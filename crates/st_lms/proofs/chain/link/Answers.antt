@@ -6,14 +6,16 @@ use Rattle.st_lms.proofs.chain.link.Goals as goal
 
 pub returns-clause-head : goal.returns-clause-head
 returns-clause-head c =
-    let kept = kept_head c.put-3.new.link c.put-4.new.link c.args.value.now c.put-3.array_long c.put-4.array_long c.told-value c.put-4.ensures in
+    let three = c.put-3.auto.row ∙ c.put-2.auto.row ∙ c.put.auto.row ∙ c.blank-link.ensures in
+    let kept = kept_head c.put-3.new.row c.put-4.new.row c.args.value.now three (c.put-4.auto.row ∙ three) c.told-value c.put-4.ensures in
     let q : length (u32str c.args.q) ≡ 4 = length-u32str c.args.q in
     let i : length (u16str c.args.i) ≡ 2 = length-u16str c.args.i in
-    kept ∙ written_head c.blank-link.result c.put.new.link c.put-2.new.link c.put-3.new.link c.args.id.now (u32str c.args.q) (u16str c.args.i)
+    kept ∙ written_head c.blank-link.result c.put.new.row c.put-2.new.row c.put-3.new.row c.args.id.now (u32str c.args.q) (u16str c.args.i)
     c.told-id q i c.put.ensures
     (rw c.u32str.ensures at c.put-2.ensures)
     (rw c.u16str.ensures at c.put-3.ensures)
 
 pub returns-clause-value : goal.returns-clause-value
 returns-clause-value c =
-    new_value c.put-3.new.link c.put-4.new.link c.args.value.now c.put-3.array_long c.put-4.array_long c.told-value c.put-4.ensures
+    let three = c.put-3.auto.row ∙ c.put-2.auto.row ∙ c.put.auto.row ∙ c.blank-link.ensures in
+    new_value c.put-3.new.row c.put-4.new.row c.args.value.now three (c.put-4.auto.row ∙ three) c.told-value c.put-4.ensures

@@ -9,13 +9,13 @@ pub returns-clause-head : goal.returns-clause-head
 returns-clause-head c =
     let long : length (set c.args.link.now 22 c.args.j) ≡ 55 = length-set c.args.link.now 22 c.args.j ∙ c.told-link in
     let digest : length c.digest-value.result ≡ 32 = ap length c.digest-value.ensures ∙ length-sha256 c.as_slice.result.now in
-    kept_head (set c.args.link.now 22 c.args.j) c.put.new.link c.digest-value.result long c.put.array_long digest c.put.ensures
+    kept_head (set c.args.link.now 22 c.args.j) c.put.new.row c.digest-value.result long (c.put.auto.row ∙ long) digest c.put.ensures
     ∙ take-set-le 22 c.args.link.now 22 c.args.j (omega arith)
 
 pub returns-clause-value : goal.returns-clause-value
 returns-clause-value c =
     let long : length (set c.args.link.now 22 c.args.j) ≡ 55 = length-set c.args.link.now 22 c.args.j ∙ c.told-link in
     let digest : length c.digest-value.result ≡ 32 = ap length c.digest-value.ensures ∙ length-sha256 c.as_slice.result.now in
-    new_value (set c.args.link.now 22 c.args.j) c.put.new.link c.digest-value.result long c.put.array_long digest c.put.ensures
+    new_value (set c.args.link.now 22 c.args.j) c.put.new.row c.digest-value.result long (c.put.auto.row ∙ long) digest c.put.ensures
     ∙ c.digest-value.ensures
     ∙ ap sha256 (c.as_slice.ensures ∙ set_split c.args.link.now 22 c.args.j (omega (arith, c.told-link)))

@@ -1,0 +1,21 @@
+use Rattle.std.proofs.Common.{ap}
+use Rattle.st_lms.specs.Keys.{PublicKey, SecretKey}
+use Rattle.st_lms.specs.Parameters.{height}
+use Rattle.st_lms.specs.Tree.{node}
+use Rattle.st_lms.specs.Signature.{public_of}
+use Rattle.st_lms.proofs.Nodes.{root_node}
+use Rattle.st_lms.proofs.secret.Secret.public.Goals as goal
+
+pub node-root-requires : goal.node-root-requires
+node-root-requires c = rw c.height.ensures.height (root_node c.args.self.now.tree c.height.ensures.known)
+
+pub returns : goal.returns
+unfolding public_of
+returns c =
+    let key : SecretKey → PublicKey = λ secret. record {
+      ots = secret.ots;
+      tree = secret.tree;
+      id = secret.id;
+      root = node c.args.self.now (height c.args.self.now.tree) 1;
+    } in
+    rw (c.node-root.ensures, c.height.ensures.height) (ap key c.self.view_is)

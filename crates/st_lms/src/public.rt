@@ -1,0 +1,121 @@
+ghost use Rattle.std.specs.Prelude.{◌≡◌, ◌≢◌, ◌↔◌, length, IfOk};
+ghost use Rattle.st_lms.specs.Keys.{PublicKey, IsPublicKey, public_text, tree_type_in, one_time_type_in};
+ghost use Rattle.st_lms.specs.Parameters.{IsOneTimeType, IsTreeType};
+
+use crate::parameters::{OneTimeType, TreeType};
+use crate::strings::{copied, put, str_to_u32, u32str};
+use std::marker::Model;
+use thiserror::Error;
+
+/// Why bytes are no public key.
+#[derive(Clone, Copy, Debug, PartialEq, Eq, Error)]
+pub enum PublicRefused {
+    /// There aren't 56 bytes.
+    #[error("a public key has 56 bytes")]
+    BadLength,
+    /// There are 56 bytes, and one of the types is not in the tables.
+    #[error("a type of the public key is not known")]
+    BadType,
+}
+
+/// An LMS public key (RFC 8554, section 5.3).
+#[derive(Clone, Copy, Debug, PartialEq, Eq)]
+pub struct Public {
+    pub(crate) ots: OneTimeType,
+    pub(crate) tree: TreeType,
+    pub(crate) id: [u8; 16],
+    pub(crate) root: [u8; 32],
+}
+
+impl Model for Public {
+    ghost use Rattle.st_lms.specs.Keys.{PublicKey};
+    ghost use Rattle.st_lms.specs.TypeNumbers.{one_time_number, tree_number, one_time_of, tree_of};
+
+    ghost Value = { PublicKey };
+
+    ghost use Rattle.st_lms.specs.Inverses.{public_inverse};
+
+    ghost view = { λ p. record { ots = one_time_number p.ots; tree = tree_number p.tree; id = p.id; root = p.root } };
+
+    ghost inverse = { λ v. record { ots = one_time_of v.ots; tree = tree_of v.tree; id = v.id; root = v.root } };
+
+    ghost inverse_ok = { λ a h. public_inverse a };
+}
+
+fn blank() -> [u8; 56]
+    ensures { length result ≡ 56 }
+{
+    [0; 56]
+}
+
+impl Public {
+    /// The public key that 56 bytes are.
+    pub fn read(bytes: &[u8]) -> Result<Public, PublicRefused>
+        ensures ok { IfOk result (λ key. bytes.now ≡ public_text key) }
+        ensures known { IfOk result IsPublicKey }
+        ensures bad_length { (result ≡ Err PublicRefused.BadLength) ↔ (length bytes.now ≢ 56) }
+        ensures bad_type { (result ≡ Err PublicRefused.BadType) ↔ ((length bytes.now ≡ 56)
+            × (¬ (IsOneTimeType (one_time_type_in bytes.now) × IsTreeType (tree_type_in bytes.now)))) }
+        ensures written { (key : PublicKey) → IsPublicKey key → bytes.now ≡ public_text key → result ≡ Ok key }
+    {
+        if bytes.len() != 56 {
+            return Err(PublicRefused::BadLength);
+        }
+        let (tree, rest) = bytes.split_at(4);
+        let (ots, rest) = rest.split_at(4);
+        let (id, root) = rest.split_at(16);
+        let Some(ots) = OneTimeType::read(str_to_u32(ots)) else {
+            return Err(PublicRefused::BadType);
+        };
+        let Some(tree) = TreeType::read(str_to_u32(tree)) else {
+            return Err(PublicRefused::BadType);
+        };
+        Ok(Public {
+            ots,
+            tree,
+            id: copied(id),
+            root: copied(root),
+        })
+    }
+
+    /// The 56 bytes of this key.
+    pub fn write(&self) -> [u8; 56]
+        ensures text { result ≡ public_text self.now }
+        ensures known { IsPublicKey self.now }
+    {
+        let mut text = blank();
+        put(&mut text, 0, &u32str(self.tree.number()));
+        put(&mut text, 4, &u32str(self.ots.parameters().number));
+        put(&mut text, 8, &self.id);
+        put(&mut text, 24, &self.root);
+        text
+    }
+
+    /// The number of the LM-OTS type: 1 to 4.
+    pub fn ots(&self) -> u32
+        ensures { result ≡ self.now.ots }
+    {
+        self.ots.parameters().number
+    }
+
+    /// The number of the LMS type: 5 or 6.
+    pub fn tree(&self) -> u32
+        ensures { result ≡ self.now.tree }
+    {
+        self.tree.number()
+    }
+
+    /// The identifier of the key pair.
+    pub fn id(&self) -> [u8; 16]
+        ensures { result ≡ self.now.id }
+    {
+        self.id
+    }
+
+    /// The root of the tree.
+    pub fn root(&self) -> [u8; 32]
+        ensures { result ≡ self.now.root }
+    {
+        self.root
+    }
+}
