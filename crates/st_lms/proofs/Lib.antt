@@ -11,3 +11,4 @@ pub mod PathLemmas
 pub mod PublicTexts
 pub mod Nodes
 pub mod SignatureParts
+pub mod Decided

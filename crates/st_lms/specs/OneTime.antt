@@ -1,6 +1,6 @@
 -- One-time signatures (RFC 8554, section 4). A key is named by its LM-OTS type t, the identifier
 -- id, and its number q.
-use Rattle.std.specs.Prelude.{ℕ, zero, suc, ◌+◌, ◌-◌, ◌*◌, ◌/◌, ◌^◌, List, [], ◌∷◌, ◌++◌}
+use Rattle.std.specs.Prelude.{ℕ, zero, suc, ◌+◌, ◌-◌, ◌*◌, ◌/◌, ◌^◌, List, ◌∷◌, ◌++◌}
 use Rattle.sha2.specs.Sha256.{sha256}
 use Rattle.st_lms.specs.Strings.{u32str, u16str, coef, joined, value_at}
 use Rattle.st_lms.specs.Parameters.{width, chains, shift, greatest_digit}

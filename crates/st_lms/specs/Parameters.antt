@@ -1,6 +1,6 @@
 -- The parameter sets, by the numbers of their types (RFC 8554, sections 4.1 and 5.1), for SHA-256
 -- with strings of 32 bytes.
-use Rattle.std.specs.Prelude.{ℕ, ◌-◌, ◌+◌, ◌*◌, ◌^◌, ◌≤◌, List, [], ◌∷◌, slice_index}
+use Rattle.std.specs.Prelude.{ℕ, ◌-◌, ◌^◌, ◌≤◌, [], ◌∷◌, slice_index}
 
 -- the LM-OTS types: w is 1, 2, 4 or 8
 abbrev pub IsOneTimeType : ℕ → Type 0

@@ -1,5 +1,5 @@
 -- Byte strings (RFC 8554, section 3.1).
-use Rattle.std.specs.Prelude.{ℕ, zero, suc, ◌+◌, ◌-◌, ◌*◌, ◌/◌, ◌%◌, ◌^◌, List, [], ◌∷◌, ◌++◌, slice_index, take, drop}
+use Rattle.std.specs.Prelude.{ℕ, zero, suc, ◌+◌, ◌-◌, ◌*◌, ◌/◌, ◌%◌, ◌^◌, List, [], ◌++◌, slice_index, take, drop}
 use Rattle.std.specs.Int.{w16, w32, to_be_bytes, from_be_bytes}
 
 -- a number as 4 bytes, high first (3.1.1)
