@@ -1,2 +1,3 @@
 pub mod Fixed
 pub mod JwkJson
+pub mod Cutting

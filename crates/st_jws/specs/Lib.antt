@@ -1,3 +1,5 @@
+pub mod Commitment
 pub mod Fixed
 pub mod Jwk
-pub mod Commitment
+pub mod Opening
+pub mod Texts

@@ -4,7 +4,14 @@
 
 mod buffer;
 mod commit;
+mod header;
 mod jwk;
+mod opening;
+mod payload;
+mod refused;
+mod texts;
 
 pub use commit::{commitment, meets, reveal};
 pub use jwk::{BadJwk, Jwk};
+pub use opening::{Signed, open_signed};
+pub use refused::SignedRefused;
