@@ -1,5 +1,5 @@
 -- Items and members that are converted one after another.
-use Rattle.std.proofs.Common.{◌≡◌, ℕ, ◌+◌, ◌<◌, List, [], ◌∷◌, ◌++◌, length, get_or, drop, map, String, Global, string_bytes, Option, Some, None, option_map, option_and_then, Result, Ok, Err, Less, Equal, refl, sym, ap, ◌∙◌, subst, arith, add-one, suc, length-drop, append-nil, append_assoc, is_eq, true, false}
+use Rattle.std.proofs.Common.{◌≡◌, ℕ, ◌+◌, ◌<◌, List, [], ◌∷◌, ◌++◌, length, get_or, drop, map, String, Global, string_bytes, Option, Some, None, option_map, Result, Err, Less, Equal, refl, sym, ap, ◌∙◌, subst, arith, add-one, suc, length-drop, append-nil, append_assoc, is_eq, true, false}
 use mathlib.Core.Bool.{true≢false}
 use Rattle.std.proofs.lemmas.List.{nil_from_length}
 use Rattle.std.proofs.Math.Seq.{drop-cons}
@@ -11,7 +11,6 @@ use Rattle.std.specs.String.{string_cmp}
 use Rattle.std.proofs.lemmas.Map.Text.{is_eq-slice_cmp}
 use Rattle.std.proofs.lemmas.Slice.Eq.{bytes_eq-Decides}
 use Rattle.std.proofs.lemmas.Str.{IsUtf8-string_bytes}
-use Rattle.serde_json.specs.Data as data'
 use Rattle.serde_json.specs.View.{view, items_view, members_view}
 use Rattle.serde_json.specs.declared.value.Value.{Value}
 use Rattle.st_canon.specs.Find.{put}

@@ -1,4 +1,7 @@
+pub mod Back
+pub mod Compact
 pub mod Converting
+pub mod Data
 pub mod Depths
 pub mod Kept
 pub mod Named
@@ -6,6 +9,8 @@ pub mod OnLiterals
 pub mod Order
 pub mod Outcomes
 pub mod Places
+pub mod Puts
 pub mod Searching
 pub mod Sorting
+pub mod Texts
 pub mod Units

@@ -1,5 +1,5 @@
 -- What stands at the place of a name, and at its gap, among pairs whose names ascend.
-use Rattle.std.proofs.Common.{◌≡◌, ℕ, zero, suc, ◌<◌, ◌≤◌, Bool, true, false, cond, List, [], ◌∷◌, length, get_or, set, Option, Some, None, option_map, Ordering, Less, Equal, Greater, refl, sym, ap, ◌∙◌, subst, arith}
+use Rattle.std.proofs.Common.{◌≡◌, ℕ, zero, suc, ◌<◌, Bool, true, false, cond, List, [], ◌∷◌, length, get_or, set, Option, Some, None, option_map, Ordering, Less, Equal, Greater, refl, sym, ap, ◌∙◌, subst, arith}
 use Rattle.std.specs.List.{insert, remove, AllByRecursion}
 use Rattle.std.specs.List.Sorted.{IsStrictlySortedBy}
 use Rattle.std.specs.Map.{keys_of, lookup}
@@ -9,10 +9,10 @@ use Rattle.st_canon.specs.Find.{member_at, put, without}
 use Rattle.st_canon.specs.InOrder.{placed}
 use Rattle.st_canon.specs.Names.{name_cmp, is_name, NamesAscend}
 use Rattle.st_canon.specs.Place.{IsPlaceOf, IsGapFor}
-use Rattle.st_canon.specs.Plain.{Plain, Members, member}
+use Rattle.st_canon.specs.Plain.{Plain, member}
 use Rattle.st_canon.specs.View.{plain, plain_members}
 use Rattle.st_canon.specs.declared.value.Json.{Json}
-use Rattle.st_canon.proofs.Order.{name_total, greater_from_less, less_from_greater, tied_from_same, is_name_from_same, not_name_from_less, not_name_from_greater}
+use Rattle.st_canon.proofs.Order.{greater_from_less, less_from_greater, tied_from_same, is_name_from_same, not_name_from_less, not_name_from_greater}
 
 module _ {X : Type 0} where
   pub place_moved : {name other : List ℕ} {es fs : List (List ℕ × X)} {i : ℕ} → other ≡ name → fs ≡ es → IsPlaceOf other fs i → IsPlaceOf name es i
@@ -103,6 +103,9 @@ module _ {X : Type 0} where
     placed_at_gap [] (suc i) v gap = refl
     placed_at_gap (e ∷ es) zero v gap = rw (first_above_gap e es gap) refl
     placed_at_gap (e ∷ es) (suc i) v gap = rw (first_below_gap e es i gap) (ap (λ l. e ∷ l) (placed_at_gap es i v (rest_of_gap e es i gap)))
+
+  pub placed_from_gap : (name : List ℕ) (v : X) {es fs : List (List ℕ × X)} {i : ℕ} → fs ≡ insert es i (name, v) → IsGapFor name es i → fs ≡ placed (name, v) es
+  placed_from_gap name v {es} {fs} {i} is gap = is ∙ placed_at_gap name es i v gap
 
 -- ---- the same of plain members
 chosen : (t : Bool) (v : Json) (found : Option Json) (p : Option Plain) → option_map plain found ≡ p → option_map plain (cond t (Some v) found) ≡ cond t (Some (plain v)) p

@@ -1,16 +1,16 @@
--- List (List ℕ × X) in the order of their names: there is one such list, so a stable sort gives it.
-use Rattle.std.proofs.Common.{◌≡◌, ℕ, zero, suc, ◌+◌, ◌<◌, ◌≤◌, Bool, true, false, not, cond, List, [], ◌∷◌, length, get_or, Ordering, Less, Equal, Greater, is_eq, refl, sym, ap, ◌∙◌, subst, arith}
+-- Pairs in the order of their names: there is one such list, so a stable sort gives it.
+use Rattle.std.proofs.Common.{◌≡◌, ℕ, suc, ◌+◌, ◌<◌, Bool, true, false, not, cond, List, [], ◌∷◌, length, get_or, Ordering, Less, Equal, Greater, is_eq, refl, sym, ap, ◌∙◌, subst, arith}
 use Rattle.std.specs.Prelude.{◌&&◌}
 use Rattle.std.specs.List.{filter, AllByRecursion}
 use Rattle.std.specs.List.Sorted.{IsStrictlySortedBy, IsSortedBy, IsStableBy, ties}
 use Rattle.std.specs.Map.{keys_of}
 use Rattle.std.specs.Ordering.{is_lt, match_ordering, ordering_reverse}
-use Rattle.std.proofs.lemmas.Cmp.{tied_itself, tied_back}
+use Rattle.std.proofs.lemmas.Cmp.{tied_itself}
 use Rattle.std.proofs.lemmas.List.MinMax.{ranks_by}
 use Rattle.std.proofs.lemmas.List.Sorted.{sorted_far}
 use Rattle.st_canon.specs.InOrder.{placed, in_order, NamesDiffer}
 use Rattle.st_canon.specs.Names.{name_cmp, NamesAscend}
-use Rattle.st_canon.proofs.Order.{name_total, greater_from_less, less_from_greater}
+use Rattle.st_canon.proofs.Order.{name_total, less_from_greater}
 
 equal_from_is_eq : (o : Ordering) → is_eq o ≡ true → o ≡ Equal
 equal_from_is_eq Less h = cc
@@ -53,6 +53,9 @@ module _ {X : Type 0} where
     | Equal ↦ λ is. (all_above_tied e.0 f.0 is (keys_of fs) ascend.0, ascend.1)
     | Greater ↦ λ is. (all_placed (λ n. name_cmp f.0 n ≡ Less) e fs (less_from_greater e.0 f.0 is) ascend.0, ascend_placed e fs ascend.1)
   ] refl
+
+  pub ascend_from_placed : (e : List ℕ × X) (es fs : List (List ℕ × X)) → fs ≡ placed e es → NamesAscend es → NamesAscend fs
+  ascend_from_placed e es fs is ascend = subst NamesAscend (sym is) (ascend_placed e es ascend)
 
   pub ascend_in_order : (es : List (List ℕ × X)) → NamesAscend (in_order es)
   unfolding IsStrictlySortedBy

@@ -14,7 +14,7 @@ use std::alloc::Global;
 impl Object {
     /// The value of the member of this name.
     pub fn get(&self, name: &str) -> Option<&Json>
-        ensures plain { option_map plain (option_copied result) ≡ member_at name.now (plain_members self.now) }
+        ensures value { option_map plain (option_copied result) ≡ member_at name.now (plain_members self.now) }
         ensures found { option_copied result ≡ lookup (is_name name.now) self.now }
     {
         match place_of(self.pairs.as_slice(), name) {

@@ -1,7 +1,10 @@
-ghost use Rattle.std.specs.Prelude.{◌≡◌, ◌++◌, IfOk, OnOk, false};
+ghost use Rattle.std.specs.Prelude.{◌≡◌, ◌++◌, ◌≤◌, IfOk, OnOk, false};
 ghost use Rattle.std.specs.Fmt.{signed_decimal};
 ghost use Rattle.st_canon.specs.Canonical.{canonical, canonical_items, canonical_members};
+ghost use Rattle.st_canon.specs.Depth.{depth_of};
+ghost use Rattle.st_canon.specs.Plain.{Plain};
 ghost use Rattle.st_canon.specs.Proper.{IsProper, ItemsAreProper, MembersAreProper};
+ghost use Rattle.st_canon.specs.Reading.{json_of, value as value_of};
 ghost use Rattle.st_canon.specs.View.{plain, plain_items, plain_members};
 
 use crate::escape::append_text;
@@ -13,6 +16,10 @@ use std::alloc::Global;
 pub fn write(alloc: Global, value: &Json) -> Result<Bytes, WantOfMemory>
     ensures text { IfOk result (λ text. text ≡ canonical (plain value.now)) }
     ensures proper { OnOk result (IsProper (plain value.now)) }
+    // It is read again, where it does not nest too deep for `serde_json`.
+    ensures read { IfOk result (λ text. depth_of (plain value.now) ≤ 127 → json_of text ≡ value_of (plain value.now)) }
+    // No other value has this text.
+    ensures only { IfOk result (λ text. (other : Plain) → IsProper other → canonical other ≡ text → other ≡ plain value.now) }
 {
     let mut out = Bytes::new(alloc);
     append(alloc, &mut out, value)?;

@@ -1,7 +1,6 @@
 -- `Members` may hold the type that holds it, as an object of values inside a value: it is the list
 -- of its pairs, whose values alone are held, and the order of the names is carried along.
 use mathlib.Core.Path.{◌≡◌, refl, sym, ap, subst, ◌∙◌}
-use mathlib.Core.List as lists
 use mathlib.Core.Former.{Former, Count, Row, this, const, pair, list, via, children, list_count, list_put}
 use Rattle.std.specs.Prelude.{ℕ, List, [], ◌∷◌, map, max}
 use Rattle.std.specs.List.Sorted.{IsStrictlySortedBy, IsStrictlySortedBy-prop}
@@ -21,7 +20,7 @@ use Rattle.std.specs.declared.alloc.Global.{Global}
 use Rattle.std.specs.contracts.alloc.Global as heap
 use Rattle.std.specs.contracts.impls.GlobalAllocator.TheImpl.{ghosts}
 use Rattle.st_base.specs.contracts.text.Text as text
-use Rattle.st_canon.specs.Names.{name_cmp, NamesAscend}
+use Rattle.st_canon.specs.Names.{name_cmp}
 use Rattle.st_canon.specs.declared.members.Members.TheInside.{Inside}
 use Rattle.st_canon.specs.declared.members.Members.TheView.{view, invariant}
 use Rattle.st_canon.specs.contracts.members.Members as M

@@ -1,4 +1,4 @@
-use Rattle.std.proofs.Common.{◌≡◌, ap, sym, subst, ◌∙◌, Some, None}
+use Rattle.std.proofs.Common.{ap, sym, subst, ◌∙◌, Some}
 use Rattle.st_canon.specs.Names.{NamesAscend}
 use Rattle.st_canon.specs.Place.{IsPlaceOf, IsGapFor}
 use Rattle.st_canon.specs.View.{plain, plain_members}
