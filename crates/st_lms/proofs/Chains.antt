@@ -1,5 +1,5 @@
 -- How a chain goes on.
-use Rattle.std.proofs.Common.{◌≡◌, ℕ, zero, suc, ◌+◌, ◌-◌, ◌<◌, ◌≤◌, List, refl, ap, sym, ◌∙◌, arith}
+use Rattle.std.proofs.Common.{◌≡◌, ℕ, zero, suc, ◌+◌, ◌-◌, ◌≤◌, List, ap, arith}
 use Rattle.st_lms.specs.OneTime.{chain, chain_step}
 
 -- one step more

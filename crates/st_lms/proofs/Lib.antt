@@ -12,3 +12,4 @@ pub mod PublicTexts
 pub mod Nodes
 pub mod SignatureParts
 pub mod Decided
+pub mod Law

@@ -1,9 +1,10 @@
 -- Which nodes a tree has.
-use Rattle.std.proofs.Common.{◌≡◌, ℕ, zero, suc, ◌+◌, ◌-◌, ◌*◌, ◌/◌, ◌%◌, ◌^◌, ◌<◌, ◌≤◌, refl, ap, arith}
+use Rattle.std.proofs.Common.{◌≡◌, ℕ, zero, suc, ◌+◌, ◌-◌, ◌*◌, ◌/◌, ◌%◌, ◌^◌, ◌<◌, ◌≤◌, inl, inr, arith}
+use Rattle.std.proofs.lemmas.Bool.{cases_lt}
 use Rattle.std.proofs.Math.Nat.{pow-suc, pow-le-pow_right}
 use Rattle.st_lms.specs.Parameters.{IsTreeType, height}
 use Rattle.st_lms.specs.Keys.{SecretKey}
-use Rattle.st_lms.specs.Tree.{IsNode, inner, node}
+use Rattle.st_lms.specs.Tree.{IsNode, inner, node, sibling}
 
 pub height-small : (t : ℕ) → IsTreeType t → height t ≤ 10
 unfolding height
@@ -69,3 +70,16 @@ pub node-level : (secret : SecretKey) (n r : ℕ) → 0 < n →
 unfolding node
 node-level secret zero r some = absurd (omega arith)
 node-level secret (suc n) r some = let e : suc n - 1 ≡ n = omega arith in rw e
+
+pub sibling_node : (t n r : ℕ) → n < height t → IsNode t n r → IsNode t n (sibling r)
+unfolding sibling
+sibling_node t n r k is =
+    let double : 2 ^ (height t - n) ≡ 2 * 2 ^ (height t - suc n) = doubled (height t) n (omega arith) in
+    elim (cases_lt (r % 2) 1) [
+      | inl below ↦
+          let even : r % 2 ≡ 0 = omega arith in
+          rw even (record { known = is.known; level = is.level; low = omega (arith, is.low); high = omega (arith, is.high) })
+      | inr past ↦
+          let odd : r % 2 ≡ 1 = omega arith in
+          rw odd (record { known = is.known; level = is.level; low = omega (arith, is.low); high = omega (arith, is.high) })
+    ]

@@ -1,14 +1,14 @@
 -- The values that a secret signs lead to its public key.
-use Rattle.std.proofs.Common.{◌≡◌, ℕ, zero, suc, ◌+◌, ◌-◌, ◌*◌, ◌<◌, ◌≤◌, List, length, sym, ap, ◌∙◌, refl, arith}
+use Rattle.std.proofs.Common.{◌≡◌, ℕ, zero, suc, ◌+◌, ◌-◌, ◌*◌, ◌<◌, List, length, sym, ap, ◌∙◌, arith}
 use Rattle.sha2.proofs.Facts256.{length-sha256}
 use Rattle.st_lms.specs.OneTime.{chain, chain_step, secret_element, signed_value, signed_values, end_of_secret, end_of_value, key_of_ends, one_time_public, candidate_key}
 use Rattle.st_lms.specs.Parameters.{width, chains, greatest_digit}
-use Rattle.st_lms.specs.Strings.{coef, joined, value_at}
+use Rattle.st_lms.specs.Strings.{coef}
 use Rattle.st_lms.proofs.Chains.{chain-add}
 use Rattle.st_lms.proofs.DigitLemmas.{coef-greatest}
 use Rattle.st_lms.proofs.Hashing.{length-joined, value_at-joined, joined-same}
 
-length-secret_element : (id : List ℕ) (q i : ℕ) (seed : List ℕ) → length (secret_element id q i seed) ≡ 32
+pub length-secret_element : (id : List ℕ) (q i : ℕ) (seed : List ℕ) → length (secret_element id q i seed) ≡ 32
 unfolding secret_element
 length-secret_element id q i seed = length-sha256 _
 

@@ -1,5 +1,5 @@
 -- A signature and its parts.
-use Rattle.std.proofs.Common.{◌≡◌, ℕ, ◌+◌, ◌*◌, ◌^◌, ◌<◌, ◌≤◌, List, ◌++◌, length, take, drop, append_assoc, ap, sym, ◌∙◌, refl, arith}
+use Rattle.std.proofs.Common.{◌≡◌, ℕ, ◌+◌, ◌*◌, ◌^◌, ◌<◌, List, ◌++◌, length, take, drop, append_assoc, ap, sym, ◌∙◌, refl, arith}
 use Rattle.std.proofs.lemmas.List.{take_at, drop_at, length-append}
 use Rattle.st_lms.specs.Strings.{u32str, str_to_u32}
 use Rattle.st_lms.specs.Parameters.{chains, height}
@@ -35,16 +35,30 @@ pub record IsCut (public : PublicKey) (signature q ots randomizer values tree pa
 length_of_six : (a b c d e f : List ℕ) →
     length (a ++ b ++ c ++ d ++ e ++ f) ≡ length a + length b + length c + length d + length e + length f
 length_of_six a b c d e f =
-    omega (arith, length-append (a ++ b ++ c ++ d ++ e) f, length-append (a ++ b ++ c ++ d) e, length-append (a ++ b ++ c) d,
-        length-append (a ++ b) c, length-append a b)
+    omega (
+      arith,
+      length-append (a ++ b ++ c ++ d ++ e) f,
+      length-append (a ++ b ++ c ++ d) e,
+      length-append (a ++ b ++ c) d,
+      length-append (a ++ b) c,
+      length-append a b,
+    )
 
 -- a signature has the length of its public key's types
 pub length-signature : (public : PublicKey) (message signature : List ℕ) → IsSignature public message signature →
     length signature ≡ 44 + 32 * chains public.ots + 32 * height public.tree
 length-signature public message signature is =
     ap length is.whole
-        ∙ omega (arith, length_of_six (u32str is.q) (u32str public.ots) is.randomizer is.values (u32str public.tree) is.path,
-            length-u32str is.q, length-u32str public.ots, length-u32str public.tree, is.randomizer_long, is.values_long, is.path_long)
+    ∙ omega (
+      arith,
+      length_of_six (u32str is.q) (u32str public.ots) is.randomizer is.values (u32str public.tree) is.path,
+      length-u32str is.q,
+      length-u32str public.ots,
+      length-u32str public.tree,
+      is.randomizer_long,
+      is.values_long,
+      is.path_long,
+    )
 
 -- parts whose lengths but the last are known are a cut
 pub cut_of : (public : PublicKey) (signature q ots randomizer values tree path : List ℕ) (n m : ℕ) →
@@ -80,7 +94,7 @@ same_parts public message signature q ots randomizer values tree path cut is =
     let o = u32str public.ots in
     let t = u32str public.tree in
     let six = same_cut (q ++ ots ++ randomizer ++ values ++ tree) path (u ++ o ++ is.randomizer ++ is.values ++ t) is.path
-        (sym cut.whole ∙ is.whole) (cut.path_long ∙ sym is.path_long) in
+    (sym cut.whole ∙ is.whole) (cut.path_long ∙ sym is.path_long) in
     let five = same_cut (q ++ ots ++ randomizer ++ values) tree (u ++ o ++ is.randomizer ++ is.values) t six.front (cut.tree_long ∙ sym (length-u32str public.tree)) in
     let four = same_cut (q ++ ots ++ randomizer) values (u ++ o ++ is.randomizer) is.values five.front (cut.values_long ∙ sym is.values_long) in
     let three = same_cut (q ++ ots) randomizer (u ++ o) is.randomizer four.front (cut.randomizer_long ∙ sym is.randomizer_long) in

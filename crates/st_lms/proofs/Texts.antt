@@ -41,11 +41,11 @@ AreBytes xs = (i : ℕ) → get_or xs i 0 < 256
 
 pub bytes_of_take : (n : ℕ) (xs : List ℕ) → AreBytes xs → AreBytes (take n xs)
 bytes_of_take n xs h i = elim (cases_lt i n) [
-    inl below ↦ rw (get_or-take n xs i 0 below) (h i)
+  | inl below ↦ rw (get_or-take n xs i 0 below) (h i)
   | inr past ↦
       let short : length (take n xs) ≤ i = omega (arith, length-take n xs) in
       rw (get_or_past (take n xs) i 0 short) (omega arith)
-  ]
+]
 
 pub bytes_of_drop : (n : ℕ) (xs : List ℕ) → AreBytes xs → AreBytes (drop n xs)
 bytes_of_drop n xs h i = rw (get_or-drop n xs i 0) (h (n + i))

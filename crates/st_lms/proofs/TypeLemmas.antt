@@ -1,5 +1,5 @@
 -- Each type stands in its table.
-use Rattle.std.proofs.Common.{◌≤◌, arith}
+use Rattle.std.proofs.Common.{arith}
 use Rattle.st_lms.specs.Parameters.{IsOneTimeType, IsTreeType}
 use Rattle.st_lms.specs.TypeNumbers.{one_time_number, tree_number}
 use Rattle.st_lms.specs.declared.parameters.OneTimeType.{OneTimeType}

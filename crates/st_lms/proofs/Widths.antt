@@ -1,5 +1,5 @@
 -- The four widths, and what follows from there being no others.
-use Rattle.std.proofs.Common.{◌≡◌, ℕ, zero, suc, ◌+◌, ◌-◌, ◌*◌, ◌/◌, ◌%◌, ◌^◌, ◌<◌, ◌≤◌, refl, arith}
+use Rattle.std.proofs.Common.{◌≡◌, ℕ, zero, suc, ◌+◌, ◌-◌, ◌*◌, ◌/◌, ◌%◌, ◌^◌, ◌<◌, ◌≤◌, arith}
 use Rattle.std.proofs.lemmas.Nat.{mul-le}
 use Rattle.st_lms.specs.Parameters.{IsOneTimeType, width}
 

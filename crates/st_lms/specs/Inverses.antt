@@ -22,10 +22,10 @@ pub public_inverse : (a : public.Inside) →
     record a { ots = one_time_of (one_time_number a.ots); tree = tree_of (tree_number a.tree) } ≡ a
 public_inverse a =
     ap (λ kind. record a { ots = kind; tree = tree_of (tree_number a.tree) }) (one_time_of-number a.ots)
-        ∙ ap (λ kind. record a { tree = kind }) (tree_of-number a.tree)
+    ∙ ap (λ kind. record a { tree = kind }) (tree_of-number a.tree)
 
 pub secret_inverse : (a : secret.Inside) →
     record a { ots = one_time_of (one_time_number a.ots); tree = tree_of (tree_number a.tree) } ≡ a
 secret_inverse a =
     ap (λ kind. record a { ots = kind; tree = tree_of (tree_number a.tree) }) (one_time_of-number a.ots)
-        ∙ ap (λ kind. record a { tree = kind }) (tree_of-number a.tree)
+    ∙ ap (λ kind. record a { tree = kind }) (tree_of-number a.tree)

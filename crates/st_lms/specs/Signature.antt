@@ -22,7 +22,7 @@ pub record IsSignature (public : PublicKey) (message signature : List ℕ) : Typ
   pub values : List ℕ
   pub path : List ℕ
   pub whole : signature ≡
-    u32str q ++ u32str public.ots ++ randomizer ++ values ++ u32str public.tree ++ path
+      u32str q ++ u32str public.ots ++ randomizer ++ values ++ u32str public.tree ++ path
   pub randomizer_long : length randomizer ≡ 32
   pub values_long : length values ≡ 32 * chains public.ots
   pub path_long : length path ≡ 32 * height public.tree
@@ -47,6 +47,6 @@ unfoldable pub signature_of : SecretKey → ℕ → List ℕ → List ℕ
 signature_of secret q message =
     let digits = checked secret.ots (message_hash secret.id q (randomizer_of secret q) message) in
     u32str q ++ u32str secret.ots ++ randomizer_of secret q
-        ++ signed_values secret.ots secret.id q secret.seed digits
-        ++ u32str secret.tree
-        ++ path_from secret 0 (2 ^ height secret.tree + q) (height secret.tree)
+    ++ signed_values secret.ots secret.id q secret.seed digits
+    ++ u32str secret.tree
+    ++ path_from secret 0 (2 ^ height secret.tree + q) (height secret.tree)

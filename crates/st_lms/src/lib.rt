@@ -9,10 +9,14 @@ mod one_time;
 mod parameters;
 mod public;
 mod secret;
+mod sign;
 mod strings;
+#[cfg(test)]
+mod tests;
 mod tree;
 mod verification;
 
 pub use public::{Public, PublicRefused};
 pub use secret::{BadType, Secret};
+pub use sign::sign_at;
 pub use verification::verify;

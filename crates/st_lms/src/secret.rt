@@ -1,4 +1,4 @@
-ghost use Rattle.std.specs.Prelude.{◌≡◌, ◌↔◌, ◌≤◌, IsOk, IfOk};
+ghost use Rattle.std.specs.Prelude.{◌≡◌, ◌↔◌, ◌≤◌, ◌^◌, IsOk, IfOk};
 ghost use Rattle.st_lms.specs.Keys.{SecretKey, secret_key};
 ghost use Rattle.st_lms.specs.Parameters.{IsOneTimeType, IsTreeType, height};
 ghost use Rattle.st_lms.specs.Signature.{public_of, randomizer_of};
@@ -94,13 +94,21 @@ impl Secret {
         self.seed
     }
 
-    /// The height of the tree: 5 or 10. It has two to the height one-time keys.
+    /// The height of the tree: 5 or 10.
     pub fn height(&self) -> u32
         ensures height { result ≡ height self.now.tree }
         ensures small { result ≤ 10 }
         ensures known { IsTreeType self.now.tree }
     {
         self.tree.height()
+    }
+
+    /// How many one-time keys there are: 32 or 1,024. They are numbered from 0.
+    pub fn leaf_count(&self) -> u32
+        ensures count { result ≡ 2 ^ height self.now.tree }
+        ensures small { result ≤ 1024 }
+    {
+        self.tree.leaf_count()
     }
 
     /// The public key, which takes about as long as all the one-time keys together.

@@ -1,4 +1,4 @@
-use Rattle.std.proofs.Common.{◌≡◌, ◌-◌, ◌++◌, take, drop}
+use Rattle.std.proofs.Common.{◌-◌, ◌++◌}
 use Rattle.st_lms.specs.OneTime.{chain}
 use Rattle.st_lms.specs.Strings.{u32str, u16str}
 use Rattle.st_lms.proofs.Links.{IsAt}

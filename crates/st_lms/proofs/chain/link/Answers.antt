@@ -1,4 +1,4 @@
-use Rattle.std.proofs.Common.{◌≡◌, ◌∙◌, take, length}
+use Rattle.std.proofs.Common.{◌≡◌, ◌∙◌, length}
 use Rattle.st_lms.specs.Strings.{u32str, u16str}
 use Rattle.st_lms.proofs.StringLemmas.{length-u32str, length-u16str}
 use Rattle.st_lms.proofs.Links.{kept_head, new_value, written_head}

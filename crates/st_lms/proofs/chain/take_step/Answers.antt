@@ -1,4 +1,4 @@
-use Rattle.std.proofs.Common.{◌≡◌, ◌∙◌, ◌∷◌, ◌++◌, drop, take, length, set, ap, arith}
+use Rattle.std.proofs.Common.{◌≡◌, ◌∙◌, length, set, ap, arith}
 use Rattle.std.proofs.lemmas.List.{set_split, length-set, take-set-le}
 use Rattle.sha2.specs.Sha256.{sha256}
 use Rattle.sha2.proofs.Facts256.{length-sha256}

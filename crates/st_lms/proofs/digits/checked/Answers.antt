@@ -1,4 +1,4 @@
-use Rattle.std.proofs.Common.{◌≡◌, ◌∙◌, ◌∷◌, ◌++◌, [], length, refl}
+use Rattle.std.proofs.Common.{◌∙◌, []}
 use Rattle.st_lms.specs.OneTime.{checked, checksum}
 use Rattle.st_lms.specs.Strings.{u16str}
 use Rattle.st_lms.specs.TypeNumbers.{one_time_number}
@@ -10,5 +10,5 @@ pub returns : goal.returns
 unfolding checked
 returns c =
     written_pair [] c.put.new.row c.put-2.new.row c.args.hash.now (u16str (checksum (one_time_number c.args.kind) c.args.hash.now))
-        c.told-hash (length-u16str (checksum (one_time_number c.args.kind) c.args.hash.now)) (c.put-2.auto.row ∙ c.put.auto.row)
-        c.put.ensures (rw (c.u16str.ensures, c.checksum.ensures) at c.put-2.ensures)
+    c.told-hash (length-u16str (checksum (one_time_number c.args.kind) c.args.hash.now)) (c.put-2.auto.row ∙ c.put.auto.row)
+    c.put.ensures (rw (c.u16str.ensures, c.checksum.ensures) at c.put-2.ensures)

@@ -1,6 +1,6 @@
-use Rattle.std.proofs.Common.{◌≡◌, ◌+◌, ◌-◌, ◌<◌, ◌≤◌, ◌/◌, ◌∙◌, sym, arith}
+use Rattle.std.proofs.Common.{◌≡◌, ◌+◌, ◌≤◌, ◌/◌, sym, arith}
 use Rattle.st_lms.specs.TypeNumbers.{one_time_number}
-use Rattle.st_lms.proofs.DigitLemmas.{coef-greatest, digit_in_hash, shortfall-more, shortfall-none, shortfall_fits, shifted-checksum, sized}
+use Rattle.st_lms.proofs.DigitLemmas.{coef-greatest, shortfall-more, shortfall-none, shortfall_fits, shifted-checksum, sized}
 use Rattle.st_lms.proofs.Widths.{fits_byte}
 use Rattle.st_lms.proofs.digits.checksum.Goals as goal
 

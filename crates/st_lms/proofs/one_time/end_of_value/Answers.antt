@@ -1,5 +1,5 @@
-use Rattle.std.proofs.Common.{◌≡◌, ◌∙◌, ◌-◌, ◌<◌, ap, length, arith}
-use Rattle.st_lms.specs.OneTime.{chain, end_of_value}
+use Rattle.std.proofs.Common.{arith}
+use Rattle.st_lms.specs.OneTime.{end_of_value}
 use Rattle.st_lms.specs.TypeNumbers.{one_time_number}
 use Rattle.st_lms.proofs.TypeLemmas.{one_time_known}
 use Rattle.st_lms.proofs.DigitLemmas.{digit_in_digits, coef-greatest}

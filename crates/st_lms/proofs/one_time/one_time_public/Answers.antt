@@ -1,4 +1,4 @@
-use Rattle.std.proofs.Common.{◌≡◌, ◌∙◌, ◌++◌, [], sym, ap, append-nil, arith}
+use Rattle.std.proofs.Common.{◌≡◌, ◌∙◌, ◌++◌, ap, append-nil, arith}
 use Rattle.sha2.specs.Sha256.{sha256}
 use Rattle.st_lms.specs.OneTime.{d_pblc, key_of_ends, one_time_public, end_of_secret}
 use Rattle.st_lms.specs.Parameters.{chains}

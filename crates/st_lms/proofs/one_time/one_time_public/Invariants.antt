@@ -1,6 +1,6 @@
-use Rattle.std.proofs.Common.{◌≡◌, ◌++◌}
+use Rattle.std.proofs.Common.{◌++◌}
 use Rattle.sha2.specs.Hashers.{Holds256}
-use Rattle.st_lms.specs.OneTime.{d_pblc, end_of_secret, end_of_value}
+use Rattle.st_lms.specs.OneTime.{d_pblc, end_of_secret}
 use Rattle.st_lms.specs.Strings.{u32str, u16str, joined}
 use Rattle.st_lms.specs.TypeNumbers.{one_time_number}
 use Rattle.st_lms.proofs.one_time.one_time_public.Given as goal

@@ -1,4 +1,4 @@
-use Rattle.std.proofs.Common.{◌≡◌, ◌-◌, ◌*◌, ◌<◌, length, arith}
+use Rattle.std.proofs.Common.{◌≡◌, ◌-◌, arith}
 use Rattle.st_lms.specs.OneTime.{signed_value}
 use Rattle.st_lms.specs.Parameters.{width}
 use Rattle.st_lms.specs.Strings.{coef}

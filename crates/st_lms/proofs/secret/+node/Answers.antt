@@ -1,5 +1,4 @@
-use Rattle.std.proofs.Common.{◌≡◌, ◌<◌, ◌-◌, suc, ◌∙◌, ap, sym, arith}
-use Rattle.st_lms.specs.Tree.{inner, node}
+use Rattle.std.proofs.Common.{◌<◌, ap, arith}
 use Rattle.st_lms.proofs.Nodes.{left_node, right_node, node_small, node-level}
 use Rattle.st_lms.proofs.secret.+node.Goals as goal
 

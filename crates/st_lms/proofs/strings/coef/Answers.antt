@@ -1,6 +1,5 @@
-use Rattle.std.proofs.Common.{◌≡◌, ℕ, arith}
+use Rattle.std.proofs.Common.{arith}
 use Rattle.st_lms.specs.Parameters.{greatest_digit}
-use Rattle.st_lms.specs.TypeNumbers.{one_time_number}
 use Rattle.st_lms.proofs.StringLemmas.{shifted-coef}
 use Rattle.st_lms.proofs.Widths.{fits_byte, place_fits}
 use Rattle.st_lms.proofs.strings.coef.Goals as goal

@@ -8,4 +8,4 @@ unfolding inner
 returns c =
     let start = c.args.id.now ++ u32str c.args.r ++ u16str d_intr in
     c.finalize.ensures (start ++ c.args.left.now ++ c.args.right.now)
-        (c.update-2.ensures (start ++ c.args.left.now) (c.update.ensures start c.hasher-hasher.ensures))
+    (c.update-2.ensures (start ++ c.args.left.now) (c.update.ensures start c.hasher-hasher.ensures))

@@ -9,4 +9,4 @@ unfolding leaf
 returns c =
     let start = c.args.id.now ++ u32str c.args.r ++ u16str d_leaf in
     c.finalize.ensures (start ++ c.as_slice.result.now) (c.update.ensures start c.hasher-hasher.ensures)
-        ∙ ap (λ key. sha256 (start ++ key)) c.as_slice.ensures
+    ∙ ap (λ key. sha256 (start ++ key)) c.as_slice.ensures

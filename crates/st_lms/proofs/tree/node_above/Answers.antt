@@ -1,5 +1,4 @@
-use Rattle.std.proofs.Common.{◌≡◌, ◌∙◌, ◌+◌, ◌-◌, ◌*◌, ◌/◌, take, drop, arith}
-use Rattle.st_lms.specs.Tree.{node_above, parent}
+use Rattle.std.proofs.Common.{◌≡◌, ◌∙◌, ◌+◌, ◌-◌, ◌*◌, drop, arith}
 use Rattle.st_lms.proofs.PathLemmas.{node_above-level, node_above-none}
 use Rattle.st_lms.proofs.tree.node_above.Goals as goal
 

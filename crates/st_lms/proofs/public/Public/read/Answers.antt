@@ -1,5 +1,5 @@
-use Rattle.std.proofs.Common.{◌≡◌, ◌∙◌, ◌≢◌, sym, ap, refl, take, drop, Ok, Some, arith}
-use Rattle.st_lms.specs.Keys.{PublicKey, IsPublicKey, public_text, tree_type_in, one_time_type_in}
+use Rattle.std.proofs.Common.{◌≡◌, ◌∙◌, sym, ap, refl, take, Ok, Some, arith}
+use Rattle.st_lms.specs.Keys.{PublicKey, public_text, tree_type_in, one_time_type_in}
 use Rattle.st_lms.specs.Parameters.{IsOneTimeType, IsTreeType}
 use Rattle.st_lms.specs.Strings.{str_to_u32}
 use Rattle.st_lms.specs.TypeNumbers.{one_time_number, tree_number}
@@ -24,10 +24,10 @@ key_is : (c : After-copied-2) →
     key ≡ key_in c.args.bytes.now
 key_is c =
     cut-key_in c.args.bytes.now c.split_at.result.0.now c.split_at.result.1.now c.split_at-2.result.0.now c.split_at-2.result.1.now
-        c.copied.result c.copied-2.result (one_time_number c.in-Some.ots) (tree_number c.in-Some-read.tree)
-        c.split_at.ensures.front c.split_at.ensures.back c.split_at-2.ensures.front c.split_at-2.ensures.back
-        (c.copied.ensures ∙ c.split_at-3.ensures.front) (c.copied-2.ensures ∙ c.split_at-3.ensures.back)
-        (c.in-Some.ensures ∙ c.str_to_u32.ensures) (c.in-Some-read.ensures ∙ c.str_to_u32-2.ensures)
+    c.copied.result c.copied-2.result (one_time_number c.in-Some.ots) (tree_number c.in-Some-read.tree)
+    c.split_at.ensures.front c.split_at.ensures.back c.split_at-2.ensures.front c.split_at-2.ensures.back
+    (c.copied.ensures ∙ c.split_at-3.ensures.front) (c.copied-2.ensures ∙ c.split_at-3.ensures.back)
+    (c.in-Some.ensures ∙ c.str_to_u32.ensures) (c.in-Some-read.ensures ∙ c.str_to_u32-2.ensures)
 
 pub returns-then-bytes-ne56-clause-written : goal.returns-then-bytes-ne56-clause-written
 returns-then-bytes-ne56-clause-written c = λ key is e. absurd (c.if-bytes-ne56.true (shows_key key c.args.bytes.now is e).long)
@@ -55,9 +55,9 @@ pub returns-clause-bad_type : goal.returns-clause-bad_type
 unfolding one_time_type_in tree_type_in
 returns-clause-bad_type c =
     let ots : IsOneTimeType (one_time_type_in c.args.bytes.now) =
-        rw (← ap (λ key. key.ots) (key_is c)) (one_time_known c.in-Some.ots) in
+    rw (← ap (λ key. key.ots) (key_is c)) (one_time_known c.in-Some.ots) in
     let tree : IsTreeType (tree_type_in c.args.bytes.now) =
-        rw (← ap (λ key. key.tree) (key_is c)) (tree_known c.in-Some-read.tree) in
+    rw (← ap (λ key. key.tree) (key_is c)) (tree_known c.in-Some-read.tree) in
     (λ h. absurd cc, λ h. absurd (h.1 (ots, tree)))
 
 pub returns-clause-written : goal.returns-clause-written
