@@ -2,4 +2,5 @@ pub mod Commitment
 pub mod Fixed
 pub mod Jwk
 pub mod Opening
+pub mod Signing
 pub mod Texts

@@ -33,7 +33,7 @@ is_text_at_most (Some other) = false
 abbrev pub is_header : Option Plain → Bool
 is_header (Some (object members)) =
     has_only (codes "alg" ∷ codes "kid" ∷ []) members
-        && (is_lms (member_at (codes "alg") members) && is_text_at_most (member_at (codes "kid") members))
+    && (is_lms (member_at (codes "alg") members) && is_text_at_most (member_at (codes "kid") members))
 is_header other = false
 
 -- exactly one of two values, where it is a key

@@ -9,9 +9,11 @@ mod jwk;
 mod opening;
 mod payload;
 mod refused;
+mod signing;
 mod texts;
 
 pub use commit::{commitment, meets, reveal};
 pub use jwk::{BadJwk, Jwk};
 pub use opening::{Signed, open_signed};
 pub use refused::SignedRefused;
+pub use signing::{join_signed, signing_input};

@@ -6,4 +6,4 @@ returns c =
     let first = c.in_ok-header.ensures in
     let second = c.in_ok-payload.ensures in
     texts_found c.args.text.now c.in_ok-header.header.now c.in_ok-header.rest.now c.in_ok-payload.payload.now c.in_ok-payload.signature.now
-        first.whole second.whole first.value second.value
+    first.whole second.whole first.value second.value
