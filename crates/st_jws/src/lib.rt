@@ -10,6 +10,8 @@ mod opening;
 mod payload;
 mod refused;
 mod signing;
+#[cfg(test)]
+mod tests;
 mod texts;
 
 pub use commit::{commitment, meets, reveal};
