@@ -1,5 +1,5 @@
 -- Texts cut at their dots.
-use Rattle.std.proofs.Common.{◌≡◌, ◌∙◌, ℕ, suc, ◌+◌, ◌<◌, ◌==◌, true, List, ◌∷◌, ◌++◌, length, take, drop, get_or, position, Some, sym, ap, refl, append_assoc, add-one, drop-cons, length-append, arith}
+use Rattle.std.proofs.Common.{◌≡◌, ◌∙◌, ℕ, suc, ◌+◌, ◌==◌, List, ◌∷◌, ◌++◌, length, take, drop, get_or, position, Some, sym, ap, refl, append_assoc, add-one, drop-cons, length-append, arith}
 use Rattle.std.proofs.lemmas.Bool.{eqb-true}
 use Rattle.std.proofs.lemmas.List.{take-append-drop, take_at}
 use Rattle.std.proofs.lemmas.List.Quantifiers.{position-Some}

@@ -1,6 +1,6 @@
 -- Texts joined by dots.
-use Rattle.std.proofs.Common.{◌≡◌, ℕ, List, ◌∷◌, ◌++◌, Result, Ok, Err, IsOk, MatchResult, refl, lit<}
-use Rattle.std.specs.Str.{IsUtf8, IsAscii}
+use Rattle.std.proofs.Common.{◌∷◌, Result, Ok, Err, IsOk, MatchResult, refl, lit<}
+use Rattle.std.specs.Str.{IsAscii}
 use Rattle.std.proofs.lemmas.Str.{IsAscii-append}
 use Rattle.std.proofs.lemmas.Str.Ascii.{IsAscii-cons}
 use Rattle.base64.specs.Engines.{url_safe_no_pad}

@@ -2,11 +2,11 @@
 use Rattle.std.proofs.Common.{◌≡◌, ◌∙◌, ℕ, List, codes, length, Option, Some, None, option_map, option_and_then, refl, ap}
 use Rattle.base64.specs.GeneralPurpose.{IsBytes}
 use Rattle.st_canon.specs.Find.{put}
-use Rattle.st_canon.specs.Plain.{Plain, text, object, Members, no_members, member}
+use Rattle.st_canon.specs.Plain.{Plain, text, no_members, member}
 use Rattle.st_canon.proofs.OnLiterals.{names_on_literals}
 use Rattle.st_hash.specs.Base64url.{base64url}
 use Rattle.st_jws.specs.Fixed.{fixed_of_text}
-use Rattle.st_jws.specs.Jwk.{lms, nonce_before, jwk_members, public_of_text, nonce_at, jwk_with, jwk_in, IsNonce}
+use Rattle.st_jws.specs.Jwk.{lms, nonce_before, jwk_members, public_of_text, jwk_with, jwk_in, IsNonce}
 use Rattle.st_jws.specs.declared.jwk.Jwk.{Jwk}
 use Rattle.st_jws.proofs.Fixed.{fixed_of_text-base64url}
 use Rattle.st_lms.specs.Decided.{public_in}

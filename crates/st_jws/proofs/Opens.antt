@@ -1,5 +1,5 @@
 -- What is joined from a signature over a payload opens to that payload and its key.
-use Rattle.std.proofs.Common.{◌≡◌, ◌∙◌, ℕ, ◌+◌, ◌≤◌, Bool, true, cond, nat_le, List, ◌∷◌, ◌++◌, length, codes, Option, Some, None, Result, Ok, Err, refl, sym, ap, subst, append_assoc, lit≤, arith}
+use Rattle.std.proofs.Common.{◌≡◌, ◌∙◌, ℕ, ◌≤◌, true, cond, nat_le, List, ◌∷◌, ◌++◌, length, codes, Some, Ok, Err, refl, sym, ap, subst, append_assoc, lit≤, arith}
 use Rattle.std.proofs.lemmas.Bool.Decides.{nat_tests}
 use Rattle.std.specs.Str.{IsUtf8}
 use Rattle.base64.specs.GeneralPurpose.{IsBytes}
@@ -7,21 +7,18 @@ use Rattle.st_canon.specs.Canonical.{canonical, escape}
 use Rattle.st_canon.specs.Depth.{depth_of}
 use Rattle.st_canon.specs.Plain.{Plain, text, object, no_members, member}
 use Rattle.st_canon.specs.Proper.{IsProper}
-use Rattle.st_canon.specs.Reading.{json_of}
 use Rattle.st_canon.proofs.Back.{reads_back}
 use Rattle.st_canon.proofs.Texts.{IsUtf8-canonical}
-use Rattle.st_hash.specs.Base64url.{base64url, bytes_of_text}
+use Rattle.st_hash.specs.Base64url.{base64url}
 use Rattle.st_hash.proofs.Spelling.{bytes_of_text-base64url}
 use Rattle.st_jws.specs.Jwk.{lms}
 use Rattle.st_jws.specs.Opening.{Opened, value_in, json_in, is_header, key_in, opened_under, opened_payload, opened_parts, opened_texts, opened}
 use Rattle.st_jws.specs.Signing.{header_text, signing_input, join_signed}
-use Rattle.st_jws.specs.Texts.{dot, cut_at_dot, Texts, texts_of_cut, texts_behind, texts_of}
+use Rattle.st_jws.specs.Texts.{dot, texts_of_cut, texts_behind, texts_of}
 use Rattle.st_jws.specs.declared.jwk.Jwk.{Jwk}
-use Rattle.st_jws.specs.declared.refused.SignedRefused.{SignedRefused}
 use Rattle.st_jws.specs.declared.refused.SignedRefused.TheVariants.{BadForm, BadHeader, BadSignature}
 use Rattle.st_jws.proofs.Dots.{no_dot, cut_at_dot-append}
 use Rattle.st_jws.proofs.Utf8Bytes.{IsBytes-IsUtf8}
-use Rattle.st_lms.specs.Decided.{is_signature}
 use Rattle.st_lms.specs.Signature.{IsSignature}
 use Rattle.st_lms.proofs.Decided.{is_signature-IsSignature}
 use lib.Utf8.{encode}

@@ -3,7 +3,7 @@ use Rattle.std.specs.Prelude.{◌≡◌, ⊤, ℕ, Bool, false, ◌&&◌, List, 
 use Rattle.base64.specs.GeneralPurpose.{IsBytes}
 use Rattle.st_canon.specs.Find.{has_only, member_at}
 use Rattle.st_canon.specs.Names.{is_name}
-use Rattle.st_canon.specs.Plain.{Plain, null, boolean, whole, text, list, object, Members, no_members, member}
+use Rattle.st_canon.specs.Plain.{Plain, text, object, Members, no_members, member}
 use Rattle.st_hash.specs.Base64url.{base64url}
 use Rattle.st_jws.specs.Fixed.{fixed_of_text}
 use Rattle.st_jws.specs.declared.jwk.Jwk.{Jwk}

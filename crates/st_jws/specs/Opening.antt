@@ -2,7 +2,7 @@
 -- the payload.
 use Rattle.std.specs.Prelude.{◌≡◌, ⊤, ℕ, Bool, false, true, ◌&&◌, nat_le, if◌then◌else◌, List, [], ◌∷◌, length, codes, Option, Some, None, Result, Ok, Err}
 use Rattle.st_canon.specs.Find.{has_only, member_at}
-use Rattle.st_canon.specs.Plain.{Plain, null, boolean, whole, text, list, object}
+use Rattle.st_canon.specs.Plain.{Plain, text, object}
 use Rattle.st_canon.specs.Reading.{Reading, not_json, not_whole, value, json_of}
 use Rattle.st_hash.specs.Base64url.{bytes_of_text}
 use Rattle.st_jws.specs.Jwk.{is_lms, jwk_of}

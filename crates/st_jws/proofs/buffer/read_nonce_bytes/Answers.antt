@@ -1,4 +1,4 @@
-use Rattle.std.proofs.Common.{◌≡◌, sym, arith}
+use Rattle.std.proofs.Common.{sym, arith}
 use Rattle.st_jws.proofs.Fixed.{fixed_of_text-length}
 use Rattle.st_jws.proofs.buffer.read_nonce_bytes.Goals as goal
 

@@ -1,6 +1,5 @@
-use Rattle.std.proofs.Common.{◌≡◌, ◌∙◌, ap}
+use Rattle.std.proofs.Common.{◌∙◌, ap}
 use Rattle.st_canon.specs.Plain.{text}
-use Rattle.st_canon.specs.View.{plain_members}
 use Rattle.st_hash.specs.Base64url.{base64url}
 use Rattle.st_jws.specs.Jwk.{jwk_in}
 use Rattle.st_jws.proofs.JwkJson.{named, jwk_in-jwk_members}

@@ -1,4 +1,4 @@
-use Rattle.std.proofs.Common.{◌≡◌, ◌∙◌, ◌≤◌, ℕ, List, length, ap, sym, subst, refl, arith}
+use Rattle.std.proofs.Common.{◌≡◌, ◌∙◌, ◌≤◌, length, ap, subst, refl, arith}
 use Rattle.base64.specs.GeneralPurpose.{IsBytes}
 use Rattle.st_jws.specs.Opening.{opened}
 use Rattle.st_jws.specs.Signing.{signing_input, join_signed}

@@ -1,4 +1,4 @@
-use Rattle.std.proofs.Common.{◌≡◌, ◌∙◌, ◌+◌, ◌∷◌, ◌++◌, take, sym, ap}
+use Rattle.std.proofs.Common.{◌∙◌, ◌+◌, ◌∷◌, ◌++◌, take, sym, ap}
 use Rattle.std.proofs.lemmas.List.{take_rest}
 use Rattle.st_jws.specs.Texts.{dot}
 use Rattle.st_jws.proofs.Cutting.{around_dot}
