@@ -1,5 +1,5 @@
 -- Texts without a dot, as base64url is, and cuts at the dot behind them.
-use Rattle.std.proofs.Common.{◌≡◌, ◌∙◌, ℕ, zero, suc, ◌+◌, ◌/◌, ◌%◌, ◌*◌, ◌==◌, ◌&&◌, nat_lt, Bool, true, false, not, List, [], ◌∷◌, ◌++◌, length, take, drop, position, slice_index, Some, option_map, refl, ap, length-append, arith}
+use Rattle.std.proofs.Common.{◌≡◌, ◌∙◌, ℕ, zero, suc, ◌+◌, ◌/◌, ◌%◌, ◌*◌, ◌==◌, nat_lt, Bool, true, false, not, List, [], ◌∷◌, ◌++◌, length, take, drop, position, slice_index, Some, option_map, refl, ap, length-append, arith}
 use Rattle.std.proofs.Math.Seq.{take-append_seam, drop-append-add}
 use Rattle.std.proofs.lemmas.Bool.Decides.{nat_tests}
 use Rattle.std.specs.List.{AllByRecursion, list_all, position_or_len}
@@ -7,16 +7,12 @@ use Rattle.base64.specs.Engines.{url_safe_no_pad}
 use Rattle.base64.specs.Rfc4648.{encode_symbols}
 use Rattle.st_hash.specs.Base64url.{base64url}
 use Rattle.st_jws.specs.Texts.{dot, cut_at_dot}
+use Rattle.st_jws.proofs.Both.{both}
 
 abbrev HasNoDot : List ℕ → Type 0
 HasNoDot xs = AllByRecursion (λ byte. (byte == dot) ≡ false) xs
 
 -- ---- no symbol of base64url is a dot
-
-both : (a b : Bool) → a && b ≡ true → (a ≡ true) × (b ≡ true)
-both true true e = (refl, refl)
-both true false e = cc
-both false b e = cc
 
 not_true : (b : Bool) → not b ≡ true → b ≡ false
 not_true true e = cc

@@ -1,3 +1,4 @@
+pub mod Both
 pub mod Cutting
 pub mod Dots
 pub mod Fixed

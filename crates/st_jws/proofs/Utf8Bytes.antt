@@ -1,9 +1,10 @@
 -- The bytes of a text are bytes.
-use Rattle.std.proofs.Common.{◌≡◌, ℕ, zero, suc, ◌+◌, ◌<◌, ◌≤◌, ◌/◌, ◌⊎◌, inl, inr, nat_lt, cond, ◌&&◌, Bool, true, false, List, [], ◌∷◌, ◌++◌, refl, subst, arith}
+use Rattle.std.proofs.Common.{◌≡◌, ℕ, zero, suc, ◌+◌, ◌<◌, ◌≤◌, ◌/◌, ◌⊎◌, inl, inr, nat_lt, cond, Bool, true, false, List, [], ◌∷◌, ◌++◌, refl, subst, arith}
 use Rattle.std.proofs.lemmas.Bool.Decides.{nat_tests}
 use Rattle.std.specs.List.{AllByRecursion}
 use Rattle.std.specs.Str.{IsUtf8}
 use Rattle.base64.specs.GeneralPurpose.{IsBytes}
+use Rattle.st_jws.proofs.Both.{both}
 use lib.Utf8.{encode, encodes, next, scalar, scalars, scalar_cases}
 
 abbrev AreBelow : List ℕ → Type 0
@@ -17,11 +18,6 @@ below_at : (xs : List ℕ) → AreBelow xs → IsBytes xs
 below_at [] all i = omega arith
 below_at (x ∷ xs) all zero = all.0
 below_at (x ∷ xs) all (suc i) = below_at xs all.1 i
-
-both : (a b : Bool) → a && b ≡ true → (a ≡ true) × (b ≡ true)
-both true true e = (refl, refl)
-both true false e = cc
-both false b e = cc
 
 -- the bytes of a character
 below_chosen : (c : ℕ) (one two three : Bool) → nat_lt c 128 ≡ one → nat_lt c 2048 ≡ two → nat_lt c 65536 ≡ three → c < 1114112

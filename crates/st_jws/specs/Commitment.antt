@@ -1,4 +1,4 @@
--- Reveal values and commitments of keys (DIF Sidetree v1.0.0, "Operation Commitment Scheme").
+-- Reveal values and commitments of keys (DIF Sidetree v1.0.0, "Public Key Commitment Scheme").
 use Rattle.std.specs.Prelude.{◌≡◌}
 use Rattle.st_canon.specs.Canonical.{canonical}
 use Rattle.st_hash.specs.Hash.{HashValue, hash_of}
