@@ -115,8 +115,8 @@ taken_apart public signature n is long =
       tree_long = length-take-le 4 four (omega arith);
       path_long = omega (arith, length-drop 4 four);
     } where
-  grouped : (a b c d e f whole : List ℕ) → a ++ (b ++ (c ++ (d ++ (e ++ f)))) ≡ whole → whole ≡ a ++ b ++ c ++ d ++ e ++ f
-  grouped a b c d e f whole same = sym same ∙ sym (simp append_assoc)
+      grouped : (a b c d e f whole : List ℕ) → a ++ (b ++ (c ++ (d ++ (e ++ f)))) ≡ whole → whole ≡ a ++ b ++ c ++ d ++ e ++ f
+      grouped a b c d e f whole same = sym same ∙ sym (simp append_assoc)
 
 -- no tree has a leaf whose number is large
 small_tree : (i : ℕ) → 2 ^ slice_index (5 ∷ 10 ∷ []) i ≤ 1024

@@ -37,7 +37,7 @@ is_signature public message signature =
     let behind = drop 4 (drop 4 signature) in
     let path = drop 4 (drop n (drop 32 behind)) in
     (length signature == 44 + n + 32 * height public.tree)
-        && (is_same (take 4 (drop 4 signature)) (u32str public.ots)
-        && (is_same (take 4 (drop n (drop 32 behind))) (u32str public.tree)
-        && (nat_lt q (2 ^ height public.tree)
-        && is_same (root_of public q (take 32 behind) (take n (drop 32 behind)) path message) public.root)))
+    && (is_same (take 4 (drop 4 signature)) (u32str public.ots)
+    && (is_same (take 4 (drop n (drop 32 behind))) (u32str public.tree)
+    && (nat_lt q (2 ^ height public.tree)
+    && is_same (root_of public q (take 32 behind) (take n (drop 32 behind)) path message) public.root)))

@@ -78,7 +78,7 @@ pub returns-clause-value : goal.returns-clause-value
 unfolding one_time_type_in tree_type_in
 returns-clause-value c =
     let ots : IsOneTimeType (one_time_type_in c.args.bytes.now) =
-        rw (← ap (λ key. key.ots) (key_is c)) (one_time_known c.in-Some.ots) in
+    rw (← ap (λ key. key.ots) (key_is c)) (one_time_known c.in-Some.ots) in
     let tree : IsTreeType (tree_type_in c.args.bytes.now) =
-        rw (← ap (λ key. key.tree) (key_is c)) (tree_known c.in-Some-read.tree) in
+    rw (← ap (λ key. key.tree) (key_is c)) (tree_known c.in-Some-read.tree) in
     ap Some (key_is c) ∙ sym (public_in-known c.args.bytes.now c.if-bytes-ne56.false ots tree)
