@@ -1,11 +1,18 @@
 -- What an object has by name once a member was put or removed, over plain values.
-use Rattle.std.proofs.Common.{◌≡◌, ℕ, true, false, cond, List, Some, None, Less, Equal, Greater, refl, sym, ap, ◌∙◌}
+use Rattle.std.proofs.Common.{◌≡◌, ℕ, Bool, true, false, not, cond, List, Some, None, Less, Equal, Greater, refl, sym, ap, ◌∙◌}
+use Rattle.std.specs.Prelude.{◌&&◌}
+use Rattle.std.specs.Cmp.{first_so, second_so}
 use Rattle.std.specs.Ordering.{match_ordering}
 use Rattle.std.specs.Str.{IsUtf8}
+use Rattle.json.proofs.Printed.Utf8.{are_ascii, IsUtf8-are_ascii}
 use Rattle.st_canon.specs.Find.{member_at, put, without}
 use Rattle.st_canon.specs.Names.{name_cmp, is_name}
 use Rattle.st_canon.specs.Plain.{Plain, Members, no_members, member}
 use Rattle.st_canon.proofs.Order.{same_from_tied, same_from_is_name, is_name_from_same, not_name_from_apart, not_name_from_greater}
+
+false_from_not : (t : Bool) → not t ≡ true → t ≡ false
+false_from_not true h = cc
+false_from_not false h = refl
 
 -- the member that was put is found
 pub member_at-put_same : (name : List ℕ) (p : Plain) (ms : Members) → member_at name (put name p ms) ≡ Some p
@@ -33,6 +40,14 @@ member_at-put_other other name p (member n q ms) u v differ =
       | Greater ↦ λ is. ap (cond (is_name other n) (Some q)) (member_at-put_other other name p ms u v differ)
     ] refl
 
+-- the same at two names of ASCII, which computes where they are literals
+pub member_at-put_literal : (other name : List ℕ) (p : Plain) (ms : Members) → (are_ascii other && (are_ascii name && not (is_name other name))) ≡ true → member_at other (put name p ms) ≡ member_at other ms
+member_at-put_literal other name p ms apart =
+    let rest = second_so (are_ascii other) (are_ascii name && not (is_name other name)) apart in
+    let u = IsUtf8-are_ascii other (first_so (are_ascii other) (are_ascii name && not (is_name other name)) apart) in
+    let v = IsUtf8-are_ascii name (first_so (are_ascii name) (not (is_name other name)) rest) in
+    member_at-put_other other name p ms u v (false_from_not (is_name other name) (second_so (are_ascii name) (not (is_name other name)) rest))
+
 -- the member that was removed is gone
 pub member_at-without_same : (name : List ℕ) (ms : Members) → member_at name (without name ms) ≡ None
 member_at-without_same name no_members = refl
@@ -50,4 +65,4 @@ member_at-without_other other name (member n q ms) differ = elim (is_name name n
 ] refl
 
 -- each name is found as the members say, once one was put or removed
-pub ruleset by_name = (member_at-put_same, member_at-put_other, member_at-without_same, member_at-without_other)
+pub ruleset by_name = (member_at-put_same, member_at-put_literal, member_at-without_same, member_at-without_other)

@@ -1,4 +1,4 @@
-use super::{is_entry, pair_of};
+use super::{is_entry, moved, pair_of};
 use crate::{Json, Object, Whole, read, write};
 use st_base::{Copied, Text};
 use std::test::Fail;
@@ -45,6 +45,14 @@ fn members_are_put_replaced_found_and_removed(rt: HostRuntime) -> Result<(), Fai
     assert!(rt; matches!(object.remove("b"), Some(Json::Null)));
     assert!(rt; object.remove("b").is_none());
     assert!(rt; has_text(&rt, object.copy(alloc)?, "{\"a\":false,\"c\":2}")?);
+    Ok(())
+}
+
+#[test]
+fn a_member_is_moved(rt: HostRuntime) -> Result<(), Fail> {
+    let mut object = object_of(&rt, "{\"op\":1,\"from\":2}")?;
+    moved(rt.alloc(), &mut object, Json::Null)?;
+    assert!(rt; has_text(&rt, object, "{\"op\":1,\"to\":null}")?);
     Ok(())
 }
 
