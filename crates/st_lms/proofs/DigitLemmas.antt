@@ -1,5 +1,5 @@
 -- Bounds on digits and on the checksum.
-use Rattle.std.proofs.Common.{◌≡◌, ℕ, zero, suc, ◌+◌, ◌-◌, ◌*◌, ◌/◌, ◌%◌, ◌^◌, ◌<◌, ◌≤◌, List, refl, arith, ◌∙◌, ap}
+use Rattle.std.proofs.Common.{◌≡◌, ℕ, zero, suc, ◌+◌, ◌-◌, ◌*◌, ◌/◌, ◌%◌, ◌^◌, ◌<◌, ◌≤◌, List, get_or, refl, arith, ◌∙◌, ap}
 use Rattle.std.proofs.lemmas.Nat.{mod_below, pow_pos, mul-le}
 use Rattle.std.proofs.Math.Nat.{suc-mul, mod-eq_of_lt}
 use Rattle.st_lms.specs.Strings.{coef}
@@ -7,29 +7,30 @@ use Rattle.st_lms.specs.Parameters.{IsOneTimeType, width, chains, shift, greates
 use Rattle.st_lms.specs.OneTime.{shortfall, checksum}
 use Rattle.st_lms.proofs.Widths.{FitsByte, fits_byte}
 
+-- no digit is above the greatest one
 pub coef-greatest : (s : List ℕ) (i t : ℕ) → coef s i (width t) ≤ greatest_digit t
 unfolding coef greatest_digit
 coef-greatest s i t =
-    let below = mod_below (Rattle.std.specs.Prelude.slice_index s (i * width t / 8) / 2 ^ (8 - (width t * (i % (8 / width t)) + width t))) (2 ^ width t) (pow_pos (width t)) in
+    let shifted = get_or s (i * width t / 8) 0 / 2 ^ (8 - (width t * (i % (8 / width t)) + width t)) in
+    let below = mod_below shifted (2 ^ width t) (pow_pos (width t)) in
     omega (arith, below)
 
--- each type has this many digits in a hash, and as many chains as fit a hash and its checksum
+-- what the table says of each type
 pub record IsSized (t : ℕ) : Type 0 where
   pub digits : 256 / width t ≤ 256
   pub greatest : greatest_digit t ≤ 255
   pub sum : (256 / width t) * greatest_digit t * 2 ^ shift t < 2 ^ 16
   pub chain_count : chains t ≤ 265
   pub shifted : shift t < 16
-  pub hashed : (256 / width t) * width t ≡ 256
   pub chain_room : chains t * width t ≤ 8 * 34
 
 pub sized : (t : ℕ) → IsOneTimeType t → IsSized t
 unfolding width greatest_digit shift chains
 sized zero h = absurd (omega arith)
-sized (suc zero) h = record { digits = omega arith; greatest = omega arith; sum = omega arith; chain_count = omega arith; shifted = omega arith; hashed = refl; chain_room = omega arith }
-sized (suc (suc zero)) h = record { digits = omega arith; greatest = omega arith; sum = omega arith; chain_count = omega arith; shifted = omega arith; hashed = refl; chain_room = omega arith }
-sized (suc (suc (suc zero))) h = record { digits = omega arith; greatest = omega arith; sum = omega arith; chain_count = omega arith; shifted = omega arith; hashed = refl; chain_room = omega arith }
-sized (suc (suc (suc (suc zero)))) h = record { digits = omega arith; greatest = omega arith; sum = omega arith; chain_count = omega arith; shifted = omega arith; hashed = refl; chain_room = omega arith }
+sized (suc zero) h = record { digits = omega arith; greatest = omega arith; sum = omega arith; chain_count = omega arith; shifted = omega arith; chain_room = omega arith }
+sized (suc (suc zero)) h = record { digits = omega arith; greatest = omega arith; sum = omega arith; chain_count = omega arith; shifted = omega arith; chain_room = omega arith }
+sized (suc (suc (suc zero))) h = record { digits = omega arith; greatest = omega arith; sum = omega arith; chain_count = omega arith; shifted = omega arith; chain_room = omega arith }
+sized (suc (suc (suc (suc zero)))) h = record { digits = omega arith; greatest = omega arith; sum = omega arith; chain_count = omega arith; shifted = omega arith; chain_room = omega arith }
 sized (suc (suc (suc (suc (suc n))))) h = absurd (omega arith)
 
 -- a place below a bound, times a width
@@ -39,19 +40,14 @@ place_below i n w m some h k =
     let split : suc i * w ≡ i * w + w = suc-mul i w in
     omega arith
 
-pub digit_in_hash : (i w t : ℕ) → w ≡ width t → IsOneTimeType t → i < 256 / w → i * width t < 8 * 32
-digit_in_hash i w t e h k =
-    let fits : FitsByte i (width t) = fits_byte i (width t) t refl h in
-    let sizes : IsSized t = sized t h in
-    let below : i < 256 / width t = rw e at k in
-    place_below i (256 / width t) (width t) (8 * 32) fits.some below (omega (arith, sizes.hashed))
-
+-- each digit that is signed stands in the string of a hash and its checksum
 pub digit_in_digits : (i t : ℕ) → IsOneTimeType t → i < chains t → i * width t < 8 * 34
 digit_in_digits i t h k =
     let fits : FitsByte i (width t) = fits_byte i (width t) t refl h in
     let sizes : IsSized t = sized t h in
     place_below i (chains t) (width t) (8 * 34) fits.some k sizes.chain_room
 
+-- the digits fall short by no more than the greatest one each
 pub shortfall-le : (t : ℕ) (s : List ℕ) (n : ℕ) → shortfall t s n ≤ n * greatest_digit t
 unfolding shortfall
 shortfall-le t s zero = omega arith

@@ -28,6 +28,7 @@ length-joined string long (suc n) =
     let before : length (joined string n) ≡ 32 * n = length-joined string long n in
     omega (arith, before, long n, length-append (joined string n) (string n))
 
+-- a string of a row
 pub value_at-joined : (string : ℕ → List ℕ) → ((i : ℕ) → length (string i) ≡ 32) → (n i : ℕ) → i < n →
     value_at (joined string n) i ≡ string i
 unfolding joined value_at
@@ -47,6 +48,7 @@ value_at-joined string long (suc n) i h =
           ap (take 32) last ∙ take_all 32 (string n) (omega (arith, long n)) ∙ ap string (sym same)
     ]
 
+-- rows of equal strings
 pub joined-same : (f g : ℕ → List ℕ) (n : ℕ) → ((i : ℕ) → i < n → f i ≡ g i) → joined f n ≡ joined g n
 unfolding joined
 joined-same f g zero same = refl

@@ -11,6 +11,7 @@ use Rattle.st_lms.specs.Tree.{leaf, inner, node, parent, sibling, node_above, pa
 use Rattle.st_lms.specs.Signature.{IsSignature, root_of, public_of, randomizer_of, signature_of}
 use Rattle.st_lms.proofs.OneTimeLaw.{candidate_key-signed, length-signed_values, length-secret_element}
 
+-- nodes have 32 bytes, and a path as many of them as levels
 pub length-node : (secret : SecretKey) (n r : ℕ) → length (node secret n r) ≡ 32
 unfolding node leaf inner
 length-node secret zero r = length-sha256 _

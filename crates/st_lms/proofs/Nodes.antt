@@ -6,6 +6,7 @@ use Rattle.st_lms.specs.Parameters.{IsTreeType, height}
 use Rattle.st_lms.specs.Keys.{SecretKey}
 use Rattle.st_lms.specs.Tree.{IsNode, inner, node, sibling}
 
+-- no tree is higher than 10
 pub height-small : (t : ℕ) → IsTreeType t → height t ≤ 10
 unfolding height
 height-small zero h = absurd (omega arith)
@@ -23,6 +24,7 @@ doubled h n k =
     let e : h - n ≡ suc (h - suc n) = omega arith in
     rw (e, pow-suc) (omega arith)
 
+-- the nodes that a tree has
 pub left_node : (t n r : ℕ) → 0 < n → IsNode t n r → IsNode t (n - 1) (2 * r)
 left_node t zero r some is = absurd (omega arith)
 left_node t (suc n) r some is =
@@ -47,6 +49,7 @@ leaf_node t q k h =
     let e : height t - 0 ≡ height t = omega arith in
     record { known = k; level = omega arith; low = rw e (omega arith); high = rw e (omega arith) }
 
+-- the numbers of nodes are small
 pub node_small : (t n r : ℕ) → IsNode t n r → r < 2 ^ 11
 node_small t n r is =
     let short : height t - n ≤ 10 = omega (arith, height-small t is.known) in

@@ -8,6 +8,7 @@ use Rattle.st_lms.proofs.Chains.{chain-add}
 use Rattle.st_lms.proofs.DigitLemmas.{coef-greatest}
 use Rattle.st_lms.proofs.Hashing.{length-joined, value_at-joined, joined-same}
 
+-- each value of a chain has 32 bytes
 pub length-secret_element : (id : List ℕ) (q i : ℕ) (seed : List ℕ) → length (secret_element id q i seed) ≡ 32
 unfolding secret_element
 length-secret_element id q i seed = length-sha256 _
@@ -43,6 +44,7 @@ end_of_value-signed t id q seed digits i h =
     ∙ sym (rw start at parts)
     ∙ ap (λ n. chain id q i 0 n element) whole
 
+-- the key that a secret's values lead to is its public key
 pub candidate_key-signed : (t : ℕ) (id : List ℕ) (q : ℕ) (seed digits : List ℕ) →
     candidate_key t id q digits (signed_values t id q seed digits) ≡ one_time_public t id q seed
 unfolding candidate_key one_time_public key_of_ends

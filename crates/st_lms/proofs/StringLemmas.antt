@@ -1,6 +1,5 @@
 -- Lengths of strings, and how digits are read.
-use Rattle.std.proofs.Common.{◌≡◌, ℕ, ◌+◌, ◌-◌, ◌*◌, ◌/◌, ◌%◌, ◌^◌, List, ◌++◌, length, take, drop, get_or, bit_and, refl, arith}
-use Rattle.std.proofs.lemmas.List.{take_at, drop_at, drop_all, append-nil}
+use Rattle.std.proofs.Common.{◌≡◌, ℕ, ◌+◌, ◌-◌, ◌*◌, ◌/◌, ◌%◌, ◌^◌, List, length, get_or, bit_and, refl}
 use Rattle.std.proofs.lemmas.Nat.{and_mask}
 use Rattle.st_lms.specs.Strings.{u32str, u16str, coef}
 
@@ -17,9 +16,3 @@ pub shifted-coef : (s : List ℕ) (i w greatest : ℕ) → greatest ≡ 2 ^ w - 
     bit_and (get_or s (i * w / 8) 0 / 2 ^ (8 - (w * (i % (8 / w)) + w))) greatest ≡ coef s i w
 unfolding coef
 shifted-coef s i w greatest e = rw (e, and_mask)
-
--- a string of 34 bytes whose two parts were written one after another
-pub two_parts : (first rest second : List ℕ) → length first ≡ 32 → length rest ≡ 2 →
-    take 32 (first ++ rest) ++ (second ++ drop 2 (drop 32 (first ++ rest))) ≡ first ++ second
-two_parts first rest second m n =
-    rw (take_at first rest 32 m, drop_at first rest 32 m, drop_all 2 rest (omega arith), append-nil second)

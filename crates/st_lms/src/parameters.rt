@@ -11,7 +11,8 @@ pub(crate) enum OneTimeType {
     W8,
 }
 
-/// A row of the table of LM-OTS parameter sets (RFC 8554, section 4.1).
+/// A row of the table of LM-OTS parameter sets (RFC 8554, section 4.1): the number of the type, the
+/// bits of a digit, the greatest digit, how many digits are signed, and the shift of the checksum.
 #[derive(Clone, Copy, Debug)]
 pub(crate) struct Parameters {
     pub(crate) number: u32,
@@ -22,8 +23,10 @@ pub(crate) struct Parameters {
 }
 
 impl OneTimeType {
+    /// The type with this number.
     pub(crate) fn read(number: u32) -> Option<OneTimeType>
-        ensures { MatchOption result (¬ IsOneTimeType number) (λ kind. one_time_number kind ≡ number) }
+        ensures { MatchOption result (¬ IsOneTimeType number)
+            (λ kind. one_time_number kind ≡ number) }
     {
         match number {
             1 => Some(OneTimeType::W1),
@@ -67,6 +70,7 @@ pub(crate) enum TreeType {
 }
 
 impl TreeType {
+    /// The type with this number.
     pub(crate) fn read(number: u32) -> Option<TreeType>
         ensures { MatchOption result (¬ IsTreeType number) (λ kind. tree_number kind ≡ number) }
     {

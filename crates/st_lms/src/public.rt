@@ -37,9 +37,19 @@ impl Model for Public {
 
     ghost use Rattle.st_lms.specs.Inverses.{public_inverse};
 
-    ghost view = { λ p. record { ots = one_time_number p.ots; tree = tree_number p.tree; id = p.id; root = p.root } };
+    ghost view = { λ p. record {
+      ots = one_time_number p.ots;
+      tree = tree_number p.tree;
+      id = p.id;
+      root = p.root;
+    } };
 
-    ghost inverse = { λ v. record { ots = one_time_of v.ots; tree = tree_of v.tree; id = v.id; root = v.root } };
+    ghost inverse = { λ v. record {
+      ots = one_time_of v.ots;
+      tree = tree_of v.tree;
+      id = v.id;
+      root = v.root;
+    } };
 
     ghost inverse_ok = { λ a h. public_inverse a };
 }
@@ -58,7 +68,8 @@ impl Public {
         ensures bad_length { (result ≡ Err PublicRefused.BadLength) ↔ (length bytes.now ≢ 56) }
         ensures bad_type { (result ≡ Err PublicRefused.BadType) ↔ ((length bytes.now ≡ 56)
             × (¬ (IsOneTimeType (one_time_type_in bytes.now) × IsTreeType (tree_type_in bytes.now)))) }
-        ensures written { (key : PublicKey) → IsPublicKey key → bytes.now ≡ public_text key → result ≡ Ok key }
+        ensures written { (key : PublicKey) → IsPublicKey key → bytes.now ≡ public_text key
+            → result ≡ Ok key }
         ensures value { result_ok result ≡ public_in bytes.now }
     {
         if bytes.len() != 56 {

@@ -36,9 +36,19 @@ impl Model for Secret {
 
     ghost use Rattle.st_lms.specs.Inverses.{secret_inverse};
 
-    ghost view = { λ s. record { ots = one_time_number s.ots; tree = tree_number s.tree; id = s.id; seed = s.seed } };
+    ghost view = { λ s. record {
+      ots = one_time_number s.ots;
+      tree = tree_number s.tree;
+      id = s.id;
+      seed = s.seed;
+    } };
 
-    ghost inverse = { λ v. record { ots = one_time_of v.ots; tree = tree_of v.tree; id = v.id; seed = v.seed } };
+    ghost inverse = { λ v. record {
+      ots = one_time_of v.ots;
+      tree = tree_of v.tree;
+      id = v.id;
+      seed = v.seed;
+    } };
 
     ghost inverse_ok = { λ a h. secret_inverse a };
 }

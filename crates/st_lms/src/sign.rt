@@ -18,7 +18,8 @@ fn push_values(
     q: u32,
     digits: &Digits,
 ) -> Result<(), WantOfMemory>
-    ensures { OnOk result (out.new ≡ out.old ++ signed_values secret.now.ots secret.now.id q secret.now.seed digits.now) }
+    ensures { OnOk result (out.new ≡ out.old
+        ++ signed_values secret.now.ots secret.now.id q secret.now.seed digits.now) }
 {
     let count = secret.ots.parameters().chains;
     'digits: for i in 0..count {
@@ -63,7 +64,8 @@ pub fn sign_at(
 ) -> Result<Bytes, WantOfMemory>
     requires { q < 2 ^ height secret.now.tree }
     ensures value { IfOk result (λ signature. signature ≡ signature_of secret.now q message.now) }
-    ensures verifies { IfOk result (λ signature. IsSignature (public_of secret.now) message.now signature) }
+    ensures verifies { IfOk result (λ signature.
+        IsSignature (public_of secret.now) message.now signature) }
 {
     let randomizer = randomizer_of(secret, q);
     let hash = message_hash(&secret.id, q, &randomizer, message);

@@ -25,6 +25,7 @@ pub(crate) fn put(row: &mut [u8], at: usize, bytes: &[u8])
     row[at..at + bytes.len()].copy_from_slice(bytes);
 }
 
+/// A number as 4 bytes, high first (RFC 8554, section 3.1.1).
 #[tactic(auto, unfolding(crate::specs::Strings::u32str))]
 pub(crate) fn u32str(n: u32) -> [u8; 4]
     ensures { result ≡ u32str n }
@@ -32,6 +33,7 @@ pub(crate) fn u32str(n: u32) -> [u8; 4]
     n.to_be_bytes()
 }
 
+/// A number as 2 bytes, high first.
 #[tactic(auto, unfolding(crate::specs::Strings::u16str))]
 pub(crate) fn u16str(n: u16) -> [u8; 2]
     ensures { result ≡ u16str n }
@@ -39,6 +41,7 @@ pub(crate) fn u16str(n: u16) -> [u8; 2]
     n.to_be_bytes()
 }
 
+/// The number that 4 bytes are.
 #[tactic(auto, unfolding(crate::specs::Strings::str_to_u32))]
 pub(crate) fn str_to_u32(bytes: &[u8]) -> u32
     requires { length bytes.now ≡ 4 }
@@ -56,7 +59,7 @@ pub(crate) fn value_at(row: &[u8], i: usize) -> [u8; 32]
     copied(&row[32 * i..32 * i + 32])
 }
 
-/// Digit `i` of a string.
+/// Digit `i` of a string, from the highest bit of its first byte on (RFC 8554, section 3.1.3).
 pub(crate) fn coef(s: &[u8], i: u16, kind: OneTimeType) -> u8
     requires { i * width (one_time_number kind) < 8 * length s.now }
     ensures { result ≡ coef s.now i (width (one_time_number kind)) }

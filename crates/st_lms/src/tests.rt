@@ -34,8 +34,8 @@ fn holds_turned(
     holds
 }
 
-/// Each field of the signature damaged in turn: q, the LM-OTS type, the randomizer, the first value,
-/// the LMS type, the path.
+/// Each field of the signature is damaged in turn: q, the LM-OTS type, the randomizer, the first and
+/// the last value, the LMS type, the path at both ends.
 fn no_damage_holds(public: &Public, message: &[u8], signature: &mut [u8], path_len: usize) -> bool
     requires { path_len ≤ 320 }
 {
@@ -43,7 +43,8 @@ fn no_damage_holds(public: &Public, message: &[u8], signature: &mut [u8], path_l
     if len < 48 + path_len {
         return false;
     }
-    for at in [3, 7, 8, 40, len - path_len - 1, len - path_len, len - 1] {
+    let path = len - path_len;
+    for at in [3, 7, 8, 40, path - 5, path - 1, path, len - 1] {
         if holds_turned(public, message, signature, at, 1) {
             return false;
         }

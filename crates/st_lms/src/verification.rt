@@ -23,7 +23,8 @@ struct Parts<'a> {
 
 fn parts_of(signature: &[u8], values_len: usize) -> Parts<'_>
     requires { 44 + values_len ≤ length signature.now }
-    ensures whole { signature.now ≡ result.q.now ++ result.ots.now ++ result.randomizer.now ++ result.values.now ++ result.tree.now ++ result.path.now }
+    ensures whole { signature.now ≡ result.q.now ++ result.ots.now ++ result.randomizer.now
+        ++ result.values.now ++ result.tree.now ++ result.path.now }
     ensures q { length result.q.now ≡ 4 }
     ensures ots { length result.ots.now ≡ 4 }
     ensures randomizer { length result.randomizer.now ≡ 32 }
@@ -89,7 +90,8 @@ fn leaf_count(public: &Public) -> u32
 }
 
 fn has_types(public: &Public, ots: &[u8], tree: &[u8]) -> bool
-    ensures { IsTrue result ↔ ((ots.now ≡ u32str public.now.ots) × (tree.now ≡ u32str public.now.tree)) }
+    ensures { IsTrue result
+        ↔ ((ots.now ≡ u32str public.now.ots) × (tree.now ≡ u32str public.now.tree)) }
 {
     ots == u32str(public.ots()).as_slice() && tree == u32str(public.tree()).as_slice()
 }
