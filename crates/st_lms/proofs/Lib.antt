@@ -11,4 +11,5 @@ pub mod PathLemmas
 pub mod PublicTexts
 pub mod Nodes
 pub mod SignatureParts
+pub mod Decided
 pub mod Law

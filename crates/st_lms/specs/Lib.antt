@@ -6,3 +6,4 @@ pub mod Keys
 pub mod Tree
 pub mod Signature
 pub mod Inverses
+pub mod Decided

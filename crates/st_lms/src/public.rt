@@ -1,4 +1,6 @@
 ghost use Rattle.std.specs.Prelude.{◌≡◌, ◌≢◌, ◌↔◌, length, IfOk};
+ghost use Rattle.std.specs.Result.{result_ok};
+ghost use Rattle.st_lms.specs.Decided.{public_in};
 ghost use Rattle.st_lms.specs.Keys.{PublicKey, IsPublicKey, public_text, tree_type_in, one_time_type_in};
 ghost use Rattle.st_lms.specs.Parameters.{IsOneTimeType, IsTreeType};
 
@@ -68,6 +70,7 @@ impl Public {
             × (¬ (IsOneTimeType (one_time_type_in bytes.now) × IsTreeType (tree_type_in bytes.now)))) }
         ensures written { (key : PublicKey) → IsPublicKey key → bytes.now ≡ public_text key
             → result ≡ Ok key }
+        ensures value { result_ok result ≡ public_in bytes.now }
     {
         if bytes.len() != 56 {
             return Err(PublicRefused::BadLength);

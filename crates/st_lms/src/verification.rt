@@ -1,4 +1,5 @@
 ghost use Rattle.std.specs.Prelude.{◌≡◌, ◌↔◌, ◌+◌, ◌*◌, ◌^◌, ◌≤◌, ◌<◌, ◌++◌, IsTrue, length};
+ghost use Rattle.st_lms.specs.Decided.{is_signature};
 ghost use Rattle.st_lms.specs.Parameters.{chains, height};
 ghost use Rattle.st_lms.specs.Signature.{IsSignature, root_of};
 ghost use Rattle.st_lms.specs.Strings.{u32str};
@@ -104,7 +105,8 @@ fn is_same(left: &[u8; 32], right: &[u8; 32]) -> bool
 /// Whether these bytes are a signature of the message under the public key (RFC 8554, section
 /// 5.4.2). Any bytes may be asked about. It takes no memory.
 pub fn verify(public: &Public, message: &[u8], signature: &[u8]) -> bool
-    ensures { IsTrue result ↔ IsSignature public.now message.now signature.now }
+    ensures holds { IsTrue result ↔ IsSignature public.now message.now signature.now }
+    ensures value { result ≡ is_signature public.now message.now signature.now }
 {
     let values_len = values_len(public);
     if signature.len() != 44 + values_len + path_len(public) {

@@ -1,5 +1,6 @@
-use Rattle.std.proofs.Common.{◌≡◌, ◌∙◌, ◌<◌, ◌^◌, sym, arith}
+use Rattle.std.proofs.Common.{◌≡◌, ◌∙◌, ◌<◌, ◌^◌, sym, false, arith}
 use Rattle.st_lms.specs.Parameters.{height}
+use Rattle.st_lms.proofs.Decided.{decided}
 use Rattle.st_lms.proofs.SignatureParts.{IsCut, length-signature, cut_of, same_parts, same_number, signature_of_parts}
 use Rattle.st_lms.proofs.verification.verify.Goals as goal
 use Rattle.st_lms.proofs.verification.verify.Goals.{Then-not-has_types, Then-q-leaf_count, After-is_same}
@@ -10,8 +11,8 @@ overflow_add-values_len c = omega (arith, c.values_len-values_len.ensures.small)
 pub overflow_add-values_len-2 : goal.overflow_add-values_len-2
 overflow_add-values_len-2 c = omega (arith, c.values_len-values_len.ensures.small, c.path_len.ensures.small)
 
-pub returns-then-signature-values_len : goal.returns-then-signature-values_len
-returns-then-signature-values_len c = (
+pub returns-then-signature-values_len-clause-holds : goal.returns-then-signature-values_len-clause-holds
+returns-then-signature-values_len-clause-holds c = (
   λ h. absurd cc,
   λ is. absurd (c.if-signature-values_len.true (omega (
     arith,
@@ -45,8 +46,8 @@ cut_after c = cut_of c.args.public.now c.args.signature.now c.parts_of-parts.res
     c.if-signature-values_len.false c.parts_of-parts.ensures.whole c.parts_of-parts.ensures.q c.parts_of-parts.ensures.ots
     c.parts_of-parts.ensures.randomizer c.parts_of-parts.ensures.values c.parts_of-parts.ensures.tree
 
-pub returns-then-not-has_types : goal.returns-then-not-has_types
-returns-then-not-has_types c = (
+pub returns-then-not-has_types-clause-holds : goal.returns-then-not-has_types-clause-holds
+returns-then-not-has_types-clause-holds c = (
   λ h. absurd cc,
   λ is.
       let same = same_parts c.args.public.now c.args.message.now c.args.signature.now c.parts_of-parts.result.q.now c.parts_of-parts.result.ots.now
@@ -56,8 +57,8 @@ returns-then-not-has_types c = (
       absurd (cc (types, c.if-not-has_types.true)),
 )
 
-pub returns-then-q-leaf_count : goal.returns-then-q-leaf_count
-returns-then-q-leaf_count c = (
+pub returns-then-q-leaf_count-clause-holds : goal.returns-then-q-leaf_count-clause-holds
+returns-then-q-leaf_count-clause-holds c = (
   λ h. absurd cc,
   λ is.
       let same = same_parts c.args.public.now c.args.message.now c.args.signature.now c.parts_of-parts.result.q.now c.parts_of-parts.result.ots.now
@@ -69,8 +70,8 @@ returns-then-q-leaf_count c = (
       absurd (omega (arith, is.in_tree, number, c.leaf_count.ensures.count, c.if-q-leaf_count.true)),
 )
 
-pub returns : goal.returns
-returns c = (
+pub returns-clause-holds : goal.returns-clause-holds
+returns-clause-holds c = (
   λ yes.
       let types = c.has_types.ensures.0 c.if-not-has_types.false in
       let same = c.is_same.ensures.0 yes in
@@ -88,3 +89,15 @@ returns c = (
       same_number is.q c.str_to_u32-q.result c.parts_of-parts.result.q.now same.q_is c.str_to_u32-q.ensures (omega (arith, below)) in
       c.is_same.ensures.1 (c.root_of-root.ensures ∙ rw (number, same.randomizer_is, same.values_is, same.path_is, c.root.ensures) is.root),
 )
+
+pub returns-then-signature-values_len-clause-value : goal.returns-then-signature-values_len-clause-value
+returns-then-signature-values_len-clause-value c = decided c.args.public.now c.args.message.now c.args.signature.now false (λ i. omega (arith, c.type_inv.signature i)) (returns-then-signature-values_len-clause-holds c)
+
+pub returns-then-not-has_types-clause-value : goal.returns-then-not-has_types-clause-value
+returns-then-not-has_types-clause-value c = decided c.args.public.now c.args.message.now c.args.signature.now false (λ i. omega (arith, c.type_inv.signature i)) (returns-then-not-has_types-clause-holds c)
+
+pub returns-then-q-leaf_count-clause-value : goal.returns-then-q-leaf_count-clause-value
+returns-then-q-leaf_count-clause-value c = decided c.args.public.now c.args.message.now c.args.signature.now false (λ i. omega (arith, c.type_inv.signature i)) (returns-then-q-leaf_count-clause-holds c)
+
+pub returns-clause-value : goal.returns-clause-value
+returns-clause-value c = decided c.args.public.now c.args.message.now c.args.signature.now c.is_same.result (λ i. omega (arith, c.type_inv.signature i)) (returns-clause-holds c)

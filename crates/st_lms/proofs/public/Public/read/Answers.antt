@@ -1,9 +1,10 @@
-use Rattle.std.proofs.Common.{◌≡◌, ◌∙◌, sym, ap, refl, take, Ok, arith}
+use Rattle.std.proofs.Common.{◌≡◌, ◌∙◌, sym, ap, refl, take, Ok, Some, arith}
 use Rattle.st_lms.specs.Keys.{PublicKey, public_text, tree_type_in, one_time_type_in}
 use Rattle.st_lms.specs.Parameters.{IsOneTimeType, IsTreeType}
 use Rattle.st_lms.specs.Strings.{str_to_u32}
 use Rattle.st_lms.specs.TypeNumbers.{one_time_number, tree_number}
 use Rattle.st_lms.proofs.PublicTexts.{key_in, public_text-key_in, shows_key, cut-key_in}
+use Rattle.st_lms.proofs.Decided.{public_in-known, public_in-none}
 use Rattle.st_lms.proofs.TypeLemmas.{one_time_known, tree_known}
 use Rattle.st_lms.proofs.public.Public.read.Goals as goal
 use Rattle.st_lms.proofs.public.Public.read.Goals.{In_default, In_default-read, After-copied-2}
@@ -61,3 +62,23 @@ returns-clause-bad_type c =
 
 pub returns-clause-written : goal.returns-clause-written
 returns-clause-written c = λ key is e. ap Ok (key_is c ∙ (shows_key key c.args.bytes.now is e).parts)
+
+pub returns-then-bytes-ne56-clause-value : goal.returns-then-bytes-ne56-clause-value
+returns-then-bytes-ne56-clause-value c = sym (public_in-none c.args.bytes.now (λ long ots tree. c.if-bytes-ne56.true long))
+
+pub returns-in_default-clause-value : goal.returns-in_default-clause-value
+returns-in_default-clause-value c =
+    sym (public_in-none c.args.bytes.now (λ long ots tree. (rw (c.in_default.is, one_time_type_is c) at c.read.ensures) ots))
+
+pub returns-in_default-read-clause-value : goal.returns-in_default-read-clause-value
+returns-in_default-read-clause-value c =
+    sym (public_in-none c.args.bytes.now (λ long ots tree. (rw (c.in_default-read.is, tree_type_is c) at c.read-2.ensures) tree))
+
+pub returns-clause-value : goal.returns-clause-value
+unfolding one_time_type_in tree_type_in
+returns-clause-value c =
+    let ots : IsOneTimeType (one_time_type_in c.args.bytes.now) =
+    rw (← ap (λ key. key.ots) (key_is c)) (one_time_known c.in-Some.ots) in
+    let tree : IsTreeType (tree_type_in c.args.bytes.now) =
+    rw (← ap (λ key. key.tree) (key_is c)) (tree_known c.in-Some-read.tree) in
+    ap Some (key_is c) ∙ sym (public_in-known c.args.bytes.now c.if-bytes-ne56.false ots tree)

@@ -1,0 +1,8 @@
+pub mod Both
+pub mod Cutting
+pub mod Dots
+pub mod Fixed
+pub mod Joining
+pub mod JwkJson
+pub mod Opens
+pub mod Utf8Bytes

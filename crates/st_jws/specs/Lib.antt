@@ -1,0 +1,6 @@
+pub mod Commitment
+pub mod Fixed
+pub mod Jwk
+pub mod Opening
+pub mod Signing
+pub mod Texts

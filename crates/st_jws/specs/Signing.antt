@@ -1,0 +1,18 @@
+-- Compact signed texts (RFC 7515, section 5.1), written.
+use Rattle.std.specs.Prelude.{ℕ, List, ◌∷◌, ◌++◌, codes}
+use Rattle.st_canon.specs.Canonical.{canonical}
+use Rattle.st_canon.specs.Plain.{Plain}
+use Rattle.st_hash.specs.Base64url.{base64url}
+use Rattle.st_jws.specs.Texts.{dot}
+
+-- the header that is written
+abbrev pub header_text : List ℕ
+header_text = codes "{\"alg\":\"LMS\"}"
+
+-- what is signed of a payload: the header and the canonical payload, with a dot between their texts
+abbrev pub signing_input : Plain → List ℕ
+signing_input payload = base64url header_text ++ dot ∷ base64url (canonical payload)
+
+-- what was signed, a dot, the text of the signature
+abbrev pub join_signed : List ℕ → List ℕ → List ℕ
+join_signed input signature = input ++ dot ∷ base64url signature

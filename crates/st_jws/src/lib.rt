@@ -1,0 +1,21 @@
+//! LMS keys as JSON (RFC 7517) with their reveal values and commitments, and compact signed texts
+//! (RFC 7515) with the algorithm LMS.
+#![tactic(auto)]
+
+mod buffer;
+mod commit;
+mod header;
+mod jwk;
+mod opening;
+mod payload;
+mod refused;
+mod signing;
+#[cfg(test)]
+mod tests;
+mod texts;
+
+pub use commit::{commitment, meets, reveal};
+pub use jwk::{BadJwk, Jwk};
+pub use opening::{Signed, open_signed};
+pub use refused::SignedRefused;
+pub use signing::{join_signed, signing_input};

@@ -1,0 +1,3 @@
+mod keys;
+mod samples;
+mod signed;
