@@ -95,12 +95,13 @@ pub hash_of_text-spelled : (text : List ℕ) (hash : HashValue) → IsBytes text
 hash_of_text-spelled text hash are_bytes found =
     by_bytes text (bytes_of_text text) hash (λ bytes e. spelled text bytes are_bytes e) found
 
--- a text of another length is no hash text
-length-base64url : (bytes : List ℕ) → length (base64url bytes) ≡ (4 * length bytes + 2) / 3
+-- how long a text is
+pub length-base64url : (bytes : List ℕ) → length (base64url bytes) ≡ (4 * length bytes + 2) / 3
 length-base64url bytes =
     let symbols = url_safe_no_pad.encode_table in
     omega (arith, length-append (encode_symbols symbols bytes) [], length-encode_symbols symbols bytes)
 
+-- a text of another length is no hash text
 by_length : (text : List ℕ) (bytes : Option (List ℕ)) → ((found : List ℕ) → bytes ≡ Some found → text ≡ base64url found)
     → length text ≢ 46 → option_and_then hash_of_multihash bytes ≡ None
 by_length text None spelling other = refl

@@ -1,19 +1,10 @@
 -- Texts that are the base64url of so many bytes.
 use Rattle.std.proofs.Common.{◌≡◌, ◌≢◌, ◌∙◌, ℕ, ◌+◌, ◌*◌, ◌/◌, ◌==◌, false, List, [], length, Option, Some, None, option_and_then, refl, ap, arith}
 use Rattle.std.proofs.lemmas.Bool.{eq-eqb, ne_eqb}
-use Rattle.std.proofs.lemmas.List.{length-append}
-use Rattle.base64.specs.Engines.{url_safe_no_pad}
 use Rattle.base64.specs.GeneralPurpose.{IsBytes}
-use Rattle.base64.specs.Rfc4648.{encode_symbols}
-use Rattle.base64.proofs.RoundTrip.{length-encode_symbols}
 use Rattle.st_hash.specs.Base64url.{base64url, bytes_of_text}
-use Rattle.st_hash.proofs.Spelling.{spelled, bytes_of_text-base64url}
+use Rattle.st_hash.proofs.Spelling.{spelled, bytes_of_text-base64url, length-base64url}
 use Rattle.st_jws.specs.Fixed.{so_many, fixed_of_text}
-
-pub length-base64url : (bytes : List ℕ) → length (base64url bytes) ≡ (4 * length bytes + 2) / 3
-length-base64url bytes =
-    let symbols = url_safe_no_pad.encode_table in
-    omega (arith, length-append (encode_symbols symbols bytes) [], length-encode_symbols symbols bytes)
 
 -- what was written of so many bytes is read
 pub fixed_of_text-base64url : (n : ℕ) (bytes : List ℕ) → IsBytes bytes → length bytes ≡ n → fixed_of_text n (base64url bytes) ≡ Some bytes

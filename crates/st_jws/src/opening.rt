@@ -27,6 +27,15 @@ pub struct Signed {
     pub key: Jwk,
 }
 
+impl Copied for Signed {
+    fn copy(&self, alloc: Global) -> Result<Signed, WantOfMemory> {
+        let text = self.text.copy(alloc)?;
+        let payload = self.payload.copy(alloc)?;
+        let key = self.key;
+        Ok(Signed { text, payload, key })
+    }
+}
+
 /// Opens a signed text of at most `limit` bytes. It counts as one proof, whatever it answers.
 ///
 /// Each refusal but `WantOfMemory` comes exactly where it is the first in the order of

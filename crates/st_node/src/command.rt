@@ -3,7 +3,7 @@ ghost use Rattle.st_node.specs.Command.{Reads, command_of, content_of, anchor_of
 
 use crate::cut::cut_at;
 use crate::number::read_number;
-use st_base::{Bytes, WantOfMemory};
+use st_base::{Bytes, Copied, WantOfMemory};
 use st_hash::{DecRefused, dec};
 use std::alloc::Global;
 use thiserror::Error;
@@ -23,6 +23,19 @@ pub enum Command {
     Anchor { height: u32, text: Bytes },
     /// `resolve <did>`: what does this identifier resolve to?
     Resolve(Bytes),
+}
+
+impl Copied for Command {
+    fn copy(&self, alloc: Global) -> Result<Command, WantOfMemory> {
+        match self {
+            Command::Content(bytes) => Ok(Command::Content(bytes.copy(alloc)?)),
+            Command::Anchor { height, text } => Ok(Command::Anchor {
+                height: *height,
+                text: text.copy(alloc)?,
+            }),
+            Command::Resolve(did) => Ok(Command::Resolve(did.copy(alloc)?)),
+        }
+    }
 }
 
 /// Why a line is no command: the first of these that holds, in this order.

@@ -1,7 +1,7 @@
 ghost use Rattle.std.specs.Prelude.{◌≡◌, [], ◌∷◌, ◌++◌, ◌≤◌, ◌↔◌, IsTrue, length, IfOk, OnOk, OnErr};
 ghost use Rattle.st_node.specs.Ledger.{last_height};
 
-use st_base::{Bytes, List, WantOfMemory};
+use st_base::{Bytes, Copied, List, WantOfMemory};
 use std::alloc::Global;
 use std::marker::Model;
 
@@ -10,6 +10,16 @@ use std::marker::Model;
 pub struct Entry {
     pub height: u32,
     pub text: Bytes,
+}
+
+impl Copied for Entry {
+    fn copy(&self, alloc: Global) -> Result<Entry, WantOfMemory> {
+        let text = self.text.copy(alloc)?;
+        Ok(Entry {
+            height: self.height,
+            text,
+        })
+    }
 }
 
 /// The ledger: its entries in order, whose heights never fall. Contracts see the list.

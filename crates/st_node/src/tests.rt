@@ -94,8 +94,9 @@ fn a_ledger_numbers_its_entries(rt: HostRuntime) -> Result<(), Fail> {
     assert!(rt; ledger.admits(5));
     assert_eq!(rt; ledger.append(5, Bytes::new(alloc))?, 1);
     match ledger.entries() {
-        [Entry { height, text }, _] => {
-            assert_eq!(rt; *height, 5);
+        [first, _] => {
+            let Entry { height, text } = first.copy(alloc)?;
+            assert_eq!(rt; height, 5);
             assert_eq!(rt; text.as_slice(), b"a".as_slice());
         }
         _ => return Err(Fail::from("entries")),
@@ -112,7 +113,7 @@ fn a_node_answers_lines_and_commands(rt: HostRuntime) -> Result<(), Fail> {
     let have = format!(in alloc; "have {OF_ABC}\n")?;
     assert_eq!(rt; reply.as_slice(), have.as_bytes());
     let command = Command::Content(Bytes::from_slice(alloc, b"abc")?);
-    let (_, reply) = node.step(alloc, command, &mut work)?;
+    let (_, reply) = node.step(alloc, command.copy(alloc)?, &mut work)?;
     let had = format!(in alloc; "had {OF_ABC}\n")?;
     assert_eq!(rt; reply.as_slice(), had.as_bytes());
     assert_eq!(rt; work.files(), 0);

@@ -1,6 +1,6 @@
 use crate::tests::samples::{PAYLOAD, SIGNED, SPACED, SPACED_PAYLOAD, WITH_BOTH_KEYS, WITH_TYPE};
 use crate::{SignedRefused, join_signed, open_signed, signing_input};
-use st_base::{Text, Work};
+use st_base::{Copied, Text, Work};
 use st_canon::{read, write};
 use st_lms::{Secret, sign_at};
 use std::alloc::Global;
@@ -69,6 +69,7 @@ fn a_signed_text_opens_to_its_payload(rt: HostRuntime) -> Result<(), Fail> {
         let Ok(opened) = open_signed(rt.alloc(), &text, limit, &mut work) else {
             return Err(Fail::from("refused"));
         };
+        let opened = opened.copy(rt.alloc())?;
         assert_eq!(rt; opened.text.as_str(), signed);
         assert_eq!(rt;
             write(rt.alloc(), &opened.payload)?.as_slice(),
