@@ -3,20 +3,21 @@
 
 usage: bench/run.py [--quick]
 
-It builds two small programs beside the repository's crates, in a folder of its own: one that
-only hashes, with the same kit crate, and one that only reads and writes JSON. The times are of
-whole processes, the best of three. Nothing here is part of the gate.
+It builds small programs beside the repository's crates, in a folder of its own: one that only
+hashes, with the same kit crate, one that only reads and writes JSON, and one that only verifies
+and makes keys. The times are the best of three, but for the last program's of whole processes.
+Nothing here is part of the gate.
 """
 import base64
+import hashlib
 import os
-import resource
 import subprocess
 import sys
 import tempfile
 import time
 
 TOP = os.path.dirname(os.path.dirname(os.path.abspath(__file__)))
-PROGRAMS = {"hash_cost": "sha2", "json_cost": "st_base st_canon"}
+PROGRAMS = {"hash_cost": "sha2", "json_cost": "st_base st_canon", "lms_cost": "st_base st_lms sha2 anyhow"}
 
 
 def build(folder):
@@ -92,6 +93,43 @@ def names(path, count):
         file.write("}")
 
 
+def compressions(ots, tree):
+    """How many compressions of SHA-256 a verification and a key generation take, for the key,
+    the number and the message of lms_cost."""
+    def blocks(length):
+        return (length + 9 + 63) // 64
+
+    def digit(string, i, w):
+        return (string[i * w // 8] >> (8 - (w * (i % (8 // w)) + w))) & (2 ** w - 1)
+
+    w, p, ls = {3: (4, 67, 4), 4: (8, 34, 0)}[ots]
+    height = {5: 5, 6: 10}[tree]
+    greatest = 2 ** w - 1
+    front = bytes([7]) * 16 + (3).to_bytes(4, "big")
+    randomizer = hashlib.sha256(front + b"\xff\xfd\xff" + bytes([9]) * 32).digest()
+    digest = hashlib.sha256(front + b"\x81\x81" + randomizer + b"message").digest()
+    checksum = sum(greatest - digit(digest, i, w) for i in range(256 // w)) << ls
+    string = digest + checksum.to_bytes(2, "big")
+    verification = (sum(greatest - digit(string, i, w) for i in range(p))
+                    + blocks(22 + 32 + 7) + blocks(22 + 32 * p) + 1 + 2 * height)
+    leaf = p * (greatest + 1) + blocks(22 + 32 * p) + 1
+    return verification, 2 ** height * leaf + 2 * (2 ** height - 1)
+
+
+def lms(program):
+    """Prints the cost of LMS against that of the compressions it is made of."""
+    best = {}
+    for line in subprocess.run([program], stdout=subprocess.PIPE, check=True).stdout.decode().splitlines():
+        ots, tree, *times = [int(word) for word in line.split()[:5]]
+        best[ots, tree] = [min(pair) for pair in zip(times, best.get((ots, tree), times))]
+    compression = min(times[2] for times in best.values())
+    for (ots, tree), (verification, generation, _) in best.items():
+        of_verification, of_generation = compressions(ots, tree)
+        print("LMS types %d and %d: %.0f verifications a second, %.2f times their compressions; %.2f keys a second, %.2f times theirs"
+              % (ots, tree, 1e9 / verification, verification / of_verification / compression,
+                 1e9 / generation, generation / of_generation / compression), flush=True)
+
+
 def main():
     quick = "--quick" in sys.argv[1:]
     node = [os.path.join(TOP, "sidetree"), "node"]
@@ -121,6 +159,7 @@ def main():
         with open(given, "w") as file:
             file.write("[" * 127)
         print("127 open brackets: %.3f s" % seconds([paths["json_cost"]], given), flush=True)
+        lms(paths["lms_cost"])
 
 
 if __name__ == "__main__":
