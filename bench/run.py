@@ -3,7 +3,7 @@
 
 usage: bench/run.py [--quick]
 
-It builds small programs beside the repository's crates, in a folder of its own: one that only
+It builds small programs beside a copy of the repository's crates: one that only
 hashes, with the same kit crate, one that only reads and writes JSON, and one that only verifies
 and makes keys. The times are the best of three, but for the last program's of whole processes.
 Nothing here is part of the gate.
@@ -11,6 +11,7 @@ Nothing here is part of the gate.
 import base64
 import hashlib
 import os
+import shutil
 import subprocess
 import sys
 import tempfile
@@ -24,7 +25,8 @@ def build(folder):
     """The programs' paths, each built once in this folder."""
     os.makedirs(os.path.join(folder, "crates"))
     for name in os.listdir(os.path.join(TOP, "crates")):
-        os.symlink(os.path.join(TOP, "crates", name), os.path.join(folder, "crates", name))
+        shutil.copytree(os.path.join(TOP, "crates", name), os.path.join(folder, "crates", name),
+                        ignore=shutil.ignore_patterns("out"))
     with open(os.path.join(TOP, "crates.txt")) as file:
         listed = file.read()
     for name, stands_on in PROGRAMS.items():
