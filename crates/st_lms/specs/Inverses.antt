@@ -2,21 +2,21 @@
 use Rattle.std.proofs.Common.{◌≡◌, ◌∙◌, ap, refl}
 use Rattle.st_lms.specs.TypeNumbers.{one_time_number, tree_number, one_time_of, tree_of}
 use Rattle.st_lms.specs.declared.parameters.OneTimeType.{OneTimeType}
-use Rattle.st_lms.specs.declared.parameters.OneTimeType.TheVariants.{W1, W2, W4, W8}
+use Rattle.st_lms.specs.declared.parameters.OneTimeType.TheVariants.{Width1, Width2, Width4, Width8}
 use Rattle.st_lms.specs.declared.parameters.TreeType.{TreeType}
-use Rattle.st_lms.specs.declared.parameters.TreeType.TheVariants.{H5, H10}
+use Rattle.st_lms.specs.declared.parameters.TreeType.TheVariants.{Height5, Height10}
 use Rattle.st_lms.specs.declared.public.Public.TheInside as public
 use Rattle.st_lms.specs.declared.secret.Secret.TheInside as secret
 
 one_time_of-number : (kind : OneTimeType) → one_time_of (one_time_number kind) ≡ kind
-one_time_of-number W1 = refl
-one_time_of-number W2 = refl
-one_time_of-number W4 = refl
-one_time_of-number W8 = refl
+one_time_of-number Width1 = refl
+one_time_of-number Width2 = refl
+one_time_of-number Width4 = refl
+one_time_of-number Width8 = refl
 
 tree_of-number : (kind : TreeType) → tree_of (tree_number kind) ≡ kind
-tree_of-number H5 = refl
-tree_of-number H10 = refl
+tree_of-number Height5 = refl
+tree_of-number Height10 = refl
 
 pub public_inverse : (a : public.Inside) →
     record a { ots = one_time_of (one_time_number a.ots); tree = tree_of (tree_number a.tree) } ≡ a

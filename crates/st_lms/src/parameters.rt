@@ -5,10 +5,10 @@ ghost use Rattle.st_lms.specs.TypeNumbers.{one_time_number, tree_number};
 /// An LM-OTS parameter set, named by how many bits a digit has.
 #[derive(Clone, Copy, Debug, PartialEq, Eq)]
 pub(crate) enum OneTimeType {
-    W1,
-    W2,
-    W4,
-    W8,
+    Width1,
+    Width2,
+    Width4,
+    Width8,
 }
 
 /// A row of the table of LM-OTS parameter sets (RFC 8554, section 4.1): the number of the type, the
@@ -29,10 +29,10 @@ impl OneTimeType {
             (λ kind. one_time_number kind ≡ number) }
     {
         match number {
-            1 => Some(OneTimeType::W1),
-            2 => Some(OneTimeType::W2),
-            3 => Some(OneTimeType::W4),
-            4 => Some(OneTimeType::W8),
+            1 => Some(OneTimeType::Width1),
+            2 => Some(OneTimeType::Width2),
+            3 => Some(OneTimeType::Width4),
+            4 => Some(OneTimeType::Width8),
             _ => None,
         }
     }
@@ -47,10 +47,10 @@ impl OneTimeType {
         ensures known { IsOneTimeType (one_time_number self) }
     {
         let (number, width, greatest_digit, chains, shift) = match self {
-            OneTimeType::W1 => (1, 1, 1, 265, 7),
-            OneTimeType::W2 => (2, 2, 3, 133, 6),
-            OneTimeType::W4 => (3, 4, 15, 67, 4),
-            OneTimeType::W8 => (4, 8, 255, 34, 0),
+            OneTimeType::Width1 => (1, 1, 1, 265, 7),
+            OneTimeType::Width2 => (2, 2, 3, 133, 6),
+            OneTimeType::Width4 => (3, 4, 15, 67, 4),
+            OneTimeType::Width8 => (4, 8, 255, 34, 0),
         };
         Parameters {
             number,
@@ -65,8 +65,8 @@ impl OneTimeType {
 /// An LMS parameter set, named by the height of its tree.
 #[derive(Clone, Copy, Debug, PartialEq, Eq)]
 pub(crate) enum TreeType {
-    H5,
-    H10,
+    Height5,
+    Height10,
 }
 
 impl TreeType {
@@ -75,8 +75,8 @@ impl TreeType {
         ensures { MatchOption result (¬ IsTreeType number) (λ kind. tree_number kind ≡ number) }
     {
         match number {
-            5 => Some(TreeType::H5),
-            6 => Some(TreeType::H10),
+            5 => Some(TreeType::Height5),
+            6 => Some(TreeType::Height10),
             _ => None,
         }
     }
@@ -86,8 +86,8 @@ impl TreeType {
         ensures known { IsTreeType (tree_number self) }
     {
         match self {
-            TreeType::H5 => 5,
-            TreeType::H10 => 6,
+            TreeType::Height5 => 5,
+            TreeType::Height10 => 6,
         }
     }
 
@@ -96,8 +96,8 @@ impl TreeType {
         ensures { result ≡ height (tree_number self) }
     {
         match self {
-            TreeType::H5 => 5,
-            TreeType::H10 => 10,
+            TreeType::Height5 => 5,
+            TreeType::Height10 => 10,
         }
     }
 
@@ -108,8 +108,8 @@ impl TreeType {
         ensures small { result ≤ 1024 }
     {
         match self {
-            TreeType::H5 => 32,
-            TreeType::H10 => 1024,
+            TreeType::Height5 => 32,
+            TreeType::Height10 => 1024,
         }
     }
 }
