@@ -1,10 +1,12 @@
 //! The plain values that every layer shares: lists, texts and bytes that contracts see as lists,
-//! want of memory, copies, and counters of work.
+//! the words and numbers that texts are cut into, want of memory, copies, and counters of work.
 #![tactic(auto)]
 
 mod bytes;
 mod copied;
+mod cut;
 mod list;
+mod number;
 #[cfg(test)]
 mod tests;
 mod text;
@@ -13,7 +15,9 @@ mod work;
 
 pub use bytes::Bytes;
 pub use copied::Copied;
+pub use cut::cut_at;
 pub use list::List;
+pub use number::read_number;
 pub use text::Text;
 pub use want::WantOfMemory;
 pub use work::Work;

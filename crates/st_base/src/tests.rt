@@ -1,4 +1,4 @@
-use crate::{Bytes, Copied, List, Text, Work};
+use crate::{Bytes, Copied, List, Text, Work, cut_at, read_number};
 use std::test::Fail;
 
 #[test]
@@ -64,5 +64,36 @@ fn each_tick_counts_its_own_kind(rt: HostRuntime) -> Result<(), Fail> {
     assert_eq!(rt; work.files(), 1);
     assert_eq!(rt; work.proofs(), 2);
     assert_eq!(rt; work.applies(), 3);
+    Ok(())
+}
+
+#[test]
+fn a_text_is_cut_at_its_first_separator(rt: HostRuntime) -> Result<(), Fail> {
+    let cut = cut_at(b"anchor 7 1.x", b' ');
+    assert!(rt; cut == Some((b"anchor".as_slice(), b"7 1.x".as_slice())));
+    assert!(rt; cut_at(b" ", b' ') == Some((b"".as_slice(), b"".as_slice())));
+    assert!(rt; cut_at(b"wanted", b' ').is_none());
+    Ok(())
+}
+
+#[test]
+fn a_number_has_one_spelling(rt: HostRuntime) -> Result<(), Fail> {
+    assert_eq!(rt; read_number(b"0", 0), Some(0));
+    assert_eq!(rt; read_number(b"4294967295", u32::MAX), Some(u32::MAX));
+    for text in [
+        "",
+        "00",
+        "01",
+        "+1",
+        "-1",
+        " 1",
+        "1 ",
+        "1x",
+        "0x1",
+        "1001",
+        "4294967296",
+    ] {
+        assert_eq!(rt; read_number(text.as_bytes(), 1000), None, "{text}");
+    }
     Ok(())
 }

@@ -1,8 +1,7 @@
 -- Items and members that are converted one after another.
-use Rattle.std.proofs.Common.{◌≡◌, ℕ, ◌+◌, ◌<◌, List, [], ◌∷◌, ◌++◌, length, get_or, drop, map, String, Global, string_bytes, Option, Some, None, option_map, Result, Err, Less, Equal, refl, sym, ap, ◌∙◌, subst, arith, add-one, suc, length-drop, append-nil, append_assoc, is_eq, true, false}
+use Rattle.std.proofs.Common.{◌≡◌, ℕ, ◌+◌, ◌<◌, List, [], ◌∷◌, ◌++◌, length, get_or, drop, map, String, Global, string_bytes, Option, Some, None, option_map, Result, Err, Less, Equal, refl, sym, ap, ◌∙◌, subst, arith, length-drop, append-nil, append_assoc, is_eq, true, false}
 use mathlib.Core.Bool.{true≢false}
 use Rattle.std.proofs.lemmas.List.{nil_from_length}
-use Rattle.std.proofs.Math.Seq.{drop-cons}
 use Rattle.std.specs.List.{AllByRecursion}
 use Rattle.std.specs.List.Sorted.{IsStrictlySortedBy}
 use Rattle.std.specs.Map.{keys_of}
@@ -13,6 +12,7 @@ use Rattle.std.proofs.lemmas.Slice.Eq.{bytes_eq-Decides}
 use Rattle.std.proofs.lemmas.Str.{IsUtf8-string_bytes}
 use Rattle.serde_json.specs.View.{view, items_view, members_view}
 use Rattle.serde_json.specs.declared.value.Value.{Value}
+use Rattle.st_base.proofs.Lists.{next_item}
 use Rattle.st_canon.specs.Find.{put}
 use Rattle.st_canon.specs.InOrder.{in_order, AreApart, NamesDiffer}
 use Rattle.st_canon.specs.Names.{name_cmp}
@@ -61,18 +61,18 @@ ItemsSoFar vs i js = whole_items (items_view vs) ≡ option_map (items_after (ma
 
 module _ (vs : List Value) (i : ℕ) (js : List Json) (so_far : ItemsSoFar vs i js) where
   module _ (v : Value) (lt : i < length vs) (is : v ≡ get_or vs i v) where
-    split : drop i vs ≡ v ∷ drop (suc i) vs
-    split = drop-cons vs i v lt ∙ ap (λ x. x ∷ drop (suc i) vs) (sym is)
+    split : drop i vs ≡ v ∷ drop (i + 1) vs
+    split = next_item vs i v lt is
 
     pub one_more_item : (j : Json) → whole_value (view v) ≡ Some (plain j) → ItemsSoFar vs (i + 1) (js ++ j ∷ [])
     one_more_item j w =
-        let step : whole_items (items_view (v ∷ drop (suc i) vs)) ≡ option_map (item (plain j)) (whole_items (items_view (drop (suc i) vs))) = rw w refl in
-        rw add-one (so_far ∙ ap (λ r. option_map (items_after (map plain js)) (whole_items (items_view r))) split
-        ∙ ap (option_map (items_after (map plain js))) step ∙ item_pushed js j _)
+        let step : whole_items (items_view (v ∷ drop (i + 1) vs)) ≡ option_map (item (plain j)) (whole_items (items_view (drop (i + 1) vs))) = rw w refl in
+        so_far ∙ ap (λ r. option_map (items_after (map plain js)) (whole_items (items_view r))) split
+        ∙ ap (option_map (items_after (map plain js))) step ∙ item_pushed js j _
 
     pub one_item_not_whole : whole_value (view v) ≡ None → whole_items (items_view vs) ≡ None
     one_item_not_whole w =
-        let step : whole_items (items_view (v ∷ drop (suc i) vs)) ≡ None = rw w refl in
+        let step : whole_items (items_view (v ∷ drop (i + 1) vs)) ≡ None = rw w refl in
         so_far ∙ ap (λ r. option_map (items_after (map plain js)) (whole_items (items_view r))) split ∙ ap (option_map (items_after (map plain js))) step
 
   pub all_items : length vs ≡ i → whole_items (items_view vs) ≡ Some (plain_items js)

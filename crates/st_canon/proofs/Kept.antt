@@ -1,10 +1,10 @@
 -- What the items and members of a value keep.
-use Rattle.std.proofs.Common.{◌≡◌, ℕ, zero, suc, ◌+◌, add-one, ◌<◌, List, [], ◌∷◌, length, get_or, drop, sym, ap, ◌∙◌, subst, Less}
-use Rattle.std.proofs.Math.Seq.{drop-cons}
+use Rattle.std.proofs.Common.{◌≡◌, ℕ, zero, suc, ◌+◌, ◌<◌, List, [], ◌∷◌, length, get_or, drop, sym, subst, Less}
 use Rattle.std.specs.List.{AllByRecursion}
 use Rattle.std.specs.List.Sorted.{IsStrictlySortedBy}
 use Rattle.std.specs.Map.{keys_of}
 use Rattle.std.specs.Str.{IsUtf8}
+use Rattle.st_base.proofs.Lists.{next_item}
 use Rattle.st_canon.specs.Names.{name_cmp, NamesAscend}
 use Rattle.st_canon.specs.Proper.{AllAbove, IsProper, MembersAreProper}
 use Rattle.st_canon.specs.View.{plain, plain_members}
@@ -27,6 +27,5 @@ rest_ascends (suc i) (e ∷ es) h = rest_ascends i es h.1
 pub one_more_member : (es : List (List ℕ × Json)) (i : ℕ) (e : List ℕ × Json) → NamesAscend es → i < length es → e ≡ get_or es i e → IsUtf8 e.0 → IsProper (plain e.1) → MembersAreProper (plain_members (drop (i + 1) es))
     → MembersAreProper (plain_members (drop i es))
 one_more_member es i e s lt is u p k =
-    let h : MembersAreProper (plain_members (drop (suc i) es)) = rw add-one at k in
-    let split : drop i es ≡ e ∷ drop (suc i) es = drop-cons es i e lt ∙ ap (λ x. x ∷ drop (suc i) es) (sym is) in
-    subst (λ l. MembersAreProper (plain_members l)) (sym split) (u, first_above e (drop (suc i) es) (subst NamesAscend split (rest_ascends i es s)), p, h)
+    let split : drop i es ≡ e ∷ drop (i + 1) es = next_item es i e lt is in
+    subst (λ l. MembersAreProper (plain_members l)) (sym split) (u, first_above e (drop (i + 1) es) (subst NamesAscend split (rest_ascends i es s)), p, k)

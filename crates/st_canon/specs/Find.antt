@@ -13,7 +13,8 @@ member_at name (member n p ms) = if is_name name n then Some p else member_at na
 -- The members with this one, where the order of names puts it.
 abbrev pub put : List ℕ → Plain → Members → Members
 put name value no_members = member name value no_members
-put name value (member n p ms) = match_ordering (name_cmp name n) (member name value (member n p ms)) (member name value ms) (member n p (put name value ms))
+put name value (member n p ms) =
+    match_ordering (name_cmp name n) (member name value (member n p ms)) (member name value ms) (member n p (put name value ms))
 
 -- the members but for the one of this name
 abbrev pub without : List ℕ → Members → Members

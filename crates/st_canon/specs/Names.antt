@@ -1,7 +1,7 @@
 -- The names of members, and their order (RFC 8785, section 3.2.3).
-use Rattle.std.specs.Prelude.{ℕ, List, Bool, nat_eq}
+use Rattle.std.specs.Prelude.{ℕ, List, Bool, bytes_eq}
 use Rattle.std.specs.Char.Escape.{encode_utf16}
-use Rattle.std.specs.Cmp.Lexicographic.{slice_cmp, pointwise}
+use Rattle.std.specs.Cmp.Lexicographic.{slice_cmp}
 use Rattle.std.specs.List.{flat_map}
 use Rattle.std.specs.List.Sorted.{IsStrictlySortedBy}
 use Rattle.std.specs.Map.{keys_of}
@@ -19,7 +19,7 @@ name_cmp first second = slice_cmp nat_cmp (utf16_units first) (utf16_units secon
 
 -- the same name
 abbrev pub is_name : List ℕ → List ℕ → Bool
-is_name name other = pointwise nat_eq name other
+is_name name other = bytes_eq name other
 
 -- each name is below those after it
 abbrev pub NamesAscend : {X : Type 0} → List (List ℕ × X) → Type 0

@@ -11,9 +11,11 @@ abbrev pub LeavesWork : State → Counts → List (List ℕ) → Counts → Type
 LeavesWork node work lines after = after ≡ work
 
 pub keeps_more : (node next last : State) (work between after : Counts) (lines more : List (List ℕ))
-    → KeepsWork node work lines next between → KeepsWork next between more last after → KeepsWork node work (lines ++ more) last after
+    → KeepsWork node work lines next between → KeepsWork next between more last after
+    → KeepsWork node work (lines ++ more) last after
 keeps_more node next last work between after lines more first second = second ∙ first
 
 pub leaves_more : (node next : State) (work between after : Counts) (lines more : List (List ℕ))
-    → KeepsWork node work lines next between → LeavesWork next between more after → LeavesWork node work (lines ++ more) after
+    → KeepsWork node work lines next between → LeavesWork next between more after
+    → LeavesWork node work (lines ++ more) after
 leaves_more node next work between after lines more first second = second ∙ first

@@ -27,12 +27,14 @@ abbrev pub WritesPrefix : (replies : List ℕ → List ℕ) (left : Option (List
 WritesPrefix replies left taken written = IfSome left (λ rest. Begins written (replies (taken ++ rest)))
 
 -- these bytes were taken from the source and those were written to the sink
-pub record StatusTable (replies whole : List ℕ → List ℕ) (limit : ℕ) (had left held holds : Option (List ℕ)) (status : ℕ) : Type 0 where
+pub record StatusTable (replies whole : List ℕ → List ℕ)
+    (limit : ℕ) (had left held holds : Option (List ℕ)) (status : ℕ) : Type 0 where
   pub taken : List ℕ
   pub written : List ℕ
   pub takes : Consumes had left taken
   pub writes : Appends held holds written
-  -- at most one byte over the limit is taken, and a run that takes it ends with 5, but for a fault of the sink or want of memory
+  -- at most one byte over the limit is taken, and a run that takes it ends with 5, but for a fault
+  -- of the sink or a device and for want of memory
   pub bound : length taken ≤ limit + 1
   pub exceeds : length taken ≡ limit + 1 → (status ≡ 5) ⊎ (status ≡ 3) ⊎ (status ≡ 4) ⊎ (status ≡ 6)
   pub done : status ≡ 0 → IsAtEnd left × (length taken ≤ limit) × (written ≡ replies taken)

@@ -14,4 +14,5 @@ file_at uri files = lookup (is_at (hash_cmp uri)) files
 
 -- the files with this one, where none of its URI is there
 abbrev pub with_file : List ℕ → Files → Files
-with_file file files = if is_some (file_at (uri_of file) files) then files else insert_entry hash_cmp files (uri_of file) file
+with_file file files =
+    if is_some (file_at (uri_of file) files) then files else insert_entry hash_cmp files (uri_of file) file

@@ -1,5 +1,5 @@
--- The lines of a list of bytes. A line is what ends with a line feed (10), which isn't part of it, and what is left
--- after the last line feed where that has a byte.
+-- The lines of a list of bytes. A line is what ends with a line feed (10), which isn't part of it,
+-- and what is left after the last line feed where that has a byte.
 use Rattle.std.specs.Prelude.{◌≡◌, ◌<◌, ◌^◌, ⊤, ℕ, ◌==◌, Bool, true, false, List, [], ◌∷◌, ◌++◌, length, map, take, if◌then◌else◌}
 
 -- a byte in front of the first of these lines, or of what is left where there is none
@@ -10,7 +10,8 @@ in_front byte (line ∷ lines) rest = ((byte ∷ line) ∷ lines, rest)
 -- the lines that end with a line feed, and what is left after the last one
 abbrev pub split : List ℕ → List (List ℕ) × List ℕ
 split [] = ([], [])
-split (byte ∷ bytes) = if byte == 10 then ([] ∷ (split bytes).0, (split bytes).1) else in_front byte (split bytes).0 (split bytes).1
+split (byte ∷ bytes) =
+    if byte == 10 then ([] ∷ (split bytes).0, (split bytes).1) else in_front byte (split bytes).0 (split bytes).1
 
 -- what is left, as a line where it has a byte
 abbrev pub last_line : List ℕ → List (List ℕ)

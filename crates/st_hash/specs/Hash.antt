@@ -1,8 +1,8 @@
 -- Hashes, as multihashes of SHA-256 (FIPS 180-4), and their texts.
-use Rattle.std.specs.Prelude.{◌≡◌, ℕ, Bool, nat_eq, List, ◌∷◌, ◌==◌, ◌&&◌, length, drop, slice_index, if◌then◌else◌, Option, Some, None, option_and_then}
+use Rattle.std.specs.Prelude.{◌≡◌, ℕ, Bool, bytes_eq, List, ◌∷◌, ◌==◌, ◌&&◌, length, drop, slice_index, if◌then◌else◌, Option, Some, None, option_and_then}
 use Rattle.base64.specs.GeneralPurpose.{IsBytes}
 use Rattle.sha2.specs.Sha256.{sha256}
-use Rattle.std.specs.Cmp.Lexicographic.{slice_cmp, pointwise}
+use Rattle.std.specs.Cmp.Lexicographic.{slice_cmp}
 use Rattle.std.specs.Ordering.{nat_cmp, ordering_then}
 use Rattle.std.specs.declared.cmp.Ordering.{Ordering}
 use Rattle.st_hash.specs.Base64url.{base64url, bytes_of_text}
@@ -49,4 +49,4 @@ hash_cmp first second = ordering_then (nat_cmp first.code second.code) (slice_cm
 
 -- the two hashes are the same
 abbrev pub same_hash : HashValue → HashValue → Bool
-same_hash first second = (first.code == second.code) && pointwise nat_eq first.digest second.digest
+same_hash first second = (first.code == second.code) && bytes_eq first.digest second.digest

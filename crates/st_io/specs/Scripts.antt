@@ -5,7 +5,8 @@ use Rattle.std.specs.Prelude.{ℕ, ◌+◌, ◌-◌, ◌^◌, min, Bool, List}
 abbrev pub next_call : ℕ → ℕ
 next_call calls = min (calls + 1) (2 ^ 64 - 1)
 
--- a source: what is left, the most that a call gives, the calls that fail, how many came, how many failed
+-- a source: what is left, the most that a call gives, the calls that fail, how many came, how many
+-- failed
 pub record SourceScript : Type 0 where
   pub left : List ℕ
   pub piece : ℕ
@@ -13,7 +14,8 @@ pub record SourceScript : Type 0 where
   pub calls : ℕ
   pub faults : ℕ
 
--- a sink: what was written, the most that a call takes, the calls that fail, how many came, whether it is finished, how many failed
+-- a sink: what was written, the most that a call takes, the calls that fail, how many came, whether
+-- it is finished, how many failed
 pub record SinkScript : Type 0 where
   pub written : List ℕ
   pub piece : ℕ

@@ -1,5 +1,5 @@
 -- Texts that are the base64url of so many bytes.
-use Rattle.std.proofs.Common.{◌≡◌, ◌≢◌, ◌∙◌, ℕ, ◌+◌, ◌*◌, ◌/◌, ◌==◌, false, List, [], length, Option, Some, None, option_and_then, refl, ap, arith}
+use Rattle.std.proofs.Common.{◌≡◌, ◌≢◌, ◌∙◌, ℕ, ◌+◌, ◌*◌, ◌/◌, ◌==◌, false, List, length, Option, Some, None, option_and_then, refl, ap}
 use Rattle.std.proofs.lemmas.Bool.{eq-eqb, ne_eqb}
 use Rattle.base64.specs.GeneralPurpose.{IsBytes}
 use Rattle.st_hash.specs.Base64url.{base64url, bytes_of_text}

@@ -1,4 +1,3 @@
-pub mod Both
 pub mod Cutting
 pub mod Dots
 pub mod Fixed

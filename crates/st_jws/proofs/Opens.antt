@@ -3,6 +3,7 @@ use Rattle.std.proofs.Common.{◌≡◌, ◌∙◌, ℕ, ◌≤◌, true, cond, 
 use Rattle.std.proofs.lemmas.Bool.Decides.{nat_tests}
 use Rattle.std.specs.Str.{IsUtf8}
 use Rattle.base64.specs.GeneralPurpose.{IsBytes}
+use Rattle.st_base.proofs.Cuts.{cut_at-append}
 use Rattle.st_canon.specs.Canonical.{canonical, escape}
 use Rattle.st_canon.specs.Depth.{depth_of}
 use Rattle.st_canon.specs.Plain.{Plain, text, object, no_members, member}
@@ -17,7 +18,7 @@ use Rattle.st_jws.specs.Signing.{header_text, signing_input, join_signed}
 use Rattle.st_jws.specs.Texts.{dot, texts_of_cut, texts_behind, texts_of}
 use Rattle.st_jws.specs.declared.jwk.Jwk.{Jwk}
 use Rattle.st_jws.specs.declared.refused.SignedRefused.TheVariants.{BadForm, BadHeader, BadSignature}
-use Rattle.st_jws.proofs.Dots.{no_dot, cut_at_dot-append}
+use Rattle.st_jws.proofs.Dots.{no_dot}
 use Rattle.st_jws.proofs.Utf8Bytes.{IsBytes-IsUtf8}
 use Rattle.st_lms.specs.Signature.{IsSignature}
 use Rattle.st_lms.proofs.Decided.{is_signature-IsSignature}
@@ -68,8 +69,8 @@ texts_of-joined header payload signature =
     let third = base64url signature in
     let whole : join_signed (first ++ dot ∷ second) signature ≡ first ++ dot ∷ (second ++ dot ∷ third) = append_assoc first (dot ∷ second) (dot ∷ third) in
     ap texts_of whole
-    ∙ ap texts_of_cut (cut_at_dot-append first (second ++ dot ∷ third) (no_dot header))
-    ∙ ap (texts_behind first) (cut_at_dot-append second third (no_dot payload))
+    ∙ ap texts_of_cut (cut_at-append dot first (second ++ dot ∷ third) (no_dot header))
+    ∙ ap (texts_behind first) (cut_at-append dot second third (no_dot payload))
 
 -- ---- the law
 

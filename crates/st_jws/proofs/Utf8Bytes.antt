@@ -1,10 +1,10 @@
 -- The bytes of a text are bytes.
 use Rattle.std.proofs.Common.{◌≡◌, ℕ, zero, suc, ◌+◌, ◌<◌, ◌≤◌, ◌/◌, ◌⊎◌, inl, inr, nat_lt, cond, Bool, true, false, List, [], ◌∷◌, ◌++◌, refl, subst, arith}
 use Rattle.std.proofs.lemmas.Bool.Decides.{nat_tests}
+use Rattle.std.proofs.lemmas.Bool.{and_parts}
 use Rattle.std.specs.List.{AllByRecursion}
 use Rattle.std.specs.Str.{IsUtf8}
 use Rattle.base64.specs.GeneralPurpose.{IsBytes}
-use Rattle.st_jws.proofs.Both.{both}
 use lib.Utf8.{encode, encodes, next, scalar, scalars, scalar_cases}
 
 abbrev AreBelow : List ℕ → Type 0
@@ -44,7 +44,7 @@ small_scalar c (inr high) = high.1
 below_all : (cs : List ℕ) → scalars cs ≡ true → AreBelow (encodes cs)
 below_all [] e = tt
 below_all (c ∷ cs) e =
-    let parts = both (scalar c) (scalars cs) e in
+    let parts = and_parts (scalar c) (scalars cs) e in
     below_both (encode c) (encodes cs)
     (below_one c (small_scalar c (scalar_cases c parts.0))) (below_all cs parts.1)
 

@@ -1,9 +1,10 @@
 -- The key that bytes are, and whether bytes are a signature, by computation.
-use Rattle.std.proofs.Common.{◌≡◌, ◌∙◌, ◌↔◌, IsTrue, ℕ, zero, suc, slice_index, lit≤, ◌-◌, ◌+◌, ◌*◌, ◌^◌, ◌<◌, ◌≤◌, Bool, true, false, cond, ◌==◌, ◌&&◌, nat_eq, nat_le, nat_lt, List, [], ◌∷◌, ◌++◌, length, take, drop, Some, None, refl, sym, ap, append_assoc, arith}
-use Rattle.std.proofs.lemmas.Bool.{eqb-true, eq-eqb}
+use Rattle.std.proofs.Common.{◌≡◌, ◌∙◌, ◌↔◌, IsTrue, ℕ, zero, suc, slice_index, lit≤, ◌-◌, ◌+◌, ◌*◌, ◌^◌, ◌<◌, ◌≤◌, Bool, true, false, cond, ◌==◌, ◌&&◌, bytes_eq, nat_le, nat_lt, List, [], ◌∷◌, ◌++◌, length, take, drop, Some, None, refl, sym, ap, append_assoc, arith}
+use Rattle.std.proofs.lemmas.Bool.{and_parts, eqb-true, eq-eqb}
 use Rattle.std.proofs.lemmas.Bool.Decides.{nat_tests}
 use Rattle.std.proofs.lemmas.List.{take-append-drop, length-take-le, length-drop}
-use Rattle.st_lms.specs.Decided.{is_one_time_type, is_tree_type, public_in, is_same, is_signature}
+use Rattle.std.specs.Cmp.Lexicographic.{bytes_decides}
+use Rattle.st_lms.specs.Decided.{is_one_time_type, is_tree_type, public_in, is_signature}
 use Rattle.st_lms.specs.Keys.{PublicKey, IsPublicKey, public_text, one_time_type_in, tree_type_in}
 use Rattle.st_lms.specs.Parameters.{IsOneTimeType, IsTreeType, chains, height}
 use Rattle.st_lms.specs.Signature.{IsSignature, root_of}
@@ -13,11 +14,6 @@ use Rattle.st_lms.proofs.SignatureParts.{IsCut, length-signature, same_parts, sa
 use Rattle.st_lms.proofs.Texts.{AreBytes}
 
 -- ---- tests
-
-both : (a b : Bool) → a && b ≡ true → (a ≡ true) × (b ≡ true)
-both true true e = (refl, refl)
-both true false e = cc
-both false b e = cc
 
 one_time_test : (t : ℕ) → IsOneTimeType t → is_one_time_type t ≡ true
 one_time_test t h =
@@ -33,14 +29,14 @@ tree_test t h =
 
 one_time_from_test : (t : ℕ) → is_one_time_type t ≡ true → IsOneTimeType t
 one_time_from_test t e =
-    let parts = both (nat_le 1 t) (nat_le t 4) e in
+    let parts = and_parts (nat_le 1 t) (nat_le t 4) e in
     let low : 1 ≤ t = grind (arith, nat_tests) in
     let high : t ≤ 4 = grind (arith, nat_tests) in
     (low, high)
 
 tree_from_test : (t : ℕ) → is_tree_type t ≡ true → IsTreeType t
 tree_from_test t e =
-    let parts = both (nat_le 5 t) (nat_le t 6) e in
+    let parts = and_parts (nat_le 5 t) (nat_le t 6) e in
     let low : 5 ≤ t = grind (arith, nat_tests) in
     let high : t ≤ 6 = grind (arith, nat_tests) in
     (low, high)
@@ -61,8 +57,8 @@ pub public_in-none : (text : List ℕ) → (length text ≡ 56 → IsOneTimeType
     → public_in text ≡ None
 unfolding public_in
 public_in-none text wrong = not_chosen _ _ (λ e.
-    let long = both (length text == 56) _ e in
-    let types = both (is_one_time_type (one_time_type_in text)) (is_tree_type (tree_type_in text)) long.1 in
+    let long = and_parts (length text == 56) _ e in
+    let types = and_parts (is_one_time_type (one_time_type_in text)) (is_tree_type (tree_type_in text)) long.1 in
     wrong (eqb-true _ _ long.0) (one_time_from_test _ types.0) (tree_from_test _ types.1))
 
 -- a key is read from its own text
@@ -72,20 +68,6 @@ public_in-public_text key is =
     public_in-known (public_text key) shows.long (rw shows.one_time_type is.ots) (rw shows.tree_type is.tree) ∙ ap Some shows.parts
 
 -- ---- whether bytes are a signature
-
-same_from_test : (first second : List ℕ) → is_same first second ≡ true → first ≡ second
-same_from_test [] [] e = refl
-same_from_test [] (y ∷ ys) e = cc
-same_from_test (x ∷ xs) [] e = cc
-same_from_test (x ∷ xs) (y ∷ ys) e =
-    let parts = both (nat_eq x y) (is_same xs ys) e in
-    rw (eqb-true x y parts.0, same_from_test xs ys parts.1) refl
-
-same_test : (first second : List ℕ) → first ≡ second → is_same first second ≡ true
-same_test first second e = rw e (itself second) where
-  itself : (text : List ℕ) → is_same text text ≡ true
-  itself [] = refl
-  itself (x ∷ xs) = rw (eq-eqb x x refl, itself xs) refl
 
 -- a signature of the right length, taken apart
 taken_apart : (public : PublicKey) (signature : List ℕ) (n : ℕ) → n ≡ 32 * chains public.ots → length signature ≡ 44 + n + 32 * height public.tree
@@ -156,10 +138,10 @@ is_signature-IsSignature public message signature is =
     let under : q < 2 ^ height public.tree = rw number is.in_tree in
     let below : nat_lt q (2 ^ height public.tree) ≡ true = grind (arith, nat_tests) in
     let root : root_of public q randomizer values path message ≡ public.root = rw (number, same.randomizer_is, same.values_is, same.path_is) is.root in
-    five_tests (length signature == 44 + n + 32 * height public.tree) (is_same ots (u32str public.ots)) (is_same tree (u32str public.tree))
-    (nat_lt q (2 ^ height public.tree)) (is_same (root_of public q randomizer values path message) public.root)
-    (eq-eqb (length signature) (44 + n + 32 * height public.tree) long) (same_test ots (u32str public.ots) same.ots_is)
-    (same_test tree (u32str public.tree) same.tree_is) below (same_test (root_of public q randomizer values path message) public.root root)
+    five_tests (length signature == 44 + n + 32 * height public.tree) (bytes_eq ots (u32str public.ots)) (bytes_eq tree (u32str public.tree))
+    (nat_lt q (2 ^ height public.tree)) (bytes_eq (root_of public q randomizer values path message) public.root)
+    (eq-eqb (length signature) (44 + n + 32 * height public.tree) long) ((bytes_decides ots (u32str public.ots)).1 same.ots_is)
+    ((bytes_decides tree (u32str public.tree)).1 same.tree_is) below ((bytes_decides (root_of public q randomizer values path message) public.root).1 root)
 
 pub IsSignature-is_signature : (public : PublicKey) (message signature : List ℕ) → AreBytes signature → is_signature public message signature ≡ true
     → IsSignature public message signature
@@ -173,14 +155,14 @@ IsSignature-is_signature public message signature small e =
     let values = take n (drop 32 behind) in
     let tree = take 4 (drop n (drop 32 behind)) in
     let path = drop 4 (drop n (drop 32 behind)) in
-    let each = each_test (length signature == 44 + n + 32 * height public.tree) (is_same ots (u32str public.ots)) (is_same tree (u32str public.tree))
-    (nat_lt q (2 ^ height public.tree)) (is_same (root_of public q randomizer values path message) public.root) e in
+    let each = each_test (length signature == 44 + n + 32 * height public.tree) (bytes_eq ots (u32str public.ots)) (bytes_eq tree (u32str public.tree))
+    (nat_lt q (2 ^ height public.tree)) (bytes_eq (root_of public q randomizer values path message) public.root) e in
     let test : nat_lt q (2 ^ height public.tree) ≡ true = each.3 in
     let below : q < 2 ^ height public.tree = grind (arith, nat_tests) in
     let long = eqb-true (length signature) (44 + n + 32 * height public.tree) each.0 in
     signature_of_parts public message signature (take 4 signature) ots randomizer values tree path q (taken_apart public signature n refl long) small
-    (same_from_test ots (u32str public.ots) each.1) (same_from_test tree (u32str public.tree) each.2) refl below
-    (same_from_test (root_of public q randomizer values path message) public.root each.4)
+    ((bytes_decides ots (u32str public.ots)).0 each.1) ((bytes_decides tree (u32str public.tree)).0 each.2) refl below
+    ((bytes_decides (root_of public q randomizer values path message) public.root).0 each.4)
 
 -- the answer that is true exactly where the bytes are a signature
 pub decided : (public : PublicKey) (message signature : List ℕ) (answer : Bool) → AreBytes signature

@@ -1,6 +1,5 @@
 -- By computation: the public key that bytes are, and whether bytes are a signature.
-use Rattle.std.specs.Prelude.{ℕ, ◌+◌, ◌*◌, ◌^◌, Bool, ◌==◌, ◌&&◌, nat_eq, nat_le, nat_lt, if◌then◌else◌, List, length, take, drop, Option, Some, None}
-use Rattle.std.specs.Cmp.Lexicographic.{pointwise}
+use Rattle.std.specs.Prelude.{ℕ, ◌+◌, ◌*◌, ◌^◌, Bool, ◌==◌, ◌&&◌, nat_le, nat_lt, if◌then◌else◌, List, length, take, drop, bytes_eq, Option, Some, None}
 use Rattle.st_lms.specs.Strings.{u32str, str_to_u32}
 use Rattle.st_lms.specs.Parameters.{chains, height}
 use Rattle.st_lms.specs.Keys.{PublicKey, one_time_type_in, tree_type_in}
@@ -24,10 +23,6 @@ public_in text =
       root = drop 16 (drop 4 (drop 4 text));
     }) else None
 
--- the two strings are the same
-abbrev pub is_same : List ℕ → List ℕ → Bool
-is_same first second = pointwise nat_eq first second
-
 -- whether bytes are a signature of the message (section 5.4.2): they have the length and the types of
 -- the public key, a number of one of its leaves, and lead to its root
 unfoldable pub is_signature : PublicKey → List ℕ → List ℕ → Bool
@@ -37,7 +32,7 @@ is_signature public message signature =
     let behind = drop 4 (drop 4 signature) in
     let path = drop 4 (drop n (drop 32 behind)) in
     (length signature == 44 + n + 32 * height public.tree)
-    && (is_same (take 4 (drop 4 signature)) (u32str public.ots)
-    && (is_same (take 4 (drop n (drop 32 behind))) (u32str public.tree)
+    && (bytes_eq (take 4 (drop 4 signature)) (u32str public.ots)
+    && (bytes_eq (take 4 (drop n (drop 32 behind))) (u32str public.tree)
     && (nat_lt q (2 ^ height public.tree)
-    && is_same (root_of public q (take 32 behind) (take n (drop 32 behind)) path message) public.root)))
+    && bytes_eq (root_of public q (take 32 behind) (take n (drop 32 behind)) path message) public.root)))

@@ -1,8 +1,8 @@
 -- Creates that were read, and those still to be read.
-use Rattle.std.proofs.Common.{◌≡◌, ◌∙◌, ℕ, ◌+◌, ◌<◌, List, [], ◌∷◌, ◌++◌, Option, Some, None, option_map, option_and_then, length, drop, get_or, refl, sym, ap, append_assoc, add-one}
-use Rattle.std.proofs.Math.Seq.{drop-cons}
+use Rattle.std.proofs.Common.{◌≡◌, ◌∙◌, ℕ, ◌+◌, ◌<◌, List, [], ◌∷◌, ◌++◌, Option, Some, None, option_map, option_and_then, length, drop, get_or, refl, sym, ap, append_assoc}
 use Rattle.std.proofs.lemmas.List.Folds.{find-append}
 use Rattle.std.specs.Option.{option_or}
+use Rattle.st_base.proofs.Lists.{next_item}
 use Rattle.st_canon.specs.View.{plain, plain_items}
 use Rattle.st_canon.specs.declared.value.Json.{Json}
 use Rattle.st_content.specs.Files.{Files}
@@ -12,10 +12,6 @@ use Rattle.st_node.specs.Resolution.{find_of, first_create, gives}
 use Rattle.st_node.specs.SuffixData.{suffix_of}
 use Rattle.st_node.specs.declared.ledger.Entry.{Entry}
 use Rattle.st_node.specs.declared.suffix_data.SuffixData.{SuffixData}
-
--- what is left from a place on begins with what stands there
-next_item : {X : Type 0} (xs : List X) (at : ℕ) (x : X) → at < length xs → x ≡ get_or xs at x → drop at xs ≡ x ∷ drop (at + 1) xs
-next_item xs at x inside is = rw (drop-cons xs at x inside, ← is, add-one) refl
 
 -- the creates that were read, and behind them the others, where these are creates
 abbrev pub after : List SuffixData → Option (List SuffixData) → Option (List SuffixData)

@@ -1,3 +1,2 @@
 pub mod Creates
 pub mod Identifiers
-pub mod Spelled

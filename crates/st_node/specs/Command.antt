@@ -1,7 +1,7 @@
 -- What a line asks for.
-use Rattle.std.specs.Prelude.{◌≡◌, ⊤, ℕ, ◌-◌, ◌^◌, List, codes, if◌then◌else◌, Option, Some, None, Result, Ok, Err}
+use Rattle.std.specs.Prelude.{◌≡◌, ⊤, ℕ, ◌-◌, ◌^◌, List, bytes_eq, codes, if◌then◌else◌, Option, Some, None, Result, Ok, Err}
 use Rattle.st_hash.specs.Base64url.{bytes_of_text}
-use Rattle.st_node.specs.Words.{cut_at, is_text, number_of}
+use Rattle.st_base.specs.Words.{cut_at, number_of}
 use Rattle.st_node.specs.declared.command.Command.{Command}
 use Rattle.st_node.specs.declared.command.Command.TheVariants.{Content, Anchor, Resolve}
 use Rattle.st_node.specs.declared.command.LineCause.{LineCause}
@@ -41,9 +41,9 @@ behind_space (Some rest) read = read rest
 -- by the command word, and what stands behind its space
 abbrev pub command_of_words : List ℕ → Option (List ℕ) → Result Command LineCause
 command_of_words word rest =
-    if is_text word (codes "content") then behind_space rest content_of
-    else if is_text word (codes "anchor") then behind_space rest anchor_of
-    else if is_text word (codes "resolve") then behind_space rest resolve_of
+    if bytes_eq word (codes "content") then behind_space rest content_of
+    else if bytes_eq word (codes "anchor") then behind_space rest anchor_of
+    else if bytes_eq word (codes "resolve") then behind_space rest resolve_of
     else Err cause.Command
 
 -- the command word is what stands before the first space, or the whole line

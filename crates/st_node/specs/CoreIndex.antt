@@ -25,7 +25,8 @@ hash_in (Some (text hash)) = hash_of_text hash
 hash_in other = None
 
 abbrev pub both_hashes : Option HashValue → Option HashValue → Option SuffixData
-both_hashes (Some delta_hash) (Some recovery_commitment) = Some (record { delta_hash = delta_hash; recovery_commitment = recovery_commitment })
+both_hashes (Some delta_hash) (Some recovery_commitment) =
+    Some (record { delta_hash = delta_hash; recovery_commitment = recovery_commitment })
 both_hashes first second = None
 
 -- suffix data: an object with exactly the two hash texts
@@ -43,7 +44,8 @@ create_in entry = option_and_then suffix_data_in (only_member (codes "suffixData
 -- all entries, where each is one
 abbrev pub creates_in : Items → Option (List SuffixData)
 creates_in no_items = Some []
-creates_in (item entry entries) = option_and_then (λ create. option_map (λ creates. create ∷ creates) (creates_in entries)) (create_in entry)
+creates_in (item entry entries) =
+    option_and_then (λ create. option_map (λ creates. create ∷ creates) (creates_in entries)) (create_in entry)
 
 -- the list of creates in a core index
 abbrev pub list_in : Plain → Option Items
@@ -51,11 +53,13 @@ list_in (list items) = Some items
 list_in other = None
 
 abbrev pub create_list : Plain → Option Items
-create_list index = option_and_then list_in (option_and_then (only_member (codes "create")) (only_member (codes "operations") index))
+create_list index =
+    option_and_then list_in (option_and_then (only_member (codes "create")) (only_member (codes "operations") index))
 
 -- at most the declared count, and no suffix twice
 abbrev pub within : ℕ → List SuffixData → Option (List SuffixData)
-within count creates = if nat_le (length creates) count && all_different (map suffix_of creates) then Some creates else None
+within count creates =
+    if nat_le (length creates) count && all_different (map suffix_of creates) then Some creates else None
 
 abbrev pub creates_of_json : ℕ → Reading → Option (List SuffixData)
 creates_of_json count not_json = None

@@ -2,7 +2,7 @@
 use Rattle.std.specs.Prelude.{ℕ, List, ◌++◌, codes, length, drop, nat_eq, if◌then◌else◌, Option, Some, None}
 use Rattle.std.specs.List.{starts_with}
 use Rattle.st_hash.specs.Hash.{HashValue, hash_of_text, hash_text}
-use Rattle.st_node.specs.Words.{cut_at}
+use Rattle.st_base.specs.Words.{cut_at}
 use Rattle.st_node.specs.declared.identifier.Asked.{Asked}
 use Rattle.st_node.specs.declared.identifier.Asked.TheVariants.{Nothing, LongForm, ShortForm}
 

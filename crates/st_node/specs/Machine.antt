@@ -53,7 +53,8 @@ appended state entry = record {
 
 abbrev pub answered_anchor : State → Entry → Answered
 answered_anchor state entry =
-    if nat_lt entry.height (last_height state.ledger) then record { next = state; reply = reply (codes "refused ") (codes "height") }
+    if nat_lt entry.height (last_height state.ledger)
+    then record { next = state; reply = reply (codes "refused ") (codes "height") }
     else appended state entry
 
 -- `resolve`

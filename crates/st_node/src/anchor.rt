@@ -1,8 +1,7 @@
 ghost use Rattle.std.specs.Prelude.{◌≡◌};
 ghost use Rattle.st_node.specs.Anchor.{anchor_of_text, anchor_of_parts, count_of};
 
-use crate::cut::cut_at;
-use crate::number::read_number;
+use st_base::{cut_at, read_number};
 use st_hash::{Hash, read_hash};
 
 // How many operations a batch may declare.

@@ -1,9 +1,7 @@
 ghost use Rattle.std.specs.Option.{option_copied};
 ghost use Rattle.st_node.specs.Command.{Reads, command_of, content_of, anchor_of, resolve_of, behind_space, command_of_words};
 
-use crate::cut::cut_at;
-use crate::number::read_number;
-use st_base::{Bytes, Copied, WantOfMemory};
+use st_base::{Bytes, Copied, WantOfMemory, cut_at, read_number};
 use st_hash::{DecRefused, dec};
 use std::alloc::Global;
 use thiserror::Error;

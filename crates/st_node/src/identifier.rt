@@ -2,8 +2,7 @@ ghost use Rattle.std.specs.Prelude.{◌≡◌, IfOk};
 ghost use Rattle.st_hash.specs.Hash.{HashValue, hash_text};
 ghost use Rattle.st_node.specs.Identifier.{asked_of, asked_behind, did_of};
 
-use crate::cut::cut_at;
-use st_base::{Text, WantOfMemory};
+use st_base::{Text, WantOfMemory, cut_at};
 use st_hash::{Hash, hash_text, read_hash};
 use std::alloc::Global;
 

@@ -4,12 +4,10 @@
 mod anchor;
 mod command;
 mod core_index;
-mod cut;
 mod distinct;
 mod identifier;
 mod ledger;
 mod node;
-mod number;
 mod reply;
 mod resolution;
 mod suffix_data;

@@ -1,6 +1,5 @@
--- Words of a line or an anchor string, and numbers.
-use Rattle.std.specs.Prelude.{ℕ, List, ◌==◌, ◌&&◌, ◌+◌, nat_eq, nat_le, take, drop, position, Bool, if◌then◌else◌, Option, Some, None, option_map}
-use Rattle.std.specs.Cmp.Lexicographic.{pointwise}
+-- The words that a text is cut into, and the number that a word is.
+use Rattle.std.specs.Prelude.{ℕ, List, ◌==◌, ◌&&◌, ◌+◌, nat_le, take, drop, position, bytes_eq, if◌then◌else◌, Option, Some, None, option_map}
 use Rattle.std.specs.Fmt.{decimal}
 use Rattle.std.specs.Str.Parse.{digits_value}
 
@@ -8,12 +7,8 @@ use Rattle.std.specs.Str.Parse.{digits_value}
 abbrev pub cut_at : ℕ → List ℕ → Option (List ℕ × List ℕ)
 cut_at separator text = option_map (λ at. (take at text, drop (at + 1) text)) (position (λ byte. byte == separator) text)
 
--- the two texts are the same
-abbrev pub is_text : List ℕ → List ℕ → Bool
-is_text first second = pointwise nat_eq first second
-
 -- the number that has this decimal spelling, where it is at most `most`
 abbrev pub number_of : ℕ → List ℕ → Option ℕ
 number_of most text =
     let number = digits_value 10 text in
-    if nat_le number most && is_text (decimal number) text then Some number else None
+    if nat_le number most && bytes_eq (decimal number) text then Some number else None

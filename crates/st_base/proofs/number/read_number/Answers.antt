@@ -1,6 +1,6 @@
 use Rattle.std.proofs.Common.{sym, arith, refl}
-use Rattle.st_node.proofs.Spelled.{number_of-decimal}
-use Rattle.st_node.proofs.number.read_number.Goals as goal
+use Rattle.st_base.proofs.Numbers.{number_of-decimal}
+use Rattle.st_base.proofs.number.read_number.Goals as goal
 
 pub returns-then-is_spelling : goal.returns-then-is_spelling
 returns-then-is_spelling c = sym (number_of-decimal c.args.most c.in-Some.number c.args.text.now (omega arith) (omega arith) (c.if-is_spelling.ensures.0 refl))

@@ -1,10 +1,12 @@
 ghost use Rattle.std.specs.Prelude.{◌≡◌, ◌<◌, ◌^◌, ◌↔◌, ℕ, Some, IsTrue};
 ghost use Rattle.std.specs.Fmt.{decimal};
-ghost use Rattle.st_node.specs.Words.{number_of};
+ghost use Rattle.st_base.specs.Words.{number_of};
 
 use itoa::Buffer;
 
-// The number that is spelled so in decimal without a leading zero, where it is at most `most`.
+/// The number whose decimal text this is, where it is at most `most`. A sign, a leading zero but
+/// for `0` itself, and every other byte make it the text of no number: then, and where the number
+/// is greater, `None` comes.
 pub fn read_number(text: &[u8], most: u32) -> Option<u32>
     ensures { result ≡ number_of most text.now }
 {

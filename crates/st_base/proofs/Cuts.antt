@@ -1,0 +1,36 @@
+-- Texts that are cut at a separator.
+use Rattle.std.proofs.Common.{◌≡◌, ◌∙◌, ℕ, suc, ◌+◌, ◌==◌, nat_lt, true, false, List, [], ◌∷◌, ◌++◌, length, take, drop, get_or, position, Some, option_map, sym, ap, refl, add-one, drop-cons, length-append, arith}
+use Rattle.std.proofs.Math.Seq.{take-append_seam, drop-append-add}
+use Rattle.std.proofs.lemmas.Bool.{eqb-true, eq-eqb}
+use Rattle.std.proofs.lemmas.Bool.Decides.{nat_tests}
+use Rattle.std.proofs.lemmas.List.{take-append-drop}
+use Rattle.std.proofs.lemmas.List.Quantifiers.{position-Some}
+use Rattle.std.specs.List.{AllByRecursion, position_or_len}
+use Rattle.st_base.specs.Words.{cut_at}
+
+-- a text is what stands before its first separator, the separator, and what stands behind it
+pub around : (separator : ℕ) (text : List ℕ) (at : ℕ) → position (λ byte. byte == separator) text ≡ Some at → text ≡ take at text ++ separator ∷ drop (at + 1) text
+around separator text at found =
+    let facts = position-Some (λ byte. byte == separator) text at 0 found in
+    let is_separator : get_or text at 0 ≡ separator = eqb-true (get_or text at 0) separator facts.1 in
+    let split : drop at text ≡ separator ∷ drop (suc at) text = drop-cons text at 0 facts.0 ∙ ap (λ byte. byte ∷ drop (suc at) text) is_separator in
+    sym (take-append-drop at text) ∙ ap (λ behind. take at text ++ behind) split ∙ rw add-one refl
+
+-- this byte stands nowhere in the text
+abbrev pub HasNo : ℕ → List ℕ → Type 0
+HasNo separator text = AllByRecursion (λ byte. (byte == separator) ≡ false) text
+
+first_separator : (separator : ℕ) (before behind : List ℕ) → HasNo separator before → position_or_len (λ byte. byte == separator) (before ++ separator ∷ behind) ≡ length before
+first_separator separator [] behind none = rw (eq-eqb separator separator refl) refl
+first_separator separator (x ∷ xs) behind none = rw (none.0, first_separator separator xs behind none.1) (omega arith)
+
+-- a text is cut where its parts were joined
+pub cut_at-append : (separator : ℕ) (before behind : List ℕ) → HasNo separator before → cut_at separator (before ++ separator ∷ behind) ≡ Some (before, behind)
+cut_at-append separator before behind none =
+    let whole = before ++ separator ∷ behind in
+    let at = first_separator separator before behind none in
+    let long : length whole ≡ length before + 1 + length behind = omega (arith, length-append before (separator ∷ behind)) in
+    let within : nat_lt (length before) (length whole) ≡ true = grind (arith, nat_tests) in
+    let found : position (λ byte. byte == separator) whole ≡ Some (length before) = rw (at, within) refl in
+    let cut : cut_at separator whole ≡ Some (take (length before) whole, drop (length before + 1) whole) = ap (option_map (λ at. (take at whole, drop (at + 1) whole))) found in
+    cut ∙ rw (take-append_seam before (separator ∷ behind), drop-append-add before (separator ∷ behind) 1) refl

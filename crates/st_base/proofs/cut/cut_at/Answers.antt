@@ -1,0 +1,9 @@
+use Rattle.std.proofs.Common.{◌∙◌, ◌+◌, ◌∷◌, ◌++◌, take, sym, ap}
+use Rattle.std.proofs.lemmas.List.{take_rest}
+use Rattle.st_base.proofs.Cuts.{around}
+use Rattle.st_base.proofs.cut.cut_at.Goals as goal
+
+pub returns-in-Some-clause-whole : goal.returns-in-Some-clause-whole
+returns-in-Some-clause-whole c =
+    around c.args.separator c.args.text.now c.in-Some.at (sym c.in-Some.ensures.first)
+    ∙ ap (λ behind. take c.in-Some.at c.args.text.now ++ c.args.separator ∷ behind) (sym (take_rest c.args.text.now (c.in-Some.at + 1)))
