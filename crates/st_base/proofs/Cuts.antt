@@ -9,7 +9,8 @@ use Rattle.std.specs.List.{AllByRecursion, position_or_len}
 use Rattle.st_base.specs.Words.{cut_at}
 
 -- a text is what stands before its first separator, the separator, and what stands behind it
-pub around : (separator : ℕ) (text : List ℕ) (at : ℕ) → position (λ byte. byte == separator) text ≡ Some at → text ≡ take at text ++ separator ∷ drop (at + 1) text
+pub around : (separator : ℕ) (text : List ℕ) (at : ℕ) → position (λ byte. byte == separator) text ≡ Some at
+    → text ≡ take at text ++ separator ∷ drop (at + 1) text
 around separator text at found =
     let facts = position-Some (λ byte. byte == separator) text at 0 found in
     let is_separator : get_or text at 0 ≡ separator = eqb-true (get_or text at 0) separator facts.1 in
@@ -20,12 +21,14 @@ around separator text at found =
 abbrev pub HasNo : ℕ → List ℕ → Type 0
 HasNo separator text = AllByRecursion (λ byte. (byte == separator) ≡ false) text
 
-first_separator : (separator : ℕ) (before behind : List ℕ) → HasNo separator before → position_or_len (λ byte. byte == separator) (before ++ separator ∷ behind) ≡ length before
+first_separator : (separator : ℕ) (before behind : List ℕ) → HasNo separator before
+    → position_or_len (λ byte. byte == separator) (before ++ separator ∷ behind) ≡ length before
 first_separator separator [] behind none = rw (eq-eqb separator separator refl) refl
 first_separator separator (x ∷ xs) behind none = rw (none.0, first_separator separator xs behind none.1) (omega arith)
 
 -- a text is cut where its parts were joined
-pub cut_at-append : (separator : ℕ) (before behind : List ℕ) → HasNo separator before → cut_at separator (before ++ separator ∷ behind) ≡ Some (before, behind)
+pub cut_at-append : (separator : ℕ) (before behind : List ℕ) → HasNo separator before
+    → cut_at separator (before ++ separator ∷ behind) ≡ Some (before, behind)
 cut_at-append separator before behind none =
     let whole = before ++ separator ∷ behind in
     let at = first_separator separator before behind none in

@@ -3,5 +3,7 @@ use Rattle.std.proofs.Common.{◌≡◌, ◌∙◌, ℕ, ◌+◌, ◌<◌, List,
 use Rattle.std.proofs.lemmas.List.{drop_more}
 
 -- what is left from a place on begins with what stands there
-pub next_item : {X : Type 0} (items : List X) (at : ℕ) (item : X) → at < length items → item ≡ get_or items at item → drop at items ≡ item ∷ drop (at + 1) items
-next_item items at item inside is = drop_more items at item inside ∙ ap (λ first. first ∷ drop (at + 1) items) (sym is)
+pub next_item : {X : Type 0} (items : List X) (at : ℕ) (item : X) → at < length items → item ≡ get_or items at item
+    → drop at items ≡ item ∷ drop (at + 1) items
+next_item items at item inside is =
+    drop_more items at item inside ∙ ap (λ first. first ∷ drop (at + 1) items) (sym is)

@@ -9,7 +9,8 @@ use Rattle.std.specs.Str.Parse.{digits_value}
 use Rattle.st_base.specs.Words.{number_of}
 
 -- the number of a decimal text
-pub number_of-decimal : (most number : ℕ) (text : List ℕ) → number ≤ most → number < 2 ^ 64 → text ≡ decimal number → number_of most text ≡ Some number
+pub number_of-decimal : (most number : ℕ) (text : List ℕ) → number ≤ most → number < 2 ^ 64 → text ≡ decimal number
+    → number_of most text ≡ Some number
 number_of-decimal most number text small fits spelled =
     let value : digits_value 10 (decimal number) ≡ number = (decimal_is_IsNumeral number fits).1 in
     let below : nat_le number most ≡ true = grind (arith, nat_tests) in
@@ -20,7 +21,8 @@ chosen true number wrong = absurd (wrong refl)
 chosen false number wrong = refl
 
 -- a text that is the decimal text of no number
-pub number_of-none : (most : ℕ) (text : List ℕ) → ((number : ℕ) → number ≤ most → text ≢ decimal number) → number_of most text ≡ None
+pub number_of-none : (most : ℕ) (text : List ℕ) → ((number : ℕ) → number ≤ most → text ≢ decimal number)
+    → number_of most text ≡ None
 number_of-none most text none =
     let number = digits_value 10 text in
     chosen _ number (λ e.

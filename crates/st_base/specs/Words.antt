@@ -5,7 +5,8 @@ use Rattle.std.specs.Str.Parse.{digits_value}
 
 -- what stands before the first separator, and all that stands behind it
 abbrev pub cut_at : ℕ → List ℕ → Option (List ℕ × List ℕ)
-cut_at separator text = option_map (λ at. (take at text, drop (at + 1) text)) (position (λ byte. byte == separator) text)
+cut_at separator text =
+    option_map (λ at. (take at text, drop (at + 1) text)) (position (λ byte. byte == separator) text)
 
 -- the number that has this decimal spelling, where it is at most `most`
 abbrev pub number_of : ℕ → List ℕ → Option ℕ

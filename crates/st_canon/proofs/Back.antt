@@ -30,7 +30,8 @@ within n k x h = grind (arith, nat_tests)
 abbrev IsBack : Option data'.Data → Plain → Type 0
 IsBack o p = (d : data'.Data) × (o ≡ Some d) × (whole_value d ≡ Some p)
 
-number_back : (z : ℤ) → IsWhole z → IsBack (option_map data'.number (number_of (number_text (of_integer z)))) (whole z)
+number_back : (z : ℤ) → IsWhole z
+    → IsBack (option_map data'.number (number_of (number_text (of_integer z)))) (whole z)
 number_back (pos n) h =
     let small : n ≤ 9007199254740991 = omega (arith, ints, h.1) in
     (data'.number (data'.unsigned n), ap (option_map data'.number) (number_of-decimal n (omega arith)), ap (option_map whole) (within n 9007199254740991 (pos n) small))
@@ -39,16 +40,20 @@ number_back (negsuc n) h =
     (data'.number (data'.negative (negsuc n)), ap (option_map data'.number) (number_of-negative n (omega arith)), ap (option_map whole) (within n 9007199254740990 (negsuc n) small))
 
 abbrev ItemsAreBack : Items → Type 0
-ItemsAreBack ps = (ds : data'.Items) × (of_items (items_outline (items_data ps)) ≡ Some ds) × (whole_items ds ≡ Some ps)
+ItemsAreBack ps =
+    (ds : data'.Items) × (of_items (items_outline (items_data ps)) ≡ Some ds) × (whole_items ds ≡ Some ps)
 
 abbrev MembersAreBack : Members → data'.Members → Type 0
-MembersAreBack ms found = (ds : data'.Members) × (of_members (members_outline (members_data ms)) found ≡ Some ds) × (whole_members ds ≡ option_map (adds ms) (whole_members found))
+MembersAreBack ms found =
+    (ds : data'.Members) × (of_members (members_outline (members_data ms)) found ≡ Some ds) × (whole_members ds ≡ option_map (adds ms) (whole_members found))
 
 same_members : (o : Option Members) → o ≡ option_map (adds no_members) o
 same_members None = refl
 same_members (Some ms) = refl
 
-one_more : (n : List ℕ) (p : Plain) (ms : Members) (o : Option Members) (put : Members → Members) → ((f : Members) → adds (member n p ms) f ≡ adds ms (put f)) → option_map (adds ms) (option_map put o) ≡ option_map (adds (member n p ms)) o
+one_more : (n : List ℕ) (p : Plain) (ms : Members) (o : Option Members) (put : Members → Members)
+    → ((f : Members) → adds (member n p ms) f ≡ adds ms (put f))
+    → option_map (adds ms) (option_map put o) ≡ option_map (adds (member n p ms)) o
 one_more n p ms None put same = refl
 one_more n p ms (Some f) put same = ap Some (sym (same f))
 
@@ -70,7 +75,8 @@ mutual
       let b = items_back ps h.1 in
       (data'.item a.0 b.0, rw (a.1, b.1) refl, rw (a.2, b.2) refl)
 
-  members_back : (ms : Members) → MembersAreProper ms → (found : data'.Members) → AllFresh ms found → MembersAreBack ms found
+  members_back : (ms : Members) → MembersAreProper ms → (found : data'.Members) → AllFresh ms found
+      → MembersAreBack ms found
   members_back no_members h found fresh = (found, refl, same_members (whole_members found))
   members_back (member n p ms) h found fresh =
       let a = back p h.2 in
@@ -78,11 +84,14 @@ mutual
       (b.0, rw a.1 b.1, b.2 ∙ ap (option_map (adds ms)) (whole_put n a.0 p found a.2 fresh.0) ∙ one_more n p ms (whole_members found) _ (λ f. refl))
 
 -- the tokens of the text are read as the JSON of the value, at any depth that suffices
-parsed : (p : Plain) (n : ℕ) → IsProper p → depth (outline (data_of p)) ≤ n → json_value n (tokens (canonical p)) ≡ Some (outline (data_of p), [])
+parsed : (p : Plain) (n : ℕ) → IsProper p → depth (outline (data_of p)) ≤ n
+    → json_value n (tokens (canonical p)) ≡ Some (outline (data_of p), [])
 parsed p n h enough = let j = outline (data_of p) in ap (json_value n) (tokens-canonical p h ∙ sym (append-nil (json_tokens j))) ∙ value-json_tokens j n [] enough
 
-read-canonical : (p : Plain) → IsProper p → depth (outline (data_of p)) ≤ 127 → read (canonical p) ≡ of_json (outline (data_of p))
-read-canonical p h shallow = ap (λ o. option_and_then of_json (option_and_then (λ q. if_last q.0 q.1) o)) (parsed p 127 h shallow)
+read-canonical : (p : Plain) → IsProper p → depth (outline (data_of p)) ≤ 127
+    → read (canonical p) ≡ of_json (outline (data_of p))
+read-canonical p h shallow =
+    ap (λ o. option_and_then of_json (option_and_then (λ q. if_last q.0 q.1) o)) (parsed p 127 h shallow)
 
 pub reads_back : (p : Plain) → IsProper p → depth_of p ≤ 127 → json_of (canonical p) ≡ value p
 reads_back p h shallow =

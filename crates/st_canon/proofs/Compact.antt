@@ -50,8 +50,10 @@ mutual
 
   members-compact : (b : Bool) (ms : Members) → canonical_members b ms ++ 125 ∷ [] ≡ members_text b (members_data ms)
   members-compact b no_members = refl
-  members-compact true (member n p ms) = simp append_assoc (rw (same_escapes n, canonical-compact p, members-compact true ms) refl)
-  members-compact false (member n p ms) = simp append_assoc (rw (same_escapes n, canonical-compact p, members-compact true ms) refl)
+  members-compact true (member n p ms) =
+      simp append_assoc (rw (same_escapes n, canonical-compact p, members-compact true ms) refl)
+  members-compact false (member n p ms) =
+      simp append_assoc (rw (same_escapes n, canonical-compact p, members-compact true ms) refl)
 
 is_number : (z : ℤ) → IsWhole z → IsNumber (signed_decimal z)
 is_number (pos n) h = IsNumber-decimal n (omega (arith, ints, h.1))
@@ -76,7 +78,9 @@ mutual
   members_numbers (member n p ms) h = (numbers p h.2, members_numbers ms h.3)
 
 pub tokens-canonical : (p : Plain) → IsProper p → tokens (canonical p) ≡ json_tokens (outline (data_of p))
-tokens-canonical p h = ap tokens (canonical-compact p ∙ sym (print-outline (data_of p))) ∙ tokens-print _ (ArePrintable-json_tokens _ (numbers p h))
+tokens-canonical p h =
+    ap tokens (canonical-compact p ∙ sym (print-outline (data_of p)))
+    ∙ tokens-print _ (ArePrintable-json_tokens _ (numbers p h))
 
 -- ---- the brackets nest no deeper than the value
 mutual

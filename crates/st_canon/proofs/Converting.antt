@@ -27,14 +27,17 @@ use Rattle.st_canon.proofs.Places.{plain_members-placed}
 
 -- ---- what is refused inside is refused as a whole
 
-refused_outside : {A B P Q : Type 0} (view : A → P) (outer : B → Q) (o : Option P) (all : Option Q) (e : ReadRefused) → Converts view o (Err e) → (o ≡ None → all ≡ None) → Converts outer all (Err e)
+refused_outside : {A B P Q : Type 0} (view : A → P) (outer : B → Q) (o : Option P) (all : Option Q) (e : ReadRefused)
+    → Converts view o (Err e) → (o ≡ None → all ≡ None) → Converts outer all (Err e)
 refused_outside view outer o all NotJson h none = absurd h
 refused_outside view outer o all NotWhole h none = none h
 refused_outside view outer o all WantOfMemory h none = tt
 
-pub refused_also : {A B P Q : Type 0} (view : A → P) (outer : B → Q) (o : Option P) (all : Option Q) (e : ReadRefused) (r : Result B ReadRefused) → r ≡ Err e → Converts view o (Err e) → (o ≡ None → all ≡ None)
+pub refused_also : {A B P Q : Type 0} (view : A → P) (outer : B → Q) (o : Option P) (all : Option Q) (e : ReadRefused) (r : Result B ReadRefused)
+    → r ≡ Err e → Converts view o (Err e) → (o ≡ None → all ≡ None)
     → Converts outer all r
-refused_also view outer o all e r is h none = subst (Converts outer all) (sym is) (refused_outside view outer o all e h none)
+refused_also view outer o all e r is h none =
+    subst (Converts outer all) (sym is) (refused_outside view outer o all e h none)
 
 -- ---- items
 
@@ -47,17 +50,20 @@ items_after-nil : (ps : List Plain) → items_after ps no_items ≡ items_of ps
 items_after-nil [] = refl
 items_after-nil (p ∷ ps) = ap (item p) (items_after-nil ps)
 
-items_after_push : (js : List Json) (j : Json) (rest : Items) → items_after (map plain (js ++ j ∷ [])) rest ≡ items_after (map plain js) (item (plain j) rest)
+items_after_push : (js : List Json) (j : Json) (rest : Items)
+    → items_after (map plain (js ++ j ∷ [])) rest ≡ items_after (map plain js) (item (plain j) rest)
 items_after_push [] j rest = refl
 items_after_push (k ∷ js) j rest = ap (item (plain k)) (items_after_push js j rest)
 
-item_pushed : (js : List Json) (j : Json) (o : Option Items) → option_map (items_after (map plain js)) (option_map (item (plain j)) o) ≡ option_map (items_after (map plain (js ++ j ∷ []))) o
+item_pushed : (js : List Json) (j : Json) (o : Option Items)
+    → option_map (items_after (map plain js)) (option_map (item (plain j)) o) ≡ option_map (items_after (map plain (js ++ j ∷ []))) o
 item_pushed js j None = refl
 item_pushed js j (Some rest) = ap Some (sym (items_after_push js j rest))
 
 -- so far these items of the vector were converted
 abbrev pub ItemsSoFar : List Value → ℕ → List Json → Type 0
-ItemsSoFar vs i js = whole_items (items_view vs) ≡ option_map (items_after (map plain js)) (whole_items (items_view (drop i vs)))
+ItemsSoFar vs i js =
+    whole_items (items_view vs) ≡ option_map (items_after (map plain js)) (whole_items (items_view (drop i vs)))
 
 module _ (vs : List Value) (i : ℕ) (js : List Json) (so_far : ItemsSoFar vs i js) where
   module _ (v : Value) (lt : i < length vs) (is : v ≡ get_or vs i v) where
@@ -93,17 +99,20 @@ abbrev pub puts : Pairs → Members → Members
 puts [] rest = rest
 puts (e ∷ es) rest = put e.0 (plain e.1) (puts es rest)
 
-puts_push : (es : Pairs) (e : List ℕ × Json) (rest : Members) → puts (es ++ e ∷ []) rest ≡ puts es (put e.0 (plain e.1) rest)
+puts_push : (es : Pairs) (e : List ℕ × Json) (rest : Members)
+    → puts (es ++ e ∷ []) rest ≡ puts es (put e.0 (plain e.1) rest)
 puts_push [] e rest = refl
 puts_push (f ∷ es) e rest = ap (put f.0 (plain f.1)) (puts_push es e rest)
 
-member_pushed : (es : Pairs) (e : List ℕ × Json) (o : Option Members) → option_map (puts es) (option_map (put e.0 (plain e.1)) o) ≡ option_map (puts (es ++ e ∷ [])) o
+member_pushed : (es : Pairs) (e : List ℕ × Json) (o : Option Members)
+    → option_map (puts es) (option_map (put e.0 (plain e.1)) o) ≡ option_map (puts (es ++ e ∷ [])) o
 member_pushed es e None = refl
 member_pushed es e (Some rest) = ap Some (sym (puts_push es e rest))
 
 puts_in_order : (es : Pairs) → puts es no_members ≡ plain_members (in_order es)
 puts_in_order [] = refl
-puts_in_order (e ∷ es) = ap (put e.0 (plain e.1)) (puts_in_order es) ∙ sym (plain_members-placed e.0 e.1 (in_order es))
+puts_in_order (e ∷ es) =
+    ap (put e.0 (plain e.1)) (puts_in_order es) ∙ sym (plain_members-placed e.0 e.1 (in_order es))
 
 -- so far these members of the map were converted, and the entries are left
 abbrev pub MembersSoFar : List Entry → List Entry → Pairs → Type 0
@@ -113,7 +122,8 @@ abbrev pub names_in : List Entry → List (List ℕ)
 names_in entries = map (λ e. string_bytes e.0) entries
 
 module _ (all left : List Entry) (es : Pairs) (name : String Global) (v : Value) (so_far : MembersSoFar all ((name, v) ∷ left) es) where
-  pub one_more_member : (k : List ℕ) (j : Json) → k ≡ string_bytes name → whole_value (view v) ≡ Some (plain j) → MembersSoFar all left (es ++ (k, j) ∷ [])
+  pub one_more_member : (k : List ℕ) (j : Json) → k ≡ string_bytes name → whole_value (view v) ≡ Some (plain j)
+      → MembersSoFar all left (es ++ (k, j) ∷ [])
   one_more_member k j named w =
       let step : whole_members (members_view ((name, v) ∷ left)) ≡ option_map (put k (plain j)) (whole_members (members_view left)) = rw (w, named) refl in
       so_far ∙ ap (option_map (puts es)) step ∙ member_pushed es (k, j) (whole_members (members_view left))
@@ -123,7 +133,8 @@ module _ (all left : List Entry) (es : Pairs) (name : String Global) (v : Value)
       let step : whole_members (members_view ((name, v) ∷ left)) ≡ None = rw w refl in
       so_far ∙ ap (option_map (puts es)) step
 
-pub all_members : (all : List Entry) (es : Pairs) → MembersSoFar all [] es → whole_members (members_view all) ≡ Some (plain_members (in_order es))
+pub all_members : (all : List Entry) (es : Pairs) → MembersSoFar all [] es
+    → whole_members (members_view all) ≡ Some (plain_members (in_order es))
 all_members all es so_far = so_far ∙ ap Some (puts_in_order es)
 
 start : (o : Option Members) → o ≡ option_map (puts []) o
@@ -135,7 +146,8 @@ no_member_yet all left es same none = rw (same, none) (start (whole_members (mem
 
 -- ---- the names of a map differ
 
-apart_from_below : (s t : String Global) → string_cmp s t ≡ Less → name_cmp (string_bytes s) (string_bytes t) ≡ Equal → ⊥
+apart_from_below : (s t : String Global) → string_cmp s t ≡ Less → name_cmp (string_bytes s) (string_bytes t) ≡ Equal
+    → ⊥
 apart_from_below s t below tied =
     let same = same_from_tied (string_bytes s) (string_bytes t) (IsUtf8-string_bytes s) (IsUtf8-string_bytes t) tied in
     let equal : bytes_eq (string_bytes s) (string_bytes t) ≡ true = (bytes_eq-Decides (string_bytes s) (string_bytes t)).1 same in
@@ -143,21 +155,25 @@ apart_from_below s t below tied =
     let not : is_eq (string_cmp s t) ≡ false = ap is_eq below in
     true≢false (sym equal ∙ sym test ∙ not)
 
-all_apart : (s : String Global) (entries : List Entry) → AllByRecursion (λ t. string_cmp s t ≡ Less) (keys_of entries) → AllByRecursion (λ n. name_cmp (string_bytes s) n ≡ Equal → ⊥) (names_in entries)
+all_apart : (s : String Global) (entries : List Entry) → AllByRecursion (λ t. string_cmp s t ≡ Less) (keys_of entries)
+    → AllByRecursion (λ n. name_cmp (string_bytes s) n ≡ Equal → ⊥) (names_in entries)
 all_apart s [] all = tt
 all_apart s (e ∷ es) all = (apart_from_below s e.0 all.0, all_apart s es all.1)
 
-apart_from_sorted : (entries : List Entry) → IsStrictlySortedBy string_cmp (keys_of entries) → AreApart (names_in entries)
+apart_from_sorted : (entries : List Entry) → IsStrictlySortedBy string_cmp (keys_of entries)
+    → AreApart (names_in entries)
 unfolding IsStrictlySortedBy
 apart_from_sorted [] sorted = tt
 apart_from_sorted (e ∷ es) sorted = (all_apart e.0 es sorted.0, apart_from_sorted es sorted.1)
 
-pub names_differ : (entries left : List Entry) (es : Pairs) → IsStrictlySortedBy string_cmp (keys_of entries) → left ≡ [] → names_in entries ≡ keys_of es ++ names_in left → NamesDiffer es
+pub names_differ : (entries left : List Entry) (es : Pairs) → IsStrictlySortedBy string_cmp (keys_of entries)
+    → left ≡ [] → names_in entries ≡ keys_of es ++ names_in left → NamesDiffer es
 names_differ entries left es sorted none names =
     let same : names_in entries ≡ keys_of es = names ∙ ap (λ l. keys_of es ++ names_in l) none ∙ append-nil (keys_of es) in
     subst AreApart same (apart_from_sorted entries sorted)
 
-pub one_more_name : (entries left next : List Entry) (es : Pairs) (name : String Global) (v : Value) (k : List ℕ) (j : Json) → left ≡ (name, v) ∷ next → k ≡ string_bytes name
+pub one_more_name : (entries left next : List Entry) (es : Pairs) (name : String Global) (v : Value) (k : List ℕ) (j : Json)
+    → left ≡ (name, v) ∷ next → k ≡ string_bytes name
     → names_in entries ≡ keys_of es ++ names_in left → names_in entries ≡ keys_of (es ++ (k, j) ∷ []) ++ names_in next
 one_more_name entries left next es name v k j step named names =
     names ∙ ap (λ l. keys_of es ++ names_in l) step ∙ ap (λ n. keys_of es ++ n ∷ names_in next) (sym named) ∙ sym (append_assoc (keys_of es) (k ∷ []) (names_in next)) ∙ ap (λ l. l ++ names_in next) (sym (keys_pushed es))

@@ -24,14 +24,16 @@ member_at-put_same name p (member n q ms) = elim (name_cmp name n) as (λ o. nam
 ] refl
 
 -- a name that ties with the one put is the one put
-other_name : (other name n : List ℕ) → IsUtf8 other → IsUtf8 name → is_name other name ≡ false → name_cmp name n ≡ Equal → is_name other n ≡ false
+other_name : (other name n : List ℕ) → IsUtf8 other → IsUtf8 name → is_name other name ≡ false
+    → name_cmp name n ≡ Equal → is_name other n ≡ false
 other_name other name n u v differ tied = not_name_from_apart other n (λ same.
     let same' : name ≡ other = same_from_tied name other v u (ap (name_cmp name) same ∙ tied) in
     let named : is_name other name ≡ true = is_name_from_same other name (sym same') in
     cc)
 
 -- other members stay
-pub member_at-put_other : (other name : List ℕ) (p : Plain) (ms : Members) → IsUtf8 other → IsUtf8 name → is_name other name ≡ false → member_at other (put name p ms) ≡ member_at other ms
+pub member_at-put_other : (other name : List ℕ) (p : Plain) (ms : Members) → IsUtf8 other → IsUtf8 name
+    → is_name other name ≡ false → member_at other (put name p ms) ≡ member_at other ms
 member_at-put_other other name p no_members u v differ = rw differ refl
 member_at-put_other other name p (member n q ms) u v differ =
     elim (name_cmp name n) as (λ o. name_cmp name n ≡ o → member_at other (match_ordering o (member name p (member n q ms)) (member name p ms) (member n q (put name p ms))) ≡ member_at other (member n q ms)) [
@@ -41,7 +43,9 @@ member_at-put_other other name p (member n q ms) u v differ =
     ] refl
 
 -- the same at two names of ASCII, which computes where they are literals
-pub member_at-put_literal : (other name : List ℕ) (p : Plain) (ms : Members) → (are_ascii other && (are_ascii name && not (is_name other name))) ≡ true → member_at other (put name p ms) ≡ member_at other ms
+pub member_at-put_literal : (other name : List ℕ) (p : Plain) (ms : Members)
+    → (are_ascii other && (are_ascii name && not (is_name other name))) ≡ true
+    → member_at other (put name p ms) ≡ member_at other ms
 member_at-put_literal other name p ms apart =
     let rest = second_so (are_ascii other) (are_ascii name && not (is_name other name)) apart in
     let u = IsUtf8-are_ascii other (first_so (are_ascii other) (are_ascii name && not (is_name other name)) apart) in
@@ -57,7 +61,8 @@ member_at-without_same name (member n q ms) = elim (is_name name n) as (λ t. is
 ] refl
 
 -- other members stay
-pub member_at-without_other : (other name : List ℕ) (ms : Members) → is_name other name ≡ false → member_at other (without name ms) ≡ member_at other ms
+pub member_at-without_other : (other name : List ℕ) (ms : Members) → is_name other name ≡ false
+    → member_at other (without name ms) ≡ member_at other ms
 member_at-without_other other name no_members differ = refl
 member_at-without_other other name (member n q ms) differ = elim (is_name name n) as (λ t. is_name name n ≡ t → member_at other (cond t (without name ms) (member n q (without name ms))) ≡ member_at other (member n q ms)) [
   | true ↦ λ is. let not : is_name other n ≡ false = ap (is_name other) (sym (same_from_is_name name n is)) ∙ differ in rw not (member_at-without_other other name ms differ)

@@ -46,7 +46,8 @@ below_all x s = by (scalar_cases x s)
     by (inl low) = omega arith
     by (inr high) = high.1
 
-first_tells : (c d : ℕ) (x y : List ℕ) (s t : Bool) → nat_lt c 65536 ≡ s → nat_lt d 65536 ≡ t → scalar c ≡ true → scalar d ≡ true
+first_tells : (c d : ℕ) (x y : List ℕ) (s t : Bool) → nat_lt c 65536 ≡ s → nat_lt d 65536 ≡ t → scalar c ≡ true
+    → scalar d ≡ true
     → cond s (c ∷ []) (pair_of c) ++ x ≡ cond t (d ∷ []) (pair_of d) ++ y → (c ≡ d) × (x ≡ y)
 first_tells c d x y true true a b u v e = (cc, cc)
 first_tells c d x y true false a b u v e =
@@ -68,7 +69,8 @@ no_units : (c : ℕ) (x : List ℕ) (s : Bool) → cond s (c ∷ []) (pair_of c)
 no_units c x true e = cc
 no_units c x false e = cc
 
-units_tell : (cs ds : List ℕ) → scalars cs ≡ true → scalars ds ≡ true → flat_map encode_utf16 cs ≡ flat_map encode_utf16 ds → cs ≡ ds
+units_tell : (cs ds : List ℕ) → scalars cs ≡ true → scalars ds ≡ true
+    → flat_map encode_utf16 cs ≡ flat_map encode_utf16 ds → cs ≡ ds
 units_tell [] [] u v e = refl
 units_tell [] (d ∷ ds) u v e = absurd (no_units d _ (nat_lt d 65536) (sym e))
 units_tell (c ∷ cs) [] u v e = absurd (no_units c _ (nat_lt c 65536) e)

@@ -17,12 +17,14 @@ given_by o (Err NotJson) h = absurd h
 given_by o (Err NotWhole) h = ap of_plain h
 given_by o (Err WantOfMemory) h = tt
 
-pub gives_converted : (bytes : List ℕ) (d : Data) (r : Result Json ReadRefused) → IsUtf8 bytes → read bytes ≡ Some d → Converts plain (whole_value d) r → Gives (json_of bytes) r
+pub gives_converted : (bytes : List ℕ) (d : Data) (r : Result Json ReadRefused) → IsUtf8 bytes → read bytes ≡ Some d
+    → Converts plain (whole_value d) r → Gives (json_of bytes) r
 gives_converted bytes d r utf8 is h =
     let e : json_of bytes ≡ of_plain (whole_value d) = ap (λ b. if b then of_data (read bytes) else not_json) (is_utf8-from_IsUtf8 bytes utf8) ∙ ap of_data is in
     subst (λ x. Gives x r) (sym e) (given_by (whole_value d) r h)
 
-refused_at : (bytes : List ℕ) (b : Bool) → is_utf8 bytes ≡ b → (IsUtf8 bytes → read bytes ≡ None) → (if b then of_data (read bytes) else not_json) ≡ not_json
+refused_at : (bytes : List ℕ) (b : Bool) → is_utf8 bytes ≡ b → (IsUtf8 bytes → read bytes ≡ None)
+    → (if b then of_data (read bytes) else not_json) ≡ not_json
 refused_at bytes true is none = ap of_data (none (IsUtf8-from_is_utf8 bytes is))
 refused_at bytes false is none = refl
 

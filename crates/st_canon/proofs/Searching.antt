@@ -9,7 +9,8 @@ use Rattle.st_canon.specs.Place.{IsPlaceOf, IsGapFor}
 use Rattle.st_canon.proofs.Order.{name_total, greater_from_less, tied_from_same, same_from_is_name, is_name_from_same}
 use Rattle.st_canon.proofs.Sorting.{named_below}
 
-rises : {X : Type 0} (p : List ℕ × X) (pairs : List (List ℕ × X)) (k : ℕ) (d : List ℕ × X) → NamesAscend (p ∷ pairs) → k < length pairs → named_below (get_or pairs k d) (get_or (p ∷ pairs) k d) ≡ false
+rises : {X : Type 0} (p : List ℕ × X) (pairs : List (List ℕ × X)) (k : ℕ) (d : List ℕ × X) → NamesAscend (p ∷ pairs)
+    → k < length pairs → named_below (get_or pairs k d) (get_or (p ∷ pairs) k d) ≡ false
 unfolding IsStrictlySortedBy
 rises p [] k d ascend lt = absurd (omega arith)
 rises p (q ∷ pairs) zero d ascend lt = ap is_lt (greater_from_less p.0 q.0 ascend.0.0)
@@ -38,7 +39,8 @@ apart_from_no_tie Less untied = refl
 apart_from_no_tie Equal untied = absurd (untied refl)
 apart_from_no_tie Greater untied = refl
 
-told : (a b : List ℕ) (t : Bool) → is_name a b ≡ t → (name_cmp a b ≡ Equal → a ≡ b) → name_cmp a b ≡ cond t Equal (apart (name_cmp a b))
+told : (a b : List ℕ) (t : Bool) → is_name a b ≡ t → (name_cmp a b ≡ Equal → a ≡ b)
+    → name_cmp a b ≡ cond t Equal (apart (name_cmp a b))
 told a b true is same = tied_from_same a b (same_from_is_name a b is)
 told a b false is same = apart_from_no_tie (name_cmp a b) (λ tied. let named = is_name_from_same a b (same tied) in cc)
 
@@ -50,11 +52,14 @@ named_from_exact a b true is e = same_from_is_name a b is
 named_from_exact a b false is e = absurd (never (name_cmp a b) e)
 
 module _ {X : Type 0} (name : List ℕ) (pairs : List (List ℕ × X)) where
-  pub place_from_search : (r : Result ℕ ℕ) → IsSearchInRange r (length pairs) → IsBinarySearchResult (λ p. exact_cmp p.0 name) pairs r → IfOk r (IsPlaceOf name pairs)
-  place_from_search (Ok i) lt found = record { in_range = lt; named = λ d. named_from_exact (get_or pairs i d).0 name (is_name (get_or pairs i d).0 name) refl (found d) }
+  pub place_from_search : (r : Result ℕ ℕ) → IsSearchInRange r (length pairs)
+      → IsBinarySearchResult (λ p. exact_cmp p.0 name) pairs r → IfOk r (IsPlaceOf name pairs)
+  place_from_search (Ok i) lt found =
+      record { in_range = lt; named = λ d. named_from_exact (get_or pairs i d).0 name (is_name (get_or pairs i d).0 name) refl (found d) }
   place_from_search (Err i) le found = tt
 
-  pub gap_from_search : (r : Result ℕ ℕ) → NamesAscend pairs → IsSearchInRange r (length pairs) → IsBinarySearchResult (λ p. name_cmp p.0 name) pairs r → IfErr r (IsGapFor name pairs)
+  pub gap_from_search : (r : Result ℕ ℕ) → NamesAscend pairs → IsSearchInRange r (length pairs)
+      → IsBinarySearchResult (λ p. name_cmp p.0 name) pairs r → IfErr r (IsGapFor name pairs)
   gap_from_search (Ok i) ascend lt found = tt
   gap_from_search (Err i) ascend le found =
       let parts = found (searchable_from_sorted name_total (λ p. p.0) pairs name (sorted_from_ascend pairs ascend)) in

@@ -23,11 +23,13 @@ tied_tests Equal = refl
 tied_tests Greater = refl
 
 -- ---- names above another
-all_above : (x y : List ℕ) → name_cmp x y ≡ Less → (ks : List (List ℕ)) → AllByRecursion (λ k. name_cmp y k ≡ Less) ks → AllByRecursion (λ k. name_cmp x k ≡ Less) ks
+all_above : (x y : List ℕ) → name_cmp x y ≡ Less → (ks : List (List ℕ)) → AllByRecursion (λ k. name_cmp y k ≡ Less) ks
+    → AllByRecursion (λ k. name_cmp x k ≡ Less) ks
 all_above x y lt [] all = tt
 all_above x y lt (k ∷ ks) all = (name_total.trans x y k lt all.0, all_above x y lt ks all.1)
 
-all_above_tied : (x y : List ℕ) → name_cmp x y ≡ Equal → (ks : List (List ℕ)) → AllByRecursion (λ k. name_cmp y k ≡ Less) ks → AllByRecursion (λ k. name_cmp x k ≡ Less) ks
+all_above_tied : (x y : List ℕ) → name_cmp x y ≡ Equal → (ks : List (List ℕ))
+    → AllByRecursion (λ k. name_cmp y k ≡ Less) ks → AllByRecursion (λ k. name_cmp x k ≡ Less) ks
 all_above_tied x y tied [] all = tt
 all_above_tied x y tied (k ∷ ks) all = (name_total.congr x y k tied ∙ all.0, all_above_tied x y tied ks all.1)
 
@@ -37,7 +39,8 @@ module _ {X : Type 0} where
   named_below p q = is_lt (name_cmp p.0 q.0)
 
   -- ---- placing a pair
-  all_placed : (P : List ℕ → Type 0) (e : List ℕ × X) (es : List (List ℕ × X)) → P e.0 → AllByRecursion P (keys_of es) → AllByRecursion P (keys_of (placed e es))
+  all_placed : (P : List ℕ → Type 0) (e : List ℕ × X) (es : List (List ℕ × X)) → P e.0 → AllByRecursion P (keys_of es)
+      → AllByRecursion P (keys_of (placed e es))
   all_placed P e [] p all = (p, tt)
   all_placed P e (f ∷ fs) p all = elim (name_cmp e.0 f.0) as (λ o. AllByRecursion P (keys_of (match_ordering o (e ∷ f ∷ fs) (e ∷ fs) (f ∷ placed e fs)))) [
     | Less ↦ (p, all)
@@ -54,7 +57,8 @@ module _ {X : Type 0} where
     | Greater ↦ λ is. (all_placed (λ n. name_cmp f.0 n ≡ Less) e fs (less_from_greater e.0 f.0 is) ascend.0, ascend_placed e fs ascend.1)
   ] refl
 
-  pub ascend_from_placed : (e : List ℕ × X) (es fs : List (List ℕ × X)) → fs ≡ placed e es → NamesAscend es → NamesAscend fs
+  pub ascend_from_placed : (e : List ℕ × X) (es fs : List (List ℕ × X)) → fs ≡ placed e es → NamesAscend es
+      → NamesAscend fs
   ascend_from_placed e es fs is ascend = subst NamesAscend (sym is) (ascend_placed e es ascend)
 
   pub ascend_in_order : (es : List (List ℕ × X)) → NamesAscend (in_order es)
@@ -62,7 +66,8 @@ module _ {X : Type 0} where
   ascend_in_order [] = tt
   ascend_in_order (e ∷ es) = ascend_placed e (in_order es) (ascend_in_order es)
 
-  all_in_order : (P : List ℕ → Type 0) (es : List (List ℕ × X)) → AllByRecursion P (keys_of es) → AllByRecursion P (keys_of (in_order es))
+  all_in_order : (P : List ℕ → Type 0) (es : List (List ℕ × X)) → AllByRecursion P (keys_of es)
+      → AllByRecursion P (keys_of (in_order es))
   all_in_order P [] all = tt
   all_in_order P (e ∷ es) all = all_placed P e (in_order es) all.0 (all_in_order P es all.1)
 
@@ -71,7 +76,9 @@ module _ {X : Type 0} where
   tie x y = is_eq (name_cmp x.0 y.0)
 
   ties_are : (x y : List ℕ × X) → ties named_below x y ≡ tie x y
-  ties_are x y = ap (λ o. not (is_lt (name_cmp x.0 y.0)) && not (is_lt o)) (name_total.antisymm y.0 x.0) ∙ tied_tests (name_cmp x.0 y.0)
+  ties_are x y =
+      ap (λ o. not (is_lt (name_cmp x.0 y.0)) && not (is_lt o)) (name_total.antisymm y.0 x.0)
+      ∙ tied_tests (name_cmp x.0 y.0)
 
   no_two : (x e f : List ℕ × X) → name_cmp e.0 f.0 ≡ Greater → tie x e ≡ true → tie x f ≡ true → ⊥
   no_two x e f gt a b =
@@ -79,13 +86,16 @@ module _ {X : Type 0} where
       let second = equal_from_is_eq (name_cmp x.0 f.0) b in
       cc
 
-  passed : (s t : Bool) (e f : List ℕ × X) (xs ys : List (List ℕ × X)) → (s ≡ true → t ≡ true → ⊥) → ys ≡ cond t (e ∷ xs) xs → cond s (f ∷ ys) ys ≡ cond t (e ∷ cond s (f ∷ xs) xs) (cond s (f ∷ xs) xs)
+  passed : (s t : Bool) (e f : List ℕ × X) (xs ys : List (List ℕ × X)) → (s ≡ true → t ≡ true → ⊥)
+      → ys ≡ cond t (e ∷ xs) xs → cond s (f ∷ ys) ys ≡ cond t (e ∷ cond s (f ∷ xs) xs) (cond s (f ∷ xs) xs)
   passed true true e f xs ys apart is = absurd (apart refl refl)
   passed true false e f xs ys apart is = ap (λ l. f ∷ l) is
   passed false true e f xs ys apart is = is
   passed false false e f xs ys apart is = is
 
-  filter_placed : (x e : List ℕ × X) (es : List (List ℕ × X)) → AllByRecursion (λ n. name_cmp e.0 n ≡ Equal → ⊥) (keys_of es) → filter (tie x) (placed e es) ≡ filter (tie x) (e ∷ es)
+  filter_placed : (x e : List ℕ × X) (es : List (List ℕ × X))
+      → AllByRecursion (λ n. name_cmp e.0 n ≡ Equal → ⊥) (keys_of es)
+      → filter (tie x) (placed e es) ≡ filter (tie x) (e ∷ es)
   filter_placed x e [] differ = refl
   filter_placed x e (f ∷ fs) differ = elim (name_cmp e.0 f.0) as (λ o. name_cmp e.0 f.0 ≡ o → filter (tie x) (match_ordering o (e ∷ f ∷ fs) (e ∷ fs) (f ∷ placed e fs)) ≡ filter (tie x) (e ∷ f ∷ fs)) [
     | Less ↦ λ is. refl
@@ -93,7 +103,8 @@ module _ {X : Type 0} where
     | Greater ↦ λ is. passed (tie x f) (tie x e) e f (filter (tie x) fs) (filter (tie x) (placed e fs)) (λ a b. no_two x e f is b a) (filter_placed x e fs differ.1)
   ] refl
 
-  filter_in_order : (x : List ℕ × X) (es : List (List ℕ × X)) → NamesDiffer es → filter (tie x) (in_order es) ≡ filter (tie x) es
+  filter_in_order : (x : List ℕ × X) (es : List (List ℕ × X)) → NamesDiffer es
+      → filter (tie x) (in_order es) ≡ filter (tie x) es
   filter_in_order x [] differ = refl
   filter_in_order x (e ∷ es) differ =
       filter_placed x e (in_order es) (all_in_order (λ n. name_cmp e.0 n ≡ Equal → ⊥) es differ.0) ∙ ap (λ l. cond (tie x e) (e ∷ l) l) (filter_in_order x es differ.1)
@@ -109,24 +120,30 @@ module _ {X : Type 0} where
   first_ties : (y : List ℕ × X) (ys : List (List ℕ × X)) → filter (tie y) (y ∷ ys) ≡ y ∷ filter (tie y) ys
   first_ties y ys = rw (tied_itself name_total y.0) refl
 
-  none_tie_above : (y : List ℕ × X) (zs : List (List ℕ × X)) → AllByRecursion (λ n. name_cmp y.0 n ≡ Less) (keys_of zs) → filter (tie y) zs ≡ []
+  none_tie_above : (y : List ℕ × X) (zs : List (List ℕ × X))
+      → AllByRecursion (λ n. name_cmp y.0 n ≡ Less) (keys_of zs) → filter (tie y) zs ≡ []
   none_tie_above y [] all = refl
   none_tie_above y (z ∷ zs) all = rw all.0 (none_tie_above y zs all.1)
 
-  not_tied : (y z w : List ℕ × X) → name_cmp z.0 y.0 ≡ Less → named_below w y ≡ false → (o : Ordering) → name_cmp z.0 w.0 ≡ o → is_eq o ≡ false
+  not_tied : (y z w : List ℕ × X) → name_cmp z.0 y.0 ≡ Less → named_below w y ≡ false → (o : Ordering)
+      → name_cmp z.0 w.0 ≡ o → is_eq o ≡ false
   not_tied y z w lt up Less is = refl
   not_tied y z w lt up Equal is = let same = name_total.congr z.0 w.0 y.0 is in let below : named_below w y ≡ true = ap is_lt (sym same ∙ lt) in cc
   not_tied y z w lt up Greater is = refl
 
-  none_tie_below : (y z : List ℕ × X) (ws : List (List ℕ × X)) → name_cmp z.0 y.0 ≡ Less → NoneBelow y ws → filter (tie z) ws ≡ []
+  none_tie_below : (y z : List ℕ × X) (ws : List (List ℕ × X)) → name_cmp z.0 y.0 ≡ Less → NoneBelow y ws
+      → filter (tie z) ws ≡ []
   none_tie_below y z [] lt up = refl
-  none_tie_below y z (w ∷ ws) lt up = rw (not_tied y z w lt up.0 (name_cmp z.0 w.0) refl) (none_tie_below y z ws lt up.1)
+  none_tie_below y z (w ∷ ws) lt up =
+      rw (not_tied y z w lt up.0 (name_cmp z.0 w.0) refl) (none_tie_below y z ws lt up.1)
 
-  same_rest : (t : Bool) (y : List ℕ × X) (ys zs : List (List ℕ × X)) → cond t (y ∷ ys) ys ≡ cond t (y ∷ zs) zs → ys ≡ zs
+  same_rest : (t : Bool) (y : List ℕ × X) (ys zs : List (List ℕ × X)) → cond t (y ∷ ys) ys ≡ cond t (y ∷ zs) zs
+      → ys ≡ zs
   same_rest true y ys zs e = cc
   same_rest false y ys zs e = e
 
-  one_list : (ys zs : List (List ℕ × X)) → NeverFall ys → NamesAscend zs → ((x : List ℕ × X) → filter (tie x) ys ≡ filter (tie x) zs) → ys ≡ zs
+  one_list : (ys zs : List (List ℕ × X)) → NeverFall ys → NamesAscend zs
+      → ((x : List ℕ × X) → filter (tie x) ys ≡ filter (tie x) zs) → ys ≡ zs
   unfolding IsStrictlySortedBy
   one_list [] [] up ascend same = refl
   one_list [] (z ∷ zs) up ascend same = let e = same z in let f = first_ties z zs in cc
@@ -154,11 +171,14 @@ module _ {X : Type 0} where
   ] refl
 
   -- ---- what a stable sort gives
-  none_below_from_places : (y : List ℕ × X) (ys : List (List ℕ × X)) → ((j : ℕ) (d : List ℕ × X) → j < length ys → named_below (get_or ys j d) y ≡ false) → NoneBelow y ys
+  none_below_from_places : (y : List ℕ × X) (ys : List (List ℕ × X))
+      → ((j : ℕ) (d : List ℕ × X) → j < length ys → named_below (get_or ys j d) y ≡ false) → NoneBelow y ys
   none_below_from_places y [] at = tt
-  none_below_from_places y (z ∷ zs) at = (at 0 z (omega arith), none_below_from_places y zs (λ j d lt. at (suc j) d (omega arith)))
+  none_below_from_places y (z ∷ zs) at =
+      (at 0 z (omega arith), none_below_from_places y zs (λ j d lt. at (suc j) d (omega arith)))
 
-  rest_sorted : (y : List ℕ × X) (ys : List (List ℕ × X)) → IsSortedBy named_below (y ∷ ys) → IsSortedBy named_below ys
+  rest_sorted : (y : List ℕ × X) (ys : List (List ℕ × X)) → IsSortedBy named_below (y ∷ ys)
+      → IsSortedBy named_below ys
   rest_sorted y ys sorted = λ k d low lt. let next : suc k + 1 ≡ suc (k + 1) = omega arith in rw next at (sorted (suc k) d (omega arith) (omega arith))
 
   never_fall : (ys : List (List ℕ × X)) → IsSortedBy named_below ys → NeverFall ys
@@ -168,6 +188,8 @@ module _ {X : Type 0} where
     never_fall ys (rest_sorted y ys sorted),
   )
 
-  pub in_order_from_sort : (es ys : List (List ℕ × X)) → NamesDiffer es → IsSortedBy named_below ys → IsStableBy named_below es ys → ys ≡ in_order es
-  in_order_from_sort es ys differ sorted stable = one_list ys (in_order es) (never_fall ys sorted) (ascend_in_order es)
+  pub in_order_from_sort : (es ys : List (List ℕ × X)) → NamesDiffer es → IsSortedBy named_below ys
+      → IsStableBy named_below es ys → ys ≡ in_order es
+  in_order_from_sort es ys differ sorted stable =
+      one_list ys (in_order es) (never_fall ys sorted) (ascend_in_order es)
       (λ x. sym (λ i. filter (λ y. ties_are x y i) ys) ∙ stable x ∙ (λ i. filter (λ y. ties_are x y i) es) ∙ sym (filter_in_order x es differ))

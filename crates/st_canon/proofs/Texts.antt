@@ -33,12 +33,15 @@ mutual
   IsUtf8-canonical (boolean false) h = IsUtf8-are_ascii (canonical (boolean false)) refl
   IsUtf8-canonical (whole z) h = utf8_whole z h
   IsUtf8-canonical (text t) h = utf8_quoted t h
-  IsUtf8-canonical (list ps) h = between 91 93 (canonical_items false ps) (IsUtf8-are_ascii (91 ∷ []) refl) (IsUtf8-are_ascii (93 ∷ []) refl) (utf8_items false ps h)
-  IsUtf8-canonical (object ms) h = between 123 125 (canonical_members false ms) (IsUtf8-are_ascii (123 ∷ []) refl) (IsUtf8-are_ascii (125 ∷ []) refl) (utf8_members false ms h)
+  IsUtf8-canonical (list ps) h =
+      between 91 93 (canonical_items false ps) (IsUtf8-are_ascii (91 ∷ []) refl) (IsUtf8-are_ascii (93 ∷ []) refl) (utf8_items false ps h)
+  IsUtf8-canonical (object ms) h =
+      between 123 125 (canonical_members false ms) (IsUtf8-are_ascii (123 ∷ []) refl) (IsUtf8-are_ascii (125 ∷ []) refl) (utf8_members false ms h)
 
   utf8_items : (b : Bool) (ps : Items) → ItemsAreProper ps → IsUtf8 (canonical_items b ps)
   utf8_items b no_items h = IsUtf8-nil
-  utf8_items b (item p ps) h = IsUtf8-append (comma b) _ (utf8_comma b) (IsUtf8-append (canonical p) _ (IsUtf8-canonical p h.0) (utf8_items true ps h.1))
+  utf8_items b (item p ps) h =
+      IsUtf8-append (comma b) _ (utf8_comma b) (IsUtf8-append (canonical p) _ (IsUtf8-canonical p h.0) (utf8_items true ps h.1))
 
   utf8_members : (b : Bool) (ms : Members) → MembersAreProper ms → IsUtf8 (canonical_members b ms)
   utf8_members b no_members h = IsUtf8-nil

@@ -11,4 +11,5 @@ pub record IsPlaceOf {X : Type 0} (name : List ℕ) (pairs : List (List ℕ × X
 pub record IsGapFor {X : Type 0} (name : List ℕ) (pairs : List (List ℕ × X)) (at : ℕ) : Type 0 where
   pub in_range : at ≤ length pairs
   pub below : (i : ℕ) (d : List ℕ × X) → i < at → name_cmp (slice_index_or pairs i d).0 name ≡ Less
-  pub above : (i : ℕ) (d : List ℕ × X) → at ≤ i → i < length pairs → name_cmp (slice_index_or pairs i d).0 name ≡ Greater
+  pub above : (i : ℕ) (d : List ℕ × X) → at ≤ i → i < length pairs
+      → name_cmp (slice_index_or pairs i d).0 name ≡ Greater

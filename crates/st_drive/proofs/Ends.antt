@@ -35,10 +35,14 @@ whole_first bytes more =
 
 module _ {M C : Type 0} (answers : M → List (List ℕ) → List ℕ) (ran : M → C → List (List ℕ) → M → C → Type 0) (gave_up : M → C → List (List ℕ) → C → Type 0) (cap : ℕ) (laws : Laws answers ran gave_up cap) where
   -- of the bytes so far and then a piece
-  piece_lines : (taken line piece : List ℕ) → line ≡ (capped cap taken).1 → capped cap (taken ++ piece) ≡ ((capped cap taken).0 ++ (capped cap (line ++ piece)).0, (capped cap (line ++ piece)).1)
-  piece_lines taken line piece e = capped_append cap taken piece ∙ ap (λ l. ((capped cap taken).0 ++ (capped cap (l ++ piece)).0, (capped cap (l ++ piece)).1)) (sym e)
+  piece_lines : (taken line piece : List ℕ) → line ≡ (capped cap taken).1
+      → capped cap (taken ++ piece) ≡ ((capped cap taken).0 ++ (capped cap (line ++ piece)).0, (capped cap (line ++ piece)).1)
+  piece_lines taken line piece e =
+      capped_append cap taken piece
+      ∙ ap (λ l. ((capped cap taken).0 ++ (capped cap (l ++ piece)).0, (capped cap (l ++ piece)).1)) (sym e)
 
-  pub taken_start : (m : M) (c : C) (limit : ℕ) (had held : Option (List ℕ)) → Taken answers ran cap m c m c [] limit limit had had held held
+  pub taken_start : (m : M) (c : C) (limit : ℕ) (had held : Option (List ℕ))
+      → Taken answers ran cap m c m c [] limit limit had had held held
   taken_start m c limit had held = record {
     taken = [];
     written = [];
@@ -49,11 +53,13 @@ module _ {M C : Type 0} (answers : M → List (List ℕ) → List ℕ) (ran : M 
     budget = omega arith;
   }
 
-  pub taken_open : (m n : M) (c d : C) (line : List ℕ) (limit room : ℕ) (had left held holds : Option (List ℕ)) → Taken answers ran cap m c n d line limit room had left held holds → has_no_feed line ≡ true
+  pub taken_open : (m n : M) (c d : C) (line : List ℕ) (limit room : ℕ) (had left held holds : Option (List ℕ))
+      → Taken answers ran cap m c n d line limit room had left held holds → has_no_feed line ≡ true
   taken_open m n c d line limit room had left held holds t = ap has_no_feed t.line_is ∙ capped_rest cap t.taken
 
   -- the lines of a piece were answered
-  pub taken_more : (m n o : M) (c d e : C) (line piece next : List ℕ) (limit room less : ℕ) (had left rest held holds new : Option (List ℕ)) → Taken answers ran cap m c n d line limit room had left held holds
+  pub taken_more : (m n o : M) (c d e : C) (line piece next : List ℕ) (limit room less : ℕ) (had left rest held holds new : Option (List ℕ))
+      → Taken answers ran cap m c n d line limit room had left held holds
       → Consumes left rest piece → length piece + less ≡ room → ((written : List ℕ) × GoesOverCut answers ran cap n d (capped cap (line ++ piece)).0 written o e × Appends holds new written) → next ≡ (capped cap (line ++ piece)).1
       → Taken answers ran cap m c o e next limit less had rest held new
   taken_more m n o c d e line piece next limit room less had left rest held holds new t takes count more line_is =
@@ -63,19 +69,26 @@ module _ {M C : Type 0} (answers : M → List (List ℕ) → List ℕ) (ran : M 
         written = t.written ++ more.0;
         takes = Consumes-trans had left rest t.taken piece t.takes takes;
         line_is = line_is ∙ sym (ap (λ p. p.1) lines);
-        went = subst (λ ls. GoesOverCut answers ran cap m c ls (t.written ++ more.0) o e) (sym (ap (λ p. p.0) lines)) (went_more answers ran gave_up cap laws m n o c d e _ _ t.written more.0 t.went more.1);
+        went =
+            subst (λ ls. GoesOverCut answers ran cap m c ls (t.written ++ more.0) o e) (sym (ap (λ p. p.0) lines)) (went_more answers ran gave_up cap laws m n o c d e _ _ t.written more.0 t.went more.1);
         writes = Appends-trans held holds new t.written more.0 t.writes more.2;
         budget = (let b = t.budget in omega (arith, length-append t.taken piece));
       }
 
   -- what was written of lines that went
-  answered_of : (m n : M) (c d : C) (lines : List (List ℕ)) (written : List ℕ) → Goes answers ran m c lines written n d → Answered (answers m) (RanOver ran m c d) written lines
-  answered_of m n c d lines written p = (sym (append-nil written) ∙ ap (λ xs. written ++ xs) (sym (laws.silent n)) ∙ sym (p.on []) ∙ ap (answers m) (append-nil lines), (n, p.context))
+  answered_of : (m n : M) (c d : C) (lines : List (List ℕ)) (written : List ℕ)
+      → Goes answers ran m c lines written n d → Answered (answers m) (RanOver ran m c d) written lines
+  answered_of m n c d lines written p =
+      (sym (append-nil written) ∙ ap (λ xs. written ++ xs) (sym (laws.silent n)) ∙ sym (p.on []) ∙ ap (answers m) (append-nil lines), (n, p.context))
 
-  answered_whole : (m n : M) (c d : C) (bytes written : List ℕ) → length bytes < 2 ^ 62 → GoesOverCut answers ran cap m c (capped cap bytes).0 written n d → Answered (answers m) (RanOver ran m c d) written (whole_lines bytes)
-  answered_whole m n c d bytes written short p = answered_of m n c d (whole_lines bytes) written (p.of (whole_lines bytes) (whole_cut cap bytes short))
+  answered_whole : (m n : M) (c d : C) (bytes written : List ℕ) → length bytes < 2 ^ 62
+      → GoesOverCut answers ran cap m c (capped cap bytes).0 written n d
+      → Answered (answers m) (RanOver ran m c d) written (whole_lines bytes)
+  answered_whole m n c d bytes written short p =
+      answered_of m n c d (whole_lines bytes) written (p.of (whole_lines bytes) (whole_cut cap bytes short))
 
-  pub table_read_fault : {T : Type 0} (m n : M) (c d : C) (line : List ℕ) (limit room : ℕ) (had left rest held holds : Option (List ℕ)) → limit < 2 ^ 62 → Taken answers ran cap m c n d line limit room had left held holds → Keeps left rest
+  pub table_read_fault : {T : Type 0} (m n : M) (c d : C) (line : List ℕ) (limit room : ℕ) (had left rest held holds : Option (List ℕ))
+      → limit < 2 ^ 62 → Taken answers ran cap m c n d line limit room had left held holds → Keeps left rest
       → Table {T = T} (answers m) (RanOver ran m c d) (GaveUpOver gave_up m c d) limit had rest held holds (Err ReadFault)
   table_read_fault m n c d line limit room had left rest held holds small t kept =
       let b = t.budget in
@@ -88,7 +101,8 @@ module _ {M C : Type 0} (answers : M → List (List ℕ) → List ℕ) (ran : M 
       }
 
   -- a run that stopped within the first lines of what was taken ended early
-  ends_early : (m : M) (c d : C) (lines : List (List ℕ)) (written taken : List ℕ) (left : Option (List ℕ)) → Stops answers ran gave_up m c lines written d
+  ends_early : (m : M) (c d : C) (lines : List (List ℕ)) (written taken : List ℕ) (left : Option (List ℕ))
+      → Stops answers ran gave_up m c lines written d
       → ((later : List (List ℕ)) × (lines ++ later ≡ all_lines taken)) → IfSome left (λ rest. (later : List (List ℕ)) × (lines ++ later ≡ all_lines (taken ++ rest)))
       → EndsEarly (answers m) (RanOver ran m c d) (GaveUpOver gave_up m c d) left taken written
   ends_early m c d lines written taken left stops now all =
@@ -98,11 +112,13 @@ module _ {M C : Type 0} (answers : M → List (List ℕ) → List ℕ) (ran : M 
         later = longer.later;
         lines = longer.all ∙ now.1;
         replies = subst (λ ls. Begins written (answers m ls)) (append-nil longer.answered) (longer.off []);
-        all_replies = if_some_map left all (λ rest more. subst (λ ls. Begins written (answers m ls)) (sym (append_assoc stops.answered stops.later more.0) ∙ ap (λ ls. ls ++ more.0) stops.all ∙ more.1) (stops.off (stops.later ++ more.0)));
+        all_replies =
+            if_some_map left all (λ rest more. subst (λ ls. Begins written (answers m ls)) (sym (append_assoc stops.answered stops.later more.0) ∙ ap (λ ls. ls ++ more.0) stops.all ∙ more.1) (stops.off (stops.later ++ more.0)));
         context = longer.context;
       }
 
-  row_of_early : (T : Type 0) (m : M) (c d : C) (limit : ℕ) (rose device : Type 0) (stop : Stop) (left : Option (List ℕ)) (taken written : List ℕ) → IsAnswerStop rose device stop → length taken ≤ limit + 1
+  row_of_early : (T : Type 0) (m : M) (c d : C) (limit : ℕ) (rose device : Type 0) (stop : Stop) (left : Option (List ℕ)) (taken written : List ℕ)
+      → IsAnswerStop rose device stop → length taken ≤ limit + 1
       → EndsEarly (answers m) (RanOver ran m c d) (GaveUpOver gave_up m c d) left taken written → Row {T = T} (answers m) (RanOver ran m c d) (GaveUpOver gave_up m c d) limit left taken written (Err stop)
   row_of_early T m c d limit rose device ReadFault left taken written s le p = absurd s
   row_of_early T m c d limit rose device WriteFault left taken written s le p = (le, p)
@@ -111,7 +127,8 @@ module _ {M C : Type 0} (answers : M → List (List ℕ) → List ℕ) (ran : M 
   row_of_early T m c d limit rose device Memory left taken written s le p = (le, p)
 
   -- the run stopped while it answered the lines of a piece; one byte more may have been taken
-  pub table_cut : {T : Type 0} (m n : M) (c d e : C) (line piece extra : List ℕ) (limit room : ℕ) (had left rest held holds new : Option (List ℕ)) (rose device : Type 0) (stop : Stop) → limit < 2 ^ 62
+  pub table_cut : {T : Type 0} (m n : M) (c d e : C) (line piece extra : List ℕ) (limit room : ℕ) (had left rest held holds new : Option (List ℕ)) (rose device : Type 0) (stop : Stop)
+      → limit < 2 ^ 62
       → Taken answers ran cap m c n d line limit room had left held holds → Consumes left rest (piece ++ extra) → length piece ≤ room → length (piece ++ extra) ≤ room + 1
       → ((written : List ℕ) × StopsOverCut answers ran gave_up cap n d (capped cap (line ++ piece)).0 written e × Appends holds new written) → IsAnswerStop rose device stop
       → Table {T = T} (answers m) (RanOver ran m c e) (GaveUpOver gave_up m c e) limit had rest held new (Err stop)
@@ -131,12 +148,14 @@ module _ {M C : Type 0} (answers : M → List (List ℕ) → List ℕ) (ran : M 
         written = written;
         takes = Consumes-trans had left rest t.taken (piece ++ extra) t.takes takes;
         writes = Appends-trans held holds new t.written cut.0 t.writes cut.2;
-        row = row_of_early T m c e limit rose device stop rest (t.taken ++ (piece ++ extra)) written cause (omega (arith, length-append t.taken (piece ++ extra)))
+        row =
+            row_of_early T m c e limit rose device stop rest (t.taken ++ (piece ++ extra)) written cause (omega (arith, length-append t.taken (piece ++ extra)))
             (ends_early m c e (whole_lines bytes) written (t.taken ++ (piece ++ extra)) rest stops (now.0, now.1 ∙ ap all_lines (append_assoc t.taken piece extra))
             (if_some rest (λ more. let all = whole_first bytes (extra ++ more) in (all.0, all.1 ∙ ap all_lines (assoc more)))));
       }
 
-  pub table_over : {T : Type 0} (m n o : M) (c d e : C) (line piece extra : List ℕ) (limit room : ℕ) (had left rest held holds new : Option (List ℕ)) → limit < 2 ^ 62
+  pub table_over : {T : Type 0} (m n o : M) (c d e : C) (line piece extra : List ℕ) (limit room : ℕ) (had left rest held holds new : Option (List ℕ))
+      → limit < 2 ^ 62
       → Taken answers ran cap m c n d line limit room had left held holds → Consumes left rest (piece ++ extra) → length piece ≡ room → length extra ≡ 1
       → ((written : List ℕ) × GoesOverCut answers ran cap n d (capped cap (line ++ piece)).0 written o e × Appends holds new written)
       → Table {T = T} (answers m) (RanOver ran m c e) (GaveUpOver gave_up m c e) limit had rest held new (Err OverLimit)
@@ -159,7 +178,8 @@ module _ {M C : Type 0} (answers : M → List (List ℕ) → List ℕ) (ran : M 
         );
       }
 
-  pub table_end : {T : Type 0} (x : T) (m n o : M) (c d e : C) (line : List ℕ) (limit room : ℕ) (had left rest held holds new : Option (List ℕ)) → limit < 2 ^ 62
+  pub table_end : {T : Type 0} (x : T) (m n o : M) (c d e : C) (line : List ℕ) (limit room : ℕ) (had left rest held holds new : Option (List ℕ))
+      → limit < 2 ^ 62
       → Taken answers ran cap m c n d line limit room had left held holds → Consumes left rest [] → IsAtEnd rest
       → ((written : List ℕ) × GoesOverCut answers ran cap n d (last_line line) written o e × Appends holds new written)
       → Table (answers m) (RanOver ran m c e) (GaveUpOver gave_up m c e) limit had rest held new (Ok x)
@@ -174,14 +194,18 @@ module _ {M C : Type 0} (answers : M → List (List ℕ) → List ℕ) (ran : M 
         written = written;
         takes = Consumes-trans had left rest t.taken [] t.takes takes;
         writes = Appends-trans held holds new t.written last.0 t.writes last.2;
-        row = (end, omega (arith, length-append t.taken []), subst (λ xs. Answered (answers m) (RanOver ran m c e) written (all_lines xs)) (sym (append-nil t.taken)) (answered_of m o c e (all_lines t.taken) written goes));
+        row =
+            (end, omega (arith, length-append t.taken []), subst (λ xs. Answered (answers m) (RanOver ran m c e) written (all_lines xs)) (sym (append-nil t.taken)) (answered_of m o c e (all_lines t.taken) written goes));
       }
 
-  at_end : (lines : List (List ℕ)) (taken : List ℕ) (left : Option (List ℕ)) → IsAtEnd left → lines ≡ all_lines taken → IfSome left (λ rest. (later : List (List ℕ)) × (lines ++ later ≡ all_lines (taken ++ rest)))
+  at_end : (lines : List (List ℕ)) (taken : List ℕ) (left : Option (List ℕ)) → IsAtEnd left → lines ≡ all_lines taken
+      → IfSome left (λ rest. (later : List (List ℕ)) × (lines ++ later ≡ all_lines (taken ++ rest)))
   at_end lines taken None end e = tt
-  at_end lines taken (Some rest) end e = ([], append-nil lines ∙ e ∙ ap all_lines (sym (ap (λ xs. taken ++ xs) end ∙ append-nil taken)))
+  at_end lines taken (Some rest) end e =
+      ([], append-nil lines ∙ e ∙ ap all_lines (sym (ap (λ xs. taken ++ xs) end ∙ append-nil taken)))
 
-  pub table_end_cut : {T : Type 0} (m n : M) (c d e : C) (line : List ℕ) (limit room : ℕ) (had left rest held holds new : Option (List ℕ)) (rose device : Type 0) (stop : Stop) → limit < 2 ^ 62
+  pub table_end_cut : {T : Type 0} (m n : M) (c d e : C) (line : List ℕ) (limit room : ℕ) (had left rest held holds new : Option (List ℕ)) (rose device : Type 0) (stop : Stop)
+      → limit < 2 ^ 62
       → Taken answers ran cap m c n d line limit room had left held holds → Consumes left rest [] → IsAtEnd rest
       → ((written : List ℕ) × StopsOverCut answers ran gave_up cap n d (last_line line) written e × Appends holds new written) → IsAnswerStop rose device stop
       → Table {T = T} (answers m) (RanOver ran m c e) (GaveUpOver gave_up m c e) limit had rest held new (Err stop)
@@ -197,14 +221,18 @@ module _ {M C : Type 0} (answers : M → List (List ℕ) → List ℕ) (ran : M 
         written = written;
         takes = Consumes-trans had left rest t.taken [] t.takes takes;
         writes = Appends-trans held holds new t.written cut.0 t.writes cut.2;
-        row = row_of_early T m c e limit rose device stop rest (t.taken ++ []) written cause (omega (arith, length-append t.taken []))
+        row =
+            row_of_early T m c e limit rose device stop rest (t.taken ++ []) written cause (omega (arith, length-append t.taken []))
             (ends_early m c e (all_lines t.taken) written (t.taken ++ []) rest stops ([], append-nil (all_lines t.taken) ∙ whole) (at_end (all_lines t.taken) (t.taken ++ []) rest end whole));
       }
 
-  pub table_of_end : (T : Type 0) (r : Result T Stop) (m n : M) (c d e : C) (line : List ℕ) (limit room : ℕ) (had left rest held holds new : Option (List ℕ)) (rose device : Type 0) → limit < 2 ^ 62
+  pub table_of_end : (T : Type 0) (r : Result T Stop) (m n : M) (c d e : C) (line : List ℕ) (limit room : ℕ) (had left rest held holds new : Option (List ℕ)) (rose device : Type 0)
+      → limit < 2 ^ 62
       → Taken answers ran cap m c n d line limit room had left held holds → Consumes left rest [] → IsAtEnd rest
       → OnOk r ((written : List ℕ) × (next : M) × GoesOverCut answers ran cap n d (last_line line) written next e × Appends holds new written)
       → OnErr r ((written : List ℕ) × StopsOverCut answers ran gave_up cap n d (last_line line) written e × Appends holds new written) → IfErr r (IsAnswerStop rose device)
       → Table (answers m) (RanOver ran m c e) (GaveUpOver gave_up m c e) limit had rest held new r
-  table_of_end T (Ok x) m n c d e line limit room had left rest held holds new rose device small t takes end ok err cause = table_end x m n ok.1 c d e line limit room had left rest held holds new small t takes end (ok.0, ok.2, ok.3)
-  table_of_end T (Err stop) m n c d e line limit room had left rest held holds new rose device small t takes end ok err cause = table_end_cut m n c d e line limit room had left rest held holds new rose device stop small t takes end err cause
+  table_of_end T (Ok x) m n c d e line limit room had left rest held holds new rose device small t takes end ok err cause =
+      table_end x m n ok.1 c d e line limit room had left rest held holds new small t takes end (ok.0, ok.2, ok.3)
+  table_of_end T (Err stop) m n c d e line limit room had left rest held holds new rose device small t takes end ok err cause =
+      table_end_cut m n c d e line limit room had left rest held holds new rose device stop small t takes end err cause

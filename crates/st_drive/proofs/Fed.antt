@@ -11,12 +11,16 @@ use Rattle.st_drive.proofs.LineLemmas.{capped_line, capped_open, open_append}
 use Rattle.st_drive.proofs.RunLemmas.{begins_behind, went_none, went_more, stopped_more, went_stopped, stopped_longer, stopped_shorter}
 
 -- the lines were answered, and all replies but the gathered ones written
-abbrev pub Wrote : {M C : Type 0} (answers : M → List (List ℕ) → List ℕ) (ran : M → C → List (List ℕ) → M → C → Type 0) (cap : ℕ) (m : M) (c : C) (n : M) (d : C) (lines : List (List ℕ)) (w v : Option (List ℕ)) (gathered : List ℕ) → Type 0
-Wrote answers ran cap m c n d lines w v gathered = (written : List ℕ) × GoesOverCut answers ran cap m c lines (written ++ gathered) n d × Appends w v written
+abbrev pub Wrote : {M C : Type 0} (answers : M → List (List ℕ) → List ℕ) (ran : M → C → List (List ℕ) → M → C → Type 0) (cap : ℕ) (m : M) (c : C) (n : M) (d : C) (lines : List (List ℕ)) (w v : Option (List ℕ)) (gathered : List ℕ)
+    → Type 0
+Wrote answers ran cap m c n d lines w v gathered =
+    (written : List ℕ) × GoesOverCut answers ran cap m c lines (written ++ gathered) n d × Appends w v written
 
 -- the run was stopped within these lines
-abbrev pub Broke : {M C : Type 0} (answers : M → List (List ℕ) → List ℕ) (ran : M → C → List (List ℕ) → M → C → Type 0) (gave_up : M → C → List (List ℕ) → C → Type 0) (cap : ℕ) (m : M) (c d : C) (lines : List (List ℕ)) (w v : Option (List ℕ)) (gathered : List ℕ) → Type 0
-Broke answers ran gave_up cap m c d lines w v gathered = (written : List ℕ) × StopsOverCut answers ran gave_up cap m c lines (written ++ gathered) d × Appends w v written
+abbrev pub Broke : {M C : Type 0} (answers : M → List (List ℕ) → List ℕ) (ran : M → C → List (List ℕ) → M → C → Type 0) (gave_up : M → C → List (List ℕ) → C → Type 0) (cap : ℕ) (m : M) (c d : C) (lines : List (List ℕ)) (w v : Option (List ℕ)) (gathered : List ℕ)
+    → Type 0
+Broke answers ran gave_up cap m c d lines w v gathered =
+    (written : List ℕ) × StopsOverCut answers ran gave_up cap m c lines (written ++ gathered) d × Appends w v written
 
 -- m answered the first lines of `all` and goes on as n with `more`
 pub record Fed {M C : Type 0} (answers : M → List (List ℕ) → List ℕ) (ran : M → C → List (List ℕ) → M → C → Type 0) (cap : ℕ) (m : M) (c : C) (n : M) (d : C) (all more : List ℕ) (w v : Option (List ℕ)) (gathered : List ℕ) : Type 0 where
@@ -36,10 +40,13 @@ pub record Taken {M C : Type 0} (answers : M → List (List ℕ) → List ℕ) (
 
 module _ {M C : Type 0} (answers : M → List (List ℕ) → List ℕ) (ran : M → C → List (List ℕ) → M → C → Type 0) (gave_up : M → C → List (List ℕ) → C → Type 0) (cap : ℕ) (laws : Laws answers ran gave_up cap) where
   pub fed_none : (m : M) (c : C) (all : List ℕ) (w : Option (List ℕ)) → Fed answers ran cap m c m c all all w w []
-  fed_none m c all w = record { lines = []; pieces = refl; wrote = ([], went_none answers ran gave_up cap laws m c, Appends-nil w) }
+  fed_none m c all w =
+      record { lines = []; pieces = refl; wrote = ([], went_none answers ran gave_up cap laws m c, Appends-nil w) }
 
   -- the pieces where one line more is whole
-  one_more : (all line rest front after : List ℕ) (lines : List (List ℕ)) → capped cap all ≡ (lines ++ (capped cap (line ++ rest)).0, (capped cap (line ++ rest)).1) → has_no_feed line ≡ true → has_no_feed front ≡ true
+  one_more : (all line rest front after : List ℕ) (lines : List (List ℕ))
+      → capped cap all ≡ (lines ++ (capped cap (line ++ rest)).0, (capped cap (line ++ rest)).1)
+      → has_no_feed line ≡ true → has_no_feed front ≡ true
       → rest ≡ front ++ 10 ∷ after → capped cap all ≡ ((lines ++ take cap (line ++ front) ∷ []) ++ (capped cap after).0, (capped cap after).1)
   one_more all line rest front after lines e h k cut =
       let whole : capped cap (line ++ rest) ≡ (take cap (line ++ front) ∷ (capped cap after).0, (capped cap after).1) =
@@ -47,10 +54,14 @@ module _ {M C : Type 0} (answers : M → List (List ℕ) → List ℕ) (ran : M 
       e ∙ ap (λ p. (lines ++ p.0, p.1)) whole ∙ ap (λ ls. (ls, (capped cap after).1)) (sym (append_assoc lines (take cap (line ++ front) ∷ []) (capped cap after).0))
 
   -- what is written and gathered, where a part of what was gathered is written
-  regrouped : (written gathered reply part kept : List ℕ) → part ++ kept ≡ gathered ++ reply → (written ++ gathered) ++ reply ≡ (written ++ part) ++ kept
-  regrouped written gathered reply part kept e = append_assoc written gathered reply ∙ ap (λ xs. written ++ xs) (sym e) ∙ sym (append_assoc written part kept)
+  regrouped : (written gathered reply part kept : List ℕ) → part ++ kept ≡ gathered ++ reply
+      → (written ++ gathered) ++ reply ≡ (written ++ part) ++ kept
+  regrouped written gathered reply part kept e =
+      append_assoc written gathered reply ∙ ap (λ xs. written ++ xs) (sym e) ∙ sym (append_assoc written part kept)
 
-  pub fed_line : (m n o : M) (c d e : C) (all line rest front after gathered kept : List ℕ) (w v u : Option (List ℕ)) → Fed answers ran cap m c n d all (line ++ rest) w v gathered → has_no_feed line ≡ true → has_no_feed front ≡ true
+  pub fed_line : (m n o : M) (c d e : C) (all line rest front after gathered kept : List ℕ) (w v u : Option (List ℕ))
+      → Fed answers ran cap m c n d all (line ++ rest) w v gathered → has_no_feed line ≡ true
+      → has_no_feed front ≡ true
       → rest ≡ front ++ 10 ∷ after → ((reply : List ℕ) × GoesOverCut answers ran cap n d (take cap (line ++ front) ∷ []) reply o e × Passes v u gathered reply kept) → Fed answers ran cap m c o e all after w u kept
   fed_line m n o c d e all line rest front after gathered kept w v u f h k cut step =
       let wrote = f.wrote in
@@ -67,7 +78,9 @@ module _ {M C : Type 0} (answers : M → List (List ℕ) → List ℕ) (ran : M 
         );
       }
 
-  pub fed_broken : (m n : M) (c d e : C) (all line rest front after gathered kept : List ℕ) (w v u : Option (List ℕ)) → Fed answers ran cap m c n d all (line ++ rest) w v gathered → has_no_feed line ≡ true → has_no_feed front ≡ true
+  pub fed_broken : (m n : M) (c d e : C) (all line rest front after gathered kept : List ℕ) (w v u : Option (List ℕ))
+      → Fed answers ran cap m c n d all (line ++ rest) w v gathered → has_no_feed line ≡ true
+      → has_no_feed front ≡ true
       → rest ≡ front ++ 10 ∷ after → ((reply : List ℕ) × StopsOverCut answers ran gave_up cap n d (take cap (line ++ front) ∷ []) reply e × PassesSome v u gathered reply kept) → Broke answers ran gave_up cap m c e (capped cap all).0 w u kept
   fed_broken m n c d e all line rest front after gathered kept w v u f h k cut step =
       let wrote = f.wrote in
@@ -85,12 +98,15 @@ module _ {M C : Type 0} (answers : M → List (List ℕ) → List ℕ) (ran : M 
         Appends-trans w v u wrote.0 part wrote.2 step.2.2,
       )
 
-  pub fed_stop : (m n : M) (c d : C) (all more gathered : List ℕ) (w v : Option (List ℕ)) → Fed answers ran cap m c n d all more w v gathered → Broke answers ran gave_up cap m c d (capped cap all).0 w v gathered
+  pub fed_stop : (m n : M) (c d : C) (all more gathered : List ℕ) (w v : Option (List ℕ))
+      → Fed answers ran cap m c n d all more w v gathered
+      → Broke answers ran gave_up cap m c d (capped cap all).0 w v gathered
   fed_stop m n c d all more gathered w v f =
       let wrote = f.wrote in
       let all_written = wrote.0 ++ gathered in (wrote.0, subst (λ ls. StopsOverCut answers ran gave_up cap m c ls all_written d) (sym (ap (λ p. p.0) f.pieces)) (went_stopped answers ran gave_up cap laws m n c d f.lines (capped cap more).0 all_written wrote.1), wrote.2)
 
-  pub fed_end : (m n : M) (c d : C) (all more gathered : List ℕ) (w v : Option (List ℕ)) → Fed answers ran cap m c n d all more w v gathered → has_no_feed more ≡ true
+  pub fed_end : (m n : M) (c d : C) (all more gathered : List ℕ) (w v : Option (List ℕ))
+      → Fed answers ran cap m c n d all more w v gathered → has_no_feed more ≡ true
       → Wrote answers ran cap m c n d (capped cap all).0 w v gathered × (take cap more ≡ (capped cap all).1)
   fed_end m n c d all more gathered w v f h =
       let wrote = f.wrote in
@@ -99,11 +115,13 @@ module _ {M C : Type 0} (answers : M → List (List ℕ) → List ℕ) (ran : M 
 
   -- ---- what was gathered is written
 
-  pub wrote_all : (m n : M) (c d : C) (lines : List (List ℕ)) (gathered : List ℕ) (w v u : Option (List ℕ)) → Wrote answers ran cap m c n d lines w v gathered → Appends v u gathered
+  pub wrote_all : (m n : M) (c d : C) (lines : List (List ℕ)) (gathered : List ℕ) (w v u : Option (List ℕ))
+      → Wrote answers ran cap m c n d lines w v gathered → Appends v u gathered
       → (written : List ℕ) × GoesOverCut answers ran cap m c lines written n d × Appends w u written
   wrote_all m n c d lines gathered w v u p q = (p.0 ++ gathered, p.1, Appends-trans w v u p.0 gathered p.2 q)
 
-  pub broke_all : (m : M) (c d : C) (lines : List (List ℕ)) (gathered : List ℕ) (w v u : Option (List ℕ)) → Broke answers ran gave_up cap m c d lines w v gathered → Appends v u gathered
+  pub broke_all : (m : M) (c d : C) (lines : List (List ℕ)) (gathered : List ℕ) (w v u : Option (List ℕ))
+      → Broke answers ran gave_up cap m c d lines w v gathered → Appends v u gathered
       → (written : List ℕ) × StopsOverCut answers ran gave_up cap m c lines written d × Appends w u written
   broke_all m c d lines gathered w v u p q = (p.0 ++ gathered, p.1, Appends-trans w v u p.0 gathered p.2 q)
 

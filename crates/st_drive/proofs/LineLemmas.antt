@@ -12,17 +12,21 @@ with_front x b p = cond b ([] ∷ p.0, p.1) (in_front x p.0 p.1)
 abbrev with_more : List ℕ → List (List ℕ) × List ℕ → List (List ℕ) × List ℕ
 with_more c p = (p.0 ++ (split (p.1 ++ c)).0, (split (p.1 ++ c)).1)
 
-front_more : (x : ℕ) (b : Bool) → eqb x 10 ≡ b → (lines : List (List ℕ)) (rest c : List ℕ) → with_front x b (with_more c (lines, rest)) ≡ with_more c (with_front x b (lines, rest))
+front_more : (x : ℕ) (b : Bool) → eqb x 10 ≡ b → (lines : List (List ℕ)) (rest c : List ℕ)
+    → with_front x b (with_more c (lines, rest)) ≡ with_more c (with_front x b (lines, rest))
 front_more x true e lines rest c = refl
 front_more x false e [] rest c = rw e refl
 front_more x false e (line ∷ lines) rest c = refl
 
 -- the pieces of a and then c
-pub split_append : (a c : List ℕ) → split (a ++ c) ≡ ((split a).0 ++ (split ((split a).1 ++ c)).0, (split ((split a).1 ++ c)).1)
+pub split_append : (a c : List ℕ)
+    → split (a ++ c) ≡ ((split a).0 ++ (split ((split a).1 ++ c)).0, (split ((split a).1 ++ c)).1)
 split_append [] c = refl
-split_append (x ∷ xs) c = ap (with_front x (eqb x 10)) (split_append xs c) ∙ front_more x (eqb x 10) refl (split xs).0 (split xs).1 c
+split_append (x ∷ xs) c =
+    ap (with_front x (eqb x 10)) (split_append xs c) ∙ front_more x (eqb x 10) refl (split xs).0 (split xs).1 c
 
-open_front : (x : ℕ) (b : Bool) → eqb x 10 ≡ b → (lines : List (List ℕ)) (rest : List ℕ) → has_no_feed rest ≡ true → has_no_feed (with_front x b (lines, rest)).1 ≡ true
+open_front : (x : ℕ) (b : Bool) → eqb x 10 ≡ b → (lines : List (List ℕ)) (rest : List ℕ) → has_no_feed rest ≡ true
+    → has_no_feed (with_front x b (lines, rest)).1 ≡ true
 open_front x true e lines rest h = h
 open_front x false e [] rest h = rw e h
 open_front x false e (line ∷ lines) rest h = h
@@ -84,16 +88,21 @@ open_take (suc n) (x ∷ xs) h = let k = cons_open (eqb x 10) xs h in rw k.0 (op
 abbrev cap_of : ℕ → List (List ℕ) × List ℕ → List (List ℕ) × List ℕ
 cap_of cap p = (map (take cap) p.0, take cap p.1)
 
-cap_front : (cap : ℕ) (r : List ℕ) (lines : List (List ℕ)) (rest : List ℕ) → cap_of cap (front_all (take cap r) lines rest) ≡ cap_of cap (front_all r lines rest)
+cap_front : (cap : ℕ) (r : List ℕ) (lines : List (List ℕ)) (rest : List ℕ)
+    → cap_of cap (front_all (take cap r) lines rest) ≡ cap_of cap (front_all r lines rest)
 cap_front cap r [] rest = ap (λ ys. ([], ys)) (take_twice cap r rest)
 cap_front cap r (line ∷ lines) rest = ap (λ ys. (ys ∷ map (take cap) lines, take cap rest)) (take_twice cap r line)
 
 -- a partial line may be cut
-pub capped_front : (cap : ℕ) (r c : List ℕ) → has_no_feed r ≡ true → capped cap (take cap r ++ c) ≡ capped cap (r ++ c)
-capped_front cap r c h = ap (cap_of cap) (split_front (take cap r) c (open_take cap r h)) ∙ cap_front cap r (split c).0 (split c).1 ∙ sym (ap (cap_of cap) (split_front r c h))
+pub capped_front : (cap : ℕ) (r c : List ℕ) → has_no_feed r ≡ true
+    → capped cap (take cap r ++ c) ≡ capped cap (r ++ c)
+capped_front cap r c h =
+    ap (cap_of cap) (split_front (take cap r) c (open_take cap r h)) ∙ cap_front cap r (split c).0 (split c).1
+    ∙ sym (ap (cap_of cap) (split_front r c h))
 
 -- the capped pieces of a and then c
-pub capped_append : (cap : ℕ) (a c : List ℕ) → capped cap (a ++ c) ≡ ((capped cap a).0 ++ (capped cap ((capped cap a).1 ++ c)).0, (capped cap ((capped cap a).1 ++ c)).1)
+pub capped_append : (cap : ℕ) (a c : List ℕ)
+    → capped cap (a ++ c) ≡ ((capped cap a).0 ++ (capped cap ((capped cap a).1 ++ c)).0, (capped cap ((capped cap a).1 ++ c)).1)
 capped_append cap a c =
     ap (cap_of cap) (split_append a c) ∙ ap (λ ls. (ls, take cap (split ((split a).1 ++ c)).1)) (map-append (take cap) (split a).0 (split ((split a).1 ++ c)).0)
     ∙ ap (λ p. ((capped cap a).0 ++ p.0, p.1)) (sym (capped_front cap (split a).1 c (open_rest a)))
@@ -101,7 +110,8 @@ capped_append cap a c =
 pub capped_open : (cap : ℕ) (a : List ℕ) → has_no_feed a ≡ true → capped cap a ≡ ([], take cap a)
 capped_open cap a h = ap (cap_of cap) (split_open a h)
 
-pub capped_line : (cap : ℕ) (a c : List ℕ) → has_no_feed a ≡ true → capped cap (a ++ 10 ∷ c) ≡ (take cap a ∷ (capped cap c).0, (capped cap c).1)
+pub capped_line : (cap : ℕ) (a c : List ℕ) → has_no_feed a ≡ true
+    → capped cap (a ++ 10 ∷ c) ≡ (take cap a ∷ (capped cap c).0, (capped cap c).1)
 capped_line cap a c h = ap (cap_of cap) (split_line a c h)
 
 pub capped_rest : (cap : ℕ) (a : List ℕ) → has_no_feed (capped cap a).1 ≡ true
@@ -118,18 +128,22 @@ capped_nil zero = refl
 capped_nil (suc n) = refl
 
 -- a line that takes what there is room for
-pub kept_front : (cap count : ℕ) (line front : List ℕ) → length line ≤ cap → count ≡ min (length front) (cap - length line) → line ++ take count front ≡ take cap (line ++ front)
+pub kept_front : (cap count : ℕ) (line front : List ℕ) → length line ≤ cap
+    → count ≡ min (length front) (cap - length line) → line ++ take count front ≡ take cap (line ++ front)
 kept_front cap count line front h e =
     let room : cap ≡ length line + (cap - length line) = omega arith in
     sym (ap (λ n. take n (line ++ front)) room ∙ take-append-add line front (cap - length line) ∙ ap (λ ys. line ++ ys) (sym (ap (λ n. take n front) (let swapped : count ≡ min (cap - length line) (length front) = omega arith in swapped) ∙ take_min (cap - length line) front)))
 
 -- the last line, where a line feed is put behind it
-pub last_fed : (cap : ℕ) (line : List ℕ) → length line ≤ cap → has_no_feed line ≡ true → 0 < length line → (capped cap (line ++ 10 ∷ [])).0 ≡ last_line line
+pub last_fed : (cap : ℕ) (line : List ℕ) → length line ≤ cap → has_no_feed line ≡ true → 0 < length line
+    → (capped cap (line ++ 10 ∷ [])).0 ≡ last_line line
 last_fed cap [] le h some = absurd (omega arith)
-last_fed cap (x ∷ xs) le h some = ap (λ p. p.0) (capped_line cap (x ∷ xs) [] h) ∙ ap (λ line. line ∷ []) (take_all cap (x ∷ xs) le)
+last_fed cap (x ∷ xs) le h some =
+    ap (λ p. p.0) (capped_line cap (x ∷ xs) [] h) ∙ ap (λ line. line ∷ []) (take_all cap (x ∷ xs) le)
 
 -- the first line of bytes, and the others
-pub all_line : (bytes line after : List ℕ) → has_no_feed line ≡ true → bytes ≡ line ++ 10 ∷ after → all_lines bytes ≡ line ∷ all_lines after
+pub all_line : (bytes line after : List ℕ) → has_no_feed line ≡ true → bytes ≡ line ++ 10 ∷ after
+    → all_lines bytes ≡ line ∷ all_lines after
 all_line bytes line after h cut = ap all_lines cut ∙ ap (λ p. p.0 ++ last_line p.1) (split_line line after h)
 
 pub all_open : (bytes : List ℕ) → has_no_feed bytes ≡ true → all_lines bytes ≡ last_line bytes

@@ -6,7 +6,8 @@ use Rattle.std.proofs.KnownBytes.{Appends-nil}
 use Rattle.st_drive.specs.Runs.{Begins, PassesSome}
 
 -- only a part of what was gathered was written, and the rest is lost
-pub some_lost : (gathered reply kept : List ℕ) (w v : Option (List ℕ)) → kept ≡ [] → ((part : List ℕ) × Begins part gathered × Appends w v part) → PassesSome w v gathered reply kept
+pub some_lost : (gathered reply kept : List ℕ) (w v : Option (List ℕ)) → kept ≡ []
+    → ((part : List ℕ) × Begins part gathered × Appends w v part) → PassesSome w v gathered reply kept
 some_lost gathered reply kept w v none p = (
   p.0,
   (
@@ -21,6 +22,7 @@ pub none_lost : (gathered kept : List ℕ) (w : Option (List ℕ)) → kept ≡ 
 none_lost gathered kept w same = ([], ([], append-nil kept ∙ same ∙ sym (append-nil gathered)), Appends-nil w)
 
 -- a write leaves no sink finished that wasn't
-pub still_unfinished : (start old new : Bool) (n : ℕ) → (0 < n → new ≡ false) × (n ≡ 0 → new ≡ old) → (old ≡ true → start ≡ true) → new ≡ true → start ≡ true
+pub still_unfinished : (start old new : Bool) (n : ℕ) → (0 < n → new ≡ false) × (n ≡ 0 → new ≡ old)
+    → (old ≡ true → start ≡ true) → new ≡ true → start ≡ true
 still_unfinished start old new zero wrote before done = before (sym (wrote.1 refl) ∙ done)
 still_unfinished start old new (suc n) wrote before done = absurd (let none = wrote.0 (omega arith) in cc)

@@ -47,7 +47,8 @@ spends_more m n o c d e lines more p q = record { spent = omega (arith, length-a
 
 pub spends_less_more : (m n : ℕ) (c d e : Allowance) (lines more : List (List ℕ))
     → Spends m c lines n d → SpendsLess n d more e → SpendsLess m c (lines ++ more) e
-spends_less_more m n c d e lines more p q = record { spent = omega (arith, length-append lines more, p.spent, q.spent) }
+spends_less_more m n c d e lines more p q =
+    record { spent = omega (arith, length-append lines more, p.spent, q.spent) }
 
 -- each line with a line feed
 abbrev pub echoed : List (List ℕ) → List ℕ

@@ -62,7 +62,8 @@ pub record StopsOverCut {M C : Type 0}
 
 -- of what was gathered and then the reply, a part was written and the rest is gathered
 abbrev pub Passes : (before after : Option (List ℕ)) (gathered reply kept : List ℕ) → Type 0
-Passes before after gathered reply kept = (part : List ℕ) × (part ++ kept ≡ gathered ++ reply) × Appends before after part
+Passes before after gathered reply kept =
+    (part : List ℕ) × (part ++ kept ≡ gathered ++ reply) × Appends before after part
 
 -- the same, where some of the rest is lost
 abbrev pub PassesSome : (before after : Option (List ℕ)) (gathered reply kept : List ℕ) → Type 0

@@ -19,7 +19,8 @@ result_of_ok (Err y) x e = cc
 
 -- what is read as base64url is the spelling of what it is read as
 pub spelled : (text bytes : List ℕ) → IsBytes text → bytes_of_text text ≡ Some bytes → text ≡ base64url bytes
-spelled text bytes are_bytes found = decode_of_strict url_safe_no_pad text bytes (refl, refl) are_bytes (result_of_ok _ _ found)
+spelled text bytes are_bytes found =
+    decode_of_strict url_safe_no_pad text bytes (refl, refl) are_bytes (result_of_ok _ _ found)
 
 -- and what was written is read again
 pub bytes_of_text-base64url : (bytes : List ℕ) → IsBytes bytes → bytes_of_text (base64url bytes) ≡ Some bytes
@@ -32,7 +33,8 @@ bytes_of_text-none text bytes none are_bytes same =
     cc
 
 -- the digest of a multihash
-pub hash_of_multihash-some : (bytes : List ℕ) → slice_index bytes 0 ≡ 18 → slice_index bytes 1 ≡ 32 → length bytes ≡ 34
+pub hash_of_multihash-some : (bytes : List ℕ) → slice_index bytes 0 ≡ 18 → slice_index bytes 1 ≡ 32
+    → length bytes ≡ 34
     → hash_of_multihash bytes ≡ Some (record { code = 18; digest = drop 2 bytes })
 hash_of_multihash-some bytes code size long = rw (code, size, long) refl
 
@@ -60,7 +62,8 @@ chosen : (b : Bool) (hash found : HashValue) → cond b (Some hash) None ≡ Som
 chosen true hash found e = (refl, cc)
 chosen false hash found e = cc
 
-pub hash_of_multihash-spelled : (bytes : List ℕ) (hash : HashValue) → hash_of_multihash bytes ≡ Some hash → bytes ≡ multihash hash
+pub hash_of_multihash-spelled : (bytes : List ℕ) (hash : HashValue) → hash_of_multihash bytes ≡ Some hash
+    → bytes ≡ multihash hash
 hash_of_multihash-spelled bytes hash found =
     let taken = chosen _ _ hash found in
     let tests = tests_hold _ _ _ taken.0 in
@@ -79,19 +82,23 @@ hash_of_text-hash_text hash is =
     let taken = hash_of_multihash-some (multihash hash) is.code is.long long in
     read ∙ taken ∙ rw (← is.code) refl
 
-pub hash_of_text-none : (text : List ℕ) (hash : HashValue) → hash_of_text text ≡ None → IsHash hash → text ≢ hash_text hash
+pub hash_of_text-none : (text : List ℕ) (hash : HashValue) → hash_of_text text ≡ None → IsHash hash
+    → text ≢ hash_text hash
 hash_of_text-none text hash none is same =
     let read = hash_of_text-hash_text hash is in
     let refused : hash_of_text (hash_text hash) ≡ None = ap hash_of_text (sym same) ∙ none in
     cc
 
 -- and is the text of the hash that it is read as
-by_bytes : (text : List ℕ) (bytes : Option (List ℕ)) (hash : HashValue) → ((found : List ℕ) → bytes ≡ Some found → text ≡ base64url found)
+by_bytes : (text : List ℕ) (bytes : Option (List ℕ)) (hash : HashValue)
+    → ((found : List ℕ) → bytes ≡ Some found → text ≡ base64url found)
     → option_and_then hash_of_multihash bytes ≡ Some hash → text ≡ hash_text hash
 by_bytes text None hash spelling e = cc
-by_bytes text (Some found) hash spelling e = spelling found refl ∙ ap base64url (hash_of_multihash-spelled found hash e)
+by_bytes text (Some found) hash spelling e =
+    spelling found refl ∙ ap base64url (hash_of_multihash-spelled found hash e)
 
-pub hash_of_text-spelled : (text : List ℕ) (hash : HashValue) → IsBytes text → hash_of_text text ≡ Some hash → text ≡ hash_text hash
+pub hash_of_text-spelled : (text : List ℕ) (hash : HashValue) → IsBytes text → hash_of_text text ≡ Some hash
+    → text ≡ hash_text hash
 hash_of_text-spelled text hash are_bytes found =
     by_bytes text (bytes_of_text text) hash (λ bytes e. spelled text bytes are_bytes e) found
 
@@ -102,7 +109,8 @@ length-base64url bytes =
     omega (arith, length-append (encode_symbols symbols bytes) [], length-encode_symbols symbols bytes)
 
 -- a text of another length is no hash text
-by_length : (text : List ℕ) (bytes : Option (List ℕ)) → ((found : List ℕ) → bytes ≡ Some found → text ≡ base64url found)
+by_length : (text : List ℕ) (bytes : Option (List ℕ))
+    → ((found : List ℕ) → bytes ≡ Some found → text ≡ base64url found)
     → length text ≢ 46 → option_and_then hash_of_multihash bytes ≡ None
 by_length text None spelling other = refl
 by_length text (Some found) spelling other =
@@ -111,4 +119,5 @@ by_length text (Some found) spelling other =
     rw short (none_of (slice_index found 0 == 18) (slice_index found 1 == 32) _)
 
 pub hash_of_text-length : (text : List ℕ) → IsBytes text → length text ≢ 46 → hash_of_text text ≡ None
-hash_of_text-length text are_bytes other = by_length text (bytes_of_text text) (λ bytes e. spelled text bytes are_bytes e) other
+hash_of_text-length text are_bytes other =
+    by_length text (bytes_of_text text) (λ bytes e. spelled text bytes are_bytes e) other

@@ -3,4 +3,5 @@ use Rattle.std.specs.Prelude.{◌≡◌, ℕ, ◌<◌, Bool, false, Result, Matc
 
 -- a write that appended leaves the sink unfinished; one that took nothing or failed leaves this as it was
 abbrev pub WriteUnfinishes : {E : Type 0} → Bool → Bool → Result ℕ E → Type 0
-WriteUnfinishes old new result = MatchResult result (λ n. (0 < n → new ≡ false) × (n ≡ 0 → new ≡ old)) (λ _. new ≡ old)
+WriteUnfinishes old new result =
+    MatchResult result (λ n. (0 < n → new ≡ false) × (n ≡ 0 → new ≡ old)) (λ _. new ≡ old)

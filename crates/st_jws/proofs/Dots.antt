@@ -12,16 +12,20 @@ not_true : (b : Bool) → not b ≡ true → b ≡ false
 not_true true e = cc
 not_true false e = refl
 
-no_dot_at : (symbols : List ℕ) → list_all (λ byte. not (byte == dot)) symbols ≡ true → (i : ℕ) → (slice_index symbols i == dot) ≡ false
+no_dot_at : (symbols : List ℕ) → list_all (λ byte. not (byte == dot)) symbols ≡ true → (i : ℕ)
+    → (slice_index symbols i == dot) ≡ false
 no_dot_at [] all i = refl
-no_dot_at (x ∷ xs) all zero = not_true (x == dot) (and_parts (not (x == dot)) (list_all (λ byte. not (byte == dot)) xs) all).0
-no_dot_at (x ∷ xs) all (suc i) = no_dot_at xs (and_parts (not (x == dot)) (list_all (λ byte. not (byte == dot)) xs) all).1 i
+no_dot_at (x ∷ xs) all zero =
+    not_true (x == dot) (and_parts (not (x == dot)) (list_all (λ byte. not (byte == dot)) xs) all).0
+no_dot_at (x ∷ xs) all (suc i) =
+    no_dot_at xs (and_parts (not (x == dot)) (list_all (λ byte. not (byte == dot)) xs) all).1 i
 
 no_dot_both : (xs ys : List ℕ) → HasNo dot xs → HasNo dot ys → HasNo dot (xs ++ ys)
 no_dot_both [] ys first second = second
 no_dot_both (x ∷ xs) ys first second = (first.0, no_dot_both xs ys first.1 second)
 
-no_dot_in : (symbols bytes : List ℕ) → ((i : ℕ) → (slice_index symbols i == dot) ≡ false) → HasNo dot (encode_symbols symbols bytes)
+no_dot_in : (symbols bytes : List ℕ) → ((i : ℕ) → (slice_index symbols i == dot) ≡ false)
+    → HasNo dot (encode_symbols symbols bytes)
 unfolding encode_symbols
 no_dot_in symbols [] none = tt
 no_dot_in symbols (a ∷ []) none = (none (a / 4), (none (a % 4 * 16), tt))

@@ -12,7 +12,8 @@ use Rattle.st_jws.specs.Signing.{header_text, signing_input}
 use Rattle.st_jws.specs.Texts.{dot}
 
 -- bytes in UTF-8 are decoded
-pub decodes : {T E : Type 0} (r : Result T E) (P : T → Type 0) (Q : E → Type 0) (U : Type 0) → MatchResult r P (λ e. ¬ U × Q e) → U → IsOk r
+pub decodes : {T E : Type 0} (r : Result T E) (P : T → Type 0) (Q : E → Type 0) (U : Type 0)
+    → MatchResult r P (λ e. ¬ U × Q e) → U → IsOk r
 decodes (Ok x) P Q U cases utf8 = refl
 decodes (Err e) P Q U cases utf8 = absurd (cases.0 utf8)
 

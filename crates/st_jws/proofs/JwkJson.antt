@@ -14,21 +14,25 @@ use Rattle.st_lms.specs.Keys.{PublicKey, IsPublicKey, public_text}
 use Rattle.st_lms.proofs.Decided.{public_in-public_text}
 
 -- `kty` and `alg` go before what is there
-pub named : (nonce : Option (List ℕ)) (p : Plain) → put (codes "alg") (text lms) (put (codes "kty") (text lms) (nonce_before nonce (member (codes "pub") p no_members)))
+pub named : (nonce : Option (List ℕ)) (p : Plain)
+    → put (codes "alg") (text lms) (put (codes "kty") (text lms) (nonce_before nonce (member (codes "pub") p no_members)))
     ≡ member (codes "alg") (text lms) (member (codes "kty") (text lms) (nonce_before nonce (member (codes "pub") p no_members)))
 unfolding names_on_literals
 named None p = refl
 named (Some nonce) p = refl
 
-public_again : (key : PublicKey) → IsPublicKey key → length (public_text key) ≡ 56 → IsBytes (public_text key) → public_of_text (base64url (public_text key)) ≡ Some key
+public_again : (key : PublicKey) → IsPublicKey key → length (public_text key) ≡ 56 → IsBytes (public_text key)
+    → public_of_text (base64url (public_text key)) ≡ Some key
 public_again key is long are_bytes =
     ap (option_and_then public_in) (fixed_of_text-base64url 56 (public_text key) are_bytes long) ∙ public_in-public_text key is
 
-read_with : (public : PublicKey) (given : Option (List ℕ)) (p : Option PublicKey) (n : Option (Option (List ℕ))) → p ≡ Some public → n ≡ Some given
+read_with : (public : PublicKey) (given : Option (List ℕ)) (p : Option PublicKey) (n : Option (Option (List ℕ)))
+    → p ≡ Some public → n ≡ Some given
     → jwk_with p n ≡ Some (record { public = public; nonce = given })
 read_with public given p n e f = rw (e, f) refl
 
-again : (public : PublicKey) (nonce : Option (List ℕ)) → public_of_text (base64url (public_text public)) ≡ Some public → IsNonce nonce
+again : (public : PublicKey) (nonce : Option (List ℕ)) → public_of_text (base64url (public_text public)) ≡ Some public
+    → IsNonce nonce
     → jwk_in (jwk_members (record { public = public; nonce = nonce })) ≡ Some (record { public = public; nonce = nonce })
 again public None e is = read_with public None (public_of_text (base64url (public_text public))) (Some None) e refl
 again public (Some nonce) e is =
@@ -36,6 +40,8 @@ again public (Some nonce) e is =
     (ap (option_map Some) (fixed_of_text-base64url 16 nonce is.1 is.0))
 
 -- the members of a key are read as that key
-pub jwk_in-jwk_members : (key : Jwk) → IsPublicKey key.public → length (public_text key.public) ≡ 56 → IsBytes (public_text key.public) → IsNonce key.nonce
+pub jwk_in-jwk_members : (key : Jwk) → IsPublicKey key.public → length (public_text key.public) ≡ 56
+    → IsBytes (public_text key.public) → IsNonce key.nonce
     → jwk_in (jwk_members key) ≡ Some key
-jwk_in-jwk_members key is long are_bytes nonce = again key.public key.nonce (public_again key.public is long are_bytes) nonce
+jwk_in-jwk_members key is long are_bytes nonce =
+    again key.public key.nonce (public_again key.public is long are_bytes) nonce

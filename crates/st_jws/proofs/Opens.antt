@@ -52,11 +52,13 @@ header_holds : is_header (json_in header_text) ≡ true
 header_holds = ap is_header json_in-header_text
 
 header_bytes : IsBytes header_text
-header_bytes = subst IsBytes canonical_header (IsBytes-IsUtf8 (canonical lms_header) (IsUtf8-canonical lms_header proper_header))
+header_bytes =
+    subst IsBytes canonical_header (IsBytes-IsUtf8 (canonical lms_header) (IsUtf8-canonical lms_header proper_header))
 
 -- ---- the texts
 
-texts_of-joined : (header payload signature : List ℕ) → texts_of (join_signed (base64url header ++ dot ∷ base64url payload) signature)
+texts_of-joined : (header payload signature : List ℕ)
+    → texts_of (join_signed (base64url header ++ dot ∷ base64url payload) signature)
     ≡ Some (record {
       input = base64url header ++ dot ∷ base64url payload;
       header = base64url header;

@@ -20,7 +20,8 @@ below_at (x ∷ xs) all zero = all.0
 below_at (x ∷ xs) all (suc i) = below_at xs all.1 i
 
 -- the bytes of a character
-below_chosen : (c : ℕ) (one two three : Bool) → nat_lt c 128 ≡ one → nat_lt c 2048 ≡ two → nat_lt c 65536 ≡ three → c < 1114112
+below_chosen : (c : ℕ) (one two three : Bool) → nat_lt c 128 ≡ one → nat_lt c 2048 ≡ two → nat_lt c 65536 ≡ three
+    → c < 1114112
     → AreBelow (cond one (c ∷ []) (cond two ((192 + c / 64) ∷ next c ∷ []) (cond three ((224 + c / 4096) ∷ next (c / 64) ∷ next c ∷ []) ((240 + c / 262144) ∷ next (c / 4096) ∷ next (c / 64) ∷ next c ∷ []))))
 below_chosen c true two three e f g small =
     let low : c < 128 = grind (arith, nat_tests) in

@@ -47,13 +47,15 @@ not_chosen false key wrong = refl
 
 -- ---- the key that bytes are
 
-pub public_in-known : (text : List ℕ) → length text ≡ 56 → IsOneTimeType (one_time_type_in text) → IsTreeType (tree_type_in text)
+pub public_in-known : (text : List ℕ) → length text ≡ 56 → IsOneTimeType (one_time_type_in text)
+    → IsTreeType (tree_type_in text)
     → public_in text ≡ Some (key_in text)
 unfolding public_in one_time_type_in tree_type_in
 public_in-known text long ots tree =
     rw (eq-eqb (length text) 56 long, one_time_test (one_time_type_in text) ots, tree_test (tree_type_in text) tree) refl
 
-pub public_in-none : (text : List ℕ) → (length text ≡ 56 → IsOneTimeType (one_time_type_in text) → IsTreeType (tree_type_in text) → ⊥)
+pub public_in-none : (text : List ℕ)
+    → (length text ≡ 56 → IsOneTimeType (one_time_type_in text) → IsTreeType (tree_type_in text) → ⊥)
     → public_in text ≡ None
 unfolding public_in
 public_in-none text wrong = not_chosen _ _ (λ e.
@@ -70,7 +72,8 @@ public_in-public_text key is =
 -- ---- whether bytes are a signature
 
 -- a signature of the right length, taken apart
-taken_apart : (public : PublicKey) (signature : List ℕ) (n : ℕ) → n ≡ 32 * chains public.ots → length signature ≡ 44 + n + 32 * height public.tree
+taken_apart : (public : PublicKey) (signature : List ℕ) (n : ℕ) → n ≡ 32 * chains public.ots
+    → length signature ≡ 44 + n + 32 * height public.tree
     → IsCut public signature (take 4 signature) (take 4 (drop 4 signature)) (take 32 (drop 4 (drop 4 signature)))
     (take n (drop 32 (drop 4 (drop 4 signature)))) (take 4 (drop n (drop 32 (drop 4 (drop 4 signature))))) (drop 4 (drop n (drop 32 (drop 4 (drop 4 signature)))))
 taken_apart public signature n is long =
@@ -84,7 +87,8 @@ taken_apart public signature n is long =
     let three_long : length three ≡ 4 + n + m = omega (arith, length-drop 32 two) in
     let four_long : length four ≡ 4 + m = omega (arith, length-drop n three) in
     record {
-      whole = grouped (take 4 signature) (take 4 one) (take 32 two) (take n three) (take 4 four) (drop 4 four) signature
+      whole =
+          grouped (take 4 signature) (take 4 one) (take 32 two) (take n three) (take 4 four) (drop 4 four) signature
           (ap (λ xs. take 4 signature ++ (take 4 one ++ (take 32 two ++ (take n three ++ xs)))) (take-append-drop 4 four)
           ∙ ap (λ xs. take 4 signature ++ (take 4 one ++ (take 32 two ++ xs))) (take-append-drop n three)
           ∙ ap (λ xs. take 4 signature ++ (take 4 one ++ xs)) (take-append-drop 32 two)
@@ -97,7 +101,8 @@ taken_apart public signature n is long =
       tree_long = length-take-le 4 four (omega arith);
       path_long = omega (arith, length-drop 4 four);
     } where
-      grouped : (a b c d e f whole : List ℕ) → a ++ (b ++ (c ++ (d ++ (e ++ f)))) ≡ whole → whole ≡ a ++ b ++ c ++ d ++ e ++ f
+      grouped : (a b c d e f whole : List ℕ) → a ++ (b ++ (c ++ (d ++ (e ++ f)))) ≡ whole
+          → whole ≡ a ++ b ++ c ++ d ++ e ++ f
       grouped a b c d e f whole same = sym same ∙ sym (simp append_assoc)
 
 -- no tree has a leaf whose number is large
@@ -110,17 +115,20 @@ small_leaf : (tree q : ℕ) → q < 2 ^ height tree → q < 2 ^ 32
 unfolding height
 small_leaf tree q below = omega (arith, small_tree (tree - 5))
 
-five_tests : (a b c d e : Bool) → a ≡ true → b ≡ true → c ≡ true → d ≡ true → e ≡ true → a && (b && (c && (d && e))) ≡ true
+five_tests : (a b c d e : Bool) → a ≡ true → b ≡ true → c ≡ true → d ≡ true → e ≡ true
+    → a && (b && (c && (d && e))) ≡ true
 five_tests a b c d e f g h i j = rw (f, g, h, i, j) refl
 
-each_test : (a b c d e : Bool) → a && (b && (c && (d && e))) ≡ true → (a ≡ true) × (b ≡ true) × (c ≡ true) × (d ≡ true) × (e ≡ true)
+each_test : (a b c d e : Bool) → a && (b && (c && (d && e))) ≡ true
+    → (a ≡ true) × (b ≡ true) × (c ≡ true) × (d ≡ true) × (e ≡ true)
 each_test true true true true e all = (refl, refl, refl, refl, all)
 each_test true true true false e all = cc
 each_test true true false d e all = cc
 each_test true false c d e all = cc
 each_test false b c d e all = cc
 
-pub is_signature-IsSignature : (public : PublicKey) (message signature : List ℕ) → IsSignature public message signature
+pub is_signature-IsSignature : (public : PublicKey) (message signature : List ℕ)
+    → IsSignature public message signature
     → is_signature public message signature ≡ true
 unfolding is_signature
 is_signature-IsSignature public message signature is =
@@ -143,7 +151,8 @@ is_signature-IsSignature public message signature is =
     (eq-eqb (length signature) (44 + n + 32 * height public.tree) long) ((bytes_decides ots (u32str public.ots)).1 same.ots_is)
     ((bytes_decides tree (u32str public.tree)).1 same.tree_is) below ((bytes_decides (root_of public q randomizer values path message) public.root).1 root)
 
-pub IsSignature-is_signature : (public : PublicKey) (message signature : List ℕ) → AreBytes signature → is_signature public message signature ≡ true
+pub IsSignature-is_signature : (public : PublicKey) (message signature : List ℕ) → AreBytes signature
+    → is_signature public message signature ≡ true
     → IsSignature public message signature
 unfolding is_signature
 IsSignature-is_signature public message signature small e =

@@ -27,10 +27,14 @@ pub record IsSized (t : ℕ) : Type 0 where
 pub sized : (t : ℕ) → IsOneTimeType t → IsSized t
 unfolding width greatest_digit shift chains
 sized zero h = absurd (omega arith)
-sized (suc zero) h = record { digits = omega arith; greatest = omega arith; sum = omega arith; chain_count = omega arith; shifted = omega arith; chain_room = omega arith }
-sized (suc (suc zero)) h = record { digits = omega arith; greatest = omega arith; sum = omega arith; chain_count = omega arith; shifted = omega arith; chain_room = omega arith }
-sized (suc (suc (suc zero))) h = record { digits = omega arith; greatest = omega arith; sum = omega arith; chain_count = omega arith; shifted = omega arith; chain_room = omega arith }
-sized (suc (suc (suc (suc zero)))) h = record { digits = omega arith; greatest = omega arith; sum = omega arith; chain_count = omega arith; shifted = omega arith; chain_room = omega arith }
+sized (suc zero) h =
+    record { digits = omega arith; greatest = omega arith; sum = omega arith; chain_count = omega arith; shifted = omega arith; chain_room = omega arith }
+sized (suc (suc zero)) h =
+    record { digits = omega arith; greatest = omega arith; sum = omega arith; chain_count = omega arith; shifted = omega arith; chain_room = omega arith }
+sized (suc (suc (suc zero))) h =
+    record { digits = omega arith; greatest = omega arith; sum = omega arith; chain_count = omega arith; shifted = omega arith; chain_room = omega arith }
+sized (suc (suc (suc (suc zero)))) h =
+    record { digits = omega arith; greatest = omega arith; sum = omega arith; chain_count = omega arith; shifted = omega arith; chain_room = omega arith }
 sized (suc (suc (suc (suc (suc n))))) h = absurd (omega arith)
 
 -- a place below a bound, times a width
@@ -57,7 +61,8 @@ shortfall-le t s (suc n) =
     omega arith
 
 -- one digit more
-pub shortfall-more : (t : ℕ) (s : List ℕ) (n : ℕ) → shortfall t s (n + 1) ≡ shortfall t s n + (greatest_digit t - coef s n (width t))
+pub shortfall-more : (t : ℕ) (s : List ℕ) (n : ℕ)
+    → shortfall t s (n + 1) ≡ shortfall t s n + (greatest_digit t - coef s n (width t))
 unfolding shortfall
 shortfall-more t s n = let e : n + 1 ≡ suc n = omega arith in rw e
 

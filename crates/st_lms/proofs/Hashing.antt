@@ -21,7 +21,8 @@ joined_behind start string n next e =
 
 -- ---- rows of strings of 32 bytes
 
-pub length-joined : (string : ℕ → List ℕ) → ((i : ℕ) → length (string i) ≡ 32) → (n : ℕ) → length (joined string n) ≡ 32 * n
+pub length-joined : (string : ℕ → List ℕ) → ((i : ℕ) → length (string i) ≡ 32) → (n : ℕ)
+    → length (joined string n) ≡ 32 * n
 unfolding joined
 length-joined string long zero = refl
 length-joined string long (suc n) =

@@ -3,7 +3,8 @@ use Rattle.std.proofs.Common.{◌≡◌, ℕ, ◌+◌, List, ◌++◌, length, t
 use Rattle.std.proofs.lemmas.List.{take-take, drop_at, take_all, length-take-le, take-append-le}
 
 -- a block whose last part was written
-pub kept_head : (old new value : List ℕ) → length old ≡ 55 → length new ≡ 55 → length value ≡ 32 → take (23 + length value) new ≡ take 23 old ++ value →
+pub kept_head : (old new value : List ℕ) → length old ≡ 55 → length new ≡ 55 → length value ≡ 32
+    → take (23 + length value) new ≡ take 23 old ++ value →
     take 22 new ≡ take 22 old
 kept_head old new value m n k e' =
     let all : 23 + length value ≡ 55 = omega arith in
@@ -13,7 +14,8 @@ kept_head old new value m n k e' =
     let front : take 22 (take 23 old ++ value) ≡ take 22 (take 23 old) = take-append-le 22 (take 23 old) value (omega arith) in
     ap (take 22) whole ∙ front ∙ take-take 22 23 old (omega arith)
 
-pub new_value : (old new value : List ℕ) → length old ≡ 55 → length new ≡ 55 → length value ≡ 32 → take (23 + length value) new ≡ take 23 old ++ value →
+pub new_value : (old new value : List ℕ) → length old ≡ 55 → length new ≡ 55 → length value ≡ 32
+    → take (23 + length value) new ≡ take 23 old ++ value →
     drop 23 new ≡ value
 new_value old new value m n k e' =
     let all : 23 + length value ≡ 55 = omega arith in

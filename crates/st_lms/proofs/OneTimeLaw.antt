@@ -18,12 +18,14 @@ unfolding chain chain_step
 length-chain id q i j zero value h = h
 length-chain id q i j (suc n) value h = length-sha256 _
 
-length-signed_value : (t : ℕ) (id : List ℕ) (q : ℕ) (seed digits : List ℕ) (i : ℕ) → length (signed_value t id q seed digits i) ≡ 32
+length-signed_value : (t : ℕ) (id : List ℕ) (q : ℕ) (seed digits : List ℕ) (i : ℕ)
+    → length (signed_value t id q seed digits i) ≡ 32
 unfolding signed_value
 length-signed_value t id q seed digits i =
     length-chain id q i 0 (coef digits i (width t)) (secret_element id q i seed) (length-secret_element id q i seed)
 
-pub length-signed_values : (t : ℕ) (id : List ℕ) (q : ℕ) (seed digits : List ℕ) → length (signed_values t id q seed digits) ≡ 32 * chains t
+pub length-signed_values : (t : ℕ) (id : List ℕ) (q : ℕ) (seed digits : List ℕ)
+    → length (signed_values t id q seed digits) ≡ 32 * chains t
 unfolding signed_values
 length-signed_values t id q seed digits =
     length-joined (signed_value t id q seed digits) (length-signed_value t id q seed digits) (chains t)

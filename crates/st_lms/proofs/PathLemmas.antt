@@ -36,7 +36,8 @@ path_from-level secret n r h k =
     let next : n + 1 ≡ suc n = omega arith in
     rw (left, next)
 
-pub on_way_first : (secret : SecretKey) (start : List ℕ) (q : ℕ) → IsTreeType secret.tree → q < 2 ^ height secret.tree →
+pub on_way_first : (secret : SecretKey) (start : List ℕ) (q : ℕ) → IsTreeType secret.tree
+    → q < 2 ^ height secret.tree →
     IsOnWay secret start 0 (2 ^ height secret.tree + q) start q
 on_way_first secret start q known below =
     let all : height secret.tree - 0 ≡ height secret.tree = omega arith in

@@ -36,22 +36,26 @@ after-entry entries at entry read create inside is found =
     ap (λ left. after read (creates_in (plain_items left))) (next_item entries at entry inside is) ∙ ap read_one (sym found) ∙ after-one read create others
 
 -- the first create of one entry, or of those behind it
-or_later : (found : Option SuffixData) (create : SuffixData) (later : Option SuffixData) → Some create ≡ found → option_or found later ≡ Some create
+or_later : (found : Option SuffixData) (create : SuffixData) (later : Option SuffixData) → Some create ≡ found
+    → option_or found later ≡ Some create
 or_later None create later e = cc
 or_later (Some x) create later e = cc
 
-first_of : (suffix : HashValue) (files : Files) (entries : List Entry) (at : ℕ) (entry : Entry) → at < length entries → entry ≡ get_or entries at entry
+first_of : (suffix : HashValue) (files : Files) (entries : List Entry) (at : ℕ) (entry : Entry) → at < length entries
+    → entry ≡ get_or entries at entry
     → first_create suffix files (drop at entries)
     ≡ option_or (find_of suffix (gives files entry)) (first_create suffix files (drop (at + 1) entries))
 first_of suffix files entries at entry inside is =
     ap (first_create suffix files) (next_item entries at entry inside is) ∙ find-append (λ create. same_hash (suffix_of create) suffix) (gives files entry) _
 
-pub first_create-found : (suffix : HashValue) (files : Files) (entries : List Entry) (at : ℕ) (entry : Entry) (create : SuffixData) → at < length entries → entry ≡ get_or entries at entry
+pub first_create-found : (suffix : HashValue) (files : Files) (entries : List Entry) (at : ℕ) (entry : Entry) (create : SuffixData)
+    → at < length entries → entry ≡ get_or entries at entry
     → Some create ≡ find_of suffix (gives files entry) → first_create suffix files (drop at entries) ≡ Some create
 first_create-found suffix files entries at entry create inside is found =
     first_of suffix files entries at entry inside is ∙ or_later _ create _ found
 
-pub first_create-later : (suffix : HashValue) (files : Files) (entries : List Entry) (at : ℕ) (entry : Entry) → at < length entries → entry ≡ get_or entries at entry
+pub first_create-later : (suffix : HashValue) (files : Files) (entries : List Entry) (at : ℕ) (entry : Entry)
+    → at < length entries → entry ≡ get_or entries at entry
     → None ≡ find_of suffix (gives files entry) → first_create suffix files (drop at entries) ≡ first_create suffix files (drop (at + 1) entries)
 first_create-later suffix files entries at entry inside is none =
     first_of suffix files entries at entry inside is ∙ ap (λ found. option_or found (first_create suffix files (drop (at + 1) entries))) (sym none)

@@ -5,7 +5,8 @@ use Rattle.std.specs.Cmp.{unsigned_Decides}
 use Rattle.std.specs.List.{starts_with}
 use Rattle.st_node.specs.Identifier.{asked_of, asked_behind, did_prefix}
 
-pub asked_of-prefix : (text : List ℕ) → starts_with nat_eq text did_prefix ≡ true → asked_of text ≡ asked_behind (drop 13 text)
+pub asked_of-prefix : (text : List ℕ) → starts_with nat_eq text did_prefix ≡ true
+    → asked_of text ≡ asked_behind (drop 13 text)
 asked_of-prefix text e = rw e refl
 
 -- a list that begins with another is that one and the rest

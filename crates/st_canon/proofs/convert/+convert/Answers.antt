@@ -27,7 +27,8 @@ pub convert_members-loop-key-init : goal.convert_members-loop-key-init
 convert_members-loop-key-init t c =
     let same = c.into_iter-key-iterator.ensures.into_iter_gives ∙ c.iter-key-items.ensures.rest in
     record {
-      whole = no_member_yet c.args.members.now.entries c.into_iter-key-iterator.result c.new-pairs.result same c.new-pairs.ensures;
+      whole =
+          no_member_yet c.args.members.now.entries c.into_iter-key-iterator.result c.new-pairs.result same c.new-pairs.ensures;
       names = rw (same, c.new-pairs.ensures) refl;
     }
 

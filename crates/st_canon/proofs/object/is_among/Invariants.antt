@@ -4,4 +4,5 @@ use Rattle.st_canon.specs.Names.{is_name}
 use Rattle.st_canon.proofs.object.is_among.Given as goal
 
 abbrev pub invariant-loop-other : goal.invariant-loop-other
-invariant-loop-other l = list_any (is_name l.name) (map (λ n. n.now) l.names) ≡ list_any (is_name l.name) (map (λ n. n.now) (drop l.other-index l.names))
+invariant-loop-other l =
+    list_any (is_name l.name) (map (λ n. n.now) l.names) ≡ list_any (is_name l.name) (map (λ n. n.now) (drop l.other-index l.names))

@@ -12,5 +12,6 @@ append_members-loop-name-preserved t c =
     let utf8 = subst IsUtf8 c.as_str.ensures c.in_ok-append_text.ensures.utf8 in
     record {
       text = grind (arith, common_steps);
-      proper = λ h. c.loop-name.invariant.proper (one_more_member c.pairs-name-items.result.now c.loop-name.name-index c.loop-name-item.result ascend lt c.loop-name-item.is utf8 c.in_ok-append.ensures.proper h);
+      proper =
+          λ h. c.loop-name.invariant.proper (one_more_member c.pairs-name-items.result.now c.loop-name.name-index c.loop-name-item.result ascend lt c.loop-name-item.is utf8 c.in_ok-append.ensures.proper h);
     }

@@ -27,18 +27,25 @@ pieces-init g c = record {
   source_later = omega arith;
   sink_later = omega arith;
   unfinished = λ done. done;
-  taken = rw c.new.ensures.items (taken_start g.M.Machine.answers g.M.Machine.ran g.M.Machine.gave_up g.M.Machine.CAP (laws g) c.args.machine c.args.context.now c.args.limit _ _);
+  taken =
+      rw c.new.ensures.items (taken_start g.M.Machine.answers g.M.Machine.ran g.M.Machine.gave_up g.M.Machine.CAP (laws g) c.args.machine c.args.context.now c.args.limit _ _);
 }
 
 -- the front that there is room for, and what else was read
-in_two : (buffer : List ℕ) (room count : ℕ) (had left : Option (List ℕ)) → room ≤ count → Consumes had left (take count buffer) → Consumes had left (take room buffer ++ drop room (take count buffer))
-in_two buffer room count had left h p = subst (Consumes had left) (sym (ap (λ xs. xs ++ drop room (take count buffer)) (sym (take-take room count buffer h)) ∙ take-append-drop room (take count buffer))) p
+in_two : (buffer : List ℕ) (room count : ℕ) (had left : Option (List ℕ)) → room ≤ count
+    → Consumes had left (take count buffer) → Consumes had left (take room buffer ++ drop room (take count buffer))
+in_two buffer room count had left h p =
+    subst (Consumes had left) (sym (ap (λ xs. xs ++ drop room (take count buffer)) (sym (take-take room count buffer h)) ∙ take-append-drop room (take count buffer))) p
 
 -- the same bytes, and how many there are
-two_length : (buffer : List ℕ) (room count : ℕ) → room ≤ count → count ≤ length buffer → length (take room buffer ++ drop room (take count buffer)) ≡ count
-two_length buffer room count h k = ap length (ap (λ xs. xs ++ drop room (take count buffer)) (sym (take-take room count buffer h)) ∙ take-append-drop room (take count buffer)) ∙ length-take-le count buffer k
+two_length : (buffer : List ℕ) (room count : ℕ) → room ≤ count → count ≤ length buffer
+    → length (take room buffer ++ drop room (take count buffer)) ≡ count
+two_length buffer room count h k =
+    ap length (ap (λ xs. xs ++ drop room (take count buffer)) (sym (take-take room count buffer h)) ∙ take-append-drop room (take count buffer))
+    ∙ length-take-le count buffer k
 
-all_taken : (buffer : List ℕ) (count : ℕ) (had left : Option (List ℕ)) → Consumes had left (take count buffer) → Consumes had left (take count buffer ++ [])
+all_taken : (buffer : List ℕ) (count : ℕ) (had left : Option (List ℕ)) → Consumes had left (take count buffer)
+    → Consumes had left (take count buffer ++ [])
 all_taken buffer count had left p = subst (Consumes had left) (sym (append-nil (take count buffer))) p
 
 pub pieces-preserved : goal.pieces-preserved
@@ -60,10 +67,12 @@ pieces-preserved g c =
     }
 
 pub end_run-requires-clause-partial : goal.end_run-requires-clause-partial
-end_run-requires-clause-partial g c = taken_open g.M.Machine.answers g.M.Machine.ran g.M.Machine.gave_up g.M.Machine.CAP (laws g) c.args.machine c.pieces.progress.machine _ _ _ _ _ _ _ _ _ c.pieces.invariant.taken
+end_run-requires-clause-partial g c =
+    taken_open g.M.Machine.answers g.M.Machine.ran g.M.Machine.gave_up g.M.Machine.CAP (laws g) c.args.machine c.pieces.progress.machine _ _ _ _ _ _ _ _ _ c.pieces.invariant.taken
 
 pub feed-requires-clause-partial : goal.feed-requires-clause-partial
-feed-requires-clause-partial g c = taken_open g.M.Machine.answers g.M.Machine.ran g.M.Machine.gave_up g.M.Machine.CAP (laws g) c.args.machine c.pieces.progress.machine _ _ _ _ _ _ _ _ _ c.pieces.invariant.taken
+feed-requires-clause-partial g c =
+    taken_open g.M.Machine.answers g.M.Machine.ran g.M.Machine.gave_up g.M.Machine.CAP (laws g) c.args.machine c.pieces.progress.machine _ _ _ _ _ _ _ _ _ c.pieces.invariant.taken
 
 pub feed-requires-in-pieces-clause-partial : goal.feed-requires-in-pieces-clause-partial
 feed-requires-in-pieces-clause-partial g c = taken_open g.M.Machine.answers g.M.Machine.ran g.M.Machine.gave_up g.M.Machine.CAP (laws g) c.args.machine c.pieces.progress.machine _ _ _ _ _ _ _ _ _ c.pieces.invariant.taken

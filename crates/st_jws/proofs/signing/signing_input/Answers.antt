@@ -15,4 +15,5 @@ returns-clause-value c =
     c.in_ok-input.ensures ∙ rw (first, second) refl
 
 pub returns-clause-ascii : goal.returns-clause-ascii
-returns-clause-ascii c = subst IsAscii (sym (returns-clause-value c)) (IsAscii-signing_input (plain c.args.payload.now))
+returns-clause-ascii c =
+    subst IsAscii (sym (returns-clause-value c)) (IsAscii-signing_input (plain c.args.payload.now))

@@ -4,7 +4,8 @@ use Rattle.st_lms.proofs.Chains.{chain-more, chain-none}
 use Rattle.st_lms.proofs.chain.chain.Goals as goal
 
 pub steps-init : goal.steps-init
-steps-init c = record { head = c.link-link.ensures.head; value = c.link-link.ensures.value ∙ sym (chain-none c.args.id.now c.args.q c.args.i c.args.from c.args.value.now) }
+steps-init c =
+    record { head = c.link-link.ensures.head; value = c.link-link.ensures.value ∙ sym (chain-none c.args.id.now c.args.q c.args.i c.args.from c.args.value.now) }
 
 pub steps-preserved : goal.steps-preserved
 unfolding chain_step

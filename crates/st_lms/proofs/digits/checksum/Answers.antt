@@ -5,7 +5,8 @@ use Rattle.st_lms.proofs.Widths.{fits_byte}
 use Rattle.st_lms.proofs.digits.checksum.Goals as goal
 
 pub nonzero_div-count : goal.nonzero_div-count
-nonzero_div-count c = (fits_byte 0 _ _ c.parameters-parameters.ensures.width c.parameters-parameters.ensures.known).some
+nonzero_div-count c =
+    (fits_byte 0 _ _ c.parameters-parameters.ensures.width c.parameters-parameters.ensures.known).some
 
 pub digits-init : goal.digits-init
 digits-init c = sym (shortfall-none (one_time_number c.args.kind) c.args.hash.now)

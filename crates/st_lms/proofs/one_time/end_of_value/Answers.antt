@@ -10,7 +10,8 @@ coef-digit-requires c =
     omega (arith, c.told-digits, digit_in_digits c.args.i (one_time_number c.args.kind) (one_time_known c.args.kind) c.requires.chain)
 
 pub chain-requires : goal.chain-requires
-chain-requires c = rw (c.coef-digit.ensures, c.parameters.ensures.greatest_digit) (coef-greatest c.args.digits.now c.args.i (one_time_number c.args.kind))
+chain-requires c =
+    rw (c.coef-digit.ensures, c.parameters.ensures.greatest_digit) (coef-greatest c.args.digits.now c.args.i (one_time_number c.args.kind))
 
 pub returns : goal.returns
 unfolding end_of_value

@@ -5,7 +5,8 @@ use Rattle.st_lms.proofs.Law.{signature_of-IsSignature}
 use Rattle.st_lms.proofs.sign.sign_at.Goals as goal
 use Rattle.st_lms.proofs.sign.sign_at.Goals.{In_ok-push_path}
 
-is_signature_of : (c : In_ok-push_path) → c.push_path.new.out ≡ signature_of c.args.secret.now c.args.q c.args.message.now
+is_signature_of : (c : In_ok-push_path)
+    → c.push_path.new.out ≡ signature_of c.args.secret.now c.args.q c.args.message.now
 unfolding signature_of
 is_signature_of c =
     let digits : c.checked-digits.result ≡

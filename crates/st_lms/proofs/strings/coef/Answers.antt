@@ -5,10 +5,12 @@ use Rattle.st_lms.proofs.Widths.{fits_byte, place_fits}
 use Rattle.st_lms.proofs.strings.coef.Goals as goal
 
 pub nonzero_div-below : goal.nonzero_div-below
-nonzero_div-below c = (fits_byte c.args.i _ _ c.parameters-parameters.ensures.width c.parameters-parameters.ensures.known).some
+nonzero_div-below c =
+    (fits_byte c.args.i _ _ c.parameters-parameters.ensures.width c.parameters-parameters.ensures.known).some
 
 pub nonzero_rem-below : goal.nonzero_rem-below
-nonzero_rem-below c = (fits_byte c.args.i _ _ c.parameters-parameters.ensures.width c.parameters-parameters.ensures.known).whole
+nonzero_rem-below c =
+    (fits_byte c.args.i _ _ c.parameters-parameters.ensures.width c.parameters-parameters.ensures.known).whole
 
 pub overflow_mul-below : goal.overflow_mul-below
 overflow_mul-below c =
@@ -21,7 +23,8 @@ overflow_add-below c =
     omega (arith, fits.within)
 
 pub overflow_sub-below : goal.overflow_sub-below
-overflow_sub-below c = (fits_byte c.args.i _ _ c.parameters-parameters.ensures.width c.parameters-parameters.ensures.known).within
+overflow_sub-below c =
+    (fits_byte c.args.i _ _ c.parameters-parameters.ensures.width c.parameters-parameters.ensures.known).within
 
 pub overflow_mul-result : goal.overflow_mul-result
 overflow_mul-result c =

@@ -22,25 +22,31 @@ returns-then-signature-values_len-clause-holds c = (
   ))),
 )
 
-cut_then-not : (c : Then-not-has_types) → IsCut c.args.public.now c.args.signature.now c.parts_of-parts.result.q.now c.parts_of-parts.result.ots.now
+cut_then-not : (c : Then-not-has_types)
+    → IsCut c.args.public.now c.args.signature.now c.parts_of-parts.result.q.now c.parts_of-parts.result.ots.now
     c.parts_of-parts.result.randomizer.now c.parts_of-parts.result.values.now c.parts_of-parts.result.tree.now c.parts_of-parts.result.path.now
-cut_then-not c = cut_of c.args.public.now c.args.signature.now c.parts_of-parts.result.q.now c.parts_of-parts.result.ots.now
-    c.parts_of-parts.result.randomizer.now c.parts_of-parts.result.values.now c.parts_of-parts.result.tree.now c.parts_of-parts.result.path.now
-    c.values_len-values_len.result c.path_len.result c.values_len-values_len.ensures.len c.path_len.ensures.len
-    c.if-signature-values_len.false c.parts_of-parts.ensures.whole c.parts_of-parts.ensures.q c.parts_of-parts.ensures.ots
-    c.parts_of-parts.ensures.randomizer c.parts_of-parts.ensures.values c.parts_of-parts.ensures.tree
-
-cut_then-q : (c : Then-q-leaf_count) → IsCut c.args.public.now c.args.signature.now c.parts_of-parts.result.q.now c.parts_of-parts.result.ots.now
-    c.parts_of-parts.result.randomizer.now c.parts_of-parts.result.values.now c.parts_of-parts.result.tree.now c.parts_of-parts.result.path.now
-cut_then-q c = cut_of c.args.public.now c.args.signature.now c.parts_of-parts.result.q.now c.parts_of-parts.result.ots.now
+cut_then-not c =
+    cut_of c.args.public.now c.args.signature.now c.parts_of-parts.result.q.now c.parts_of-parts.result.ots.now
     c.parts_of-parts.result.randomizer.now c.parts_of-parts.result.values.now c.parts_of-parts.result.tree.now c.parts_of-parts.result.path.now
     c.values_len-values_len.result c.path_len.result c.values_len-values_len.ensures.len c.path_len.ensures.len
     c.if-signature-values_len.false c.parts_of-parts.ensures.whole c.parts_of-parts.ensures.q c.parts_of-parts.ensures.ots
     c.parts_of-parts.ensures.randomizer c.parts_of-parts.ensures.values c.parts_of-parts.ensures.tree
 
-cut_after : (c : After-is_same) → IsCut c.args.public.now c.args.signature.now c.parts_of-parts.result.q.now c.parts_of-parts.result.ots.now
+cut_then-q : (c : Then-q-leaf_count)
+    → IsCut c.args.public.now c.args.signature.now c.parts_of-parts.result.q.now c.parts_of-parts.result.ots.now
     c.parts_of-parts.result.randomizer.now c.parts_of-parts.result.values.now c.parts_of-parts.result.tree.now c.parts_of-parts.result.path.now
-cut_after c = cut_of c.args.public.now c.args.signature.now c.parts_of-parts.result.q.now c.parts_of-parts.result.ots.now
+cut_then-q c =
+    cut_of c.args.public.now c.args.signature.now c.parts_of-parts.result.q.now c.parts_of-parts.result.ots.now
+    c.parts_of-parts.result.randomizer.now c.parts_of-parts.result.values.now c.parts_of-parts.result.tree.now c.parts_of-parts.result.path.now
+    c.values_len-values_len.result c.path_len.result c.values_len-values_len.ensures.len c.path_len.ensures.len
+    c.if-signature-values_len.false c.parts_of-parts.ensures.whole c.parts_of-parts.ensures.q c.parts_of-parts.ensures.ots
+    c.parts_of-parts.ensures.randomizer c.parts_of-parts.ensures.values c.parts_of-parts.ensures.tree
+
+cut_after : (c : After-is_same)
+    → IsCut c.args.public.now c.args.signature.now c.parts_of-parts.result.q.now c.parts_of-parts.result.ots.now
+    c.parts_of-parts.result.randomizer.now c.parts_of-parts.result.values.now c.parts_of-parts.result.tree.now c.parts_of-parts.result.path.now
+cut_after c =
+    cut_of c.args.public.now c.args.signature.now c.parts_of-parts.result.q.now c.parts_of-parts.result.ots.now
     c.parts_of-parts.result.randomizer.now c.parts_of-parts.result.values.now c.parts_of-parts.result.tree.now c.parts_of-parts.result.path.now
     c.values_len-values_len.result c.path_len.result c.values_len-values_len.ensures.len c.path_len.ensures.len
     c.if-signature-values_len.false c.parts_of-parts.ensures.whole c.parts_of-parts.ensures.q c.parts_of-parts.ensures.ots
@@ -91,13 +97,17 @@ returns-clause-holds c = (
 )
 
 pub returns-then-signature-values_len-clause-value : goal.returns-then-signature-values_len-clause-value
-returns-then-signature-values_len-clause-value c = decided c.args.public.now c.args.message.now c.args.signature.now false (λ i. omega (arith, c.type_inv.signature i)) (returns-then-signature-values_len-clause-holds c)
+returns-then-signature-values_len-clause-value c =
+    decided c.args.public.now c.args.message.now c.args.signature.now false (λ i. omega (arith, c.type_inv.signature i)) (returns-then-signature-values_len-clause-holds c)
 
 pub returns-then-not-has_types-clause-value : goal.returns-then-not-has_types-clause-value
-returns-then-not-has_types-clause-value c = decided c.args.public.now c.args.message.now c.args.signature.now false (λ i. omega (arith, c.type_inv.signature i)) (returns-then-not-has_types-clause-holds c)
+returns-then-not-has_types-clause-value c =
+    decided c.args.public.now c.args.message.now c.args.signature.now false (λ i. omega (arith, c.type_inv.signature i)) (returns-then-not-has_types-clause-holds c)
 
 pub returns-then-q-leaf_count-clause-value : goal.returns-then-q-leaf_count-clause-value
-returns-then-q-leaf_count-clause-value c = decided c.args.public.now c.args.message.now c.args.signature.now false (λ i. omega (arith, c.type_inv.signature i)) (returns-then-q-leaf_count-clause-holds c)
+returns-then-q-leaf_count-clause-value c =
+    decided c.args.public.now c.args.message.now c.args.signature.now false (λ i. omega (arith, c.type_inv.signature i)) (returns-then-q-leaf_count-clause-holds c)
 
 pub returns-clause-value : goal.returns-clause-value
-returns-clause-value c = decided c.args.public.now c.args.message.now c.args.signature.now c.is_same.result (λ i. omega (arith, c.type_inv.signature i)) (returns-clause-holds c)
+returns-clause-value c =
+    decided c.args.public.now c.args.message.now c.args.signature.now c.is_same.result (λ i. omega (arith, c.type_inv.signature i)) (returns-clause-holds c)

@@ -3,4 +3,5 @@ use Rattle.st_node.specs.Resolution.{first_create}
 use Rattle.st_node.proofs.resolution.first_create.Given as goal
 
 abbrev pub invariant-loop-entry : goal.invariant-loop-entry
-invariant-loop-entry l = first_create l.suffix l.content l.entries ≡ first_create l.suffix l.content (drop l.entry-index l.entries)
+invariant-loop-entry l =
+    first_create l.suffix l.content l.entries ≡ first_create l.suffix l.content (drop l.entry-index l.entries)

@@ -29,7 +29,8 @@ lines-init g c =
       partial = c.requires.partial;
       later = omega arith;
       unfinished = λ done. done;
-      fed = subst (Fed g.M.Machine.answers g.M.Machine.ran g.M.Machine.CAP c.args.self.machine c.args.context.now c.args.self.machine c.args.context.now (c.args.self.line.items ++ c.args.piece.now) (c.args.self.line.items ++ c.args.piece.now) (g.K.Sink.written c.args.sink.now) (g.K.Sink.written c.args.sink.now)) (sym c.requires.empty) fed;
+      fed =
+          subst (Fed g.M.Machine.answers g.M.Machine.ran g.M.Machine.CAP c.args.self.machine c.args.context.now c.args.self.machine c.args.context.now (c.args.self.line.items ++ c.args.piece.now) (c.args.self.line.items ++ c.args.piece.now) (g.K.Sink.written c.args.sink.now) (g.K.Sink.written c.args.sink.now)) (sym c.requires.empty) fed;
     }
 
 pub returns-in_err-machine-clause-err : goal.returns-in_err-machine-clause-err
@@ -58,7 +59,8 @@ lines-preserved g c =
     }
 
 pub returns-then-is_err-clause-err : goal.returns-then-is_err-clause-err
-returns-then-is_err-clause-err g c = fed_stop g.M.Machine.answers g.M.Machine.ran g.M.Machine.gave_up g.M.Machine.CAP (laws g) c.args.self.machine c.lines.machine c.args.context.now c.lines.context _ _ c.lines.gathered.items _ _ c.lines.invariant.fed
+returns-then-is_err-clause-err g c =
+    fed_stop g.M.Machine.answers g.M.Machine.ran g.M.Machine.gave_up g.M.Machine.CAP (laws g) c.args.self.machine c.lines.machine c.args.context.now c.lines.context _ _ c.lines.gathered.items _ _ c.lines.invariant.fed
 
 pub returns-clause-ok : goal.returns-clause-ok
 returns-clause-ok g c =

@@ -17,5 +17,6 @@ laws g = record {
 }
 
 pub returns-then-is_err-clause-err : goal.returns-then-is_err-clause-err
-returns-then-is_err-clause-err g c = wrote_part g.M.Machine.answers g.M.Machine.ran g.M.Machine.gave_up g.M.Machine.CAP (laws g) (λ next. next.machine) c.answer_lines-outcome.result c.args.self.machine c.args.context.now c.answer_lines-outcome.new.context _ c.answer_lines-outcome.new.gathered.items _ _ _
+returns-then-is_err-clause-err g c =
+    wrote_part g.M.Machine.answers g.M.Machine.ran g.M.Machine.gave_up g.M.Machine.CAP (laws g) (λ next. next.machine) c.answer_lines-outcome.result c.args.self.machine c.args.context.now c.answer_lines-outcome.new.context _ c.answer_lines-outcome.new.gathered.items _ _ _
     c.answer_lines-outcome.ensures.ok c.answer_lines-outcome.ensures.err (search rules)

@@ -12,7 +12,8 @@ use Rattle.st_lms.proofs.public.Public.read.Goals.{In_default, In_default-read, 
 -- the number that was read is that of a type of the text
 abbrev one_time_type_is : (c : In_default) → c.str_to_u32.result ≡ one_time_type_in c.args.bytes.now
 unfolding one_time_type_in
-one_time_type_is c = c.str_to_u32.ensures ∙ ap str_to_u32 (c.split_at-2.ensures.front ∙ ap (take 4) c.split_at.ensures.back)
+one_time_type_is c =
+    c.str_to_u32.ensures ∙ ap str_to_u32 (c.split_at-2.ensures.front ∙ ap (take 4) c.split_at.ensures.back)
 
 abbrev tree_type_is : (c : In_default-read) → c.str_to_u32-2.result ≡ tree_type_in c.args.bytes.now
 unfolding tree_type_in
@@ -30,10 +31,12 @@ key_is c =
     (c.in-Some.ensures ∙ c.str_to_u32.ensures) (c.in-Some-read.ensures ∙ c.str_to_u32-2.ensures)
 
 pub returns-then-bytes-ne56-clause-written : goal.returns-then-bytes-ne56-clause-written
-returns-then-bytes-ne56-clause-written c = λ key is e. absurd (c.if-bytes-ne56.true (shows_key key c.args.bytes.now is e).long)
+returns-then-bytes-ne56-clause-written c =
+    λ key is e. absurd (c.if-bytes-ne56.true (shows_key key c.args.bytes.now is e).long)
 
 pub returns-in_default-clause-bad_type : goal.returns-in_default-clause-bad_type
-returns-in_default-clause-bad_type c = (λ _. (c.if-bytes-ne56.false, λ types. (rw (c.in_default.is, one_time_type_is c) at c.read.ensures) types.0), λ _. refl)
+returns-in_default-clause-bad_type c =
+    (λ _. (c.if-bytes-ne56.false, λ types. (rw (c.in_default.is, one_time_type_is c) at c.read.ensures) types.0), λ _. refl)
 
 pub returns-in_default-clause-written : goal.returns-in_default-clause-written
 returns-in_default-clause-written c = λ key is e.
@@ -64,7 +67,8 @@ pub returns-clause-written : goal.returns-clause-written
 returns-clause-written c = λ key is e. ap Ok (key_is c ∙ (shows_key key c.args.bytes.now is e).parts)
 
 pub returns-then-bytes-ne56-clause-value : goal.returns-then-bytes-ne56-clause-value
-returns-then-bytes-ne56-clause-value c = sym (public_in-none c.args.bytes.now (λ long ots tree. c.if-bytes-ne56.true long))
+returns-then-bytes-ne56-clause-value c =
+    sym (public_in-none c.args.bytes.now (λ long ots tree. c.if-bytes-ne56.true long))
 
 pub returns-in_default-clause-value : goal.returns-in_default-clause-value
 returns-in_default-clause-value c =

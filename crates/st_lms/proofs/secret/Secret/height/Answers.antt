@@ -5,4 +5,5 @@ use Rattle.st_lms.proofs.TypeLemmas.{tree_known}
 use Rattle.st_lms.proofs.secret.Secret.height.Goals as goal
 
 pub returns-clause-small : goal.returns-clause-small
-returns-clause-small c = omega (arith, c.height.ensures, height-small (tree_number c.self.inside.tree) (tree_known c.self.inside.tree))
+returns-clause-small c =
+    omega (arith, c.height.ensures, height-small (tree_number c.self.inside.tree) (tree_known c.self.inside.tree))
