@@ -1,5 +1,6 @@
 -- What an object has by name once a member was put or removed, over plain values.
-use Rattle.std.proofs.Common.{◌≡◌, ℕ, Bool, true, false, not, cond, List, Some, None, Less, Equal, Greater, refl, sym, ap, ◌∙◌}
+use Rattle.std.proofs.Common.{◌≡◌, ℕ, true, false, not, cond, List, Some, None, Less, Equal, Greater, refl, sym, ap, ◌∙◌}
+use Rattle.std.proofs.lemmas.Bool.{not-true}
 use Rattle.std.specs.Prelude.{◌&&◌}
 use Rattle.std.specs.Cmp.{first_so, second_so}
 use Rattle.std.specs.Ordering.{match_ordering}
@@ -9,10 +10,6 @@ use Rattle.st_canon.specs.Find.{member_at, put, without}
 use Rattle.st_canon.specs.Names.{name_cmp, is_name}
 use Rattle.st_canon.specs.Plain.{Plain, Members, no_members, member}
 use Rattle.st_canon.proofs.Order.{same_from_tied, same_from_is_name, is_name_from_same, not_name_from_apart, not_name_from_greater}
-
-false_from_not : (t : Bool) → not t ≡ true → t ≡ false
-false_from_not true h = cc
-false_from_not false h = refl
 
 -- the member that was put is found
 pub member_at-put_same : (name : List ℕ) (p : Plain) (ms : Members) → member_at name (put name p ms) ≡ Some p
@@ -50,7 +47,7 @@ member_at-put_literal other name p ms apart =
     let rest = second_so (are_ascii other) (are_ascii name && not (is_name other name)) apart in
     let u = IsUtf8-are_ascii other (first_so (are_ascii other) (are_ascii name && not (is_name other name)) apart) in
     let v = IsUtf8-are_ascii name (first_so (are_ascii name) (not (is_name other name)) rest) in
-    member_at-put_other other name p ms u v (false_from_not (is_name other name) (second_so (are_ascii name) (not (is_name other name)) rest))
+    member_at-put_other other name p ms u v (not-true (is_name other name) (second_so (are_ascii name) (not (is_name other name)) rest))
 
 -- the member that was removed is gone
 pub member_at-without_same : (name : List ℕ) (ms : Members) → member_at name (without name ms) ≡ None

@@ -5,7 +5,7 @@ use Rattle.std.proofs.Math.Seq.{take-append-add}
 use Rattle.st_drive.specs.Lines.{in_front, split, last_line, all_lines, has_no_feed, capped}
 
 -- one byte in front of these pieces
-abbrev with_front : ℕ → Bool → List (List ℕ) × List ℕ → List (List ℕ) × List ℕ
+abbrev pub with_front : ℕ → Bool → List (List ℕ) × List ℕ → List (List ℕ) × List ℕ
 with_front x b p = cond b ([] ∷ p.0, p.1) (in_front x p.0 p.1)
 
 -- more bytes behind these pieces

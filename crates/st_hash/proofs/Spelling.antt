@@ -1,6 +1,7 @@
 -- Base64url and hash texts have one spelling each.
 use Rattle.std.proofs.lemmas.List.{length-append}
 use Rattle.std.proofs.Common.{◌≡◌, ◌≢◌, ◌∙◌, ℕ, ◌==◌, ◌&&◌, ◌+◌, ◌*◌, ◌/◌, zero, suc, Bool, true, false, List, [], ◌∷◌, length, drop, slice_index, cond, Option, Some, None, option_and_then, refl, sym, ap, arith}
+use Rattle.std.proofs.lemmas.Option.{cond_some}
 use Rattle.std.specs.declared.result.Result.{Result}
 use Rattle.std.specs.declared.result.Result.TheVariants.{Ok, Err}
 use Rattle.std.specs.Result.{result_ok}
@@ -58,14 +59,10 @@ none_of true true hash = refl
 none_of true false hash = refl
 none_of false b hash = refl
 
-chosen : (b : Bool) (hash found : HashValue) → cond b (Some hash) None ≡ Some found → (b ≡ true) × (hash ≡ found)
-chosen true hash found e = (refl, cc)
-chosen false hash found e = cc
-
 pub hash_of_multihash-spelled : (bytes : List ℕ) (hash : HashValue) → hash_of_multihash bytes ≡ Some hash
     → bytes ≡ multihash hash
 hash_of_multihash-spelled bytes hash found =
-    let taken = chosen _ _ hash found in
+    let taken = cond_some _ _ hash found in
     let tests = tests_hold _ _ _ taken.0 in
     rw (← taken.1) (multihash_parts bytes (eqb-true _ _ tests.0) (eqb-true _ _ tests.1) (eqb-true _ _ tests.2))
 

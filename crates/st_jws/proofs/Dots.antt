@@ -1,6 +1,6 @@
 -- Base64url has no dot.
-use Rattle.std.proofs.Common.{◌≡◌, ℕ, zero, suc, ◌+◌, ◌/◌, ◌%◌, ◌*◌, ◌==◌, Bool, true, false, not, List, [], ◌∷◌, ◌++◌, slice_index, refl}
-use Rattle.std.proofs.lemmas.Bool.{and_parts}
+use Rattle.std.proofs.Common.{◌≡◌, ℕ, zero, suc, ◌+◌, ◌/◌, ◌%◌, ◌*◌, ◌==◌, true, false, not, List, [], ◌∷◌, ◌++◌, slice_index, refl}
+use Rattle.std.proofs.lemmas.Bool.{and_parts, not-true}
 use Rattle.std.specs.List.{list_all}
 use Rattle.base64.specs.Engines.{url_safe_no_pad}
 use Rattle.base64.specs.Rfc4648.{encode_symbols}
@@ -8,15 +8,11 @@ use Rattle.st_hash.specs.Base64url.{base64url}
 use Rattle.st_base.proofs.Cuts.{HasNo}
 use Rattle.st_jws.specs.Texts.{dot}
 
-not_true : (b : Bool) → not b ≡ true → b ≡ false
-not_true true e = cc
-not_true false e = refl
-
 no_dot_at : (symbols : List ℕ) → list_all (λ byte. not (byte == dot)) symbols ≡ true → (i : ℕ)
     → (slice_index symbols i == dot) ≡ false
 no_dot_at [] all i = refl
 no_dot_at (x ∷ xs) all zero =
-    not_true (x == dot) (and_parts (not (x == dot)) (list_all (λ byte. not (byte == dot)) xs) all).0
+    not-true (x == dot) (and_parts (not (x == dot)) (list_all (λ byte. not (byte == dot)) xs) all).0
 no_dot_at (x ∷ xs) all (suc i) =
     no_dot_at xs (and_parts (not (x == dot)) (list_all (λ byte. not (byte == dot)) xs) all).1 i
 

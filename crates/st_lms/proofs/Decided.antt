@@ -1,6 +1,6 @@
 -- The key that bytes are, and whether bytes are a signature, by computation.
-use Rattle.std.proofs.Common.{◌≡◌, ◌∙◌, ◌↔◌, IsTrue, ℕ, zero, suc, slice_index, lit≤, ◌-◌, ◌+◌, ◌*◌, ◌^◌, ◌<◌, ◌≤◌, Bool, true, false, cond, ◌==◌, ◌&&◌, bytes_eq, nat_le, nat_lt, List, [], ◌∷◌, ◌++◌, length, take, drop, Some, None, refl, sym, ap, append_assoc, arith}
-use Rattle.std.proofs.lemmas.Bool.{and_parts, eqb-true, eq-eqb}
+use Rattle.std.proofs.Common.{◌≡◌, ◌∙◌, ◌↔◌, IsTrue, ℕ, zero, suc, slice_index, lit≤, ◌-◌, ◌+◌, ◌*◌, ◌^◌, ◌<◌, ◌≤◌, Bool, true, false, ◌==◌, ◌&&◌, bytes_eq, nat_le, nat_lt, List, [], ◌∷◌, ◌++◌, length, take, drop, Some, None, refl, sym, ap, append_assoc, arith}
+use Rattle.std.proofs.lemmas.Bool.{and_parts, cond-false, eqb-true, eq-eqb, false_from_ne_true}
 use Rattle.std.proofs.lemmas.Bool.Decides.{nat_tests}
 use Rattle.std.proofs.lemmas.List.{take-append-drop, length-take-le, length-drop}
 use Rattle.std.specs.Cmp.Lexicographic.{bytes_decides}
@@ -41,10 +41,6 @@ tree_from_test t e =
     let high : t ≤ 6 = grind (arith, nat_tests) in
     (low, high)
 
-not_chosen : (b : Bool) (key : PublicKey) → (b ≡ true → ⊥) → cond b (Some key) None ≡ None
-not_chosen true key wrong = absurd (wrong refl)
-not_chosen false key wrong = refl
-
 -- ---- the key that bytes are
 
 pub public_in-known : (text : List ℕ) → length text ≡ 56 → IsOneTimeType (one_time_type_in text)
@@ -58,10 +54,10 @@ pub public_in-none : (text : List ℕ)
     → (length text ≡ 56 → IsOneTimeType (one_time_type_in text) → IsTreeType (tree_type_in text) → ⊥)
     → public_in text ≡ None
 unfolding public_in
-public_in-none text wrong = not_chosen _ _ (λ e.
+public_in-none text wrong = cond-false _ _ _ (false_from_ne_true _ (λ e.
     let long = and_parts (length text == 56) _ e in
     let types = and_parts (is_one_time_type (one_time_type_in text)) (is_tree_type (tree_type_in text)) long.1 in
-    wrong (eqb-true _ _ long.0) (one_time_from_test _ types.0) (tree_from_test _ types.1))
+    wrong (eqb-true _ _ long.0) (one_time_from_test _ types.0) (tree_from_test _ types.1)))
 
 -- a key is read from its own text
 pub public_in-public_text : (key : PublicKey) → IsPublicKey key → public_in (public_text key) ≡ Some key
