@@ -1,12 +1,13 @@
 -- Texts that are cut at a separator.
-use Rattle.std.proofs.Common.{◌≡◌, ◌∙◌, ℕ, suc, ◌+◌, ◌==◌, nat_lt, true, false, List, [], ◌∷◌, ◌++◌, length, take, drop, get_or, position, Some, option_map, sym, ap, refl, add-one, drop-cons, length-append, arith}
+use Rattle.std.proofs.Common.{◌≡◌, ◌∙◌, ℕ, suc, ◌+◌, ◌==◌, nat_lt, ◌≤◌, cond, not, Bool, true, false, List, [], ◌∷◌, ◌++◌, length, take, drop, get_or, position, Some, None, option_map, sym, ap, subst, refl, add-one, drop-cons, length-append, arith}
 use Rattle.std.proofs.Math.Seq.{take-append_seam, drop-append-add}
 use Rattle.std.proofs.lemmas.Bool.{eqb-true, eq-eqb}
 use Rattle.std.proofs.lemmas.Bool.Decides.{nat_tests}
-use Rattle.std.proofs.lemmas.List.{take-append-drop}
+use Rattle.std.proofs.lemmas.List.{take-append-drop, take_all}
 use Rattle.std.proofs.lemmas.List.Quantifiers.{position-Some}
-use Rattle.std.specs.List.{AllByRecursion, position_or_len}
-use Rattle.st_base.specs.Words.{cut_at}
+use Rattle.std.proofs.lemmas.Option.{cond_some}
+use Rattle.std.specs.List.{position_or_len}
+use Rattle.st_base.specs.Words.{HasNo, cut_at}
 
 -- a text is what stands before its first separator, the separator, and what stands behind it
 pub around : (separator : ℕ) (text : List ℕ) (at : ℕ) → position (λ byte. byte == separator) text ≡ Some at
@@ -17,9 +18,33 @@ around separator text at found =
     let split : drop at text ≡ separator ∷ drop (suc at) text = drop-cons text at 0 facts.0 ∙ ap (λ byte. byte ∷ drop (suc at) text) is_separator in
     sym (take-append-drop at text) ∙ ap (λ behind. take at text ++ behind) split ∙ rw add-one refl
 
--- this byte stands nowhere in the text
-abbrev pub HasNo : ℕ → List ℕ → Type 0
-HasNo separator text = AllByRecursion (λ byte. (byte == separator) ≡ false) text
+-- what stands before the first separator, or all where there is none, has none
+has_none_before : (separator : ℕ) (text : List ℕ) → HasNo separator (take (position_or_len (λ byte. byte == separator) text) text)
+has_none_before separator [] = tt
+has_none_before separator (x ∷ xs) =
+    let n = position_or_len (λ byte. byte == separator) xs in
+    let one : 1 + n ≡ suc n = omega arith in
+    elim (x == separator) as (λ is. (x == separator) ≡ is → HasNo separator (take (cond (not is) (1 + n) 0) (x ∷ xs))) [
+      | true ↦ λ is. tt
+      | false ↦ λ is. rw one (is, has_none_before separator xs)
+    ] refl
+
+-- what is cut off has no separator
+pub has_none-first : (separator : ℕ) (text : List ℕ) (at : ℕ) → position (λ byte. byte == separator) text ≡ Some at
+    → HasNo separator (take at text)
+has_none-first separator text at found =
+    subst (λ n. HasNo separator (take n text)) (cond_some _ _ at found).1 (has_none_before separator text)
+
+-- a text that is not cut has none
+pub has_none-whole : (separator : ℕ) (text : List ℕ) → position (λ byte. byte == separator) text ≡ None → HasNo separator text
+has_none-whole separator text none =
+    let at = position_or_len (λ byte. byte == separator) text in
+    let past : length text ≤ at = not_found (nat_lt at (length text)) at refl none in
+    subst (HasNo separator) (take_all at text past) (has_none_before separator text)
+  where
+    not_found : (b : Bool) (at : ℕ) → nat_lt at (length text) ≡ b → cond b (Some at) None ≡ None → length text ≤ at
+    not_found true at is none = cc
+    not_found false at is none = grind (arith, nat_tests)
 
 first_separator : (separator : ℕ) (before behind : List ℕ) → HasNo separator before
     → position_or_len (λ byte. byte == separator) (before ++ separator ∷ behind) ≡ length before

@@ -1,7 +1,12 @@
 -- The words that a text is cut into, and the number that a word is.
-use Rattle.std.specs.Prelude.{ℕ, List, ◌==◌, ◌&&◌, ◌+◌, nat_le, take, drop, position, bytes_eq, if◌then◌else◌, Option, Some, None, option_map}
+use Rattle.std.specs.Prelude.{◌≡◌, ℕ, false, List, ◌==◌, ◌&&◌, ◌+◌, nat_le, take, drop, position, bytes_eq, if◌then◌else◌, Option, Some, None, option_map}
 use Rattle.std.specs.Fmt.{decimal}
+use Rattle.std.specs.List.{AllByRecursion}
 use Rattle.std.specs.Str.Parse.{digits_value}
+
+-- no byte of the text is the separator
+abbrev pub HasNo : ℕ → List ℕ → Type 0
+HasNo separator text = AllByRecursion (λ byte. (byte == separator) ≡ false) text
 
 -- what stands before the first separator, and all that stands behind it
 abbrev pub cut_at : ℕ → List ℕ → Option (List ℕ × List ℕ)

@@ -1,11 +1,13 @@
-ghost use Rattle.std.specs.Prelude.{◌≡◌, ◌<◌, ◌==◌, ◌++◌, ◌∷◌, length, position, option_map, IfSome};
-ghost use Rattle.st_base.specs.Words.{cut_at};
+ghost use Rattle.std.specs.Prelude.{◌≡◌, ◌<◌, ◌==◌, ◌++◌, ◌∷◌, length, position, option_map, IfSome, IfNone};
+ghost use Rattle.st_base.specs.Words.{HasNo, cut_at};
 
 /// What stands before the first separator, and all that stands behind it. `None` comes exactly
 /// where there is no separator.
 pub fn cut_at(text: &[u8], separator: u8) -> Option<(&[u8], &[u8])>
     ensures value { option_map (λ cut. (cut.0.now, cut.1.now)) result ≡ cut_at separator text.now }
     ensures whole { IfSome result (λ cut. text.now ≡ cut.0.now ++ separator ∷ cut.1.now) }
+    ensures first { IfSome result (λ cut. HasNo separator cut.0.now) }
+    ensures none { IfNone result (HasNo separator text.now) }
 {
     match place_of(text, separator) {
         Some(at) => Some((&text[..at], &text[at + 1..])),

@@ -2,6 +2,7 @@
 use Rattle.std.proofs.Common.{◌+◌, length, ◌-◌, ◌≤◌, min, Bool, List, [], ap, arith, cond, eqb, false, map, refl, suc, sym, take, true, zero, ℕ, ◌++◌, ◌<◌, ◌∙◌, ◌∷◌, ◌≡◌}
 use Rattle.std.proofs.lemmas.List.{map-append, take_all, take_min}
 use Rattle.std.proofs.Math.Seq.{take-append-add}
+use Rattle.st_base.specs.Words.{HasNo}
 use Rattle.st_drive.specs.Lines.{in_front, split, last_line, all_lines, has_no_feed, capped}
 
 -- one byte in front of these pieces
@@ -40,6 +41,11 @@ cons_open : (b : Bool) (xs : List ℕ) → cond b false (has_no_feed xs) ≡ tru
 cons_open true xs h = cc
 cons_open false xs h = (refl, h)
 
+-- bytes none of which is a line feed
+pub has_no_feed_from_none : (bytes : List ℕ) → HasNo 10 bytes → has_no_feed bytes ≡ true
+has_no_feed_from_none [] none = refl
+has_no_feed_from_none (x ∷ xs) none = rw none.0 (has_no_feed_from_none xs none.1)
+
 -- bytes with no line feed are no line yet
 pub split_open : (a : List ℕ) → has_no_feed a ≡ true → split a ≡ ([], a)
 split_open [] h = refl
@@ -53,10 +59,6 @@ split_line (x ∷ xs) c h = let k = cons_open (eqb x 10) xs h in rw (k.0, split_
 pub open_append : (a b : List ℕ) → has_no_feed a ≡ true → has_no_feed b ≡ true → has_no_feed (a ++ b) ≡ true
 open_append [] b h k = k
 open_append (x ∷ xs) b h k = let e = cons_open (eqb x 10) xs h in rw e.0 (open_append xs b e.1 k)
-
--- one more byte that is no line feed
-pub open_push : (a : List ℕ) (x : ℕ) → has_no_feed a ≡ true → eqb x 10 ≡ false → has_no_feed (a ++ x ∷ []) ≡ true
-open_push a x h e = open_append a (x ∷ []) h (rw e refl)
 
 -- bytes with no line feed in front of these pieces
 abbrev front_all : List ℕ → List (List ℕ) → List ℕ → List (List ℕ) × List ℕ

@@ -1,21 +1,20 @@
 ghost use Rattle.std.specs.Prelude.{◌≡◌, ◌≤◌, ◌∷◌, ◌++◌, take, vec_len, true, OnOk, MatchOption};
 ghost use Rattle.st_drive.specs.Lines.{has_no_feed};
 
-use st_base::WantOfMemory;
+use st_base::{WantOfMemory, cut_at};
 
 const LINE_FEED: u8 = b'\n';
 
 // What stands before the first line feed, and what stands behind it.
+#[tactic(auto, using(crate::proofs::LineLemmas::has_no_feed_from_none))]
 pub fn cut_line(bytes: &[u8]) -> Option<(&[u8], &[u8])>
     ensures { MatchOption result (has_no_feed bytes.now ≡ true)
         (λ cut. (has_no_feed cut.0.now ≡ true) × (bytes.now ≡ cut.0.now ++ 10 ∷ cut.1.now)) }
 {
-    for (i, byte) in bytes.iter().enumerate() {
-        if *byte == LINE_FEED {
-            return Some((&bytes[..i], &bytes[i + 1..]));
-        }
+    match cut_at(bytes, LINE_FEED) {
+        Some(cut) => Some(cut),
+        None => None,
     }
-    None
 }
 
 // Adds as much of `front` to the line as there is room for below `cap` bytes.

@@ -5,7 +5,7 @@ use Rattle.std.specs.List.{list_all}
 use Rattle.base64.specs.Engines.{url_safe_no_pad}
 use Rattle.base64.specs.Rfc4648.{encode_symbols}
 use Rattle.st_hash.specs.Base64url.{base64url}
-use Rattle.st_base.proofs.Cuts.{HasNo}
+use Rattle.st_base.specs.Words.{HasNo}
 use Rattle.st_jws.specs.Texts.{dot}
 
 no_dot_at : (symbols : List ℕ) → list_all (λ byte. not (byte == dot)) symbols ≡ true → (i : ℕ)
