@@ -1,14 +1,17 @@
-ghost use Rattle.std.specs.Prelude.{◌≡◌, ◌<◌, ◌^◌, ◌↔◌, ℕ, Some, IsTrue};
+ghost use Rattle.std.specs.Prelude.{◌≡◌, ◌≢◌, ◌<◌, ◌≤◌, ◌^◌, ◌↔◌, ℕ, Some, IsTrue, IfSome, IfNone};
 ghost use Rattle.std.specs.Fmt.{decimal};
 ghost use Rattle.st_base.specs.Words.{number_of};
 
 use itoa::Buffer;
 
-/// The number whose decimal text this is, where it is at most `most`. A sign, a leading zero but
-/// for `0` itself, and every other byte make it the text of no number: then, and where the number
-/// is greater, `None` comes.
+/// The number whose decimal text this is, where it is at most `most`.
+///
+/// `None` comes exactly where the text is that of no such number: a sign, a leading zero but for
+/// `0` itself, and any byte that is no digit make it that of none.
 pub fn read_number(text: &[u8], most: u32) -> Option<u32>
-    ensures { result ≡ number_of most text.now }
+    ensures value { result ≡ number_of most text.now }
+    ensures spelled { IfSome result (λ number. (number ≤ most) × (text.now ≡ decimal number)) }
+    ensures no_spelling { IfNone result ((number : ℕ) → number ≤ most → text.now ≢ decimal number) }
 {
     let Some(number) = parse(text) else {
         return None;
