@@ -1,7 +1,7 @@
--- Counters of work.
-use Rattle.std.specs.Prelude.{ℕ, ◌+◌, ◌-◌, ◌^◌, min}
+-- Counters of work: what one more of each kind leaves, and bounds on what was counted.
+use Rattle.std.specs.Prelude.{◌≡◌, ℕ, ◌+◌, ◌-◌, ◌^◌, ◌≤◌, min}
 
--- how much was done of each kind
+-- how much was done of each kind: files read, signed texts opened, operations applied
 pub record Counts : Type 0 where
   pub files : ℕ
   pub proofs : ℕ
@@ -13,3 +13,33 @@ no_work = record { files = 0; proofs = 0; applies = 0 }
 -- one more, where there is room for one more
 abbrev pub counted : ℕ → ℕ
 counted n = min (n + 1) (2 ^ 64 - 1)
+
+-- one file more was read, and nothing else was counted
+abbrev pub one_file : Counts → Counts
+one_file work = record work { files = counted work.files }
+
+-- one signed text more was opened
+abbrev pub one_proof : Counts → Counts
+one_proof work = record work { proofs = counted work.proofs }
+
+-- one operation more was applied
+abbrev pub one_apply : Counts → Counts
+one_apply work = record work { applies = counted work.applies }
+
+-- at most this many files were read, and nothing else was counted
+pub record FilesAtMost (most : ℕ) (old new : Counts) : Type 0 where
+  pub files : new.files ≤ old.files + most
+  pub proofs : new.proofs ≡ old.proofs
+  pub applies : new.applies ≡ old.applies
+
+-- at most this many signed texts were opened
+pub record ProofsAtMost (most : ℕ) (old new : Counts) : Type 0 where
+  pub files : new.files ≡ old.files
+  pub proofs : new.proofs ≤ old.proofs + most
+  pub applies : new.applies ≡ old.applies
+
+-- at most this many operations were applied
+pub record AppliesAtMost (most : ℕ) (old new : Counts) : Type 0 where
+  pub files : new.files ≡ old.files
+  pub proofs : new.proofs ≡ old.proofs
+  pub applies : new.applies ≤ old.applies + most

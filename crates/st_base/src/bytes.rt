@@ -52,7 +52,7 @@ impl Bytes {
     }
 
     /// Appends these bytes.
-    pub fn push_all(&mut self, bytes: &[u8]) -> Result<(), WantOfMemory>
+    pub fn push_all(&mut self, _alloc: Global, bytes: &[u8]) -> Result<(), WantOfMemory>
         ensures ok { OnOk result (self.new ≡ self.old ++ bytes.now) }
         ensures err { OnErr result (self.new ≡ self.old) }
     {

@@ -37,14 +37,50 @@ impl Copied for u64 {
     }
 }
 
+impl Copied for u128 {
+    fn copy(&self, _alloc: Global) -> Result<u128, WantOfMemory> {
+        Ok(*self)
+    }
+}
+
 impl Copied for usize {
     fn copy(&self, _alloc: Global) -> Result<usize, WantOfMemory> {
         Ok(*self)
     }
 }
 
+impl Copied for i8 {
+    fn copy(&self, _alloc: Global) -> Result<i8, WantOfMemory> {
+        Ok(*self)
+    }
+}
+
+impl Copied for i16 {
+    fn copy(&self, _alloc: Global) -> Result<i16, WantOfMemory> {
+        Ok(*self)
+    }
+}
+
+impl Copied for i32 {
+    fn copy(&self, _alloc: Global) -> Result<i32, WantOfMemory> {
+        Ok(*self)
+    }
+}
+
 impl Copied for i64 {
     fn copy(&self, _alloc: Global) -> Result<i64, WantOfMemory> {
+        Ok(*self)
+    }
+}
+
+impl Copied for i128 {
+    fn copy(&self, _alloc: Global) -> Result<i128, WantOfMemory> {
+        Ok(*self)
+    }
+}
+
+impl Copied for isize {
+    fn copy(&self, _alloc: Global) -> Result<isize, WantOfMemory> {
         Ok(*self)
     }
 }
@@ -65,7 +101,7 @@ impl<T: Copied> Copied for List<T> {
     fn copy(&self, alloc: Global) -> Result<List<T>, WantOfMemory> {
         let mut copies = List::new(alloc);
         for item in self.as_slice() {
-            copies.push(item.copy(alloc)?)?;
+            copies.push(alloc, item.copy(alloc)?)?;
         }
         Ok(copies)
     }

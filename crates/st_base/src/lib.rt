@@ -1,5 +1,6 @@
 //! The plain values that every layer shares: lists, texts and bytes that contracts see as lists,
-//! the words and numbers that texts are cut into, want of memory, copies, and counters of work.
+//! the words and numbers that texts are cut into, want of memory and the refusals of files, copies,
+//! and counters of work.
 #![tactic(auto)]
 
 mod bytes;
@@ -7,6 +8,7 @@ mod copied;
 mod cut;
 mod list;
 mod number;
+mod refused;
 #[cfg(test)]
 mod tests;
 mod text;
@@ -18,6 +20,7 @@ pub use copied::Copied;
 pub use cut::cut_at;
 pub use list::List;
 pub use number::read_number;
+pub use refused::FileRefused;
 pub use text::Text;
 pub use want::WantOfMemory;
 pub use work::Work;

@@ -52,6 +52,32 @@ impl<T> List<T> {
         self.items.as_slice()
     }
 
+    ghost use Rattle.std.specs.Borrow.{sem};
+    ghost use Rattle.std.specs.Option.{option_copied, option_copied_mut};
+    ghost use Rattle.st_base.specs.Lends.{lends_item};
+
+    /// The item at this place, to be changed. `None` comes exactly where there is none.
+    pub fn get_mut(&mut self, at: usize) -> Option<&mut T>
+        ensures* writes_back { sem 𝓛 (lends_item T.row self.entry at result) }
+        ensures item { option_copied_mut result ≡ slice_get self.old at }
+    {
+        self.items.get_mut(at)
+    }
+
+    /// The item at this place. `None` comes exactly where there is none.
+    pub fn get(&self, at: usize) -> Option<&T>
+        ensures { option_copied result ≡ slice_get self.now at }
+    {
+        self.items.get(at)
+    }
+
+    /// How many items there are.
+    pub fn len(&self) -> usize
+        ensures { result ≡ length self.now }
+    {
+        self.items.len()
+    }
+
     /// Takes the item at this place out, and closes the list up.
     pub fn remove(&mut self, at: usize) -> T
         requires { at < length self.old }
@@ -64,7 +90,7 @@ impl<T> List<T> {
 
 impl<T: Drop> List<T> {
     /// Appends the item.
-    pub fn push(&mut self, item: T) -> Result<(), WantOfMemory>
+    pub fn push(&mut self, _alloc: Global, item: T) -> Result<(), WantOfMemory>
         ensures ok { OnOk result (self.new ≡ self.old ++ item ∷ []) }
         ensures err { OnErr result (self.new ≡ self.old) }
     {
@@ -73,7 +99,7 @@ impl<T: Drop> List<T> {
     }
 
     /// Puts the item before the one at this place, or last where the place is the length.
-    pub fn insert(&mut self, at: usize, item: T) -> Result<(), WantOfMemory>
+    pub fn insert(&mut self, _alloc: Global, at: usize, item: T) -> Result<(), WantOfMemory>
         requires { at ≤ length self.old }
         ensures ok { OnOk result (self.new ≡ insert self.old at item) }
         ensures err { OnErr result (self.new ≡ self.old) }

@@ -4,9 +4,9 @@ use std::test::Fail;
 #[test]
 fn a_list_is_edited_and_copied(rt: HostRuntime) -> Result<(), Fail> {
     let mut list: List<u64> = List::new(rt.alloc());
-    list.push(1)?;
-    list.push(3)?;
-    list.insert(1, 2)?;
+    list.push(rt.alloc(), 1)?;
+    list.push(rt.alloc(), 3)?;
+    list.insert(rt.alloc(), 1, 2)?;
     let copied = list.copy(rt.alloc())?;
     assert_eq!(rt; list.as_slice(), [1, 2, 3].as_slice());
     let first = list.remove(0);
@@ -22,7 +22,7 @@ fn a_list_is_edited_and_copied(rt: HostRuntime) -> Result<(), Fail> {
 #[test]
 fn bytes_grow_and_are_copied(rt: HostRuntime) -> Result<(), Fail> {
     let mut bytes = Bytes::from_slice(rt.alloc(), b"ab")?;
-    bytes.push_all(b"c")?;
+    bytes.push_all(rt.alloc(), b"c")?;
     let copied = bytes.copy(rt.alloc())?;
     assert_eq!(rt; copied.as_slice(), b"abc".as_slice());
     assert_eq!(rt;

@@ -1,5 +1,5 @@
 ghost use Rattle.std.specs.Prelude.{◌≡◌};
-ghost use Rattle.st_base.specs.Work.{Counts, no_work, counted};
+ghost use Rattle.st_base.specs.Work.{no_work, one_file, one_proof, one_apply};
 
 use std::marker::Model;
 
@@ -56,19 +56,19 @@ impl Work {
     }
 
     pub fn tick_files(&mut self)
-        ensures { self.new ≡ record self.old { files = counted self.old.files } }
+        ensures { self.new ≡ one_file self.old }
     {
         self.files = self.files.saturating_add(1);
     }
 
     pub fn tick_proofs(&mut self)
-        ensures { self.new ≡ record self.old { proofs = counted self.old.proofs } }
+        ensures { self.new ≡ one_proof self.old }
     {
         self.proofs = self.proofs.saturating_add(1);
     }
 
     pub fn tick_applies(&mut self)
-        ensures { self.new ≡ record self.old { applies = counted self.old.applies } }
+        ensures { self.new ≡ one_apply self.old }
     {
         self.applies = self.applies.saturating_add(1);
     }

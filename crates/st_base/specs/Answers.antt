@@ -1,0 +1,21 @@
+-- What a call answers: what its definition says, or the refusal that it says, or that memory was
+-- wanting, of which no definition speaks.
+use Rattle.std.specs.Prelude.{◌≡◌, Option, IfSome, Result, Ok, Err}
+
+-- the ? of definitions: the second step, where the first gave a value
+infixl 10 ◌>>=◌
+abbrev pub ◌>>=◌ : {A B E : Type 0} → Result A E → (A → Result B E) → Result B E
+Ok x >>= f = f x
+Err refusal >>= f = Err refusal
+
+-- The answer gives what is said: the value, seen by `view`, or the refusal that the error is. An
+-- error that is no refusal is want of memory, and may always come.
+abbrev pub GivesAs : {Found Value Error Refusal : Type 0} → (Found → Value) → (Error → Option Refusal)
+    → Result Value Refusal → Result Found Error → Type 0
+GivesAs view refusal_of says (Ok found) = says ≡ Ok (view found)
+GivesAs view refusal_of says (Err error) = IfSome (refusal_of error) (λ refusal. says ≡ Err refusal)
+
+-- the same of a value that definitions see as it is
+abbrev pub Gives : {Value Error Refusal : Type 0} → (Error → Option Refusal)
+    → Result Value Refusal → Result Value Error → Type 0
+Gives refusal_of says answer = GivesAs (λ found. found) refusal_of says answer
