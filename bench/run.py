@@ -1,14 +1,13 @@
 #!/usr/bin/env python3
 """Measures the built program and prints ratios, each of two times of this one run.
 
-usage: bench/run.py [--quick]
+usage: bench/run.py
 
-It builds small programs beside a copy of the repository's crates: one that only
-hashes, with the same kit crate, one that only reads and writes JSON, and one that only verifies
-and makes keys. The times are the best of three, but for the last program's of whole processes.
-Nothing here is part of the gate.
+It builds small programs beside a copy of the repository's crates: one that only decodes and
+hashes, with the same kit crates (content.py), one that only reads and writes JSON, and one that only
+verifies and makes keys. The times are the best of three or five, but for the last program's of whole
+processes. Nothing here is part of the gate.
 """
-import base64
 import hashlib
 import os
 import shutil
@@ -17,8 +16,11 @@ import sys
 import tempfile
 import time
 
+sys.dont_write_bytecode = True
+import content
+
 TOP = os.path.dirname(os.path.dirname(os.path.abspath(__file__)))
-PROGRAMS = {"hash_cost": "sha2", "json_cost": "st_base st_canon", "lms_cost": "st_base st_lms sha2 anyhow"}
+PROGRAMS = {"bare_cost": "base64 memchr sha2", "json_cost": "st_base st_canon", "lms_cost": "st_base st_lms sha2 anyhow"}
 
 
 def build(folder):
@@ -69,15 +71,6 @@ def peak(command, given):
             "print(resource.getrusage(resource.RUSAGE_CHILDREN).ru_maxrss//1024)")
     return int(subprocess.run([sys.executable, "-c", code, given, *command],
                               stdout=subprocess.PIPE).stdout)
-
-
-def content_lines(path, count, size):
-    """So many content lines of so many bytes each, all different."""
-    with open(path, "wb") as file:
-        filler = b"\0" * max(0, size - 8)
-        for n in range(count):
-            text = base64.urlsafe_b64encode(n.to_bytes(8, "big") + filler).rstrip(b"=")
-            file.write(b"content " + text + b"\n")
 
 
 def names(path, count):
@@ -133,20 +126,13 @@ def lms(program):
 
 
 def main():
-    quick = "--quick" in sys.argv[1:]
-    node = [os.path.join(TOP, "sidetree"), "node"]
-    subprocess.run(node, stdin=subprocess.DEVNULL, check=True)
+    # The launcher builds it, and is left out of what is measured.
+    subprocess.run([os.path.join(TOP, "sidetree"), "node"], stdin=subprocess.DEVNULL, check=True)
+    node = [os.path.join(TOP, "crates", "st_cli", "out", "st_cli"), "node"]
     with tempfile.TemporaryDirectory() as folder:
         paths = build(folder)
         given = os.path.join(folder, "given")
-        for count, size in ((1_000_000, 8), (20, 20_000_000)):
-            if quick:
-                count //= 10
-            content_lines(given, count, size)
-            ours = seconds(node, given)
-            raw = seconds([paths["hash_cost"], str(count), str(size)])
-            print("%d content lines of %d bytes: %.2f s, %.2f times the cost of hashing them (%.2f s), %d MiB for %d MiB of input"
-                  % (count, size, ours, ours / raw, raw, peak(node, given), os.path.getsize(given) >> 20), flush=True)
+        content.measure(node, [paths["bare_cost"]], given, peak)
         for what, make in (("an object of %d names, the worst order", names),
                            ("a list of %d numbers", lambda path, n: open(path, "w").write("[" + ",".join("7" for _ in range(n)) + "]"))):
             most = 800_000 if "names" in what else 5_000_000
