@@ -1,5 +1,5 @@
 -- Items and members that are converted one after another.
-use Rattle.std.proofs.Common.{◌≡◌, ℕ, ◌+◌, ◌<◌, List, [], ◌∷◌, ◌++◌, length, get_or, drop, map, String, Global, string_bytes, Option, Some, None, option_map, Result, Err, Less, Equal, refl, sym, ap, ◌∙◌, subst, arith, length-drop, append-nil, append_assoc, is_eq, true, false}
+use Rattle.std.proofs.Common.{◌≡◌, ℕ, ◌+◌, ◌<◌, List, [], ◌∷◌, ◌++◌, length, get_or, drop, map, String, Global, string_bytes, Option, Some, None, option_map, Result, Ok, Err, Less, Equal, refl, sym, ap, ◌∙◌, subst, arith, length-drop, append-nil, append_assoc, is_eq, true, false}
 use mathlib.Core.Bool.{true≢false}
 use Rattle.std.proofs.lemmas.List.{nil_from_length}
 use Rattle.std.specs.List.{AllByRecursion}
@@ -12,12 +12,14 @@ use Rattle.std.proofs.lemmas.Slice.Eq.{bytes_eq-Decides}
 use Rattle.std.proofs.lemmas.Str.{IsUtf8-string_bytes}
 use Rattle.serde_json.specs.View.{view, items_view, members_view}
 use Rattle.serde_json.specs.declared.value.Value.{Value}
+use Rattle.std.specs.Prelude.{ok_or}
+use Rattle.st_base.specs.Answers.{GivesAs}
 use Rattle.st_base.proofs.Lists.{next_item}
 use Rattle.st_canon.specs.Find.{put}
 use Rattle.st_canon.specs.InOrder.{in_order, AreApart, NamesDiffer}
 use Rattle.st_canon.specs.Names.{name_cmp}
 use Rattle.st_canon.specs.Plain.{Plain, Items, no_items, item, Members, no_members}
-use Rattle.st_canon.specs.Reading.{Converts, whole_value, whole_items, whole_members}
+use Rattle.st_canon.specs.Reading.{refusal_of, whole_value, whole_items, whole_members}
 use Rattle.st_canon.specs.View.{plain, items_of, plain_items, plain_members}
 use Rattle.st_canon.specs.declared.refused.ReadRefused.{ReadRefused}
 use Rattle.st_canon.specs.declared.refused.ReadRefused.TheVariants.{NotJson, NotWhole, WantOfMemory}
@@ -27,10 +29,22 @@ use Rattle.st_canon.proofs.Places.{plain_members-placed}
 
 -- ---- what is refused inside is refused as a whole
 
+-- the answer is what was read as JSON already, where each number in it is whole
+abbrev pub Converts : {A P : Type 0} → (A → P) → Option P → Result A ReadRefused → Type 0
+Converts view o r = GivesAs view refusal_of (ok_or o NotWhole) r
+
+not_whole_only : {P : Type 0} (o : Option P) (e : ReadRefused) → ok_or o NotWhole ≡ Err e → (o ≡ None) × (e ≡ NotWhole)
+not_whole_only None e h = (refl, cc)
+not_whole_only (Some p) e h = cc
+
+pub whole_from : {P : Type 0} (o : Option P) (p : P) → ok_or o NotWhole ≡ Ok p → o ≡ Some p
+whole_from None p h = cc
+whole_from (Some q) p h = cc
+
 refused_outside : {A B P Q : Type 0} (view : A → P) (outer : B → Q) (o : Option P) (all : Option Q) (e : ReadRefused)
     → Converts view o (Err e) → (o ≡ None → all ≡ None) → Converts outer all (Err e)
-refused_outside view outer o all NotJson h none = absurd h
-refused_outside view outer o all NotWhole h none = none h
+refused_outside view outer o all NotJson h none = let facts = not_whole_only o NotJson h in let other = facts.1 in cc
+refused_outside view outer o all NotWhole h none = ap (λ p. ok_or p NotWhole) (none (not_whole_only o NotWhole h).0)
 refused_outside view outer o all WantOfMemory h none = tt
 
 pub refused_also : {A B P Q : Type 0} (view : A → P) (outer : B → Q) (o : Option P) (all : Option Q) (e : ReadRefused) (r : Result B ReadRefused)

@@ -1,6 +1,8 @@
-ghost use Rattle.std.specs.Prelude.{◌≡◌};
+ghost use Rattle.std.specs.Prelude.{◌≡◌, ok_or};
 ghost use Rattle.serde_json.specs.View.{view, items_view, members_view, number_view};
-ghost use Rattle.st_canon.specs.Reading.{Converts, whole_value, whole_items, whole_members, whole_number};
+ghost use Rattle.st_base.specs.Answers.{GivesAs};
+ghost use Rattle.st_canon.specs.declared.refused.ReadRefused.TheVariants.{NotWhole};
+ghost use Rattle.st_canon.specs.Reading.{refusal_of, whole_value, whole_items, whole_members, whole_number};
 ghost use Rattle.st_canon.specs.View.{plain, plain_items, plain_members};
 
 use crate::members::Members;
@@ -14,7 +16,7 @@ use std::alloc::Global;
 // The value, where each number in it is whole.
 #[cycle(convert)]
 pub(crate) fn convert(alloc: Global, value: &Value) -> Result<Json, ReadRefused>
-    ensures { Converts plain (whole_value (view value.now)) result }
+    ensures { GivesAs plain refusal_of (ok_or (whole_value (view value.now)) NotWhole) result }
 {
     match value {
         Value::Null => Ok(Json::Null),
@@ -31,25 +33,25 @@ pub(crate) fn convert(alloc: Global, value: &Value) -> Result<Json, ReadRefused>
 
 #[cycle(convert)]
 fn convert_items(alloc: Global, items: &Vec<Value>) -> Result<List<Json>, ReadRefused>
-    ensures { Converts plain_items (whole_items (items_view items.now.items)) result }
+    ensures { GivesAs plain_items refusal_of (ok_or (whole_items (items_view items.now.items)) NotWhole) result }
 {
     let mut found = List::new(alloc);
     for item in items {
         let json = convert(alloc, item)?;
-        found.push(json)?;
+        found.push(alloc, json)?;
     }
     Ok(found)
 }
 
 #[cycle(convert)]
 fn convert_members(alloc: Global, members: &Map<String, Value>) -> Result<Object, ReadRefused>
-    ensures { Converts plain_members (whole_members (members_view members.now.entries)) result }
+    ensures { GivesAs plain_members refusal_of (ok_or (whole_members (members_view members.now.entries)) NotWhole) result }
 {
     let mut pairs = List::new(alloc);
     for (key, member) in members.iter() {
         let name = Text::from_text(alloc, key.as_str())?;
         let json = convert(alloc, member)?;
-        pairs.push((name, json))?;
+        pairs.push(alloc, (name, json))?;
     }
     Ok(Members::sorted(pairs.into_vec())?)
 }

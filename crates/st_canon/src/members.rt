@@ -47,6 +47,26 @@ impl<T> Members<T> {
         self.pairs.as_slice()
     }
 
+    ghost use Rattle.std.specs.Borrow.{sem};
+    ghost use Rattle.std.specs.Map.{lookup};
+    ghost use Rattle.std.specs.Option.{option_copied_mut};
+    ghost use Rattle.st_canon.specs.Lends.{lends_member};
+    ghost use Rattle.st_canon.specs.Names.{is_name};
+
+    /// The value of the member of this name, to be changed.
+    pub fn get_mut(&mut self, name: &str) -> Option<&mut T>
+        ensures* writes_back { sem 𝓛 (lends_member T.row self.entry name.now result) }
+        ensures value { option_copied_mut result ≡ lookup (is_name name.now) self.old }
+    {
+        match place_of(self.pairs.as_slice(), name) {
+            Ok(at) => {
+                let pair = &mut self.pairs[at];
+                Some(&mut pair.1)
+            }
+            Err(_) => None,
+        }
+    }
+
     // Takes pairs over that are in order already.
     pub(crate) fn from_pairs(pairs: Vec<(Text, T)>) -> Members<T>
         requires { NamesAscend pairs.items }

@@ -1,14 +1,17 @@
-ghost use Rattle.std.specs.Prelude.{◌≡◌, map, option_map, OnOk, OnErr};
+ghost use Rattle.std.specs.Prelude.{◌≡◌, Some, map, option_map, OnOk, OnErr};
 ghost use Rattle.std.specs.List.{list_any};
 ghost use Rattle.std.specs.Map.{lookup};
 ghost use Rattle.std.specs.Option.{option_copied};
 ghost use Rattle.st_canon.specs.Find.{has_only, member_at, put, without};
 ghost use Rattle.st_canon.specs.Names.{is_name};
-ghost use Rattle.st_canon.specs.View.{plain, plain_members};
+ghost use Rattle.st_canon.specs.Objects.{is_empty};
+ghost use Rattle.st_canon.specs.Plain.{object};
+ghost use Rattle.st_canon.specs.Shapes.{list_at, object_at, only_member, text_at};
+ghost use Rattle.st_canon.specs.View.{plain, plain_items, plain_members};
 
 use crate::place::place_of;
 use crate::value::{Json, Object};
-use st_base::{Text, WantOfMemory};
+use st_base::{List, Text, WantOfMemory};
 use std::alloc::Global;
 
 impl Object {
@@ -20,6 +23,45 @@ impl Object {
         match place_of(self.pairs.as_slice(), name) {
             Ok(at) => Some(&self.pairs[at].1),
             Err(_) => None,
+        }
+    }
+
+    /// Whether there is no member.
+    pub fn is_empty(&self) -> bool
+        ensures { result ≡ is_empty (plain_members self.now) }
+    {
+        self.pairs().is_empty()
+    }
+
+    /// The text that the member of this name is.
+    pub fn text(&self, name: &str) -> Option<&str>
+        ensures { option_map (λ text. text.now) result ≡ text_at name.now (Some (object (plain_members self.now))) }
+    {
+        self.get(name)?.as_text()
+    }
+
+    /// The list that the member of this name is.
+    pub fn list(&self, name: &str) -> Option<&List<Json>>
+        ensures { option_map (λ items. plain_items items.now) result ≡ list_at name.now (Some (object (plain_members self.now))) }
+    {
+        self.get(name)?.as_list()
+    }
+
+    /// The object that the member of this name is.
+    pub fn object(&self, name: &str) -> Option<&Object>
+        ensures { option_map (λ members. plain_members members.now) result ≡ object_at name.now (Some (object (plain_members self.now))) }
+    {
+        self.get(name)?.as_object()
+    }
+
+    /// The value of the member of this name, where there is no other member.
+    pub fn only(&self, name: &str) -> Option<&Json>
+        ensures { option_map plain (option_copied result) ≡ only_member name.now (Some (object (plain_members self.now))) }
+    {
+        if self.has_only(&[name]) {
+            self.get(name)
+        } else {
+            None
         }
     }
 
