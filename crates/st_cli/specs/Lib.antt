@@ -1,4 +1,4 @@
-pub mod Driven
+pub mod Form
+pub mod Node
 pub mod NodeLines
-pub mod Replies
 pub mod Status

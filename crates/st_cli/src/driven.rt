@@ -1,12 +1,13 @@
-ghost use Rattle.std.specs.Prelude.{◌≡◌, ◌≤◌, ◌<◌, ◌^◌, true, IsTrue, IfOk, vec_len};
+ghost use Rattle.std.specs.Prelude.{◌≡◌, ◌≢◌, ◌<◌, ◌^◌, true, IsTrue, IfOk, vec_len};
 ghost use Rattle.st_io.specs.Causes.{Rose};
-ghost use Rattle.st_drive.specs.Lines.{all_lines, whole_lines};
-ghost use Rattle.st_cli.specs.Driven.{WentOver};
+ghost use Rattle.st_io.specs.Sinks.{FinishesNothing};
+ghost use Rattle.st_drive.specs.Runs.{RanOver, GaveUpOver};
 ghost use Rattle.st_cli.specs.Status.{StatusTable, is_end, status_of};
 
+use st_base::WantOfMemory;
 use st_drive::{Machine, Stop, drive};
 use st_io::{Sink, Source};
-use std::alloc::{AllocError, Global};
+use std::alloc::Global;
 
 // How many bytes one read may give.
 const PIECE: usize = 65_536;
@@ -22,14 +23,17 @@ pub fn run_machine<M: Machine, S: Source, K: Sink>(
 ) -> u8
     requires limit { limit < 2 ^ 62 }
     requires fits { M.fits machine context.old }
-    ensures table { StatusTable (λ bytes. M.answers machine (all_lines bytes)) (λ bytes. M.answers machine (whole_lines bytes)) limit
+    ensures table { StatusTable (M.meaning.answers machine)
+        (RanOver M.meaning machine context.old context.new)
+        (GaveUpOver M.meaning machine context.old context.new) limit
         (S.left source.old) (S.left source.new) (K.written sink.old) (K.written sink.new) result }
     ensures finished { result ≡ 0 → K.is_finished sink.new ≡ true }
+    ensures unfinished { result ≢ 0
+        → FinishesNothing (K.is_finished sink.old) (K.is_finished sink.new) }
     ensures read_fault { result ≡ 2 → Rose (S.faults source.old) (S.faults source.new) }
     ensures write_fault { result ≡ 3 → Rose (K.faults sink.old) (K.faults sink.new) }
     ensures device_fault { result ≡ 4 → Rose (M.faults context.old) (M.faults context.new) }
     ensures statuses { IsTrue (is_end result) }
-    ensures context { WentOver M.ran M.gave_up machine context.old context.new }
 {
     match new_buffer(alloc) {
         Ok(mut buffer) => status(drive(
@@ -45,10 +49,11 @@ pub fn run_machine<M: Machine, S: Source, K: Sink>(
     }
 }
 
-fn new_buffer(alloc: Global) -> Result<Vec<u8>, AllocError>
+fn new_buffer(alloc: Global) -> Result<Vec<u8>, WantOfMemory>
     ensures { IfOk result (λ buffer. 0 < vec_len buffer) }
 {
-    vec![in alloc; 0u8; PIECE]
+    let buffer = vec![in alloc; 0u8; PIECE]?;
+    Ok(buffer)
 }
 
 // The status of a run that ended so.
@@ -62,6 +67,6 @@ fn status(ending: Result<(), Stop>) -> u8
         Err(Stop::WriteFault) => 3,
         Err(Stop::DeviceFault) => 4,
         Err(Stop::OverLimit) => 5,
-        Err(Stop::Memory) => 6,
+        Err(Stop::WantOfMemory) => 6,
     }
 }

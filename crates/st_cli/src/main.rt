@@ -3,6 +3,7 @@
 #![tactic(auto)]
 
 mod driven;
+mod form;
 mod node_lines;
 #[cfg(test)]
 mod plain;

@@ -1,8 +1,6 @@
-ghost use Rattle.std.specs.Prelude.{◌≡◌, ⊤, refl};
-ghost use Rattle.st_node.specs.Machine.{State, replies};
-ghost use Rattle.std.proofs.Common.{rules};
-ghost use Rattle.st_drive.specs.Uncut.{no_cap, uncut_answers};
-ghost use Rattle.st_cli.specs.NodeLines.{KeepsWork, LeavesWork, keeps_more, leaves_more};
+ghost use Rattle.std.specs.Prelude.{◌≡◌, ⊤};
+ghost use Rattle.st_drive.specs.Uncut.{no_cap};
+ghost use Rattle.st_cli.specs.NodeLines.{node_meaning, node_laws};
 
 use st_base::{Bytes, Work};
 use st_drive::{Machine, StepError};
@@ -10,7 +8,7 @@ use st_node::Node;
 use std::alloc::Global;
 use std::marker::Model;
 
-/// A node that is driven by lines. It looks at all of a line, and leaves the counters of work.
+/// A node that is driven by lines. It looks at all of a line.
 #[derive(Drop)]
 pub struct NodeLines {
     node: Node,
@@ -36,17 +34,13 @@ impl NodeLines {
 impl Machine for NodeLines {
     type Context = Work;
 
-    ghost answers = { replies };
+    ghost meaning = { node_meaning };
 
     ghost CAP = { no_cap };
 
     const CAP: usize = usize::MAX;
 
     ghost fits = { λ _ _. ⊤ };
-
-    ghost ran = { KeepsWork };
-
-    ghost gave_up = { LeavesWork };
 
     ghost faults = { λ _. 0 };
 
@@ -58,23 +52,9 @@ impl Machine for NodeLines {
     ) -> Result<(NodeLines, Bytes), StepError> {
         match self.node.answer(alloc, line, context) {
             Ok((node, reply)) => Ok((NodeLines { node }, reply)),
-            Err(_) => Err(StepError::Memory),
+            Err(want) => Err(StepError::from(want)),
         }
     }
 
-    ghost silent = { λ _. refl };
-
-    ghost positive = { Prim.search rules };
-
-    ghost cut_answers = { uncut_answers replies };
-
-    ghost cut_ran = { λ _ _ _ _ _ _ kept. kept };
-
-    ghost cut_gave_up = { λ _ _ _ _ _ left. left };
-
-    ghost ran_none = { λ _ _. refl };
-
-    ghost ran_more = { keeps_more };
-
-    ghost gave_up_more = { leaves_more };
+    ghost laws = { node_laws };
 }

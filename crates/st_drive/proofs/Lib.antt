@@ -1,6 +1,5 @@
 pub mod LineLemmas
 pub mod CutLemmas
-pub mod Laws
 pub mod RunLemmas
 pub mod ReplyLemmas
 pub mod Fed

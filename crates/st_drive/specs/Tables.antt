@@ -3,7 +3,7 @@ use Rattle.std.specs.Prelude.{◌≡◌, ℕ, ◌+◌, ◌≤◌, List, ◌++◌
 use Rattle.std.specs.declared.option.Option.{Option}
 use Rattle.std.specs.Io.KnownBytes.{Consumes, Appends, IsAtEnd}
 use Rattle.st_drive.specs.declared.stop.Stop.{Stop}
-use Rattle.st_drive.specs.declared.stop.Stop.TheVariants.{ReadFault, WriteFault, DeviceFault, OverLimit, Memory}
+use Rattle.st_drive.specs.declared.stop.Stop.TheVariants.{ReadFault, WriteFault, DeviceFault, OverLimit, WantOfMemory}
 use Rattle.st_drive.specs.Lines.{all_lines, whole_lines}
 use Rattle.st_drive.specs.Runs.{Begins, EndsWithin}
 
@@ -42,7 +42,7 @@ Row answers ran_over gave_up_over limit left taken written (Err OverLimit) =
     (length taken ≡ limit + 1) × Answered answers ran_over written (whole_lines (take limit taken))
 Row answers ran_over gave_up_over limit left taken written (Err DeviceFault) =
     (length taken ≤ limit + 1) × EndsEarly answers ran_over gave_up_over left taken written
-Row answers ran_over gave_up_over limit left taken written (Err Memory) =
+Row answers ran_over gave_up_over limit left taken written (Err WantOfMemory) =
     (length taken ≤ limit + 1) × EndsEarly answers ran_over gave_up_over left taken written
 
 -- from a source that had `had` and has `left`, to a sink that held `held` and holds `holds`

@@ -1,6 +1,7 @@
 ghost use Rattle.std.specs.Prelude.{◌≡◌, ◌≤◌, ◌<◌, ◌^◌, List, ℕ, take, length, vec_len, true, IfOk, OnOk, OnErr, IfErr};
 ghost use Rattle.std.specs.Io.KnownBytes.{Appends, Consumes, Keeps, IsAtEnd};
 ghost use Rattle.st_io.specs.Causes.{Rose, HasCause};
+ghost use Rattle.st_io.specs.Sinks.{FinishesNothing};
 ghost use Rattle.st_drive.specs.Lines.{last_line, has_no_feed};
 ghost use Rattle.st_drive.specs.Runs.{RanOver, GaveUpOver, GoesOverCut, StopsOverCut};
 ghost use Rattle.st_drive.specs.Stops.{IsRunStop, IsAnswerStop};
@@ -40,14 +41,14 @@ fn answer_last<M: Machine, K: Sink>(
     requires partial { has_no_feed progress.line.items ≡ true }
     requires fits { M.fits progress.machine context.old }
     ensures ok { IfOk result (λ next. (written : List ℕ)
-        × GoesOverCut M.answers M.ran M.CAP
+        × GoesOverCut M.meaning M.CAP
         progress.machine context.old (last_line progress.line.items) written next context.new
         × Appends (K.written sink.old) (K.written sink.new) written) }
     ensures err { OnErr result ((written : List ℕ)
-        × StopsOverCut M.answers M.ran M.gave_up M.CAP
+        × StopsOverCut M.meaning M.CAP
         progress.machine context.old (last_line progress.line.items) written context.new
         × Appends (K.written sink.old) (K.written sink.new) written) }
-    ensures unfinished { K.is_finished sink.new ≡ true → K.is_finished sink.old ≡ true }
+    ensures unfinished { FinishesNothing (K.is_finished sink.old) (K.is_finished sink.new) }
     ensures later { K.faults sink.old ≤ K.faults sink.new }
     ensures context_later { M.faults context.old ≤ M.faults context.new }
     ensures cause { IfErr result (IsAnswerStop (Rose (K.faults sink.old) (K.faults sink.new))
@@ -74,16 +75,16 @@ fn end_run<M: Machine, K: Sink>(
     requires partial { has_no_feed progress.line.items ≡ true }
     requires fits { M.fits progress.machine context.old }
     ensures ok { OnOk result ((written : List ℕ) × (next : _)
-        × GoesOverCut M.answers M.ran M.CAP
+        × GoesOverCut M.meaning M.CAP
         progress.machine context.old (last_line progress.line.items) written next context.new
         × Appends (K.written sink.old) (K.written sink.new) written) }
     ensures finished { OnOk result (K.is_finished sink.new ≡ true) }
     ensures err { OnErr result ((written : List ℕ)
-        × StopsOverCut M.answers M.ran M.gave_up M.CAP
+        × StopsOverCut M.meaning M.CAP
         progress.machine context.old (last_line progress.line.items) written context.new
         × Appends (K.written sink.old) (K.written sink.new) written) }
     ensures unfinished { OnErr result
-        (K.is_finished sink.new ≡ true → K.is_finished sink.old ≡ true) }
+        (FinishesNothing (K.is_finished sink.old) (K.is_finished sink.new)) }
     ensures later { K.faults sink.old ≤ K.faults sink.new }
     ensures context_later { M.faults context.old ≤ M.faults context.new }
     ensures cause { IfErr result (IsAnswerStop (Rose (K.faults sink.old) (K.faults sink.new))
@@ -110,7 +111,7 @@ fn end_run<M: Machine, K: Sink>(
 /// where the count of faults of the source, the sink or the context rose. `OverLimit` comes exactly
 /// where `limit` bytes were taken and the source gave one more, unless a fault or want of memory
 /// ended the run; that byte isn't answered. Under `ReadFault` and `OverLimit` every whole line is
-/// answered and the replies are written; under `WriteFault`, `DeviceFault` and `Memory` a beginning
+/// answered and the replies are written; under `WriteFault`, `DeviceFault` and `WantOfMemory` a beginning
 /// of the replies is. Want of memory is free.
 pub fn drive<M: Machine, S: Source, K: Sink>(
     alloc: Global,
@@ -124,13 +125,13 @@ pub fn drive<M: Machine, S: Source, K: Sink>(
     requires some { 0 < length buffer.old }
     requires fits { M.fits machine context.old }
     requires limit { limit < 2 ^ 62 }
-    ensures table { Table (M.answers machine)
-        (RanOver M.ran machine context.old context.new)
-        (GaveUpOver M.gave_up machine context.old context.new) limit
+    ensures table { Table (M.meaning.answers machine)
+        (RanOver M.meaning machine context.old context.new)
+        (GaveUpOver M.meaning machine context.old context.new) limit
         (S.left source.old) (S.left source.new) (K.written sink.old) (K.written sink.new) result }
     ensures finished { OnOk result (K.is_finished sink.new ≡ true) }
     ensures unfinished { OnErr result
-        (K.is_finished sink.new ≡ true → K.is_finished sink.old ≡ true) }
+        (FinishesNothing (K.is_finished sink.old) (K.is_finished sink.new)) }
     ensures source_later { S.faults source.old ≤ S.faults source.new }
     ensures sink_later { K.faults sink.old ≤ K.faults sink.new }
     ensures context_later { M.faults context.old ≤ M.faults context.new }

@@ -17,6 +17,13 @@ pub fn cut_line(bytes: &[u8]) -> Option<(&[u8], &[u8])>
     }
 }
 
+// The first `cap` bytes of a line.
+pub fn cut_front(cap: usize, line: &[u8]) -> &[u8]
+    ensures { result.now ≡ take cap line.now }
+{
+    &line[..line.len().min(cap)]
+}
+
 // Adds as much of `front` to the line as there is room for below `cap` bytes.
 pub fn keep_front(cap: usize, line: &mut Vec<u8>, front: &[u8]) -> Result<(), WantOfMemory>
     requires { vec_len line.old ≤ cap }

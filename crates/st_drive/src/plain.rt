@@ -18,17 +18,17 @@ fn answer_next<M: Machine>(
 ) -> Result<M, StepError>
     requires { M.fits machine context.old }
     ensures reply { IfOk result (λ next. (more : List (List ℕ))
-        → replies.old ++ M.answers machine (line.now ∷ more) ≡ replies.new ++ M.answers next more) }
-    ensures ran { IfOk result (λ next. M.ran machine context.old (line.now ∷ []) next context.new) }
+        → replies.old ++ M.meaning.answers machine (line.now ∷ more) ≡ replies.new ++ M.meaning.answers next more) }
+    ensures ran { IfOk result (λ next. M.meaning.ran machine context.old (line.now ∷ []) next context.new) }
     ensures fits { IfOk result (λ next. M.fits next context.new) }
     ensures later { M.faults context.old ≤ M.faults context.new }
     ensures cause { IsErrOf result StepError.DeviceFault
         → Rose (M.faults context.old) (M.faults context.new) }
 {
     let (next, reply) = machine.step(alloc, context, line)?;
-    match replies.push_all(reply.as_slice()) {
+    match replies.push_all(alloc, reply.as_slice()) {
         Ok(()) => Ok(next),
-        Err(_) => Err(StepError::Memory),
+        Err(_) => Err(StepError::WantOfMemory),
     }
 }
 
@@ -42,8 +42,8 @@ fn answer_rest<M: Machine>(
 ) -> Result<(), StepError>
     requires { M.fits machine context.old }
     ensures replies { OnOk result (replies.new ≡ replies.old ++
-        M.answers machine (last_line rest.now)) }
-    ensures ran { OnOk result (RanOver M.ran machine context.old context.new (last_line rest.now)) }
+        M.meaning.answers machine (last_line rest.now)) }
+    ensures ran { OnOk result (RanOver M.meaning machine context.old context.new (last_line rest.now)) }
     ensures later { M.faults context.old ≤ M.faults context.new }
     ensures cause { IsErrOf result StepError.DeviceFault
         → Rose (M.faults context.old) (M.faults context.new) }
@@ -68,9 +68,9 @@ pub fn answer_all<M: Machine>(
     bytes: &[u8],
 ) -> Result<Bytes, StepError>
     requires { M.fits machine context.old }
-    ensures replies { IfOk result (λ replies. replies ≡ M.answers machine (all_lines bytes.now)) }
+    ensures replies { IfOk result (λ replies. replies ≡ M.meaning.answers machine (all_lines bytes.now)) }
     ensures ran { IfOk result (λ _.
-        RanOver M.ran machine context.old context.new (all_lines bytes.now)) }
+        RanOver M.meaning machine context.old context.new (all_lines bytes.now)) }
     ensures later { M.faults context.old ≤ M.faults context.new }
     ensures cause { IsErrOf result StepError.DeviceFault
         → Rose (M.faults context.old) (M.faults context.new) }

@@ -1,11 +1,12 @@
 ghost use Rattle.std.specs.Prelude.{◌≡◌, ◌≤◌, ℕ, List, [], ◌∷◌, ◌++◌, take, vec_len, true, IfOk, IfErr, OnOk, OnErr};
 ghost use Rattle.std.specs.Io.KnownBytes.{Appends};
 ghost use Rattle.st_io.specs.Causes.{Rose};
+ghost use Rattle.st_io.specs.Sinks.{FinishesNothing};
 ghost use Rattle.st_drive.specs.Lines.{capped, has_no_feed};
 ghost use Rattle.st_drive.specs.Runs.{GoesOverCut, StopsOverCut, Passes, PassesSome};
 ghost use Rattle.st_drive.specs.Stops.{IsAnswerStop};
 
-use crate::lines::{cut_line, keep_front};
+use crate::lines::{cut_front, cut_line, keep_front};
 use crate::machine::{Machine, StepError};
 use crate::replies::{gather, write_gathered};
 use crate::stop::Stop;
@@ -23,22 +24,22 @@ fn answer_line<M: Machine, K: Sink>(
 ) -> Result<M, Stop>
     requires { M.fits machine context.old }
     ensures fits { IfOk result (λ next. M.fits next context.new) }
-    ensures ok { IfOk result (λ next. (reply : List ℕ) × GoesOverCut M.answers M.ran M.CAP
+    ensures ok { IfOk result (λ next. (reply : List ℕ) × GoesOverCut M.meaning M.CAP
         machine context.old (line.now ∷ []) reply next context.new
         × Passes (K.written sink.old) (K.written sink.new)
         gathered.old.items reply gathered.new.items) }
-    ensures err { OnErr result ((reply : List ℕ) × StopsOverCut M.answers M.ran M.gave_up M.CAP
+    ensures err { OnErr result ((reply : List ℕ) × StopsOverCut M.meaning M.CAP
         machine context.old (line.now ∷ []) reply context.new
         × PassesSome (K.written sink.old) (K.written sink.new)
         gathered.old.items reply gathered.new.items) }
-    ensures unfinished { K.is_finished sink.new ≡ true → K.is_finished sink.old ≡ true }
+    ensures unfinished { FinishesNothing (K.is_finished sink.old) (K.is_finished sink.new) }
     ensures later { K.faults sink.old ≤ K.faults sink.new }
     ensures context_later { M.faults context.old ≤ M.faults context.new }
     ensures cause { IfErr result (IsAnswerStop (Rose (K.faults sink.old) (K.faults sink.new))
         (Rose (M.faults context.old) (M.faults context.new))) }
 {
     match machine.step(alloc, context, line) {
-        Err(StepError::Memory) => Err(Stop::Memory),
+        Err(StepError::WantOfMemory) => Err(Stop::WantOfMemory),
         Err(StepError::DeviceFault) => Err(Stop::DeviceFault),
         Ok((next, reply)) => match gather(sink, gathered, reply) {
             Err(stop) => Err(stop),
@@ -60,23 +61,28 @@ fn end_line<M: Machine, K: Sink>(
     requires cap { vec_len line.old ≤ M.CAP }
     requires fits { M.fits machine context.old }
     ensures fits { IfOk result (λ next. M.fits next context.new) }
-    ensures ok { IfOk result (λ next. (reply : List ℕ) × GoesOverCut M.answers M.ran M.CAP
+    ensures ok { IfOk result (λ next. (reply : List ℕ) × GoesOverCut M.meaning M.CAP
         machine context.old (take M.CAP (line.old.items ++ front.now) ∷ []) reply next context.new
         × Passes (K.written sink.old) (K.written sink.new)
         gathered.old.items reply gathered.new.items) }
     ensures emptied { OnOk result (line.new.items ≡ []) }
-    ensures err { OnErr result ((reply : List ℕ) × StopsOverCut M.answers M.ran M.gave_up M.CAP
+    ensures err { OnErr result ((reply : List ℕ) × StopsOverCut M.meaning M.CAP
         machine context.old (take M.CAP (line.old.items ++ front.now) ∷ []) reply context.new
         × PassesSome (K.written sink.old) (K.written sink.new)
         gathered.old.items reply gathered.new.items) }
-    ensures unfinished { K.is_finished sink.new ≡ true → K.is_finished sink.old ≡ true }
+    ensures unfinished { FinishesNothing (K.is_finished sink.old) (K.is_finished sink.new) }
     ensures later { K.faults sink.old ≤ K.faults sink.new }
     ensures context_later { M.faults context.old ≤ M.faults context.new }
     ensures cause { IfErr result (IsAnswerStop (Rose (K.faults sink.old) (K.faults sink.new))
         (Rose (M.faults context.old) (M.faults context.new))) }
 {
+    if line.is_empty() {
+        // The line stands whole in the piece, so it isn't copied.
+        let front = cut_front(M::CAP, front);
+        return answer_line(alloc, machine, context, sink, gathered, front);
+    }
     if keep_front(M::CAP, line, front).is_err() {
-        return Err(Stop::Memory);
+        return Err(Stop::WantOfMemory);
     }
     let next = answer_line(alloc, machine, context, sink, gathered, line)?;
     line.clear();
@@ -106,7 +112,7 @@ impl<M: Machine> Progress<M> {
         requires empty { gathered.old.items ≡ [] }
         ensures fits { IfOk result (λ next. M.fits next.machine context.new) }
         ensures ok { IfOk result (λ next. (written : List ℕ)
-            × GoesOverCut M.answers M.ran M.CAP
+            × GoesOverCut M.meaning M.CAP
             self.machine context.old (capped M.CAP (self.line.items ++ piece.now)).0
             (written ++ gathered.new.items) next.machine context.new
             × Appends (K.written sink.old) (K.written sink.new) written) }
@@ -114,11 +120,11 @@ impl<M: Machine> Progress<M> {
         ensures line { IfOk result (λ next. next.line.items
             ≡ (capped M.CAP (self.line.items ++ piece.now)).1) }
         ensures err { OnErr result ((written : List ℕ)
-            × StopsOverCut M.answers M.ran M.gave_up M.CAP
+            × StopsOverCut M.meaning M.CAP
             self.machine context.old (capped M.CAP (self.line.items ++ piece.now)).0
             (written ++ gathered.new.items) context.new
             × Appends (K.written sink.old) (K.written sink.new) written) }
-        ensures unfinished { K.is_finished sink.new ≡ true → K.is_finished sink.old ≡ true }
+        ensures unfinished { FinishesNothing (K.is_finished sink.old) (K.is_finished sink.new) }
         ensures later { K.faults sink.old ≤ K.faults sink.new }
         ensures context_later { M.faults context.old ≤ M.faults context.new }
         ensures cause { IfErr result (IsAnswerStop (Rose (K.faults sink.old) (K.faults sink.new))
@@ -134,7 +140,7 @@ impl<M: Machine> Progress<M> {
             rest = after;
         }
         if keep_front(M::CAP, &mut line, rest).is_err() {
-            return Err(Stop::Memory);
+            return Err(Stop::WantOfMemory);
         }
         Ok(Progress { machine, line })
     }
@@ -153,7 +159,7 @@ impl<M: Machine> Progress<M> {
         requires fits { M.fits self.machine context.old }
         ensures fits { IfOk result (λ next. M.fits next.machine context.new) }
         ensures ok { IfOk result (λ next. (written : List ℕ)
-            × GoesOverCut M.answers M.ran M.CAP
+            × GoesOverCut M.meaning M.CAP
             self.machine context.old (capped M.CAP (self.line.items ++ piece.now)).0
             written next.machine context.new
             × Appends (K.written sink.old) (K.written sink.new) written) }
@@ -161,11 +167,11 @@ impl<M: Machine> Progress<M> {
         ensures line { IfOk result (λ next. next.line.items
             ≡ (capped M.CAP (self.line.items ++ piece.now)).1) }
         ensures err { OnErr result ((written : List ℕ)
-            × StopsOverCut M.answers M.ran M.gave_up M.CAP
+            × StopsOverCut M.meaning M.CAP
             self.machine context.old (capped M.CAP (self.line.items ++ piece.now)).0
             written context.new
             × Appends (K.written sink.old) (K.written sink.new) written) }
-        ensures unfinished { K.is_finished sink.new ≡ true → K.is_finished sink.old ≡ true }
+        ensures unfinished { FinishesNothing (K.is_finished sink.old) (K.is_finished sink.new) }
         ensures later { K.faults sink.old ≤ K.faults sink.new }
         ensures context_later { M.faults context.old ≤ M.faults context.new }
         ensures cause { IfErr result (IsAnswerStop (Rose (K.faults sink.old) (K.faults sink.new))

@@ -2,6 +2,7 @@
 ghost use Rattle.std.specs.Prelude.{◌≡◌, ◌≤◌, ◌++◌, ℕ, List, [], true, OnOk, OnErr, IfErr};
 ghost use Rattle.std.specs.Io.KnownBytes.{Appends};
 ghost use Rattle.st_io.specs.Causes.{HasCause, Rose};
+ghost use Rattle.st_io.specs.Sinks.{FinishesNothing};
 ghost use Rattle.st_drive.specs.Runs.{Begins, Passes, PassesSome};
 ghost use Rattle.st_drive.specs.Stops.{IsAnswerStop};
 
@@ -17,7 +18,7 @@ pub fn write_all<K: Sink>(sink: &mut K, bytes: &[u8]) -> Result<(), Failed>
     ensures ok { OnOk result (Appends (K.written sink.old) (K.written sink.new) bytes.now) }
     ensures err { OnErr result ((part : List ℕ) × Begins part bytes.now
         × Appends (K.written sink.old) (K.written sink.new) part) }
-    ensures unfinished { K.is_finished sink.new ≡ true → K.is_finished sink.old ≡ true }
+    ensures unfinished { FinishesNothing (K.is_finished sink.old) (K.is_finished sink.new) }
     ensures cause { HasCause (K.faults sink.old) (K.faults sink.new) result }
 {
     let mut rest = bytes;
@@ -35,7 +36,7 @@ pub fn write_gathered<K: Sink>(sink: &mut K, gathered: &mut Vec<u8>) -> Result<(
         (Appends (K.written sink.old) (K.written sink.new) gathered.old.items) }
     ensures err { OnErr result ((part : List ℕ) × Begins part gathered.old.items
         × Appends (K.written sink.old) (K.written sink.new) part) }
-    ensures unfinished { K.is_finished sink.new ≡ true → K.is_finished sink.old ≡ true }
+    ensures unfinished { FinishesNothing (K.is_finished sink.old) (K.is_finished sink.new) }
     ensures cause { HasCause (K.faults sink.old) (K.faults sink.new) result }
 {
     let result = write_all(sink, gathered);
@@ -47,7 +48,7 @@ pub fn write_gathered<K: Sink>(sink: &mut K, gathered: &mut Vec<u8>) -> Result<(
 fn add_reply(gathered: &mut Vec<u8>, reply: Bytes) -> Result<(), Stop>
     ensures ok { OnOk result (gathered.new.items ≡ gathered.old.items ++ reply) }
     ensures err { OnErr result (gathered.new.items ≡ gathered.old.items) }
-    ensures memory { IfErr result (λ stop. stop ≡ Stop.Memory) }
+    ensures memory { IfErr result (λ stop. stop ≡ Stop.WantOfMemory) }
 {
     if gathered.is_empty() {
         *gathered = reply.into_vec();
@@ -55,7 +56,7 @@ fn add_reply(gathered: &mut Vec<u8>, reply: Bytes) -> Result<(), Stop>
     }
     match gathered.extend_from_slice(reply.as_slice()) {
         Ok(()) => Ok(()),
-        Err(_) => Err(Stop::Memory),
+        Err(_) => Err(Stop::WantOfMemory),
     }
 }
 
@@ -65,7 +66,7 @@ pub fn gather<K: Sink>(sink: &mut K, gathered: &mut Vec<u8>, reply: Bytes) -> Re
         gathered.old.items reply gathered.new.items) }
     ensures err { OnErr result (PassesSome (K.written sink.old) (K.written sink.new)
         gathered.old.items reply gathered.new.items) }
-    ensures unfinished { K.is_finished sink.new ≡ true → K.is_finished sink.old ≡ true }
+    ensures unfinished { FinishesNothing (K.is_finished sink.old) (K.is_finished sink.new) }
     ensures later { K.faults sink.old ≤ K.faults sink.new }
     ensures cause { IfErr result (IsAnswerStop (Rose (K.faults sink.old) (K.faults sink.new)) ⊥) }
 {

@@ -31,7 +31,7 @@ struct Script {
 
 fn one(alloc: Global, number: u64) -> Result<List<u64>, WantOfMemory> {
     let mut list = List::new(alloc);
-    list.push(number)?;
+    list.push(alloc, number)?;
     Ok(list)
 }
 

@@ -8,6 +8,7 @@ use std::alloc::Global;
 /// A sink in memory. It takes all that it is given, and fails only where its growth is refused.
 #[derive(Drop)]
 pub struct PlainSink {
+    alloc: Global,
     bytes: Bytes,
     finished: bool,
     faults: u64,
@@ -21,6 +22,7 @@ impl PlainSink {
         ensures faults { ⟦<PlainSink as Sink>⟧.faults result ≡ 0 }
     {
         PlainSink {
+            alloc,
             bytes: Bytes::new(alloc),
             finished: false,
             faults: 0,
@@ -43,7 +45,7 @@ impl Sink for PlainSink {
     ghost faults = { λ s. s.faults };
 
     fn write(&mut self, from: &[u8]) -> Result<usize, Failed> {
-        if self.bytes.push_all(from).is_err() {
+        if self.bytes.push_all(self.alloc, from).is_err() {
             self.faults = self.faults.saturating_add(1);
             return Err(Failed);
         }

@@ -14,6 +14,7 @@ use std::marker::Model;
 /// A sink in memory that takes small pieces and fails at listed calls.
 #[derive(Drop)]
 pub struct ScriptSink {
+    alloc: Global,
     bytes: Bytes,
     piece: usize,
     failing: List<u64>,
@@ -42,6 +43,7 @@ impl ScriptSink {
         ensures { result ≡ record { written = []; piece = piece; failing = failing; calls = 0; finished = false; faults = 0 } }
     {
         ScriptSink {
+            alloc,
             bytes: Bytes::new(alloc),
             piece,
             failing,
@@ -79,7 +81,7 @@ impl Sink for ScriptSink {
         self.calls = self.calls.saturating_add(1);
         let count = from.len().min(self.piece);
         if self.failing.as_slice().contains(&self.calls)
-            || self.bytes.push_all(&from[..count]).is_err()
+            || self.bytes.push_all(self.alloc, &from[..count]).is_err()
         {
             self.faults = self.faults.saturating_add(1);
             return Err(Failed);

@@ -8,7 +8,7 @@ use std::test::Fail;
 fn numbers(alloc: Global, listed: &[u64]) -> Result<List<u64>, WantOfMemory> {
     let mut list = List::new(alloc);
     for number in listed {
-        list.push(*number)?;
+        list.push(alloc, *number)?;
     }
     Ok(list)
 }

@@ -1,8 +1,7 @@
 // The machines of the tests.
-ghost use Rattle.std.specs.Prelude.{◌≡◌, ◌+◌, ◌%◌, ◌<◌, ◌++◌, [], ◌∷◌, refl, take, ⊤, IfOk};
-ghost use Rattle.std.proofs.Common.{rules};
-ghost use Rattle.st_drive.specs.Numbered.{numbered, numbered_reply, numbered_cut, Spends, SpendsLess, spends_none, spends_more, spends_less_more, spends_cut, spends_less_cut, echoed};
-ghost use Rattle.st_drive.specs.Uncut.{no_cap, uncut_answers};
+ghost use Rattle.std.specs.Prelude.{◌≡◌, ◌+◌, ◌%◌, ◌<◌, ◌++◌, [], ◌∷◌, take, ⊤, IfOk};
+ghost use Rattle.st_drive.specs.Numbered.{numbered_reply, numbered_meaning, numbered_laws, echo_meaning, echo_laws};
+ghost use Rattle.st_drive.specs.Uncut.{no_cap};
 
 use crate::machine::{Machine, StepError};
 use st_base::{Bytes, WantOfMemory};
@@ -69,8 +68,8 @@ impl Numbered {
         ensures { IfOk result (λ reply. reply ≡ numbered_reply self.now line.now) }
     {
         let mut reply = Bytes::from_slice(alloc, &[b'0' + self.digit])?;
-        reply.push_all(&line[..line.len().min(4)])?;
-        reply.push_all(b"\n")?;
+        reply.push_all(alloc, &line[..line.len().min(4)])?;
+        reply.push_all(alloc, b"\n")?;
         Ok(reply)
     }
 }
@@ -78,17 +77,13 @@ impl Numbered {
 impl Machine for Numbered {
     type Context = Allowance;
 
-    ghost answers = { numbered };
+    ghost meaning = { numbered_meaning };
 
     ghost CAP = { 4 };
 
     const CAP: usize = 4;
 
     ghost fits = { λ _ _. ⊤ };
-
-    ghost ran = { Spends };
-
-    ghost gave_up = { SpendsLess };
 
     ghost faults = { λ c. c.faults };
 
@@ -100,7 +95,7 @@ impl Machine for Numbered {
     ) -> Result<(Self, Bytes), StepError> {
         let reply = match self.reply(alloc, line) {
             Ok(reply) => reply,
-            Err(_) => return Err(StepError::Memory),
+            Err(_) => return Err(StepError::WantOfMemory),
         };
         if context.left == 0 {
             context.faults = context.faults.saturating_add(1);
@@ -110,21 +105,7 @@ impl Machine for Numbered {
         Ok((self.next(), reply))
     }
 
-    ghost silent = { λ _. refl };
-
-    ghost positive = { Prim.search rules };
-
-    ghost cut_answers = { numbered_cut };
-
-    ghost cut_ran = { spends_cut };
-
-    ghost cut_gave_up = { spends_less_cut };
-
-    ghost ran_none = { spends_none };
-
-    ghost ran_more = { spends_more };
-
-    ghost gave_up_more = { spends_less_more };
+    ghost laws = { numbered_laws };
 }
 
 // Says each line again, however long it is.
@@ -134,17 +115,13 @@ pub struct Echo {}
 impl Machine for Echo {
     type Context = ();
 
-    ghost answers = { λ _. echoed };
+    ghost meaning = { echo_meaning };
 
     ghost CAP = { no_cap };
 
     const CAP: usize = usize::MAX;
 
     ghost fits = { λ _ _. ⊤ };
-
-    ghost ran = { λ _ _ _ _ _. ⊤ };
-
-    ghost gave_up = { λ _ _ _ _. ⊤ };
 
     ghost faults = { λ _. 0 };
 
@@ -156,31 +133,17 @@ impl Machine for Echo {
     ) -> Result<(Self, Bytes), StepError> {
         match with_line_feed(alloc, line) {
             Ok(reply) => Ok((self, reply)),
-            Err(_) => Err(StepError::Memory),
+            Err(_) => Err(StepError::WantOfMemory),
         }
     }
 
-    ghost silent = { λ _. refl };
-
-    ghost positive = { Prim.search rules };
-
-    ghost cut_answers = { uncut_answers (λ _. echoed) };
-
-    ghost cut_ran = { λ _ _ _ _ _ _ _. tt };
-
-    ghost cut_gave_up = { λ _ _ _ _ _ _. tt };
-
-    ghost ran_none = { λ _ _. tt };
-
-    ghost ran_more = { λ _ _ _ _ _ _ _ _ _ _. tt };
-
-    ghost gave_up_more = { λ _ _ _ _ _ _ _ _ _. tt };
+    ghost laws = { echo_laws };
 }
 
 fn with_line_feed(alloc: Global, line: &[u8]) -> Result<Bytes, WantOfMemory>
     ensures { IfOk result (λ reply. reply ≡ line.now ++ 10 ∷ []) }
 {
     let mut reply = Bytes::from_slice(alloc, line)?;
-    reply.push_all(b"\n")?;
+    reply.push_all(alloc, b"\n")?;
     Ok(reply)
 }

@@ -4,40 +4,26 @@ use Rattle.std.proofs.lemmas.List.{nil_from_length}
 use Rattle.std.proofs.KnownBytes.{Appends-nil}
 use Rattle.st_drive.specs.Lines.{last_line}
 use Rattle.st_drive.specs.Runs.{GoesOverCut, StopsOverCut}
-use Rattle.st_drive.proofs.Laws.{Laws}
 use Rattle.st_drive.proofs.LineLemmas.{last_fed}
 use Rattle.st_drive.proofs.RunLemmas.{went_none}
-use Rattle.st_drive.proofs.driver.answer_last.Given as given
 use Rattle.st_drive.proofs.driver.answer_last.Goals as goal
-
-laws : (g : given.Over) → Laws g.M.Machine.answers g.M.Machine.ran g.M.Machine.gave_up g.M.Machine.CAP
-laws g = record {
-  silent = g.met.M.Machine.silent;
-  positive = g.met.M.Machine.positive;
-  cut_answers = g.met.M.Machine.cut_answers;
-  cut_ran = g.met.M.Machine.cut_ran;
-  cut_gave_up = g.met.M.Machine.cut_gave_up;
-  ran_none = g.met.M.Machine.ran_none;
-  ran_more = g.met.M.Machine.ran_more;
-  gave_up_more = g.met.M.Machine.gave_up_more;
-}
 
 pub returns-then-is_empty-clause-ok : goal.returns-then-is_empty-clause-ok
 returns-then-is_empty-clause-ok g c =
     let empty : c.args.progress.line.items ≡ [] = nil_from_length c.args.progress.line.items (grind (arith, nat_tests)) in
-    let went = went_none g.M.Machine.answers g.M.Machine.ran g.M.Machine.gave_up g.M.Machine.CAP (laws g) c.args.progress.machine c.args.context.now in
-    ([], subst (λ lines. GoesOverCut g.M.Machine.answers g.M.Machine.ran g.M.Machine.CAP c.args.progress.machine c.args.context.now lines [] c.args.progress.machine c.args.context.now) (sym (ap last_line empty)) went, Appends-nil _)
+    let went = went_none g.M.Machine.meaning g.M.Machine.CAP g.met.M.Machine.laws c.args.progress.machine c.args.context.now in
+    ([], subst (λ lines. GoesOverCut g.M.Machine.meaning g.M.Machine.CAP c.args.progress.machine c.args.context.now lines [] c.args.progress.machine c.args.context.now) (sym (ap last_line empty)) went, Appends-nil _)
 
 pub returns-in-Ok-clause-ok : goal.returns-in-Ok-clause-ok
 returns-in-Ok-clause-ok g c =
     let some : 0 < length c.args.progress.line.items = grind (arith, nat_tests) in
     let lines = last_fed g.M.Machine.CAP c.args.progress.line.items (omega arith) c.requires.partial some in
     let fed = c.in-Ok.ensures.ok in
-    (fed.0, subst (λ lines. GoesOverCut g.M.Machine.answers g.M.Machine.ran g.M.Machine.CAP c.args.progress.machine c.args.context.now lines fed.0 c.in-Ok.next.machine c.feed.new.context) lines fed.1, fed.2)
+    (fed.0, subst (λ lines. GoesOverCut g.M.Machine.meaning g.M.Machine.CAP c.args.progress.machine c.args.context.now lines fed.0 c.in-Ok.next.machine c.feed.new.context) lines fed.1, fed.2)
 
 pub returns-in-Err-clause-err : goal.returns-in-Err-clause-err
 returns-in-Err-clause-err g c =
     let some : 0 < length c.args.progress.line.items = grind (arith, nat_tests) in
     let lines = last_fed g.M.Machine.CAP c.args.progress.line.items (omega arith) c.requires.partial some in
     let cut = c.in-Err.ensures.err in
-    (cut.0, subst (λ lines. StopsOverCut g.M.Machine.answers g.M.Machine.ran g.M.Machine.gave_up g.M.Machine.CAP c.args.progress.machine c.args.context.now lines cut.0 c.feed.new.context) lines cut.1, cut.2)
+    (cut.0, subst (λ lines. StopsOverCut g.M.Machine.meaning g.M.Machine.CAP c.args.progress.machine c.args.context.now lines cut.0 c.feed.new.context) lines cut.1, cut.2)

@@ -2,22 +2,8 @@ use Rattle.std.proofs.Common.{◌≡◌, ◌∙◌, ◌≤◌, ◌+◌, ◌-◌,
 use Rattle.std.proofs.lemmas.List.{length-take-le, length-drop, take-take}
 use Rattle.std.specs.Io.KnownBytes.{Consumes}
 use Rattle.std.specs.declared.option.Option.{Option}
-use Rattle.st_drive.proofs.Laws.{Laws}
 use Rattle.st_drive.proofs.Ends.{taken_start, taken_open, taken_more, table_read_fault, table_cut, table_over, table_of_end}
-use Rattle.st_drive.proofs.driver.drive.Given as given
 use Rattle.st_drive.proofs.driver.drive.Goals as goal
-
-laws : (g : given.Over) → Laws g.M.Machine.answers g.M.Machine.ran g.M.Machine.gave_up g.M.Machine.CAP
-laws g = record {
-  silent = g.met.M.Machine.silent;
-  positive = g.met.M.Machine.positive;
-  cut_answers = g.met.M.Machine.cut_answers;
-  cut_ran = g.met.M.Machine.cut_ran;
-  cut_gave_up = g.met.M.Machine.cut_gave_up;
-  ran_none = g.met.M.Machine.ran_none;
-  ran_more = g.met.M.Machine.ran_more;
-  gave_up_more = g.met.M.Machine.gave_up_more;
-}
 
 pub pieces-init : goal.pieces-init
 pieces-init g c = record {
@@ -28,7 +14,7 @@ pieces-init g c = record {
   sink_later = omega arith;
   unfinished = λ done. done;
   taken =
-      rw c.new.ensures.items (taken_start g.M.Machine.answers g.M.Machine.ran g.M.Machine.gave_up g.M.Machine.CAP (laws g) c.args.machine c.args.context.now c.args.limit _ _);
+      rw c.new.ensures.items (taken_start g.M.Machine.meaning g.M.Machine.CAP g.met.M.Machine.laws c.args.machine c.args.context.now c.args.limit _ _);
 }
 
 -- the front that there is room for, and what else was read
@@ -62,20 +48,20 @@ pieces-preserved g c =
       source_later = omega (arith, read.cause.later);
       sink_later = omega (arith, fed.later);
       unfinished = λ done. i.unfinished (fed.unfinished done);
-      taken = taken_more g.M.Machine.answers g.M.Machine.ran g.M.Machine.gave_up g.M.Machine.CAP (laws g) c.args.machine c.pieces.progress.machine c.in-Ok-feed-2.next.machine c.args.context.now c.pieces.context c.feed-in-pieces.new.context
+      taken = taken_more g.M.Machine.meaning g.M.Machine.CAP g.met.M.Machine.laws c.args.machine c.pieces.progress.machine c.in-Ok-feed-2.next.machine c.args.context.now c.pieces.context c.feed-in-pieces.new.context
           c.pieces.progress.line.items (take c.in-Ok.count buffer) c.in-Ok-feed-2.next.line.items c.args.limit c.pieces.room (c.pieces.room - c.in-Ok.count) _ _ _ _ _ _ i.taken read.bytes (omega arith) fed.ok fed.line;
     }
 
 pub end_run-requires-clause-partial : goal.end_run-requires-clause-partial
 end_run-requires-clause-partial g c =
-    taken_open g.M.Machine.answers g.M.Machine.ran g.M.Machine.gave_up g.M.Machine.CAP (laws g) c.args.machine c.pieces.progress.machine _ _ _ _ _ _ _ _ _ c.pieces.invariant.taken
+    taken_open g.M.Machine.meaning g.M.Machine.CAP g.met.M.Machine.laws c.args.machine c.pieces.progress.machine _ _ _ _ _ _ _ _ _ c.pieces.invariant.taken
 
 pub feed-requires-clause-partial : goal.feed-requires-clause-partial
 feed-requires-clause-partial g c =
-    taken_open g.M.Machine.answers g.M.Machine.ran g.M.Machine.gave_up g.M.Machine.CAP (laws g) c.args.machine c.pieces.progress.machine _ _ _ _ _ _ _ _ _ c.pieces.invariant.taken
+    taken_open g.M.Machine.meaning g.M.Machine.CAP g.met.M.Machine.laws c.args.machine c.pieces.progress.machine _ _ _ _ _ _ _ _ _ c.pieces.invariant.taken
 
 pub feed-requires-in-pieces-clause-partial : goal.feed-requires-in-pieces-clause-partial
-feed-requires-in-pieces-clause-partial g c = taken_open g.M.Machine.answers g.M.Machine.ran g.M.Machine.gave_up g.M.Machine.CAP (laws g) c.args.machine c.pieces.progress.machine _ _ _ _ _ _ _ _ _ c.pieces.invariant.taken
+feed-requires-in-pieces-clause-partial g c = taken_open g.M.Machine.meaning g.M.Machine.CAP g.met.M.Machine.laws c.args.machine c.pieces.progress.machine _ _ _ _ _ _ _ _ _ c.pieces.invariant.taken
 
 pub returns-then-count-eq0-clause-table : goal.returns-then-count-eq0-clause-table
 returns-then-count-eq0-clause-table g c =
@@ -84,7 +70,7 @@ returns-then-count-eq0-clause-table g c =
     let end = c.end_run.ensures in
     let zero = c.if-count-eq0.true in
     let none = subst (λ n. Consumes (g.S.Source.left c.pieces.source) (g.S.Source.left c.read_some.new.source) (take n c.read_some.new.buffer)) zero read.bytes in
-    table_of_end g.M.Machine.answers g.M.Machine.ran g.M.Machine.gave_up g.M.Machine.CAP (laws g) _ c.end_run.result c.args.machine c.pieces.progress.machine c.args.context.now c.pieces.context c.end_run.new.context
+    table_of_end g.M.Machine.meaning g.M.Machine.CAP g.met.M.Machine.laws _ c.end_run.result c.args.machine c.pieces.progress.machine c.args.context.now c.pieces.context c.end_run.new.context
     c.pieces.progress.line.items c.args.limit c.pieces.room _ _ _ _ _ _ _ _ c.requires.limit i.taken none (read.end zero) end.ok end.err end.cause
 
 pub returns-in-Ok-feed-clause-table : goal.returns-in-Ok-feed-clause-table
@@ -97,7 +83,7 @@ returns-in-Ok-feed-clause-table g c =
     let bound : count ≤ length buffer = omega (arith, read.count) in
     let most : count ≤ c.pieces.room + 1 = omega (arith, read.count) in
     let len : length (take count buffer) ≡ count = length-take-le count buffer bound in
-    table_over g.M.Machine.answers g.M.Machine.ran g.M.Machine.gave_up g.M.Machine.CAP (laws g) c.args.machine c.pieces.progress.machine c.in-Ok-feed.field-0.machine c.args.context.now c.pieces.context c.feed.new.context
+    table_over g.M.Machine.meaning g.M.Machine.CAP g.met.M.Machine.laws c.args.machine c.pieces.progress.machine c.in-Ok-feed.field-0.machine c.args.context.now c.pieces.context c.feed.new.context
     c.pieces.progress.line.items (take c.pieces.room buffer) (drop c.pieces.room (take count buffer)) c.args.limit c.pieces.room _ _ _ _ _ _ c.requires.limit i.taken
     (in_two buffer c.pieces.room count _ _ (omega arith) read.bytes) (length-take-le c.pieces.room buffer (omega arith)) (omega (arith, length-drop c.pieces.room (take count buffer))) fed.ok
 
@@ -112,7 +98,7 @@ returns-in-Err-feed-clause-table g c =
     let most : count ≤ c.pieces.room + 1 = omega (arith, read.count) in
     let front : length (take c.pieces.room buffer) ≡ c.pieces.room = length-take-le c.pieces.room buffer (omega arith) in
     let both = two_length buffer c.pieces.room count (omega arith) bound in
-    table_cut g.M.Machine.answers g.M.Machine.ran g.M.Machine.gave_up g.M.Machine.CAP (laws g) c.args.machine c.pieces.progress.machine c.args.context.now c.pieces.context c.feed.new.context
+    table_cut g.M.Machine.meaning g.M.Machine.CAP g.met.M.Machine.laws c.args.machine c.pieces.progress.machine c.args.context.now c.pieces.context c.feed.new.context
     c.pieces.progress.line.items (take c.pieces.room buffer) (drop c.pieces.room (take count buffer)) c.args.limit c.pieces.room _ _ _ _ _ _ _ _ c.in-Err-feed.stop c.requires.limit i.taken
     (in_two buffer c.pieces.room count _ _ (omega arith) read.bytes) (omega arith) (omega arith) fed.err fed.cause
 
@@ -125,10 +111,10 @@ returns-in-Err-feed-2-clause-table g c =
     let count = c.in-Ok.count in
     let len : length (take count buffer) ≡ count = length-take-le count buffer (omega (arith, read.count)) in
     let all = ap length (append-nil (take count buffer)) in
-    table_cut g.M.Machine.answers g.M.Machine.ran g.M.Machine.gave_up g.M.Machine.CAP (laws g) c.args.machine c.pieces.progress.machine c.args.context.now c.pieces.context c.feed-in-pieces.new.context
+    table_cut g.M.Machine.meaning g.M.Machine.CAP g.met.M.Machine.laws c.args.machine c.pieces.progress.machine c.args.context.now c.pieces.context c.feed-in-pieces.new.context
     c.pieces.progress.line.items (take count buffer) [] c.args.limit c.pieces.room _ _ _ _ _ _ _ _ c.in-Err-feed-2.stop c.requires.limit i.taken
     (all_taken buffer count _ _ read.bytes) (omega arith) (omega arith) fed.err fed.cause
 
 pub returns-in-Err-clause-table : goal.returns-in-Err-clause-table
-returns-in-Err-clause-table g c = table_read_fault g.M.Machine.answers g.M.Machine.ran g.M.Machine.gave_up g.M.Machine.CAP (laws g) c.args.machine c.pieces.progress.machine c.args.context.now c.pieces.context
+returns-in-Err-clause-table g c = table_read_fault g.M.Machine.meaning g.M.Machine.CAP g.met.M.Machine.laws c.args.machine c.pieces.progress.machine c.args.context.now c.pieces.context
     c.pieces.progress.line.items c.args.limit c.pieces.room _ _ _ _ _ c.requires.limit c.pieces.invariant.taken c.in-Err.ensures.err

@@ -10,7 +10,7 @@ invariant-pieces g l = record {
   sink_later : g.K.Sink.faults l.fn.sink ≤ g.K.Sink.faults l.sink;
   unfinished : g.K.Sink.is_finished l.sink ≡ true → g.K.Sink.is_finished l.fn.sink ≡ true;
   cap : vec_len l.progress.line ≤ g.M.Machine.CAP;
-  taken : Taken g.M.Machine.answers g.M.Machine.ran g.M.Machine.CAP l.fn.machine l.fn.context l.progress.machine l.context l.progress.line.items l.limit l.room (g.S.Source.left l.fn.source) (g.S.Source.left l.source) (g.K.Sink.written l.fn.sink) (g.K.Sink.written l.sink);
+  taken : Taken g.M.Machine.meaning g.M.Machine.CAP l.fn.machine l.fn.context l.progress.machine l.context l.progress.line.items l.limit l.room (g.S.Source.left l.fn.source) (g.S.Source.left l.source) (g.K.Sink.written l.fn.sink) (g.K.Sink.written l.sink);
 }
 
 abbrev pub decreases-pieces : goal.decreases-pieces

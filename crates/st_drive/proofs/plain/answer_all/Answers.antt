@@ -16,19 +16,19 @@ lines-preserved g c =
       lines = (
         i.lines.0 ++ line ∷ [],
         append_assoc i.lines.0 (line ∷ []) (all_lines c.in-Some.after.now) ∙ ap (λ ls. i.lines.0 ++ ls) (sym first) ∙ i.lines.1,
-        g.met.M.Machine.ran_more _ _ _ _ _ _ i.lines.0 (line ∷ []) i.lines.2 next.ran,
+        g.met.M.Machine.laws.ran_more _ _ _ _ _ _ i.lines.0 (line ∷ []) i.lines.2 next.ran,
       );
-      replies = sym (next.reply (all_lines c.in-Some.after.now)) ∙ ap (λ ls. c.lines.replies ++ g.M.Machine.answers c.lines.machine ls) (sym first) ∙ i.replies;
+      replies = sym (next.reply (all_lines c.in-Some.after.now)) ∙ ap (λ ls. c.lines.replies ++ g.M.Machine.meaning.answers c.lines.machine ls) (sym first) ∙ i.replies;
     }
 
 pub returns-clause-replies : goal.returns-clause-replies
 returns-clause-replies g c =
     let last = all_open c.lines.rest.now c.in_default.ensures in
-    c.in_ok-answer_rest.ensures.replies ∙ ap (λ ls. c.lines.replies ++ g.M.Machine.answers c.lines.machine ls) (sym last) ∙ c.lines.invariant.replies
+    c.in_ok-answer_rest.ensures.replies ∙ ap (λ ls. c.lines.replies ++ g.M.Machine.meaning.answers c.lines.machine ls) (sym last) ∙ c.lines.invariant.replies
 
 pub returns-clause-ran : goal.returns-clause-ran
 returns-clause-ran g c =
     let i = c.lines.invariant.lines in
     let rest = c.in_ok-answer_rest.ensures.ran in
     let all = ap (λ ls. i.0 ++ ls) (sym (all_open c.lines.rest.now c.in_default.ensures)) ∙ i.1 in
-    (rest.0, subst (λ ls. g.M.Machine.ran c.args.machine c.args.context.now ls rest.0 c.answer_rest.new.context) all (g.met.M.Machine.ran_more _ _ _ _ _ _ i.0 (last_line c.lines.rest.now) i.2 rest.1))
+    (rest.0, subst (λ ls. g.M.Machine.meaning.ran c.args.machine c.args.context.now ls rest.0 c.answer_rest.new.context) all (g.met.M.Machine.laws.ran_more _ _ _ _ _ _ i.0 (last_line c.lines.rest.now) i.2 rest.1))

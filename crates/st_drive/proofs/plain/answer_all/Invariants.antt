@@ -7,8 +7,8 @@ abbrev pub invariant-lines : goal.invariant-lines
 invariant-lines g l = record {
   fits : g.M.Machine.fits l.machine l.context;
   later : g.M.Machine.faults l.fn.context ≤ g.M.Machine.faults l.context;
-  lines : (lines : List (List ℕ)) × (lines ++ all_lines l.rest ≡ all_lines l.bytes) × g.M.Machine.ran l.fn.machine l.fn.context lines l.machine l.context;
-  replies : l.replies ++ g.M.Machine.answers l.machine (all_lines l.rest) ≡ g.M.Machine.answers l.fn.machine (all_lines l.bytes);
+  lines : (lines : List (List ℕ)) × (lines ++ all_lines l.rest ≡ all_lines l.bytes) × g.M.Machine.meaning.ran l.fn.machine l.fn.context lines l.machine l.context;
+  replies : l.replies ++ g.M.Machine.meaning.answers l.machine (all_lines l.rest) ≡ g.M.Machine.meaning.answers l.fn.machine (all_lines l.bytes);
 }
 
 abbrev pub decreases-lines : goal.decreases-lines

@@ -11,7 +11,7 @@ invariant-lines g l = record {
   partial : has_no_feed l.line.items ≡ true;
   later : g.K.Sink.faults l.fn.sink ≤ g.K.Sink.faults l.sink;
   unfinished : g.K.Sink.is_finished l.sink ≡ true → g.K.Sink.is_finished l.fn.sink ≡ true;
-  fed : Fed g.M.Machine.answers g.M.Machine.ran g.M.Machine.CAP l.fn.self.machine l.fn.context l.machine l.context (l.fn.self.line.items ++ l.piece) (l.line.items ++ l.rest) (g.K.Sink.written l.fn.sink) (g.K.Sink.written l.sink) l.gathered.items;
+  fed : Fed g.M.Machine.meaning g.M.Machine.CAP l.fn.self.machine l.fn.context l.machine l.context (l.fn.self.line.items ++ l.piece) (l.line.items ++ l.rest) (g.K.Sink.written l.fn.sink) (g.K.Sink.written l.sink) l.gathered.items;
 }
 
 abbrev pub decreases-lines : goal.decreases-lines

@@ -1,0 +1,21 @@
+-- The forms of the command line: what its words ask for.
+use Rattle.std.specs.Prelude.{⊤, ℕ, List, [], ◌∷◌, codes, bytes_eq, if◌then◌else◌, Option, Some, None, option_map}
+use Rattle.st_cli.specs.declared.TheConstants.{MAX_INPUT}
+use Rattle.st_cli.specs.declared.form.Form.{Form}
+use Rattle.st_cli.specs.declared.form.Form.TheVariants.{Node}
+use Rattle.st_cli.specs.declared.form.NodeOptions.{NodeOptions}
+
+-- what the words behind `node` say; there is no option yet
+abbrev pub node_options : List (List ℕ) → Option NodeOptions
+node_options [] = Some (record { limit = MAX_INPUT })
+node_options (word ∷ words) = None
+
+-- the first word names the command, and the others are its options; None where the words are of no form
+abbrev pub form_of : List (List ℕ) → Option Form
+form_of [] = None
+form_of (command ∷ options) = if bytes_eq command (codes "node") then option_map Node (node_options options) else None
+
+-- a fact for the words that ask for a node, whatever its options
+abbrev pub IfNode : Option Form → (NodeOptions → Type 0) → Type 0
+IfNode None P = ⊤
+IfNode (Some (Node options)) P = P options
