@@ -1,7 +1,6 @@
 -- Items and members that are converted one after another.
-use Rattle.std.proofs.Common.{◌≡◌, ℕ, ◌+◌, ◌<◌, List, [], ◌∷◌, ◌++◌, length, get_or, drop, map, String, Global, string_bytes, Option, Some, None, option_map, Result, Ok, Err, Less, Equal, refl, sym, ap, ◌∙◌, subst, arith, length-drop, append-nil, append_assoc, is_eq, true, false}
+use Rattle.std.proofs.Common.{◌≡◌, ℕ, List, [], ◌∷◌, ◌++◌, map, String, Global, string_bytes, Option, Some, None, option_map, Result, Ok, Err, Less, Equal, refl, sym, ap, ◌∙◌, subst, append-nil, append_assoc, is_eq, true, false}
 use mathlib.Core.Bool.{true≢false}
-use Rattle.std.proofs.lemmas.List.{nil_from_length}
 use Rattle.std.specs.List.{AllByRecursion}
 use Rattle.std.specs.List.Sorted.{IsStrictlySortedBy}
 use Rattle.std.specs.Map.{keys_of}
@@ -14,7 +13,6 @@ use Rattle.serde_json.specs.View.{view, items_view, members_view}
 use Rattle.serde_json.specs.declared.value.Value.{Value}
 use Rattle.std.specs.Prelude.{ok_or}
 use Rattle.st_base.specs.Answers.{GivesAs}
-use Rattle.st_base.proofs.Lists.{next_item}
 use Rattle.st_canon.specs.Find.{put}
 use Rattle.st_canon.specs.InOrder.{in_order, AreApart, NamesDiffer}
 use Rattle.st_canon.specs.Names.{name_cmp}
@@ -74,31 +72,31 @@ item_pushed : (js : List Json) (j : Json) (o : Option Items)
 item_pushed js j None = refl
 item_pushed js j (Some rest) = ap Some (sym (items_after_push js j rest))
 
--- so far these items of the vector were converted
-abbrev pub ItemsSoFar : List Value → ℕ → List Json → Type 0
-ItemsSoFar vs i js =
-    whole_items (items_view vs) ≡ option_map (items_after (map plain js)) (whole_items (items_view (drop i vs)))
+-- so far these items were converted, and the others are left
+abbrev pub ItemsSoFar : List Value → List Value → List Json → Type 0
+ItemsSoFar all left js =
+    whole_items (items_view all) ≡ option_map (items_after (map plain js)) (whole_items (items_view left))
 
-module _ (vs : List Value) (i : ℕ) (js : List Json) (so_far : ItemsSoFar vs i js) where
-  module _ (v : Value) (lt : i < length vs) (is : v ≡ get_or vs i v) where
-    split : drop i vs ≡ v ∷ drop (i + 1) vs
-    split = next_item vs i v lt is
+pub no_item_yet : (all left : List Value) (js : List Json) → left ≡ all → js ≡ [] → ItemsSoFar all left js
+no_item_yet all left js same none = rw (same, none) (begun (whole_items (items_view all)))
+  where
+    begun : (o : Option Items) → o ≡ option_map (items_after []) o
+    begun None = refl
+    begun (Some rest) = refl
 
-    pub one_more_item : (j : Json) → whole_value (view v) ≡ Some (plain j) → ItemsSoFar vs (i + 1) (js ++ j ∷ [])
-    one_more_item j w =
-        let step : whole_items (items_view (v ∷ drop (i + 1) vs)) ≡ option_map (item (plain j)) (whole_items (items_view (drop (i + 1) vs))) = rw w refl in
-        so_far ∙ ap (λ r. option_map (items_after (map plain js)) (whole_items (items_view r))) split
-        ∙ ap (option_map (items_after (map plain js))) step ∙ item_pushed js j _
+module _ (all left : List Value) (js : List Json) (v : Value) (so_far : ItemsSoFar all (v ∷ left) js) where
+  pub one_more_item : (j : Json) → whole_value (view v) ≡ Some (plain j) → ItemsSoFar all left (js ++ j ∷ [])
+  one_more_item j w =
+      let step : whole_items (items_view (v ∷ left)) ≡ option_map (item (plain j)) (whole_items (items_view left)) = rw w refl in
+      so_far ∙ ap (option_map (items_after (map plain js))) step ∙ item_pushed js j _
 
-    pub one_item_not_whole : whole_value (view v) ≡ None → whole_items (items_view vs) ≡ None
-    one_item_not_whole w =
-        let step : whole_items (items_view (v ∷ drop (i + 1) vs)) ≡ None = rw w refl in
-        so_far ∙ ap (λ r. option_map (items_after (map plain js)) (whole_items (items_view r))) split ∙ ap (option_map (items_after (map plain js))) step
+  pub one_item_not_whole : whole_value (view v) ≡ None → whole_items (items_view all) ≡ None
+  one_item_not_whole w =
+      let step : whole_items (items_view (v ∷ left)) ≡ None = rw w refl in
+      so_far ∙ ap (option_map (items_after (map plain js))) step
 
-  pub all_items : length vs ≡ i → whole_items (items_view vs) ≡ Some (plain_items js)
-  all_items e =
-      let none : drop i vs ≡ [] = nil_from_length (drop i vs) (omega (arith, length-drop i vs)) in
-      so_far ∙ ap (λ r. option_map (items_after (map plain js)) (whole_items (items_view r))) none ∙ ap Some (items_after-nil (map plain js))
+pub all_items : (all : List Value) (js : List Json) → ItemsSoFar all [] js → whole_items (items_view all) ≡ Some (plain_items js)
+all_items all js so_far = so_far ∙ ap Some (items_after-nil (map plain js))
 
 -- ---- members
 

@@ -1,5 +1,5 @@
 -- What is read back of an object whose members were listed.
-use Rattle.std.specs.Prelude.{◌&&◌, codes, is_some, nat_eq}
+use Rattle.std.specs.Prelude.{◌&&◌, is_some, nat_eq}
 use Rattle.std.proofs.Common.{◌≡◌, ◌∙◌, ℕ, suc, Bool, true, false, cond, not, List, [], ◌∷◌, length, Option, Some, None, Result, Ok, Err, Less, Equal, Greater, option_and_then, refl, sym, ap, subst, arith}
 use Rattle.std.proofs.lemmas.Bool.{and_parts}
 use Rattle.std.specs.Result.{result_ok}

@@ -1,5 +1,5 @@
 -- What bytes are as JSON, from what `serde_json` says of them.
-use Rattle.std.proofs.Common.{◌≡◌, ℕ, List, Bool, true, false, Option, Some, None, Result, Ok, Err, if◌then◌else◌, refl, sym, ap, ◌∙◌, subst}
+use Rattle.std.proofs.Common.{◌≡◌, ℕ, List, Bool, true, false, Option, Some, None, Result, Err, if◌then◌else◌, refl, sym, ap, ◌∙◌, subst}
 use Rattle.std.specs.Prelude.{ok_or}
 use Rattle.std.proofs.lemmas.Str.{IsUtf8-from_is_utf8, is_utf8-from_IsUtf8}
 use Rattle.std.specs.Str.{IsUtf8, is_utf8}
@@ -7,7 +7,7 @@ use Rattle.serde_json.specs.Data.{Data}
 use Rattle.serde_json.specs.Read.{read}
 use Rattle.st_base.specs.Answers.{◌>>=◌, GivesAs}
 use Rattle.st_canon.specs.Plain.{Plain}
-use Rattle.st_canon.specs.Reading.{data_of_bytes, json_of, refusal_of, whole_value}
+use Rattle.st_canon.specs.Reading.{json_of, refusal_of, whole_value}
 use Rattle.st_canon.specs.View.{plain}
 use Rattle.st_canon.specs.declared.value.Json.{Json}
 use Rattle.st_canon.specs.declared.refused.ReadRefused.{ReadRefused}

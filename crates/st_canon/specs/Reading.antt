@@ -1,5 +1,5 @@
 -- What bytes are as JSON with whole numbers.
-use Rattle.std.specs.Prelude.{ℕ, ℤ, pos, negsuc, List, if◌then◌else◌, nat_le, Option, Some, None, ok_or, Result, Ok, Err, option_map, option_and_then}
+use Rattle.std.specs.Prelude.{ℕ, ℤ, pos, negsuc, List, if◌then◌else◌, nat_le, Option, Some, None, ok_or, Result, option_map, option_and_then}
 use Rattle.std.specs.Str.{is_utf8}
 use Rattle.serde_json.specs.Data as data'
 use Rattle.serde_json.specs.Read.{read}

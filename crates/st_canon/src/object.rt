@@ -1,8 +1,8 @@
-ghost use Rattle.std.specs.Prelude.{◌≡◌, Some, map, option_map, OnOk, OnErr};
+ghost use Rattle.std.specs.Prelude.{◌≡◌, Some, None, map, option_map, OnOk, OnErr};
 ghost use Rattle.std.specs.List.{list_any};
 ghost use Rattle.std.specs.Map.{lookup};
 ghost use Rattle.std.specs.Option.{option_copied};
-ghost use Rattle.st_canon.specs.Find.{has_only, member_at, put, without};
+ghost use Rattle.st_canon.specs.Find.{OthersStay, has_only, member_at, put, without};
 ghost use Rattle.st_canon.specs.Names.{is_name};
 ghost use Rattle.st_canon.specs.Objects.{is_empty};
 ghost use Rattle.st_canon.specs.Plain.{object};
@@ -68,6 +68,8 @@ impl Object {
     /// Adds the member, or replaces the one of its name.
     pub fn insert(&mut self, _alloc: Global, name: Text, value: Json) -> Result<(), WantOfMemory>
         ensures ok { OnOk result (plain_members self.new ≡ put name (plain value) (plain_members self.old)) }
+        ensures here { OnOk result (member_at name (plain_members self.new) ≡ Some (plain value)) }
+        ensures others { OnOk result (OthersStay name (plain_members self.old) (plain_members self.new)) }
         ensures err { OnErr result (self.new ≡ self.old) }
     {
         match self.place(name, value) {
@@ -79,6 +81,8 @@ impl Object {
     /// `insert` at a copy of the name.
     pub fn set(&mut self, alloc: Global, name: &str, value: Json) -> Result<(), WantOfMemory>
         ensures ok { OnOk result (plain_members self.new ≡ put name.now (plain value) (plain_members self.old)) }
+        ensures here { OnOk result (member_at name.now (plain_members self.new) ≡ Some (plain value)) }
+        ensures others { OnOk result (OthersStay name.now (plain_members self.old) (plain_members self.new)) }
         ensures err { OnErr result (self.new ≡ self.old) }
     {
         let name = Text::from_text(alloc, name)?;
@@ -89,6 +93,8 @@ impl Object {
     pub fn remove(&mut self, name: &str) -> Option<Json>
         ensures value { option_map plain result ≡ member_at name.now (plain_members self.old) }
         ensures rest { plain_members self.new ≡ without name.now (plain_members self.old) }
+        ensures gone { member_at name.now (plain_members self.new) ≡ None }
+        ensures others { OthersStay name.now (plain_members self.old) (plain_members self.new) }
     {
         match place_of(self.pairs.as_slice(), name) {
             Ok(at) => {
