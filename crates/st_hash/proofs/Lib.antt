@@ -1,1 +1,5 @@
+pub mod FixedLemmas
+pub mod HashTexts
+pub mod Separators
 pub mod Spelling
+pub mod Utf8Bytes
