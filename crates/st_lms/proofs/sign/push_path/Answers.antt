@@ -8,7 +8,7 @@ pub levels-init : goal.levels-init
 levels-init c =
     let leaves : c.leaf_count.result ≡ 2 ^ height c.args.secret.now.tree =
     c.leaf_count.ensures.count ∙ ap (λ secret. 2 ^ height secret.tree) c.secret.view_is in
-    rw leaves (on_way_first c.args.secret.now c.args.out.now c.args.q c.height-level-end.ensures.known c.requires)
+    rw leaves (on_way_first c.args.secret.now c.args.out.now c.args.q c.height-level-end.ensures.known.tree c.requires)
 
 pub sibling-requires : goal.sibling-requires
 sibling-requires c = omega (arith, node_small c.args.secret.now.tree c.levels.level c.levels.r c.levels.invariant.at)
