@@ -5,8 +5,8 @@ usage: bench/run.py
 
 It builds small programs beside a copy of the repository's crates: one that only decodes and
 hashes, with the same kit crates (content.py), one that only reads and writes JSON, and one that only
-verifies and makes keys. The times are the best of three or five, but for the last program's of whole
-processes. Nothing here is part of the gate.
+verifies, makes keys and signs. The times are the best of three or five, but for the last program's of
+whole processes. Nothing here is part of the gate.
 """
 import hashlib
 import os
@@ -89,15 +89,15 @@ def names(path, count):
 
 
 def compressions(ots, tree):
-    """How many compressions of SHA-256 a verification and a key generation take, for the key,
-    the number and the message of lms_cost."""
+    """How many compressions of SHA-256 a verification, a key generation and a signature take, for the
+    key, the number and the message of lms_cost."""
     def blocks(length):
         return (length + 9 + 63) // 64
 
     def digit(string, i, w):
         return (string[i * w // 8] >> (8 - (w * (i % (8 // w)) + w))) & (2 ** w - 1)
 
-    w, p, ls = {3: (4, 67, 4), 4: (8, 34, 0)}[ots]
+    w, p, ls = {1: (1, 265, 7), 2: (2, 133, 6), 3: (4, 67, 4), 4: (8, 34, 0)}[ots]
     height = {5: 5, 6: 10}[tree]
     greatest = 2 ** w - 1
     front = bytes([7]) * 16 + (3).to_bytes(4, "big")
@@ -108,21 +108,25 @@ def compressions(ots, tree):
     verification = (sum(greatest - digit(string, i, w) for i in range(p))
                     + blocks(22 + 32 + 7) + blocks(22 + 32 * p) + 1 + 2 * height)
     leaf = p * (greatest + 1) + blocks(22 + 32 * p) + 1
-    return verification, 2 ** height * leaf + 2 * (2 ** height - 1)
+    generation = 2 ** height * leaf + 2 * (2 ** height - 1)
+    values = sum(1 + digit(string, i, w) for i in range(p))
+    # The path's nodes stand over all leaves but one.
+    path = (2 ** height - 1) * leaf + 2 * (2 ** height - 1 - height)
+    return verification, generation, 1 + blocks(22 + 32 + 7) + values + path
 
 
 def lms(program):
     """Prints the cost of LMS against that of the compressions it is made of."""
     best = {}
     for line in subprocess.run([program], stdout=subprocess.PIPE, check=True).stdout.decode().splitlines():
-        ots, tree, *times = [int(word) for word in line.split()[:5]]
+        ots, tree, *times = [int(word) for word in line.split()[:6]]
         best[ots, tree] = [min(pair) for pair in zip(times, best.get((ots, tree), times))]
-    compression = min(times[2] for times in best.values())
-    for (ots, tree), (verification, generation, _) in best.items():
-        of_verification, of_generation = compressions(ots, tree)
-        print("LMS types %d and %d: %.0f verifications a second, %.2f times their compressions; %.2f keys a second, %.2f times theirs"
-              % (ots, tree, 1e9 / verification, verification / of_verification / compression,
-                 1e9 / generation, generation / of_generation / compression), flush=True)
+    compression = min(times[-1] for times in best.values())
+    for (ots, tree), (*times, _) in best.items():
+        counts = compressions(ots, tree)
+        print("LMS types %d and %d: " % (ots, tree) + "; ".join(
+            "%.2f %s a second, %.2f times their compressions" % (1e9 / spent, what, spent / count / compression)
+            for what, spent, count in zip(("verifications", "keys", "signatures"), times, counts)), flush=True)
 
 
 def main():

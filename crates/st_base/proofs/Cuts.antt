@@ -1,10 +1,10 @@
--- Texts that are cut at a separator.
+-- Texts that are cut at a separator, and lists that are cut at a place.
 use Rattle.std.proofs.Common.{◌≡◌, ◌∙◌, ℕ, suc, ◌+◌, ◌==◌, nat_lt, ◌<◌, ◌≤◌, cond, not, Bool, true, false, Option, List, [], ◌∷◌, ◌++◌, length, take, drop, get_or, position, Some, None, option_map, sym, ap, subst, refl, add-one, drop-cons, length-append, arith}
 use Rattle.std.proofs.Math.Seq.{take-append_seam, drop-append-add}
 use Rattle.memchr.specs.Find.{IsFirstByte, Nowhere, Passes, is_byte}
 use Rattle.std.proofs.lemmas.Bool.{eqb-true, eq-eqb, false_from_ne_true}
 use Rattle.std.proofs.lemmas.Bool.Decides.{nat_tests}
-use Rattle.std.proofs.lemmas.List.{take-append-drop, take_all}
+use Rattle.std.proofs.lemmas.List.{take-append-drop, take_all, take_at, drop_at}
 use Rattle.std.proofs.lemmas.List.Quantifiers.{position-Some}
 use Rattle.std.proofs.lemmas.List.Sums.{position_or_len_is}
 use Rattle.std.proofs.lemmas.Option.{cond_some}
@@ -82,3 +82,18 @@ cut_at-append separator before behind none =
     let found : position (λ byte. byte == separator) whole ≡ Some (length before) = rw (at, within) refl in
     let cut : cut_at separator whole ≡ Some (take (length before) whole, drop (length before + 1) whole) = ap (option_map (λ at. (take at whole, drop (at + 1) whole))) found in
     cut ∙ rw (take-append_seam before (separator ∷ behind), drop-append-add before (separator ∷ behind) 1) refl
+
+-- two ways to cut a list at one place are one
+pub record SameCut {X : Type 0} (front back front' back' : List X) : Type 0 where
+  pub front_is : front ≡ front'
+  pub back_is : back ≡ back'
+
+-- two cuts of one list whose second parts are equally long are one cut
+pub same_cut : {X : Type 0} (front back front' back' : List X) → front ++ back ≡ front' ++ back'
+    → length back ≡ length back' → SameCut front back front' back'
+same_cut front back front' back' whole long =
+    let fronts : length front ≡ length front' = omega (arith, ap length whole, length-append front back, length-append front' back') in
+    record {
+      front_is = sym (take_at front back (length front) refl) ∙ ap (take (length front)) whole ∙ take_at front' back' (length front) (sym fronts);
+      back_is = sym (drop_at front back (length front) refl) ∙ ap (drop (length front)) whole ∙ drop_at front' back' (length front) (sym fronts);
+    }

@@ -39,12 +39,7 @@ fn sibling(r: u32) -> u32
 }
 
 /// Appends the other nodes on the way from leaf `q` to the root.
-fn push_path(
-    alloc: Global,
-    out: &mut Bytes,
-    secret: &Secret,
-    q: u32,
-) -> Result<(), WantOfMemory>
+fn push_path(alloc: Global, out: &mut Bytes, secret: &Secret, q: u32) -> Result<(), WantOfMemory>
     requires { q < 2 ^ height secret.now.tree }
     ensures { OnOk result (out.new ≡ out.old
         ++ path_from secret.now 0 (2 ^ height secret.now.tree + q) (height secret.now.tree)) }
