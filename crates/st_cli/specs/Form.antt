@@ -1,13 +1,16 @@
 -- The forms of the command line: what its words ask for.
 use Rattle.std.specs.Prelude.{⊤, ℕ, List, [], ◌∷◌, codes, bytes_eq, if◌then◌else◌, Option, Some, None, option_map}
-use Rattle.st_cli.specs.declared.TheConstants.{MAX_INPUT}
 use Rattle.st_cli.specs.declared.form.Form.{Form}
 use Rattle.st_cli.specs.declared.form.Form.TheVariants.{Node}
 use Rattle.st_cli.specs.declared.form.NodeOptions.{NodeOptions}
 
+-- how many bytes of input a command takes at most: 2^30
+abbrev pub max_input : ℕ
+max_input = 1073741824
+
 -- what the words behind `node` say; there is no option yet
 abbrev pub node_options : List (List ℕ) → Option NodeOptions
-node_options [] = Some (record { limit = MAX_INPUT })
+node_options [] = Some (record { limit = max_input })
 node_options (word ∷ words) = None
 
 -- the first word names the command, and the others are its options; None where the words are of no form

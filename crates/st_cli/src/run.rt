@@ -2,13 +2,14 @@ ghost use Rattle.std.specs.Prelude.{◌≡◌, ◌≢◌, ◌↔◌, ◌≤◌, 
 ghost use Rattle.std.specs.Io.KnownBytes.{Appends};
 ghost use Rattle.st_io.specs.Causes.{Rose};
 ghost use Rattle.st_io.specs.Sinks.{FinishesNothing};
-ghost use Rattle.st_cli.specs.Form.{form_of, IfNode};
+ghost use Rattle.st_cli.specs.Form.{form_of, max_input, IfNode};
 ghost use Rattle.st_cli.specs.Node.{NodeTable, replies_to};
 ghost use Rattle.st_cli.specs.Status.{is_end, is_status};
 
 use crate::driven::run_machine;
-use crate::form::{Form, NodeOptions, read_form};
+use crate::form::{Form, NodeOptions};
 use crate::node_lines::NodeLines;
+use crate::reading::read_form;
 use st_base::{Text, Work};
 use st_io::{Sink, Source};
 use st_node::Node;
@@ -82,6 +83,7 @@ fn run_node<S: Source, K: Sink>(
     sink: &mut K,
     work: &mut Work,
 ) -> u8
+    requires { options.limit ≤ max_input }
     ensures table { NodeTable options work.old work.new
         (S.left source.old) (S.left source.new) (K.written sink.old) (K.written sink.new) result }
     ensures finished { result ≡ 0 → K.is_finished sink.new ≡ true }

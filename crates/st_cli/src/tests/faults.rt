@@ -22,9 +22,9 @@ fn run_pieces(
     let alloc = rt.alloc();
     let words = one_word(alloc, "node")?;
     let mut failing_reads = List::new(alloc);
-    failing_reads.push(failing_read)?;
+    failing_reads.push(alloc, failing_read)?;
     let mut failing_writes = List::new(alloc);
-    failing_writes.push(failing_write)?;
+    failing_writes.push(alloc, failing_write)?;
     let input = Bytes::from_slice(alloc, INPUT.as_bytes())?;
     let mut source = ScriptSource::new(input, read, failing_reads);
     let mut sink = ScriptSink::new(alloc, write, failing_writes);

@@ -192,7 +192,7 @@ fn a_file_may_have_a_million_bytes(rt: HostRuntime) -> Result<(), Fail> {
     for (length, found) in [(1_000_000, true), (1_000_001, false)] {
         let mut file = Bytes::from_slice(rt.alloc(), one.as_bytes())?;
         for _ in one.len()..length {
-            file.push_all(b" ")?;
+            file.push_all(rt.alloc(), b" ")?;
         }
         assert_eq!(rt; finds_in(&rt, file.as_slice(), "1.")?, (0, found));
     }

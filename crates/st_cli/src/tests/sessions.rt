@@ -1,3 +1,4 @@
+use crate::form::{MAX_INPUT, NodeOptions};
 use crate::plain::plain_replies;
 use crate::run::run;
 use crate::tests::support::{OF_ABC, OF_BRACES, OF_NOTHING, node_replies, node_run, one_word};
@@ -103,7 +104,7 @@ fn the_plain_program_replies_alike(rt: HostRuntime) -> Result<(), Fail> {
         let session = format!(in alloc; "{ANCHOR}{RESOLVE}{input}{CREATE}{RESOLVE}{input}")?;
         let (_, written) = node_run(&rt, session.as_bytes())?;
         let mut work = Work::new(&rt);
-        let plain = plain_replies(alloc, session.as_bytes(), &mut work)?;
+        let plain = plain_replies(alloc, options, session.as_bytes(), &mut work)?;
         assert_eq!(rt; plain.as_slice(), written.as_slice());
     }
     Ok(())

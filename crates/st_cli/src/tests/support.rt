@@ -14,7 +14,7 @@ pub const OF_BRACES: &str = "EiBEE2-jVbNnihFGrRb36GSelPtPwh_nfoMQwGD2HKr_ig";
 // The command line of one word.
 pub fn one_word(alloc: Global, word: &str) -> Result<List<Text>, WantOfMemory> {
     let mut words = List::new(alloc);
-    words.push(Text::from_text(alloc, word)?)?;
+    words.push(alloc, Text::from_text(alloc, word)?)?;
     Ok(words)
 }
 

@@ -1,11 +1,22 @@
-use Rattle.std.proofs.Common.{[], inl}
-use Rattle.st_cli.proofs.Went.{went_over}
+use Rattle.std.proofs.Common.{[], arith, rules}
+use Rattle.std.proofs.KnownBytes.{Appends-nil, Consumes-nil}
+use Rattle.st_drive.proofs.Ends.{nothing_yet}
 use Rattle.st_cli.proofs.driven.run_machine.Goals as goal
 
-pub returns-in-Ok-clause-context : goal.returns-in-Ok-clause-context
-returns-in-Ok-clause-context g c =
-    let table = c.drive.ensures.table in
-    went_over g.M.Machine.ran g.M.Machine.gave_up c.args.machine c.args.context.now c.drive.new.context (g.M.Machine.answers c.args.machine) c.args.limit (g.S.Source.left c.drive.new.source) table.taken table.written c.drive.result table.row
-
-pub returns-in-Err-clause-context : goal.returns-in-Err-clause-context
-returns-in-Err-clause-context g c = ([], inl (c.args.machine, g.met.M.Machine.ran_none c.args.machine c.args.context.now))
+pub returns-in-Err-clause-table : goal.returns-in-Err-clause-table
+returns-in-Err-clause-table g c =
+    let early = nothing_yet g.M.Machine.meaning g.M.Machine.CAP g.met.M.Machine.laws c.args.machine c.args.context.now (g.S.Source.left c.args.source.now) in
+    record {
+      taken = [];
+      written = [];
+      takes = Consumes-nil _;
+      writes = Appends-nil _;
+      bound = omega arith;
+      exceeds = λ e. absurd (omega arith);
+      done = λ e. absurd (omega arith);
+      read_fault = λ e. absurd (omega arith);
+      over = λ e. absurd (omega arith);
+      write_fault = λ e. early;
+      device_fault = λ e. early;
+      memory = λ e. early;
+    }
