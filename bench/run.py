@@ -4,8 +4,9 @@
 usage: bench/run.py [--quick]
 
 It builds small programs beside a copy of the repository's crates: one that only
-hashes, with the same kit crate, one that only reads and writes JSON, and one that only verifies
-and makes keys. The times are the best of three, but for the last program's of whole processes.
+hashes, with the same kit crate, one that only reads and writes JSON, one that only verifies
+and makes keys, and one that only puts into an index and cuts it. The times are the best of three
+of whole processes; the last two programs take their own, the best of three and of five.
 Nothing here is part of the gate.
 """
 import base64
@@ -18,7 +19,8 @@ import tempfile
 import time
 
 TOP = os.path.dirname(os.path.dirname(os.path.abspath(__file__)))
-PROGRAMS = {"hash_cost": "sha2", "json_cost": "st_base st_canon", "lms_cost": "st_base st_lms sha2 anyhow"}
+PROGRAMS = {"hash_cost": "sha2", "json_cost": "st_base st_canon", "lms_cost": "st_base st_lms sha2 anyhow",
+            "index_cost": "st_base st_opindex anyhow"}
 
 
 def build(folder):
@@ -132,6 +134,18 @@ def lms(program):
                  1e9 / generation, generation / of_generation / compression), flush=True)
 
 
+def index(program):
+    """Prints what a put and a cut cost on an index, against those on one of an eighth of its size."""
+    best = {}
+    for line in subprocess.run([program], stdout=subprocess.PIPE, check=True).stdout.decode().splitlines():
+        keys, items, *times = [int(word) for word in line.split()[:4]]
+        best[keys, items] = [min(pair) for pair in zip(times, best.get((keys, items), times))]
+    (_, small), ((keys, items), great) = sorted(best.items())
+    for what, cheap, dear in zip(("put at the end", "cut of the last place"), small, great):
+        print("an index of %d keys with one item and one with %d: a %s takes %d ns, %.2f times that on an eighth of the size"
+              % (keys, items, what, dear, dear / cheap), flush=True)
+
+
 def main():
     quick = "--quick" in sys.argv[1:]
     node = [os.path.join(TOP, "sidetree"), "node"]
@@ -162,6 +176,7 @@ def main():
             file.write("[" * 127)
         print("127 open brackets: %.3f s" % seconds([paths["json_cost"]], given), flush=True)
         lms(paths["lms_cost"])
+        index(paths["index_cost"])
 
 
 if __name__ == "__main__":

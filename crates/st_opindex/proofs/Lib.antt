@@ -1,6 +1,8 @@
-pub mod Ascending
+mod Ascending
 mod Cutting
 mod Kept
 mod Keyed
-pub mod Losing
+mod Losing
 mod Placed
+mod Splits
+pub mod WithItem

@@ -9,7 +9,7 @@ use Rattle.st_base.proofs.Quantifiers.{each-weaker, any_before, any_last}
 use Rattle.st_opindex.specs.Items.{with_item}
 use Rattle.st_opindex.specs.ByKey.{ByKey, items_at, ChangesAt}
 use Rattle.st_opindex.specs.Placed.{placed_cmp, IsPlaced, AllPlaced}
-use Rattle.st_opindex.proofs.Ascending.{each-with_item}
+use Rattle.st_opindex.proofs.WithItem.{each-with_item}
 
 below : {a b : ℕ} → a < b → b ≤ a → ⊥
 below lt le = omega arith

@@ -3,7 +3,8 @@ use Rattle.std.proofs.lemmas.List.{take-take}
 use Rattle.std.proofs.lemmas.Result.{IfOk-weaker}
 use Rattle.st_base.proofs.Counted.{applies-few}
 use Rattle.st_opindex.specs.Items.{reaches}
-use Rattle.st_opindex.proofs.Ascending.{Ascend-take, split-within, split-front, split-all, split-reaches}
+use Rattle.st_opindex.proofs.Ascending.{Ascend-take}
+use Rattle.st_opindex.proofs.Splits.{split-within, split-front, split-all, split-reaches}
 use Rattle.st_opindex.proofs.Kept.{kept_before}
 use Rattle.st_opindex.proofs.row.cut_row.Goals as goal
 

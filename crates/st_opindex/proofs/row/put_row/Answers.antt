@@ -1,7 +1,8 @@
 use Rattle.std.proofs.Common.{◌≡◌, ◌+◌, ◌-◌, length, take, ap, arith}
 use Rattle.st_base.proofs.Counted.{applies-few}
 use Rattle.st_opindex.specs.Items.{SplitsAt, with_item}
-use Rattle.st_opindex.proofs.Ascending.{Ascend-with_item, split-within, split-alike, split-length}
+use Rattle.st_opindex.proofs.WithItem.{Ascend-with_item}
+use Rattle.st_opindex.proofs.Splits.{split-within, split-alike, split-length}
 use Rattle.st_opindex.proofs.Kept.{reached_alike, kept_before}
 use Rattle.st_opindex.proofs.row.put_row.Goals as goal
 
