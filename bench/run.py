@@ -4,9 +4,10 @@
 usage: bench/run.py
 
 It builds small programs beside a copy of the repository's crates: one that only decodes and
-hashes, with the same kit crates (content.py), one that only reads and writes JSON, and one that only
-verifies, makes keys and signs. The times are the best of three or five, but for the last program's of
-whole processes. Nothing here is part of the gate.
+hashes, with the same kit crates (content.py), one that only reads and writes JSON, one that only
+verifies, makes keys and signs, and one that only puts into an index and cuts it. The times are the best
+of three or five of whole processes; the last two programs take their own. Nothing here is part of the
+gate.
 """
 import hashlib
 import os
@@ -20,7 +21,8 @@ sys.dont_write_bytecode = True
 import content
 
 TOP = os.path.dirname(os.path.dirname(os.path.abspath(__file__)))
-PROGRAMS = {"bare_cost": "base64 memchr sha2", "json_cost": "st_base st_canon", "lms_cost": "st_base st_lms sha2 anyhow"}
+PROGRAMS = {"bare_cost": "base64 memchr sha2", "json_cost": "st_base st_canon",
+            "lms_cost": "st_base st_lms sha2 anyhow", "index_cost": "st_base st_opindex anyhow"}
 
 
 def build(folder):
@@ -129,6 +131,18 @@ def lms(program):
             for what, spent, count in zip(("verifications", "keys", "signatures"), times, counts)), flush=True)
 
 
+def index(program):
+    """Prints what a put and a cut cost on an index, against those on one of an eighth of its size."""
+    best = {}
+    for line in subprocess.run([program], stdout=subprocess.PIPE, check=True).stdout.decode().splitlines():
+        keys, items, *times = [int(word) for word in line.split()[:4]]
+        best[keys, items] = [min(pair) for pair in zip(times, best.get((keys, items), times))]
+    (_, small), ((keys, items), great) = sorted(best.items())
+    for what, cheap, dear in zip(("put at the end", "cut of the last place"), small, great):
+        print("an index of %d keys with one item and one with %d: a %s takes %d ns, %.2f times that on an eighth of the size"
+              % (keys, items, what, dear, dear / cheap), flush=True)
+
+
 def main():
     # The launcher builds it, and is left out of what is measured.
     subprocess.run([os.path.join(TOP, "sidetree"), "node"], stdin=subprocess.DEVNULL, check=True)
@@ -152,6 +166,7 @@ def main():
             file.write("[" * 127)
         print("127 open brackets: %.3f s" % seconds([paths["json_cost"]], given), flush=True)
         lms(paths["lms_cost"])
+        index(paths["index_cost"])
 
 
 if __name__ == "__main__":
