@@ -7,7 +7,8 @@ use Rattle.std.specs.Io.KnownBytes.{Appends, Consumes, Keeps, IsAtEnd}
 use Rattle.std.proofs.KnownBytes.{Appends-nil, Appends-trans, Consumes-nil, Consumes-trans, Consumes-kept}
 use Rattle.st_drive.specs.declared.stop.Stop.{Stop}
 use Rattle.st_drive.specs.declared.stop.Stop.TheVariants.{ReadFault, WriteFault, DeviceFault, OverLimit, WantOfMemory}
-use Rattle.st_drive.specs.Lines.{split, capped, whole_lines, last_line, all_lines, has_no_feed, CutTo}
+use Rattle.st_base.specs.Words.{HasNo}
+use Rattle.st_drive.specs.Lines.{split, capped, whole_lines, last_line, all_lines, CutTo}
 use Rattle.st_drive.specs.Meaning.{Meaning, Laws}
 use Rattle.st_drive.specs.Runs.{Begins, RanOver, GaveUpOver}
 use Rattle.st_drive.specs.Parts.{Goes, Stops, GoesOverCut, StopsOverCut, Wrote, WroteSome}
@@ -99,8 +100,8 @@ module _ {M C : Type 0} {means : Meaning M C} {cap : ℕ} (laws : Laws means cap
   }
 
   pub taken_open : {limit room : ℕ} {line : List ℕ} {start now : Place M C} → Taken means cap limit room line start now
-      → has_no_feed line ≡ true
-  taken_open t = ap has_no_feed t.line_is ∙ capped_rest cap t.taken
+      → HasNo 10 line
+  taken_open t = subst (HasNo 10) (sym t.line_is) (capped_rest cap t.taken)
 
   -- the lines of what was taken and of a piece
   piece_lines : {limit room : ℕ} {line : List ℕ} {start now : Place M C} (t : Taken means cap limit room line start now) (piece : List ℕ)

@@ -4,7 +4,8 @@ use Rattle.std.specs.Prelude.{Result, Ok, Err, IfOk, OnErr}
 use Rattle.std.specs.declared.option.Option.{Option}
 use Rattle.std.specs.Io.KnownBytes.{Appends}
 use Rattle.std.proofs.KnownBytes.{Appends-nil, Appends-trans}
-use Rattle.st_drive.specs.Lines.{capped, has_no_feed}
+use Rattle.st_base.specs.Words.{HasNo}
+use Rattle.st_drive.specs.Lines.{capped}
 use Rattle.st_drive.specs.Meaning.{Meaning, Laws}
 use Rattle.st_drive.specs.Runs.{Begins}
 use Rattle.st_drive.specs.Parts.{GoesOverCut, StopsOverCut, Wrote, WroteSome, Outlet, Passes, PassesSome, Gathered, GatheredSome}
@@ -21,8 +22,8 @@ no_pieces cap all = record { is = refl }
 
 -- a line that isn't whole yet, and bytes that end it with `front`
 pub record Ended (line rest front after : List ℕ) : Type 0 where
-  pub open_line : has_no_feed line ≡ true
-  pub open_front : has_no_feed front ≡ true
+  pub open_line : HasNo 10 line
+  pub open_front : HasNo 10 front
   pub cut : rest ≡ front ++ 10 ∷ after
 
 -- one line more is whole
@@ -39,7 +40,7 @@ one_more {cap} {all} {line} {rest} {front} {after} {lines} pieces ended =
 
 -- no line is left
 pub all_pieces : {cap : ℕ} {all more : List ℕ} {lines : List (List ℕ)} → Pieces cap all lines more
-    → has_no_feed more ≡ true → capped cap all ≡ (lines, take cap more)
+    → HasNo 10 more → capped cap all ≡ (lines, take cap more)
 all_pieces {cap} {all} {more} {lines} pieces none =
     pieces.is ∙ ap (λ p. (lines ++ p.0, p.1)) (capped_open cap more none) ∙ ap (λ ls. (ls, take cap more)) (append-nil lines)
 

@@ -2,7 +2,8 @@ ghost use Rattle.std.specs.Prelude.{◌≡◌, ◌≤◌, ◌<◌, ◌^◌, take
 ghost use Rattle.std.specs.Io.KnownBytes.{Consumes, Keeps, IsAtEnd};
 ghost use Rattle.st_io.specs.Causes.{Rose, HasCause};
 ghost use Rattle.st_io.specs.Sinks.{FinishesNothing};
-ghost use Rattle.st_drive.specs.Lines.{last_line, has_no_feed};
+ghost use Rattle.st_base.specs.Words.{HasNo};
+ghost use Rattle.st_drive.specs.Lines.{last_line};
 ghost use Rattle.st_drive.specs.Parts.{Wrote, WroteSome, Orderly};
 ghost use Rattle.st_drive.specs.Runs.{RanOver, GaveUpOver};
 ghost use Rattle.st_drive.specs.Stops.{IsRunStop};
@@ -39,7 +40,7 @@ fn answer_last<M: Machine, K: Sink>(
     sink: &mut K,
 ) -> Result<M, Stop>
     requires cap { vec_len progress.line ≤ M.CAP }
-    requires partial { has_no_feed progress.line.items ≡ true }
+    requires partial { HasNo 10 progress.line.items }
     requires fits { M.fits progress.machine context.old }
     ensures ok { IfOk result (λ next. Wrote M.meaning M.CAP
         progress.machine context.old (last_line progress.line.items)
@@ -69,7 +70,7 @@ fn end_run<M: Machine, K: Sink>(
     sink: &mut K,
 ) -> Result<(), Stop>
     requires cap { vec_len progress.line ≤ M.CAP }
-    requires partial { has_no_feed progress.line.items ≡ true }
+    requires partial { HasNo 10 progress.line.items }
     requires fits { M.fits progress.machine context.old }
     ensures ok { OnOk result ((next : _) × Wrote M.meaning M.CAP
         progress.machine context.old (last_line progress.line.items)

@@ -1,12 +1,14 @@
 ghost use Rattle.std.specs.Prelude.{◌≡◌, ◌≤◌, [], ◌∷◌, ◌++◌, take, vec_len, true, IfOk, OnOk, OnErr};
 ghost use Rattle.st_io.specs.Sinks.{FinishesNothing};
-ghost use Rattle.st_drive.specs.Lines.{capped, has_no_feed};
+ghost use Rattle.st_base.specs.Words.{HasNo};
+ghost use Rattle.st_drive.specs.Lines.{capped};
 ghost use Rattle.st_drive.specs.Parts.{Wrote, WroteSome, Gathered, GatheredSome, Orderly};
 
-use crate::lines::{cut_front, cut_line, keep_front};
+use crate::lines::{LINE_FEED, cut_front, keep_front};
 use crate::machine::{Machine, StepError};
 use crate::replies::{gather, write_gathered};
 use crate::stop::Stop;
+use st_base::cut_at;
 use st_io::Sink;
 use std::alloc::Global;
 
@@ -100,7 +102,7 @@ impl<M: Machine> Progress<M> {
         piece: &[u8],
     ) -> Result<Self, Stop>
         requires cap { vec_len self.line ≤ M.CAP }
-        requires partial { has_no_feed self.line.items ≡ true }
+        requires partial { HasNo 10 self.line.items }
         requires fits { M.fits self.machine context.old }
         ensures fits { IfOk result (λ next. M.fits next.machine context.new) }
         ensures ok { IfOk result (λ next. Gathered M.meaning M.CAP
@@ -124,7 +126,7 @@ impl<M: Machine> Progress<M> {
             mut line,
         } = self;
         let mut rest = piece;
-        'lines: while let Some((front, after)) = cut_line(rest) {
+        'lines: while let Some((front, after)) = cut_at(rest, LINE_FEED) {
             machine = end_line(alloc, machine, context, &mut line, sink, gathered, front)?;
             rest = after;
         }
@@ -144,7 +146,7 @@ impl<M: Machine> Progress<M> {
         piece: &[u8],
     ) -> Result<Self, Stop>
         requires cap { vec_len self.line ≤ M.CAP }
-        requires partial { has_no_feed self.line.items ≡ true }
+        requires partial { HasNo 10 self.line.items }
         requires fits { M.fits self.machine context.old }
         ensures fits { IfOk result (λ next. M.fits next.machine context.new) }
         ensures ok { IfOk result (λ next. Wrote M.meaning M.CAP

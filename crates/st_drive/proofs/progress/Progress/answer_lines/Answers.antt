@@ -1,5 +1,5 @@
 use Rattle.std.proofs.Common.{◌≡◌, ◌∙◌, ◌++◌, List, ℕ, [], length, take, rules, ap, sym, subst, arith}
-use Rattle.st_drive.specs.Lines.{has_no_feed}
+use Rattle.st_base.specs.Words.{HasNo}
 use Rattle.st_drive.specs.Parts.{Gathered}
 use Rattle.st_drive.proofs.LineLemmas.{open_append}
 use Rattle.st_drive.proofs.Fed.{Pieces, no_pieces, one_more, all_pieces, gathered_none, gathered_more, gathered_less, gathered_some, some_of_all}
@@ -22,11 +22,11 @@ lines-preserved g c =
     let i = c.lines.invariant in
     let cut = c.in-Some.ensures in
     let ended = c.in_ok-machine.ensures in
-    let pieces = one_more i.answered.1 (record { open_line = i.partial; open_front = cut.0; cut = cut.1 }) in
+    let pieces = one_more i.answered.1 (record { open_line = i.partial; open_front = cut.first; cut = cut.whole }) in
     record {
       fits = ended.fits;
       cap = (let n = ap length ended.emptied in omega arith);
-      partial = ap has_no_feed ended.emptied;
+      partial = subst (HasNo 10) (sym ended.emptied) tt;
       later = omega (arith, ended.faults.later);
       context_later = omega (arith, ended.faults.context_later);
       unfinished = λ done. i.unfinished (ended.unfinished done);
@@ -37,7 +37,7 @@ pub returns-in_err-machine-clause-err : goal.returns-in_err-machine-clause-err
 returns-in_err-machine-clause-err g c =
     let i = c.lines.invariant in
     let cut = c.in-Some.ensures in
-    let pieces = one_more i.answered.1 (record { open_line = i.partial; open_front = cut.0; cut = cut.1 }) in
+    let pieces = one_more i.answered.1 (record { open_line = i.partial; open_front = cut.first; cut = cut.whole }) in
     on_err _ (some_of_all g.met.M.Machine.laws pieces (gathered_less g.met.M.Machine.laws i.answered.2 c.in_err-machine.ensures.err))
 
 pub returns-then-is_err-clause-err : goal.returns-then-is_err-clause-err
@@ -48,12 +48,12 @@ returns-then-is_err-clause-err g c =
 pub returns-clause-ok : goal.returns-clause-ok
 returns-clause-ok g c =
     let i = c.lines.invariant in
-    let all = all_pieces i.answered.1 (open_append c.lines.line.items c.lines.rest.now i.partial c.in_default.ensures) in
+    let all = all_pieces i.answered.1 (open_append c.lines.line.items c.lines.rest.now i.partial c.in_default.ensures.none) in
     subst (λ ls. Gathered g.M.Machine.meaning g.M.Machine.CAP c.args.self.machine c.args.context.now ls c.lines.machine c.lines.context (record { held = g.K.Sink.written c.args.sink.now; had = c.args.gathered.now.items; holds = g.K.Sink.written c.lines.sink; has = c.lines.gathered.items })) (sym (ap (λ p. p.0) all)) i.answered.2
 
 pub returns-clause-line : goal.returns-clause-line
 returns-clause-line g c =
     let i = c.lines.invariant in
-    let all = all_pieces i.answered.1 (open_append c.lines.line.items c.lines.rest.now i.partial c.in_default.ensures) in
+    let all = all_pieces i.answered.1 (open_append c.lines.line.items c.lines.rest.now i.partial c.in_default.ensures.none) in
     let kept : c.keep_front.new.line.items ≡ take g.M.Machine.CAP (c.lines.line.items ++ c.lines.rest.now) = search rules in
     kept ∙ sym (ap (λ p. p.1) all)

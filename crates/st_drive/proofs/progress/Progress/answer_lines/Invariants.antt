@@ -1,6 +1,6 @@
 use Rattle.std.proofs.Common.{◌≡◌, ◌≤◌, ◌++◌, List, ℕ, true, length, vec_len}
 use Rattle.st_io.specs.Sinks.{FinishesNothing}
-use Rattle.st_drive.specs.Lines.{has_no_feed}
+use Rattle.st_base.specs.Words.{HasNo}
 use Rattle.st_drive.specs.Parts.{Gathered}
 use Rattle.st_drive.proofs.Fed.{Pieces}
 use Rattle.st_drive.proofs.progress.Progress.answer_lines.Given as goal
@@ -10,7 +10,7 @@ abbrev pub invariant-lines : goal.invariant-lines
 invariant-lines g l = record {
   fits : g.M.Machine.fits l.machine l.context;
   cap : vec_len l.line ≤ g.M.Machine.CAP;
-  partial : has_no_feed l.line.items ≡ true;
+  partial : HasNo 10 l.line.items;
   later : g.K.Sink.faults l.fn.sink ≤ g.K.Sink.faults l.sink;
   context_later : g.M.Machine.faults l.fn.context ≤ g.M.Machine.faults l.context;
   unfinished : FinishesNothing (g.K.Sink.is_finished l.fn.sink) (g.K.Sink.is_finished l.sink);
