@@ -3,9 +3,9 @@ ghost use Rattle.st_io.specs.Causes.{Rose};
 ghost use Rattle.st_drive.specs.Lines.{all_lines, last_line};
 ghost use Rattle.st_drive.specs.Runs.{RanOver};
 
-use crate::lines::cut_line;
+use crate::lines::LINE_FEED;
 use crate::machine::{Machine, StepError};
-use st_base::Bytes;
+use st_base::{Bytes, cut_at};
 use std::alloc::Global;
 
 // Answers one line, and adds the reply.
@@ -78,7 +78,7 @@ pub fn answer_all<M: Machine>(
     let mut machine = machine;
     let mut replies = Bytes::new(alloc);
     let mut rest = bytes;
-    'lines: while let Some((line, after)) = cut_line(rest) {
+    'lines: while let Some((line, after)) = cut_at(rest, LINE_FEED) {
         machine = answer_next(alloc, machine, context, &mut replies, line)?;
         rest = after;
     }

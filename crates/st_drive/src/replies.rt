@@ -3,7 +3,8 @@ ghost use Rattle.std.specs.Prelude.{◌≡◌, ◌≤◌, ◌++◌, ℕ, List, [
 ghost use Rattle.std.specs.Io.KnownBytes.{Appends};
 ghost use Rattle.st_io.specs.Causes.{HasCause, Rose};
 ghost use Rattle.st_io.specs.Sinks.{FinishesNothing};
-ghost use Rattle.st_drive.specs.Runs.{Begins, Passes, PassesSome};
+ghost use Rattle.st_drive.specs.Parts.{Passes, PassesSome};
+ghost use Rattle.st_drive.specs.Runs.{Begins};
 ghost use Rattle.st_drive.specs.Stops.{IsAnswerStop};
 
 use crate::stop::Stop;
@@ -62,10 +63,10 @@ fn add_reply(gathered: &mut Vec<u8>, reply: Bytes) -> Result<(), Stop>
 
 // Gathers the reply, and writes what was gathered before where that or the reply is long.
 pub fn gather<K: Sink>(sink: &mut K, gathered: &mut Vec<u8>, reply: Bytes) -> Result<(), Stop>
-    ensures ok { OnOk result (Passes (K.written sink.old) (K.written sink.new)
-        gathered.old.items reply gathered.new.items) }
-    ensures err { OnErr result (PassesSome (K.written sink.old) (K.written sink.new)
-        gathered.old.items reply gathered.new.items) }
+    ensures ok { OnOk result (Passes (record { held = K.written sink.old;
+        had = gathered.old.items; holds = K.written sink.new; has = gathered.new.items }) reply) }
+    ensures err { OnErr result (PassesSome (record { held = K.written sink.old;
+        had = gathered.old.items; holds = K.written sink.new; has = gathered.new.items }) reply) }
     ensures unfinished { FinishesNothing (K.is_finished sink.old) (K.is_finished sink.new) }
     ensures later { K.faults sink.old ≤ K.faults sink.new }
     ensures cause { IfErr result (IsAnswerStop (Rose (K.faults sink.old) (K.faults sink.new)) ⊥) }

@@ -1,8 +1,16 @@
-use Rattle.std.proofs.Common.{rules}
-use Rattle.st_drive.proofs.Fed.{wrote_part}
+use Rattle.std.proofs.Common.{[], rules, append-nil}
+use Rattle.std.specs.Io.KnownBytes.{Appends}
+use Rattle.st_drive.proofs.Fed.{wrote_all, wrote_some, wrote_part}
 use Rattle.st_drive.proofs.progress.Progress.feed.Goals as goal
 
 pub returns-then-is_err-clause-err : goal.returns-then-is_err-clause-err
 returns-then-is_err-clause-err g c =
-    wrote_part g.M.Machine.meaning g.M.Machine.CAP g.met.M.Machine.laws (λ next. next.machine) c.answer_lines-outcome.result c.args.self.machine c.args.context.now c.answer_lines-outcome.new.context _ c.answer_lines-outcome.new.gathered.items _ _ _
-    c.answer_lines-outcome.ensures.ok c.answer_lines-outcome.ensures.err (search rules)
+    let answered = c.answer_lines-outcome.ensures in
+    let some = wrote_part g.met.M.Machine.laws (λ next. next.machine) c.answer_lines-outcome.result answered.ok answered.err in
+    wrote_some g.met.M.Machine.laws some c.new-gathered.ensures.items (search rules)
+
+pub returns-clause-err : goal.returns-clause-err
+returns-clause-err g c =
+    let gathered = c.answer_lines-outcome.new.gathered.items in
+    let all : Appends (g.K.Sink.written c.answer_lines-outcome.new.sink) (g.K.Sink.written c.write_gathered.new.sink) gathered = search rules in
+    wrote_some g.met.M.Machine.laws c.in-Err.ensures.err c.new-gathered.ensures.items (gathered, ([], append-nil gathered), all)
