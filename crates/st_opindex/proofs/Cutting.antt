@@ -1,5 +1,5 @@
 -- Keys that are cut at a place one after another.
-use Rattle.std.proofs.Common.{◌≡◌, ◌∙◌, ℕ, ◌+◌, ◌*◌, ◌<◌, ◌≤◌, true, false, cond, leb, ltb, List, [], ◌∷◌, ◌++◌, length, sym, ap, refl, arith, Ordering, inl, inr}
+use Rattle.std.proofs.Common.{◌≡◌, ◌∙◌, ℕ, ◌+◌, ◌*◌, ◌<◌, ◌≤◌, true, false, cond, ltb, List, [], ◌∷◌, ◌++◌, length, sym, ap, refl, arith, Ordering, inl, inr}
 use Rattle.std.proofs.lemmas.Bool.{ltb-true, ltb-false, false≢true, true_from_ne_false, cases_Bool}
 use Rattle.std.proofs.lemmas.List.Sums.{count_by-le-length}
 use Rattle.std.specs.BTreeMap.{is_at}
