@@ -1,14 +1,14 @@
 #!/usr/bin/env python3
 """Measures the built program and prints ratios, each of two times of this one run.
 
-usage: bench/run.py [--quick]
+usage: bench/run.py
 
-It builds small programs beside a copy of the repository's crates: one that only
-hashes, with the same kit crate, one that only reads and writes JSON, and one that only verifies
-and makes keys. The times are the best of three, but for the last program's of whole processes.
-Nothing here is part of the gate.
+It builds small programs beside a copy of the repository's crates: one that only decodes and
+hashes, with the same kit crates (content.py), one that only reads and writes JSON, one that only
+verifies, makes keys and signs, and one that only puts into an index and cuts it. The times are the best
+of three or five of whole processes; the last two programs take their own. Nothing here is part of the
+gate.
 """
-import base64
 import hashlib
 import os
 import shutil
@@ -17,8 +17,12 @@ import sys
 import tempfile
 import time
 
+sys.dont_write_bytecode = True
+import content
+
 TOP = os.path.dirname(os.path.dirname(os.path.abspath(__file__)))
-PROGRAMS = {"hash_cost": "sha2", "json_cost": "st_base st_canon", "lms_cost": "st_base st_lms sha2 anyhow"}
+PROGRAMS = {"bare_cost": "base64 memchr sha2", "json_cost": "st_base st_canon",
+            "lms_cost": "st_base st_lms sha2 anyhow", "index_cost": "st_base st_opindex anyhow"}
 
 
 def build(folder):
@@ -71,15 +75,6 @@ def peak(command, given):
                               stdout=subprocess.PIPE).stdout)
 
 
-def content_lines(path, count, size):
-    """So many content lines of so many bytes each, all different."""
-    with open(path, "wb") as file:
-        filler = b"\0" * max(0, size - 8)
-        for n in range(count):
-            text = base64.urlsafe_b64encode(n.to_bytes(8, "big") + filler).rstrip(b"=")
-            file.write(b"content " + text + b"\n")
-
-
 def names(path, count):
     """One object of so many names that sort the other way round by UTF-16 code units."""
     half = count // 2
@@ -96,15 +91,15 @@ def names(path, count):
 
 
 def compressions(ots, tree):
-    """How many compressions of SHA-256 a verification and a key generation take, for the key,
-    the number and the message of lms_cost."""
+    """How many compressions of SHA-256 a verification, a key generation and a signature take, for the
+    key, the number and the message of lms_cost."""
     def blocks(length):
         return (length + 9 + 63) // 64
 
     def digit(string, i, w):
         return (string[i * w // 8] >> (8 - (w * (i % (8 // w)) + w))) & (2 ** w - 1)
 
-    w, p, ls = {3: (4, 67, 4), 4: (8, 34, 0)}[ots]
+    w, p, ls = {1: (1, 265, 7), 2: (2, 133, 6), 3: (4, 67, 4), 4: (8, 34, 0)}[ots]
     height = {5: 5, 6: 10}[tree]
     greatest = 2 ** w - 1
     front = bytes([7]) * 16 + (3).to_bytes(4, "big")
@@ -115,38 +110,47 @@ def compressions(ots, tree):
     verification = (sum(greatest - digit(string, i, w) for i in range(p))
                     + blocks(22 + 32 + 7) + blocks(22 + 32 * p) + 1 + 2 * height)
     leaf = p * (greatest + 1) + blocks(22 + 32 * p) + 1
-    return verification, 2 ** height * leaf + 2 * (2 ** height - 1)
+    generation = 2 ** height * leaf + 2 * (2 ** height - 1)
+    values = sum(1 + digit(string, i, w) for i in range(p))
+    # The path's nodes stand over all leaves but one.
+    path = (2 ** height - 1) * leaf + 2 * (2 ** height - 1 - height)
+    return verification, generation, 1 + blocks(22 + 32 + 7) + values + path
 
 
 def lms(program):
     """Prints the cost of LMS against that of the compressions it is made of."""
     best = {}
     for line in subprocess.run([program], stdout=subprocess.PIPE, check=True).stdout.decode().splitlines():
-        ots, tree, *times = [int(word) for word in line.split()[:5]]
+        ots, tree, *times = [int(word) for word in line.split()[:6]]
         best[ots, tree] = [min(pair) for pair in zip(times, best.get((ots, tree), times))]
-    compression = min(times[2] for times in best.values())
-    for (ots, tree), (verification, generation, _) in best.items():
-        of_verification, of_generation = compressions(ots, tree)
-        print("LMS types %d and %d: %.0f verifications a second, %.2f times their compressions; %.2f keys a second, %.2f times theirs"
-              % (ots, tree, 1e9 / verification, verification / of_verification / compression,
-                 1e9 / generation, generation / of_generation / compression), flush=True)
+    compression = min(times[-1] for times in best.values())
+    for (ots, tree), (*times, _) in best.items():
+        counts = compressions(ots, tree)
+        print("LMS types %d and %d: " % (ots, tree) + "; ".join(
+            "%.2f %s a second, %.2f times their compressions" % (1e9 / spent, what, spent / count / compression)
+            for what, spent, count in zip(("verifications", "keys", "signatures"), times, counts)), flush=True)
+
+
+def index(program):
+    """Prints what a put and a cut cost on an index, against those on one of an eighth of its size."""
+    best = {}
+    for line in subprocess.run([program], stdout=subprocess.PIPE, check=True).stdout.decode().splitlines():
+        keys, items, *times = [int(word) for word in line.split()[:4]]
+        best[keys, items] = [min(pair) for pair in zip(times, best.get((keys, items), times))]
+    (_, small), ((keys, items), great) = sorted(best.items())
+    for what, cheap, dear in zip(("put at the end", "cut of the last place"), small, great):
+        print("an index of %d keys with one item and one with %d: a %s takes %d ns, %.2f times that on an eighth of the size"
+              % (keys, items, what, dear, dear / cheap), flush=True)
 
 
 def main():
-    quick = "--quick" in sys.argv[1:]
-    node = [os.path.join(TOP, "sidetree"), "node"]
-    subprocess.run(node, stdin=subprocess.DEVNULL, check=True)
+    # The launcher builds it, and is left out of what is measured.
+    subprocess.run([os.path.join(TOP, "sidetree"), "node"], stdin=subprocess.DEVNULL, check=True)
+    node = [os.path.join(TOP, "crates", "st_cli", "out", "st_cli"), "node"]
     with tempfile.TemporaryDirectory() as folder:
         paths = build(folder)
         given = os.path.join(folder, "given")
-        for count, size in ((1_000_000, 8), (20, 20_000_000)):
-            if quick:
-                count //= 10
-            content_lines(given, count, size)
-            ours = seconds(node, given)
-            raw = seconds([paths["hash_cost"], str(count), str(size)])
-            print("%d content lines of %d bytes: %.2f s, %.2f times the cost of hashing them (%.2f s), %d MiB for %d MiB of input"
-                  % (count, size, ours, ours / raw, raw, peak(node, given), os.path.getsize(given) >> 20), flush=True)
+        content.measure(node, [paths["bare_cost"]], given, peak)
         for what, make in (("an object of %d names, the worst order", names),
                            ("a list of %d numbers", lambda path, n: open(path, "w").write("[" + ",".join("7" for _ in range(n)) + "]"))):
             most = 800_000 if "names" in what else 5_000_000
@@ -162,6 +166,7 @@ def main():
             file.write("[" * 127)
         print("127 open brackets: %.3f s" % seconds([paths["json_cost"]], given), flush=True)
         lms(paths["lms_cost"])
+        index(paths["index_cost"])
 
 
 if __name__ == "__main__":

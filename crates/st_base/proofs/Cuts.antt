@@ -1,13 +1,33 @@
--- Texts that are cut at a separator.
-use Rattle.std.proofs.Common.{◌≡◌, ◌∙◌, ℕ, suc, ◌+◌, ◌==◌, nat_lt, ◌≤◌, cond, not, Bool, true, false, List, [], ◌∷◌, ◌++◌, length, take, drop, get_or, position, Some, None, option_map, sym, ap, subst, refl, add-one, drop-cons, length-append, arith}
+-- Texts that are cut at a separator, and lists that are cut at a place.
+use Rattle.std.proofs.Common.{◌≡◌, ◌∙◌, ℕ, suc, ◌+◌, ◌==◌, nat_lt, ◌<◌, ◌≤◌, cond, not, Bool, true, false, Option, List, [], ◌∷◌, ◌++◌, length, take, drop, get_or, position, Some, None, option_map, sym, ap, subst, refl, add-one, drop-cons, length-append, arith}
 use Rattle.std.proofs.Math.Seq.{take-append_seam, drop-append-add}
-use Rattle.std.proofs.lemmas.Bool.{eqb-true, eq-eqb}
+use Rattle.memchr.specs.Find.{IsFirstByte, Nowhere, Passes, is_byte}
+use Rattle.std.proofs.lemmas.Bool.{eqb-true, eq-eqb, false_from_ne_true}
 use Rattle.std.proofs.lemmas.Bool.Decides.{nat_tests}
-use Rattle.std.proofs.lemmas.List.{take-append-drop, take_all}
+use Rattle.std.proofs.lemmas.List.{take-append-drop, take_all, take_at, drop_at}
 use Rattle.std.proofs.lemmas.List.Quantifiers.{position-Some}
+use Rattle.std.proofs.lemmas.List.Sums.{position_or_len_is}
 use Rattle.std.proofs.lemmas.Option.{cond_some}
 use Rattle.std.specs.List.{position_or_len}
 use Rattle.st_base.specs.Words.{HasNo, cut_at}
+
+-- a place without a passing byte before it is the first
+first_place : (separator : ℕ) (text : List ℕ) (at : ℕ) → at ≤ length text → Nowhere (Passes (is_byte separator) text) 0 at
+    → (at < length text → Passes (is_byte separator) text at) → position_or_len (λ byte. byte == separator) text ≡ at
+first_place separator text at within before here =
+    position_or_len_is (λ byte. byte == separator) text at 0 within (λ k below. false_from_ne_true _ (before k (omega arith) below)) here
+
+-- what a search for the separator finds is its first place
+pub found-position : (separator : ℕ) (text : List ℕ) (found : Option ℕ) → IsFirstByte (is_byte separator) text found
+    → found ≡ position (λ byte. byte == separator) text
+found-position separator text None none =
+    let at = first_place separator text (length text) (omega arith) none (λ past. absurd (omega arith)) in
+    let past : nat_lt (length text) (length text) ≡ false = grind (arith, nat_tests) in
+    rw (at, past) refl
+found-position separator text (Some at) first =
+    let place = first_place separator text at (omega (arith, first.0.high)) first.0.before (λ within. first.1) in
+    let within : nat_lt at (length text) ≡ true = grind (arith, nat_tests, first.0.high) in
+    rw (place, within) refl
 
 -- a text is what stands before its first separator, the separator, and what stands behind it
 pub around : (separator : ℕ) (text : List ℕ) (at : ℕ) → position (λ byte. byte == separator) text ≡ Some at
@@ -62,3 +82,18 @@ cut_at-append separator before behind none =
     let found : position (λ byte. byte == separator) whole ≡ Some (length before) = rw (at, within) refl in
     let cut : cut_at separator whole ≡ Some (take (length before) whole, drop (length before + 1) whole) = ap (option_map (λ at. (take at whole, drop (at + 1) whole))) found in
     cut ∙ rw (take-append_seam before (separator ∷ behind), drop-append-add before (separator ∷ behind) 1) refl
+
+-- two ways to cut a list at one place are one
+pub record SameCut {X : Type 0} (front back front' back' : List X) : Type 0 where
+  pub front_is : front ≡ front'
+  pub back_is : back ≡ back'
+
+-- two cuts of one list whose second parts are equally long are one cut
+pub same_cut : {X : Type 0} (front back front' back' : List X) → front ++ back ≡ front' ++ back'
+    → length back ≡ length back' → SameCut front back front' back'
+same_cut front back front' back' whole long =
+    let fronts : length front ≡ length front' = omega (arith, ap length whole, length-append front back, length-append front' back') in
+    record {
+      front_is = sym (take_at front back (length front) refl) ∙ ap (take (length front)) whole ∙ take_at front' back' (length front) (sym fronts);
+      back_is = sym (drop_at front back (length front) refl) ∙ ap (drop (length front)) whole ∙ drop_at front' back' (length front) (sym fronts);
+    }

@@ -1,3 +1,5 @@
+pub mod Counted
 pub mod Cuts
 pub mod Lists
 pub mod Numbers
+pub mod Quantifiers

@@ -1,12 +1,23 @@
 -- What a call answers: what its definition says, or the refusal that it says, or that memory was
 -- wanting, of which no definition speaks.
-use Rattle.std.specs.Prelude.{◌≡◌, Option, IfSome, Result, Ok, Err}
+use Rattle.std.specs.Prelude.{◌≡◌, Bool, true, false, Option, IfSome, Result, Ok, Err}
 
 -- the ? of definitions: the second step, where the first gave a value
 infixl 10 ◌>>=◌
 abbrev pub ◌>>=◌ : {A B E : Type 0} → Result A E → (A → Result B E) → Result B E
 Ok x >>= f = f x
 Err refusal >>= f = Err refusal
+
+-- the same after a step that gives nothing, as a test
+infixl 10 ◌>>◌
+abbrev pub ◌>>◌ : {B E : Type 0} → Result (Unit {0}) E → Result B E → Result B E
+Ok _ >> next = next
+Err refusal >> next = Err refusal
+
+-- the step that goes on where a test holds, and else gives this refusal
+abbrev pub holds_or : {E : Type 0} → Bool → E → Result (Unit {0}) E
+holds_or true refusal = Ok tt
+holds_or false refusal = Err refusal
 
 -- The answer gives what is said: the value, seen by `view`, or the refusal that the error is. An
 -- error that is no refusal is want of memory, and may always come.

@@ -1,6 +1,8 @@
 ghost use Rattle.std.specs.Prelude.{◌≡◌, ◌<◌, ◌==◌, ◌++◌, ◌∷◌, length, position, option_map, IfSome, IfNone};
 ghost use Rattle.st_base.specs.Words.{HasNo, cut_at};
 
+use memchr::memchr;
+
 /// What stands before the first separator, and all that stands behind it. `None` comes exactly
 /// where there is no separator.
 pub fn cut_at(text: &[u8], separator: u8) -> Option<(&[u8], &[u8])>
@@ -19,5 +21,5 @@ fn place_of(text: &[u8], separator: u8) -> Option<usize>
     ensures first { result ≡ position (λ byte. byte == separator) text.now }
     ensures within { IfSome result (λ at. at < length text.now) }
 {
-    text.iter().position(|byte| *byte == separator)
+    memchr(separator, text)
 }

@@ -12,6 +12,13 @@ fn a_list_is_edited_and_copied(rt: HostRuntime) -> Result<(), Fail> {
     let first = list.remove(0);
     assert_eq!(rt; first, 1);
     assert_eq!(rt; list.as_slice(), [2, 3].as_slice());
+    assert_eq!(rt; list.len(), 2);
+    assert_eq!(rt; list.get(1), Some(&3));
+    assert_eq!(rt; list.get(2), None);
+    if let Some(last) = list.get_mut(1) {
+        *last = 4;
+    }
+    assert_eq!(rt; list.as_slice(), [2, 4].as_slice());
     assert_eq!(rt;
         List::from_vec(copied.into_vec()).as_slice(),
         [1, 2, 3].as_slice()
@@ -47,8 +54,15 @@ fn whole_numbers_are_copied(rt: HostRuntime) -> Result<(), Fail> {
     assert_eq!(rt; u8::MAX.copy(alloc)?, u8::MAX);
     assert_eq!(rt; u16::MAX.copy(alloc)?, u16::MAX);
     assert_eq!(rt; u32::MAX.copy(alloc)?, u32::MAX);
+    assert_eq!(rt; u64::MAX.copy(alloc)?, u64::MAX);
+    assert_eq!(rt; u128::MAX.copy(alloc)?, u128::MAX);
     assert_eq!(rt; usize::MAX.copy(alloc)?, usize::MAX);
+    assert_eq!(rt; i8::MIN.copy(alloc)?, i8::MIN);
+    assert_eq!(rt; i16::MIN.copy(alloc)?, i16::MIN);
+    assert_eq!(rt; i32::MIN.copy(alloc)?, i32::MIN);
     assert_eq!(rt; i64::MIN.copy(alloc)?, i64::MIN);
+    assert_eq!(rt; i128::MIN.copy(alloc)?, i128::MIN);
+    assert_eq!(rt; isize::MIN.copy(alloc)?, isize::MIN);
     Ok(())
 }
 

@@ -1,12 +1,13 @@
 -- What was written is read again, and no two values have one text.
-use Rattle.std.proofs.Common.{◌≡◌, ℕ, ◌≤◌, List, [], Option, Some, None, option_map, option_and_then, if◌then◌else◌, refl, sym, ap, ◌∙◌, append-nil, arith}
-use Rattle.std.specs.Prelude.{ℤ, pos, negsuc, nat_le, max}
+use Rattle.std.proofs.Common.{◌≡◌, ℕ, ◌≤◌, List, [], Option, Some, None, option_map, option_and_then, if◌then◌else◌, Result, Ok, refl, sym, ap, ◌∙◌, append-nil, arith}
+use Rattle.std.specs.Prelude.{ℤ, pos, negsuc, nat_le, max, ok_or}
 use Rattle.std.proofs.lemmas.Bool.Decides.{nat_tests}
 use Rattle.std.proofs.lemmas.Int.{ints}
-use Rattle.std.proofs.lemmas.Str.{is_utf8-from_IsUtf8}
-use Rattle.json.specs.Json.{value as json_value, if_last}
+use Rattle.json.specs.Json.{Json, value as json_value, if_last}
 use Rattle.json.specs.Lex.{tokens}
+use Rattle.json.specs.Token.{Token}
 use Rattle.json.specs.Tree.{depth, json_tokens}
+use Rattle.json.proofs.Found.{one_reading}
 use Rattle.json.proofs.Printed.Trees.{value-json_tokens}
 use Rattle.serde_json.specs.Data as data'
 use Rattle.serde_json.specs.Find.{of_integer}
@@ -17,8 +18,11 @@ use Rattle.st_canon.specs.Canonical.{canonical}
 use Rattle.st_canon.specs.Depth.{depth_of}
 use Rattle.st_canon.specs.Plain.{IsWhole, Plain, null, boolean, whole, text, list, object, Items, no_items, item, Members, no_members, member}
 use Rattle.st_canon.specs.Proper.{IsProper, ItemsAreProper, MembersAreProper}
-use Rattle.st_canon.specs.Reading.{whole_value, whole_items, whole_members, json_of, value, not_json, of_data, of_plain}
+use Rattle.st_canon.specs.Reading.{whole_value, whole_items, whole_members, json_of}
+use Rattle.st_canon.specs.declared.refused.ReadRefused.{ReadRefused}
+use Rattle.st_canon.specs.declared.refused.ReadRefused.TheVariants.{NotWhole}
 use Rattle.st_canon.proofs.Compact.{tokens-canonical, depth-outline}
+use Rattle.st_canon.proofs.Outcomes.{json_of_data, json_of-utf8}
 use Rattle.st_canon.proofs.Data.{data_of, items_data, members_data}
 use Rattle.st_canon.proofs.Puts.{AllFresh, all_fresh, all_fresh_put, adds, adds_all, whole_put}
 use Rattle.st_canon.proofs.Texts.{IsUtf8-canonical}
@@ -93,11 +97,28 @@ read-canonical : (p : Plain) → IsProper p → depth (outline (data_of p)) ≤ 
 read-canonical p h shallow =
     ap (λ o. option_and_then of_json (option_and_then (λ q. if_last q.0 q.1) o)) (parsed p 127 h shallow)
 
-pub reads_back : (p : Plain) → IsProper p → depth_of p ≤ 127 → json_of (canonical p) ≡ value p
+pub reads_back : (p : Plain) → IsProper p → depth_of p ≤ 127 → json_of (canonical p) ≡ Ok p
 reads_back p h shallow =
     let b = back p h in
     let brackets : depth (outline (data_of p)) ≤ 127 = omega (arith, depth-outline p) in
-    ap (λ x. if x then of_data (read (canonical p)) else not_json) (is_utf8-from_IsUtf8 (canonical p) (IsUtf8-canonical p h)) ∙ ap of_data (read-canonical p h brackets ∙ b.1) ∙ ap of_plain b.2
+    json_of-utf8 (canonical p) (IsUtf8-canonical p h) ∙ ap json_of_data (read-canonical p h brackets ∙ b.1) ∙ ap (λ o. ok_or o NotWhole) b.2
+
+-- whatever the text is read as, however deep it nests, is the value
+from_tokens : (p : Plain) (found : Option (Json × List Token)) → IsProper p
+    → ((x : Json × List Token) → found ≡ Some x → Some x ≡ Some (outline (data_of p), []))
+    → (q : Plain) → json_of_data (option_and_then of_json (option_and_then (λ r. if_last r.0 r.1) found)) ≡ Ok q → q ≡ p
+from_tokens p None h one q e = cc
+from_tokens p (Some x) h one q e =
+    let b = back p h in
+    let whole = ap (λ o. json_of_data (option_and_then of_json (option_and_then (λ r. if_last r.0 r.1) o))) (one x refl) ∙ ap json_of_data b.1 ∙ ap (λ o. ok_or o NotWhole) b.2 in
+    let same : ◌≡◌ {A = Result Plain ReadRefused} (Ok q) (Ok p) = sym e ∙ whole in
+    cc
+
+pub reads_as : (p q : Plain) → IsProper p → json_of (canonical p) ≡ Ok q → q ≡ p
+reads_as p q h e =
+    let n = depth (outline (data_of p)) in
+    let text = json_of-utf8 (canonical p) (IsUtf8-canonical p h) in
+    from_tokens p (json_value 127 (tokens (canonical p))) h (λ x here. one_reading 127 n (tokens (canonical p)) x (outline (data_of p), []) here (parsed p n h (omega arith))) q (sym text ∙ e)
 
 first_same : {A B : Type 0} {a b : A} {x y : B} → ◌≡◌ {A = Option (A × B)} (Some (a, x)) (Some (b, y)) → a ≡ b
 first_same {A} {B} {a} {b} {x} {y} e = let pairs : ◌≡◌ {A = A × B} (a, x) (b, y) = cc in ap (λ r. r.0) pairs

@@ -1,7 +1,6 @@
 -- Items and members that are converted one after another.
-use Rattle.std.proofs.Common.{◌≡◌, ℕ, ◌+◌, ◌<◌, List, [], ◌∷◌, ◌++◌, length, get_or, drop, map, String, Global, string_bytes, Option, Some, None, option_map, Result, Err, Less, Equal, refl, sym, ap, ◌∙◌, subst, arith, length-drop, append-nil, append_assoc, is_eq, true, false}
+use Rattle.std.proofs.Common.{◌≡◌, ℕ, List, [], ◌∷◌, ◌++◌, map, String, Global, string_bytes, Option, Some, None, option_map, Ok, Less, Equal, refl, sym, ap, ◌∙◌, subst, append-nil, append_assoc, is_eq, true, false}
 use mathlib.Core.Bool.{true≢false}
-use Rattle.std.proofs.lemmas.List.{nil_from_length}
 use Rattle.std.specs.List.{AllByRecursion}
 use Rattle.std.specs.List.Sorted.{IsStrictlySortedBy}
 use Rattle.std.specs.Map.{keys_of}
@@ -12,32 +11,22 @@ use Rattle.std.proofs.lemmas.Slice.Eq.{bytes_eq-Decides}
 use Rattle.std.proofs.lemmas.Str.{IsUtf8-string_bytes}
 use Rattle.serde_json.specs.View.{view, items_view, members_view}
 use Rattle.serde_json.specs.declared.value.Value.{Value}
-use Rattle.st_base.proofs.Lists.{next_item}
+use Rattle.std.specs.Prelude.{ok_or}
 use Rattle.st_canon.specs.Find.{put}
 use Rattle.st_canon.specs.InOrder.{in_order, AreApart, NamesDiffer}
 use Rattle.st_canon.specs.Names.{name_cmp}
 use Rattle.st_canon.specs.Plain.{Plain, Items, no_items, item, Members, no_members}
-use Rattle.st_canon.specs.Reading.{Converts, whole_value, whole_items, whole_members}
+use Rattle.st_canon.specs.Reading.{whole_value, whole_items, whole_members}
 use Rattle.st_canon.specs.View.{plain, items_of, plain_items, plain_members}
-use Rattle.st_canon.specs.declared.refused.ReadRefused.{ReadRefused}
-use Rattle.st_canon.specs.declared.refused.ReadRefused.TheVariants.{NotJson, NotWhole, WantOfMemory}
+use Rattle.st_canon.specs.declared.refused.ReadRefused.TheVariants.{NotWhole}
 use Rattle.st_canon.specs.declared.value.Json.{Json}
 use Rattle.st_canon.proofs.Order.{same_from_tied}
 use Rattle.st_canon.proofs.Places.{plain_members-placed}
 
--- ---- what is refused inside is refused as a whole
-
-refused_outside : {A B P Q : Type 0} (view : A → P) (outer : B → Q) (o : Option P) (all : Option Q) (e : ReadRefused)
-    → Converts view o (Err e) → (o ≡ None → all ≡ None) → Converts outer all (Err e)
-refused_outside view outer o all NotJson h none = absurd h
-refused_outside view outer o all NotWhole h none = none h
-refused_outside view outer o all WantOfMemory h none = tt
-
-pub refused_also : {A B P Q : Type 0} (view : A → P) (outer : B → Q) (o : Option P) (all : Option Q) (e : ReadRefused) (r : Result B ReadRefused)
-    → r ≡ Err e → Converts view o (Err e) → (o ≡ None → all ≡ None)
-    → Converts outer all r
-refused_also view outer o all e r is h none =
-    subst (Converts outer all) (sym is) (refused_outside view outer o all e h none)
+-- a value that was given is that of whole numbers
+pub whole_from : {P : Type 0} (o : Option P) (p : P) → ok_or o NotWhole ≡ Ok p → o ≡ Some p
+whole_from None p h = cc
+whole_from (Some q) p h = cc
 
 -- ---- items
 
@@ -60,31 +49,19 @@ item_pushed : (js : List Json) (j : Json) (o : Option Items)
 item_pushed js j None = refl
 item_pushed js j (Some rest) = ap Some (sym (items_after_push js j rest))
 
--- so far these items of the vector were converted
-abbrev pub ItemsSoFar : List Value → ℕ → List Json → Type 0
-ItemsSoFar vs i js =
-    whole_items (items_view vs) ≡ option_map (items_after (map plain js)) (whole_items (items_view (drop i vs)))
+-- so far these items were converted, and the others are left
+abbrev pub ItemsSoFar : List Value → List Value → List Json → Type 0
+ItemsSoFar all left js =
+    whole_items (items_view all) ≡ option_map (items_after (map plain js)) (whole_items (items_view left))
 
-module _ (vs : List Value) (i : ℕ) (js : List Json) (so_far : ItemsSoFar vs i js) where
-  module _ (v : Value) (lt : i < length vs) (is : v ≡ get_or vs i v) where
-    split : drop i vs ≡ v ∷ drop (i + 1) vs
-    split = next_item vs i v lt is
+module _ (all left : List Value) (js : List Json) (v : Value) (so_far : ItemsSoFar all (v ∷ left) js) where
+  pub one_more_item : (j : Json) → whole_value (view v) ≡ Some (plain j) → ItemsSoFar all left (js ++ j ∷ [])
+  one_more_item j w =
+      let step : whole_items (items_view (v ∷ left)) ≡ option_map (item (plain j)) (whole_items (items_view left)) = rw w refl in
+      so_far ∙ ap (option_map (items_after (map plain js))) step ∙ item_pushed js j _
 
-    pub one_more_item : (j : Json) → whole_value (view v) ≡ Some (plain j) → ItemsSoFar vs (i + 1) (js ++ j ∷ [])
-    one_more_item j w =
-        let step : whole_items (items_view (v ∷ drop (i + 1) vs)) ≡ option_map (item (plain j)) (whole_items (items_view (drop (i + 1) vs))) = rw w refl in
-        so_far ∙ ap (λ r. option_map (items_after (map plain js)) (whole_items (items_view r))) split
-        ∙ ap (option_map (items_after (map plain js))) step ∙ item_pushed js j _
-
-    pub one_item_not_whole : whole_value (view v) ≡ None → whole_items (items_view vs) ≡ None
-    one_item_not_whole w =
-        let step : whole_items (items_view (v ∷ drop (i + 1) vs)) ≡ None = rw w refl in
-        so_far ∙ ap (λ r. option_map (items_after (map plain js)) (whole_items (items_view r))) split ∙ ap (option_map (items_after (map plain js))) step
-
-  pub all_items : length vs ≡ i → whole_items (items_view vs) ≡ Some (plain_items js)
-  all_items e =
-      let none : drop i vs ≡ [] = nil_from_length (drop i vs) (omega (arith, length-drop i vs)) in
-      so_far ∙ ap (λ r. option_map (items_after (map plain js)) (whole_items (items_view r))) none ∙ ap Some (items_after-nil (map plain js))
+pub all_items : (all : List Value) (js : List Json) → ItemsSoFar all [] js → whole_items (items_view all) ≡ Some (plain_items js)
+all_items all js so_far = so_far ∙ ap Some (items_after-nil (map plain js))
 
 -- ---- members
 
@@ -128,21 +105,9 @@ module _ (all left : List Entry) (es : Pairs) (name : String Global) (v : Value)
       let step : whole_members (members_view ((name, v) ∷ left)) ≡ option_map (put k (plain j)) (whole_members (members_view left)) = rw (w, named) refl in
       so_far ∙ ap (option_map (puts es)) step ∙ member_pushed es (k, j) (whole_members (members_view left))
 
-  pub one_member_not_whole : whole_value (view v) ≡ None → whole_members (members_view all) ≡ None
-  one_member_not_whole w =
-      let step : whole_members (members_view ((name, v) ∷ left)) ≡ None = rw w refl in
-      so_far ∙ ap (option_map (puts es)) step
-
 pub all_members : (all : List Entry) (es : Pairs) → MembersSoFar all [] es
     → whole_members (members_view all) ≡ Some (plain_members (in_order es))
 all_members all es so_far = so_far ∙ ap Some (puts_in_order es)
-
-start : (o : Option Members) → o ≡ option_map (puts []) o
-start None = refl
-start (Some ms) = refl
-
-pub no_member_yet : (all left : List Entry) (es : Pairs) → left ≡ all → es ≡ [] → MembersSoFar all left es
-no_member_yet all left es same none = rw (same, none) (start (whole_members (members_view all)))
 
 -- ---- the names of a map differ
 

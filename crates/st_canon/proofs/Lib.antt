@@ -1,10 +1,14 @@
 pub mod Back
 pub mod Compact
+pub mod Compared
 pub mod Converting
+pub mod Counts
 pub mod Data
 pub mod Depths
+pub mod ItemLists
 pub mod Kept
 pub mod Named
+pub mod ObjectLemmas
 pub mod OnLiterals
 pub mod Order
 pub mod Outcomes

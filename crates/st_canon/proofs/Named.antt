@@ -6,7 +6,7 @@ use Rattle.std.specs.Cmp.{first_so, second_so}
 use Rattle.std.specs.Ordering.{match_ordering}
 use Rattle.std.specs.Str.{IsUtf8}
 use Rattle.json.proofs.Printed.Utf8.{are_ascii, IsUtf8-are_ascii}
-use Rattle.st_canon.specs.Find.{member_at, put, without}
+use Rattle.st_canon.specs.Find.{OthersStay, member_at, put, without}
 use Rattle.st_canon.specs.Names.{name_cmp, is_name}
 use Rattle.st_canon.specs.Plain.{Plain, Members, no_members, member}
 use Rattle.st_canon.proofs.Order.{same_from_tied, same_from_is_name, is_name_from_same, not_name_from_apart, not_name_from_greater}
@@ -65,6 +65,14 @@ member_at-without_other other name (member n q ms) differ = elim (is_name name n
   | true ↦ λ is. let not : is_name other n ≡ false = ap (is_name other) (sym (same_from_is_name name n is)) ∙ differ in rw not (member_at-without_other other name ms differ)
   | false ↦ λ is. ap (cond (is_name other n) (Some q)) (member_at-without_other other name ms differ)
 ] refl
+
+-- ---- all names but one
+
+pub others_stay_put : (name : List ℕ) (p : Plain) (ms : Members) → IsUtf8 name → OthersStay name ms (put name p ms)
+others_stay_put name p ms v = λ other u apart. member_at-put_other other name p ms u v (not_name_from_apart other name apart)
+
+pub others_stay_without : (name : List ℕ) (ms : Members) → OthersStay name ms (without name ms)
+others_stay_without name ms = λ other u apart. member_at-without_other other name ms (not_name_from_apart other name apart)
 
 -- each name is found as the members say, once one was put or removed
 pub ruleset by_name = (member_at-put_same, member_at-put_literal, member_at-without_same, member_at-without_other)

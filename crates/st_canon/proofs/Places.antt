@@ -81,6 +81,10 @@ module _ {X : Type 0} where
       pub placed_at_place : (v : X) → set es i (name, v) ≡ placed (name, v) es
       placed_at_place v = placed_over es i (name, v) v ascend at.in_range (at.named (name, v))
 
+      -- the value of what stands there is changed, and its name stays
+      pub changed_at_place : (e : List ℕ × X) (v : X) → e ≡ get_or es i e → set es i (e.0, v) ≡ placed (name, v) es
+      changed_at_place e v is = ap (λ n. set es i (n, v)) (ap (λ p. p.0) is ∙ at.named e) ∙ placed_at_place v
+
     -- ---- at its gap
     rest_of_gap : (e : List ℕ × X) (es : List (List ℕ × X)) (i : ℕ) → IsGapFor name (e ∷ es) (suc i)
         → IsGapFor name es i

@@ -1,7 +1,8 @@
 -- What an object has by name, and what it is once a member was put or removed.
-use Rattle.std.specs.Prelude.{ℕ, List, Bool, true, ◌&&◌, Option, Some, None, if◌then◌else◌}
+use Rattle.std.specs.Prelude.{◌≡◌, ◌≢◌, ℕ, List, Bool, true, ◌&&◌, Option, Some, None, if◌then◌else◌}
 use Rattle.std.specs.List.{list_any}
 use Rattle.std.specs.Ordering.{match_ordering}
+use Rattle.std.specs.Str.{IsUtf8}
 use Rattle.st_canon.specs.Names.{name_cmp, is_name}
 use Rattle.st_canon.specs.Plain.{Plain, Members, no_members, member}
 
@@ -20,6 +21,10 @@ put name value (member n p ms) =
 abbrev pub without : List ℕ → Members → Members
 without name no_members = no_members
 without name (member n p ms) = if is_name name n then without name ms else member n p (without name ms)
+
+-- under each other name than this the members have what they had
+abbrev pub OthersStay : List ℕ → Members → Members → Type 0
+OthersStay name old new = (other : List ℕ) → IsUtf8 other → other ≢ name → member_at other new ≡ member_at other old
 
 -- each member has one of these names
 abbrev pub has_only : List (List ℕ) → Members → Bool

@@ -1,11 +1,17 @@
 pub mod Canonical
 pub mod Depth
+pub mod Entries
 pub mod Find
 pub mod InOrder
+pub mod Lends
+pub mod LendsValue
+pub mod Measure
 pub mod Names
+pub mod Objects
 pub mod Place
 pub mod Plain
 pub mod Proper
 pub mod Reading
+pub mod Shapes
 pub mod View
 pub mod formers

@@ -1,12 +1,11 @@
 -- What bytes are as JSON with whole numbers.
-use Rattle.std.specs.Prelude.{◌≡◌, ℕ, ℤ, pos, negsuc, List, if◌then◌else◌, nat_le, Option, Some, None, Result, Ok, Err, option_map, option_and_then, ⊤}
+use Rattle.std.specs.Prelude.{ℕ, ℤ, pos, negsuc, List, if◌then◌else◌, nat_le, Option, Some, None, ok_or, Result, option_map, option_and_then}
 use Rattle.std.specs.Str.{is_utf8}
 use Rattle.serde_json.specs.Data as data'
 use Rattle.serde_json.specs.Read.{read}
+use Rattle.st_base.specs.Answers.{◌>>=◌}
 use Rattle.st_canon.specs.Find.{put}
 use Rattle.st_canon.specs.Plain.{Plain, null, boolean, whole, text, list, object, Items, no_items, item, Members, no_members}
-use Rattle.st_canon.specs.View.{plain}
-use Rattle.st_canon.specs.declared.value.Json.{Json}
 use Rattle.st_canon.specs.declared.refused.ReadRefused.{ReadRefused}
 use Rattle.st_canon.specs.declared.refused.ReadRefused.TheVariants.{NotJson, NotWhole, WantOfMemory}
 
@@ -21,7 +20,7 @@ whole_number (data'.unsigned n) = whole_integer (pos n)
 whole_number (data'.negative z) = whole_integer z
 whole_number (data'.float x) = None
 
--- The value without its floats; each member is put where the order of names has it.
+-- The value, where it has no float; each member is put where the order of names has it.
 abbrev mutual
   pub whole_value : data'.Data → Option Plain
   whole_value data'.null = Some null
@@ -39,33 +38,18 @@ abbrev mutual
   whole_members data'.no_members = Some no_members
   whole_members (data'.member k d ms) = option_and_then (λ p. option_map (put k p) (whole_members ms)) (whole_value d)
 
-pub data Reading : Type 0 where
-  not_json : Reading
-  not_whole : Reading
-  value : Plain → Reading
+-- the JSON text in UTF-8 that the bytes are (RFC 8259), as `serde_json` reads it
+abbrev pub data_of_bytes : List ℕ → Option data'.Data
+data_of_bytes bytes = if is_utf8 bytes then read bytes else None
 
-abbrev pub of_plain : Option Plain → Reading
-of_plain None = not_whole
-of_plain (Some p) = value p
+-- The JSON value with whole numbers that the bytes are, where they are JSON and each number is whole.
+abbrev pub json_of : List ℕ → Result Plain ReadRefused
+json_of bytes = do
+  read_value ← ok_or (data_of_bytes bytes) NotJson
+  ok_or (whole_value read_value) NotWhole
 
-abbrev pub of_data : Option data'.Data → Reading
-of_data None = not_json
-of_data (Some d) = of_plain (whole_value d)
-
--- JSON text in UTF-8, as `serde_json` reads it; a number in it that is no whole one is told apart.
-abbrev pub json_of : List ℕ → Reading
-json_of bytes = if is_utf8 bytes then of_data (read bytes) else not_json
-
--- the answer is what the bytes are, or memory was wanting
-abbrev pub Gives : Reading → Result Json ReadRefused → Type 0
-Gives r (Ok j) = r ≡ value (plain j)
-Gives r (Err NotJson) = r ≡ not_json
-Gives r (Err NotWhole) = r ≡ not_whole
-Gives r (Err WantOfMemory) = ⊤
-
--- the same of what was read as JSON already
-abbrev pub Converts : {A P : Type 0} → (A → P) → Option P → Result A ReadRefused → Type 0
-Converts view o (Ok j) = o ≡ Some (view j)
-Converts view o (Err NotJson) = ⊥
-Converts view o (Err NotWhole) = o ≡ None
-Converts view o (Err WantOfMemory) = ⊤
+-- what a refusal says of the bytes: nothing, where memory was wanting
+abbrev pub refusal_of : ReadRefused → Option ReadRefused
+refusal_of NotJson = Some NotJson
+refusal_of NotWhole = Some NotWhole
+refusal_of WantOfMemory = None

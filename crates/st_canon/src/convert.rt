@@ -1,7 +1,11 @@
-ghost use Rattle.std.specs.Prelude.{◌≡◌};
+ghost use Rattle.std.specs.Prelude.{◌≡◌, IfOk, ok_or, string_bytes};
+ghost use Rattle.std.specs.Str.{IsUtf8};
 ghost use Rattle.serde_json.specs.View.{view, items_view, members_view, number_view};
-ghost use Rattle.st_canon.specs.Reading.{Converts, whole_value, whole_items, whole_members, whole_number};
+ghost use Rattle.st_base.specs.Answers.{GivesAs};
+ghost use Rattle.st_canon.specs.Proper.{IsProper, ItemsAreProper, MembersAreProper};
+ghost use Rattle.st_canon.specs.Reading.{refusal_of, whole_value, whole_items, whole_members, whole_number};
 ghost use Rattle.st_canon.specs.View.{plain, plain_items, plain_members};
+ghost use Rattle.st_canon.specs.declared.refused.ReadRefused.TheVariants.{NotWhole};
 
 use crate::members::Members;
 use crate::refused::ReadRefused;
@@ -11,47 +15,56 @@ use serde_json::{Map, Number, Value};
 use st_base::{List, Text};
 use std::alloc::Global;
 
-// The value, where each number in it is whole.
+// The value, where each number in it is whole. It takes the texts over, without a copy.
 #[cycle(convert)]
-pub(crate) fn convert(alloc: Global, value: &Value) -> Result<Json, ReadRefused>
-    ensures { Converts plain (whole_value (view value.now)) result }
+pub(crate) fn convert(alloc: Global, value: Value) -> Result<Json, ReadRefused>
+    ensures value { GivesAs plain refusal_of (ok_or (whole_value (view value)) NotWhole) result }
+    ensures proper { IfOk result (λ json. IsProper (plain json)) }
 {
     match value {
         Value::Null => Ok(Json::Null),
-        Value::Bool(b) => Ok(Json::Bool(*b)),
-        Value::Number(n) => match whole_of(n) {
+        Value::Bool(b) => Ok(Json::Bool(b)),
+        Value::Number(n) => match whole_of(&n) {
             Some(w) => Ok(Json::Whole(w)),
             None => Err(ReadRefused::NotWhole),
         },
-        Value::String(s) => Ok(Json::Text(Text::from_text(alloc, s.as_str())?)),
+        Value::String(s) => Ok(Json::Text(text_of(s))),
         Value::Array(items) => Ok(Json::List(convert_items(alloc, items)?)),
         Value::Object(members) => Ok(Json::Object(convert_members(alloc, members)?)),
     }
 }
 
 #[cycle(convert)]
-fn convert_items(alloc: Global, items: &Vec<Value>) -> Result<List<Json>, ReadRefused>
-    ensures { Converts plain_items (whole_items (items_view items.now.items)) result }
+fn convert_items(alloc: Global, items: Vec<Value>) -> Result<List<Json>, ReadRefused>
+    ensures value { GivesAs plain_items refusal_of (ok_or (whole_items (items_view items.items)) NotWhole) result }
+    ensures proper { IfOk result (λ items. ItemsAreProper (plain_items items)) }
 {
     let mut found = List::new(alloc);
     for item in items {
         let json = convert(alloc, item)?;
-        found.push(json)?;
+        found.push(alloc, json)?;
     }
     Ok(found)
 }
 
 #[cycle(convert)]
-fn convert_members(alloc: Global, members: &Map<String, Value>) -> Result<Object, ReadRefused>
-    ensures { Converts plain_members (whole_members (members_view members.now.entries)) result }
+fn convert_members(alloc: Global, members: Map<String, Value>) -> Result<Object, ReadRefused>
+    ensures value { GivesAs plain_members refusal_of (ok_or (whole_members (members_view members.entries)) NotWhole) result }
+    ensures proper { IfOk result (λ members. MembersAreProper (plain_members members)) }
 {
     let mut pairs = List::new(alloc);
-    for (key, member) in members.iter() {
-        let name = Text::from_text(alloc, key.as_str())?;
+    for (key, member) in members {
         let json = convert(alloc, member)?;
-        pairs.push((name, json))?;
+        pairs.push(alloc, (text_of(key), json))?;
     }
     Ok(Members::sorted(pairs.into_vec())?)
+}
+
+fn text_of(string: String) -> Text
+    ensures value { result ≡ string_bytes string }
+    ensures utf8 { IsUtf8 result }
+{
+    Text::from_string(string)
 }
 
 fn whole_of(number: &Number) -> Option<Whole>

@@ -4,40 +4,44 @@ ghost use Rattle.std.specs.Str.{IsUtf8};
 ghost use Rattle.st_canon.specs.Canonical.{escape, quoted, hex_digit};
 
 use st_base::{Bytes, WantOfMemory};
+use std::alloc::Global;
 
 // Appends the text between quotes.
-pub(crate) fn append_text(out: &mut Bytes, text: &str) -> Result<(), WantOfMemory>
+pub(crate) fn append_text(alloc: Global, out: &mut Bytes, text: &str) -> Result<(), WantOfMemory>
     ensures text { OnOk result (out.new ≡ out.old ++ quoted text.now) }
     ensures utf8 { OnOk result (IsUtf8 text.now) }
 {
-    out.push_all(b"\"")?;
-    append_escaped(out, text.as_bytes())?;
-    out.push_all(b"\"")
+    out.push_all(alloc, b"\"")?;
+    append_escaped(alloc, out, text.as_bytes())?;
+    out.push_all(alloc, b"\"")
 }
 
-fn append_escaped(out: &mut Bytes, bytes: &[u8]) -> Result<(), WantOfMemory>
+fn append_escaped(alloc: Global, out: &mut Bytes, bytes: &[u8]) -> Result<(), WantOfMemory>
     ensures { OnOk result (out.new ≡ out.old ++ flat_map escape bytes.now) }
 {
     for byte in bytes {
-        append_byte(out, *byte)?;
+        append_byte(alloc, out, *byte)?;
     }
     Ok(())
 }
 
 #[tactic(auto, unfolding(crate::specs::Canonical::escape))]
-fn append_byte(out: &mut Bytes, byte: u8) -> Result<(), WantOfMemory>
+fn append_byte(alloc: Global, out: &mut Bytes, byte: u8) -> Result<(), WantOfMemory>
     ensures { OnOk result (out.new ≡ out.old ++ escape byte) }
 {
     match byte {
-        b'"' => out.push_all(b"\\\""),
-        b'\\' => out.push_all(b"\\\\"),
-        0x08 => out.push_all(b"\\b"),
-        b'\t' => out.push_all(b"\\t"),
-        b'\n' => out.push_all(b"\\n"),
-        0x0c => out.push_all(b"\\f"),
-        b'\r' => out.push_all(b"\\r"),
-        0..=31 => out.push_all(&[b'\\', b'u', b'0', b'0', hex(byte / 16), hex(byte % 16)]),
-        _ => out.push_all(&[byte]),
+        b'"' => out.push_all(alloc, b"\\\""),
+        b'\\' => out.push_all(alloc, b"\\\\"),
+        0x08 => out.push_all(alloc, b"\\b"),
+        b'\t' => out.push_all(alloc, b"\\t"),
+        b'\n' => out.push_all(alloc, b"\\n"),
+        0x0c => out.push_all(alloc, b"\\f"),
+        b'\r' => out.push_all(alloc, b"\\r"),
+        0..=31 => out.push_all(
+            alloc,
+            &[b'\\', b'u', b'0', b'0', hex(byte / 16), hex(byte % 16)],
+        ),
+        _ => out.push_all(alloc, &[byte]),
     }
 }
 

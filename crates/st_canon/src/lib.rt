@@ -2,23 +2,36 @@
 //! canonical text of RFC 8785.
 #![tactic(auto)]
 
+mod comparing;
 mod convert;
 mod copied;
+mod counting;
 mod escape;
+mod fitting;
 mod members;
 mod names;
+mod nesting;
 mod object;
 mod place;
 mod reading;
 mod refused;
+mod shapes;
+mod some;
 #[cfg(test)]
 mod tests;
+mod there;
 mod value;
 mod whole;
 mod writing;
 
-pub use reading::read;
+pub use comparing::equal;
+pub use counting::size;
+pub use fitting::fits;
+pub use nesting::depth;
+pub use reading::{read, read_json};
 pub use refused::ReadRefused;
+pub use some::{some_list, some_object};
+pub use there::{entries_in, is_list_if_there, is_object_if_there, is_text_if_there, only_of};
 pub use value::{Json, Object};
 pub use whole::Whole;
 pub use writing::write;

@@ -1,4 +1,5 @@
 ghost use Rattle.std.specs.Prelude.{◌≡◌, [], IfOk, OnOk, OnErr};
+ghost use Rattle.std.specs.Str.{IsUtf8};
 ghost use Rattle.st_canon.specs.Names.{NamesAscend};
 ghost use Rattle.st_canon.specs.InOrder.{in_order, placed, NamesDiffer};
 
@@ -18,6 +19,7 @@ pub struct Members<T> {
 impl<T> Model for Members<T> {
     ghost use Rattle.std.specs.Prelude.{List, ℕ};
     ghost use Rattle.std.specs.Coded.{coded_list, coded_ℕ, coded×};
+    ghost use Rattle.std.specs.Str.{IsUtf8};
     ghost use Rattle.st_canon.specs.Names.{NamesAscend};
 
     ghost Value = { List (List ℕ × T) };
@@ -47,6 +49,27 @@ impl<T> Members<T> {
         self.pairs.as_slice()
     }
 
+    ghost use Rattle.std.specs.Borrow.{sem};
+    ghost use Rattle.std.specs.Map.{lookup};
+    ghost use Rattle.std.specs.Option.{option_copied_mut};
+    ghost use Rattle.st_canon.specs.Lends.{lends_member};
+    ghost use Rattle.std.specs.Str.{IsUtf8};
+    ghost use Rattle.st_canon.specs.Names.{is_name};
+
+    /// The value of the member of this name, to be changed.
+    pub fn get_mut(&mut self, name: &str) -> Option<&mut T>
+        ensures* writes_back { sem 𝓛 (lends_member T.row self.entry name.now result) }
+        ensures value { option_copied_mut result ≡ lookup (is_name name.now) self.old }
+    {
+        match place_of(self.pairs.as_slice(), name) {
+            Ok(at) => {
+                let pair = &mut self.pairs[at];
+                Some(&mut pair.1)
+            }
+            Err(_) => None,
+        }
+    }
+
     // Takes pairs over that are in order already.
     pub(crate) fn from_pairs(pairs: Vec<(Text, T)>) -> Members<T>
         requires { NamesAscend pairs.items }
@@ -69,6 +92,7 @@ impl<T: Drop> Members<T> {
     // Adds the member, or replaces the one of its name.
     pub(crate) fn place(&mut self, name: Text, value: T) -> Result<(), WantOfMemory>
         ensures ok { OnOk result (self.new ≡ placed (name, value) self.old) }
+        ensures utf8 { OnOk result (IsUtf8 name) }
         ensures err { OnErr result (self.new ≡ self.old) }
     {
         match place_of(self.pairs.as_slice(), name.as_str()) {

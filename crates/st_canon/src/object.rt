@@ -1,14 +1,17 @@
-ghost use Rattle.std.specs.Prelude.{◌≡◌, map, option_map, OnOk, OnErr};
+ghost use Rattle.std.specs.Prelude.{◌≡◌, Some, None, map, option_map, OnOk, OnErr};
 ghost use Rattle.std.specs.List.{list_any};
 ghost use Rattle.std.specs.Map.{lookup};
 ghost use Rattle.std.specs.Option.{option_copied};
-ghost use Rattle.st_canon.specs.Find.{has_only, member_at, put, without};
+ghost use Rattle.st_canon.specs.Find.{OthersStay, has_only, member_at, put, without};
 ghost use Rattle.st_canon.specs.Names.{is_name};
+ghost use Rattle.st_canon.specs.Objects.{is_empty};
+ghost use Rattle.st_canon.specs.Plain.{object};
+ghost use Rattle.st_canon.specs.Shapes.{list_at, object_at, only_member, text_at};
 ghost use Rattle.st_canon.specs.View.{plain, plain_members};
 
 use crate::place::place_of;
 use crate::value::{Json, Object};
-use st_base::{Text, WantOfMemory};
+use st_base::{List, Text, WantOfMemory};
 use std::alloc::Global;
 
 impl Object {
@@ -23,9 +26,50 @@ impl Object {
         }
     }
 
+    /// Whether there is no member.
+    pub fn is_empty(&self) -> bool
+        ensures { result ≡ is_empty (plain_members self.now) }
+    {
+        self.pairs().is_empty()
+    }
+
+    /// The text that the member of this name is.
+    pub fn text(&self, name: &str) -> Option<&str>
+        ensures { option_map (λ text. text.now) result ≡ text_at name.now (Some (object (plain_members self.now))) }
+    {
+        self.get(name)?.as_text()
+    }
+
+    /// The list that the member of this name is.
+    pub fn list(&self, name: &str) -> Option<&List<Json>>
+        ensures { option_map (λ items. map plain items.now) result ≡ list_at name.now (Some (object (plain_members self.now))) }
+    {
+        self.get(name)?.as_list()
+    }
+
+    /// The object that the member of this name is.
+    pub fn object(&self, name: &str) -> Option<&Object>
+        ensures { option_map (λ members. plain_members members.now) result ≡ object_at name.now (Some (object (plain_members self.now))) }
+    {
+        self.get(name)?.as_object()
+    }
+
+    /// The value of the member of this name, where there is no other member.
+    pub fn only(&self, name: &str) -> Option<&Json>
+        ensures { option_map plain (option_copied result) ≡ only_member name.now (Some (object (plain_members self.now))) }
+    {
+        if self.has_only(&[name]) {
+            self.get(name)
+        } else {
+            None
+        }
+    }
+
     /// Adds the member, or replaces the one of its name.
     pub fn insert(&mut self, _alloc: Global, name: Text, value: Json) -> Result<(), WantOfMemory>
         ensures ok { OnOk result (plain_members self.new ≡ put name (plain value) (plain_members self.old)) }
+        ensures here { OnOk result (member_at name (plain_members self.new) ≡ Some (plain value)) }
+        ensures others { OnOk result (OthersStay name (plain_members self.old) (plain_members self.new)) }
         ensures err { OnErr result (self.new ≡ self.old) }
     {
         match self.place(name, value) {
@@ -37,6 +81,8 @@ impl Object {
     /// `insert` at a copy of the name.
     pub fn set(&mut self, alloc: Global, name: &str, value: Json) -> Result<(), WantOfMemory>
         ensures ok { OnOk result (plain_members self.new ≡ put name.now (plain value) (plain_members self.old)) }
+        ensures here { OnOk result (member_at name.now (plain_members self.new) ≡ Some (plain value)) }
+        ensures others { OnOk result (OthersStay name.now (plain_members self.old) (plain_members self.new)) }
         ensures err { OnErr result (self.new ≡ self.old) }
     {
         let name = Text::from_text(alloc, name)?;
@@ -47,6 +93,8 @@ impl Object {
     pub fn remove(&mut self, name: &str) -> Option<Json>
         ensures value { option_map plain result ≡ member_at name.now (plain_members self.old) }
         ensures rest { plain_members self.new ≡ without name.now (plain_members self.old) }
+        ensures gone { member_at name.now (plain_members self.new) ≡ None }
+        ensures others { OthersStay name.now (plain_members self.old) (plain_members self.new) }
     {
         match place_of(self.pairs.as_slice(), name) {
             Ok(at) => {

@@ -1,9 +1,15 @@
-ghost use Rattle.st_canon.specs.Reading.{json_of, Gives};
+ghost use Rattle.std.specs.Prelude.{◌≡◌, IfOk, IfSome, option_map};
+ghost use Rattle.st_base.specs.Answers.{GivesAs};
+ghost use Rattle.st_canon.specs.Proper.{IsProper};
+ghost use Rattle.st_canon.specs.Reading.{json_of, refusal_of};
+ghost use Rattle.st_canon.specs.Shapes.{json_in};
+ghost use Rattle.st_canon.specs.View.{plain};
 
 use crate::convert::convert;
 use crate::refused::ReadRefused;
 use crate::value::Json;
 use serde_json::Value;
+use st_base::WantOfMemory;
 use std::alloc::Global;
 
 /// Reads a JSON text of any spelling. A member whose name stands twice has its last value.
@@ -11,14 +17,28 @@ use std::alloc::Global;
 /// `NotJson` comes exactly where `serde_json` refuses the bytes, `NotWhole` exactly where they are
 /// JSON with a number that no `Whole` holds or that is written as a float.
 pub fn read(alloc: Global, bytes: &[u8]) -> Result<Json, ReadRefused>
-    ensures { Gives (json_of bytes.now) result }
+    ensures value { GivesAs plain refusal_of (json_of bytes.now) result }
+    ensures proper { IfOk result (λ json. IsProper (plain json)) }
 {
     match Value::from_slice(alloc, bytes) {
-        Ok(value) => convert(alloc, &value),
+        Ok(value) => convert(alloc, value),
         Err(e) => if e.is_memory() {
             Err(ReadRefused::WantOfMemory)
         } else {
             Err(ReadRefused::NotJson)
         },
+    }
+}
+
+/// The JSON that bytes are. `None` comes exactly where they are no JSON with whole numbers.
+pub fn read_json(alloc: Global, bytes: &[u8]) -> Result<Option<Json>, WantOfMemory>
+    ensures value { IfOk result (λ json. option_map plain json ≡ json_in bytes.now) }
+    ensures proper { IfOk result (λ json. IfSome json (λ json. IsProper (plain json))) }
+{
+    match read(alloc, bytes) {
+        Ok(json) => Ok(Some(json)),
+        Err(ReadRefused::NotJson) => Ok(None),
+        Err(ReadRefused::NotWhole) => Ok(None),
+        Err(ReadRefused::WantOfMemory) => Err(WantOfMemory),
     }
 }

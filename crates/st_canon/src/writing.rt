@@ -1,10 +1,10 @@
-ghost use Rattle.std.specs.Prelude.{◌≡◌, ◌++◌, ◌≤◌, IfOk, OnOk, false};
+ghost use Rattle.std.specs.Prelude.{◌≡◌, ◌++◌, ◌≤◌, IfOk, OnOk, Ok, false};
 ghost use Rattle.std.specs.Fmt.{signed_decimal};
 ghost use Rattle.st_canon.specs.Canonical.{canonical, canonical_items, canonical_members};
 ghost use Rattle.st_canon.specs.Depth.{depth_of};
 ghost use Rattle.st_canon.specs.Plain.{Plain};
 ghost use Rattle.st_canon.specs.Proper.{IsProper, ItemsAreProper, MembersAreProper};
-ghost use Rattle.st_canon.specs.Reading.{json_of, value as value_of};
+ghost use Rattle.st_canon.specs.Reading.{json_of};
 ghost use Rattle.st_canon.specs.View.{plain, plain_items, plain_members};
 
 use crate::escape::append_text;
@@ -17,7 +17,9 @@ pub fn write(alloc: Global, value: &Json) -> Result<Bytes, WantOfMemory>
     ensures text { IfOk result (λ text. text ≡ canonical (plain value.now)) }
     ensures proper { OnOk result (IsProper (plain value.now)) }
     // It is read again, where it does not nest too deep for `serde_json`.
-    ensures read { IfOk result (λ text. depth_of (plain value.now) ≤ 127 → json_of text ≡ value_of (plain value.now)) }
+    ensures read { IfOk result (λ text. depth_of (plain value.now) ≤ 127 → json_of text ≡ Ok (plain value.now)) }
+    // Whatever it is read as, is this value.
+    ensures same { IfOk result (λ text. (read : Plain) → json_of text ≡ Ok read → read ≡ plain value.now) }
     // No other value has this text.
     ensures only { IfOk result (λ text. (other : Plain) → IsProper other → canonical other ≡ text → other ≡ plain value.now) }
 {
@@ -32,23 +34,23 @@ fn append(alloc: Global, out: &mut Bytes, value: &Json) -> Result<(), WantOfMemo
     ensures proper { OnOk result (IsProper (plain value.now)) }
 {
     match value {
-        Json::Null => out.push_all(b"null"),
+        Json::Null => out.push_all(alloc, b"null"),
         Json::Bool(b) => if *b {
-            out.push_all(b"true")
+            out.push_all(alloc, b"true")
         } else {
-            out.push_all(b"false")
+            out.push_all(alloc, b"false")
         },
         Json::Whole(w) => append_whole(alloc, out, w.value()),
-        Json::Text(text) => append_text(out, text.as_str()),
+        Json::Text(text) => append_text(alloc, out, text.as_str()),
         Json::List(items) => {
-            out.push_all(b"[")?;
+            out.push_all(alloc, b"[")?;
             append_items(alloc, out, items)?;
-            out.push_all(b"]")
+            out.push_all(alloc, b"]")
         }
         Json::Object(members) => {
-            out.push_all(b"{")?;
+            out.push_all(alloc, b"{")?;
             append_members(alloc, out, members)?;
-            out.push_all(b"}")
+            out.push_all(alloc, b"}")
         }
     }
 }
@@ -61,7 +63,7 @@ fn append_items(alloc: Global, out: &mut Bytes, items: &List<Json>) -> Result<()
     let mut comma = false;
     for item in items.as_slice() {
         if comma {
-            out.push_all(b",")?;
+            out.push_all(alloc, b",")?;
         }
         append(alloc, out, item)?;
         comma = true;
@@ -78,10 +80,10 @@ fn append_members(alloc: Global, out: &mut Bytes, members: &Object) -> Result<()
     let mut comma = false;
     for (name, member) in members.pairs() {
         if comma {
-            out.push_all(b",")?;
+            out.push_all(alloc, b",")?;
         }
-        append_text(out, name.as_str())?;
-        out.push_all(b":")?;
+        append_text(alloc, out, name.as_str())?;
+        out.push_all(alloc, b":")?;
         append(alloc, out, member)?;
         comma = true;
     }
@@ -92,5 +94,5 @@ fn append_whole(alloc: Global, out: &mut Bytes, value: i64) -> Result<(), WantOf
     ensures { OnOk result (out.new ≡ out.old ++ signed_decimal value) }
 {
     let digits = value.to_string(alloc)?;
-    out.push_all(digits.as_bytes())
+    out.push_all(alloc, digits.as_bytes())
 }

@@ -1,7 +1,9 @@
--- Hashes, as multihashes of SHA-256 (FIPS 180-4), and their texts.
-use Rattle.std.specs.Prelude.{◌≡◌, ℕ, Bool, bytes_eq, List, ◌∷◌, ◌==◌, ◌&&◌, length, drop, slice_index, if◌then◌else◌, Option, Some, None, option_and_then}
+-- Hashes of SHA-256 and SHA-512 (FIPS 180-4), their multihashes and their texts.
+use Rattle.std.specs.Prelude.{◌≡◌, ℕ, Bool, bytes_eq, List, ◌∷◌, ◌==◌, ◌&&◌, ◌⊎◌, length, if◌then◌else◌, Option, Some, None, option_and_then}
+use Rattle.std.specs.Option.{option_or}
 use Rattle.base64.specs.GeneralPurpose.{IsBytes}
-use Rattle.sha2.specs.Sha256.{sha256}
+pub use Rattle.sha2.specs.Sha256.{sha256}
+pub use Rattle.sha2.specs.Sha512.{sha512}
 use Rattle.std.specs.Cmp.Lexicographic.{slice_cmp}
 use Rattle.std.specs.Ordering.{nat_cmp, ordering_then}
 use Rattle.std.specs.declared.cmp.Ordering.{Ordering}
@@ -12,18 +14,38 @@ pub record HashValue : Type 0 where
   pub code : ℕ
   pub digest : List ℕ
 
+-- The code is that of an algorithm: 0x12 is SHA-256, and 0x13 is SHA-512.
+abbrev pub IsCode : ℕ → Type 0
+IsCode code = (code ≡ 0x12) ⊎ (code ≡ 0x13)
+
+-- how many bytes a digest of this algorithm has
+abbrev pub digest_length : ℕ → ℕ
+digest_length code = if code == 0x13 then 64 else 32
+
+-- the digest of bytes by this algorithm
+abbrev pub digest_with : ℕ → List ℕ → List ℕ
+digest_with code bytes = if code == 0x13 then sha512 bytes else sha256 bytes
+
 -- the values that a hash has
 pub record IsHash (hash : HashValue) : Type 0 where
-  pub code : hash.code ≡ 18
-  pub long : length hash.digest ≡ 32
+  pub code : IsCode hash.code
+  pub long : length hash.digest ≡ digest_length hash.code
   pub bytes : IsBytes hash.digest
 
--- the hash of bytes; of a file's bytes it is the file's URI
+-- the hash of bytes by this algorithm
+abbrev pub hash_of_with : ℕ → List ℕ → HashValue
+hash_of_with code bytes = record { code = code; digest = digest_with code bytes }
+
+-- the SHA-256 hash of bytes; of a file's bytes it is the file's URI
 abbrev pub hash_of : List ℕ → HashValue
-hash_of bytes = record { code = 18; digest = sha256 bytes }
+hash_of bytes = record { code = 0x12; digest = sha256 bytes }
 
 abbrev pub uri_of : List ℕ → HashValue
 uri_of file = hash_of file
+
+-- the digest of a SHA-256 hash
+abbrev pub sha256_digest : HashValue → Option (List ℕ)
+sha256_digest hash = if hash.code == 0x12 then Some hash.digest else None
 
 -- the code, the length of the digest, the digest
 abbrev pub multihash : HashValue → List ℕ
@@ -33,15 +55,29 @@ multihash hash = hash.code ∷ length hash.digest ∷ hash.digest
 abbrev pub hash_text : HashValue → List ℕ
 hash_text hash = base64url (multihash hash)
 
--- the hash that has this multihash
-abbrev pub hash_of_multihash : List ℕ → Option HashValue
-hash_of_multihash bytes =
-    if (slice_index bytes 0 == 18) && ((slice_index bytes 1 == 32) && (length bytes == 34))
-    then Some (record { code = 18; digest = drop 2 bytes }) else None
+-- the hash of this algorithm that has this multihash
+abbrev pub hash_of_multihash : ℕ → List ℕ → Option HashValue
+hash_of_multihash code (first ∷ size ∷ digest) =
+    if (first == code) && ((size == digest_length code) && (length digest == digest_length code))
+    then Some (record { code = code; digest = digest }) else None
+hash_of_multihash code bytes = None
 
--- the hash that has this text
+-- the hash of this algorithm that has this text
+abbrev pub hash_of_text_with : ℕ → List ℕ → Option HashValue
+hash_of_text_with code text = option_and_then (hash_of_multihash code) (bytes_of_text text)
+
+-- the SHA-256 hash that has this text
 abbrev pub hash_of_text : List ℕ → Option HashValue
-hash_of_text text = option_and_then hash_of_multihash (bytes_of_text text)
+hash_of_text text = hash_of_text_with 0x12 text
+
+-- Version 1 has the hashes of SHA-256 alone, version 2 those of both algorithms.
+abbrev pub IsOfVersion : ℕ → HashValue → Type 0
+IsOfVersion version hash = version ≡ 1 → hash.code ≡ 0x12
+
+-- the hash of this version that has this text
+abbrev pub hash_of_text_at : ℕ → List ℕ → Option HashValue
+hash_of_text_at version text =
+    if version == 1 then hash_of_text text else option_or (hash_of_text text) (hash_of_text_with 0x13 text)
 
 -- hashes in order: by the code, then by the bytes of the digest
 abbrev pub hash_cmp : HashValue → HashValue → Ordering

@@ -22,7 +22,9 @@ pub enum DecRefused {
 
 /// The base64url text of the bytes, without padding (RFC 4648, section 5).
 pub fn enc(alloc: Global, bytes: &[u8]) -> Result<Text, WantOfMemory>
-    ensures { IfOk result (λ text. text ≡ base64url bytes.now) }
+    ensures value { IfOk result (λ text. text ≡ base64url bytes.now) }
+    // It is read again as these bytes.
+    ensures read { IfOk result (λ text. bytes_of_text text ≡ Some bytes.now) }
 {
     Ok(Text::from_string(URL_SAFE_NO_PAD.encode(alloc, bytes)?))
 }

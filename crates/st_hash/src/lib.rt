@@ -1,13 +1,17 @@
-//! Hashes and their texts: SHA-256 (FIPS 180-4) as a multihash, and base64url without padding
-//! (RFC 4648, section 5), each read in exactly the one spelling that is written.
+//! Hashes and their texts: SHA-256 and SHA-512 (FIPS 180-4) as multihashes, and base64url without
+//! padding (RFC 4648, section 5), each read in exactly the one spelling that is written.
 #![tactic(auto)]
 
 mod base64url;
+mod fixed;
 mod hash;
+mod hashing;
 #[cfg(test)]
 mod tests;
 mod text;
 
 pub use base64url::{DecRefused, dec, enc};
-pub use hash::{Hash, hash256, rehash, uri_of};
-pub use text::{BadHash, hash_text, read_hash};
+pub use fixed::read_fixed;
+pub use hash::{Hash, SHA_256, SHA_512};
+pub use hashing::{hash_with, hash256, rehash, sha256, uri_of};
+pub use text::{BadHash, hash_text, read_hash, read_hash_at};

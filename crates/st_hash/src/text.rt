@@ -1,21 +1,16 @@
-ghost use Rattle.std.specs.Prelude.{◌≡◌, ◌≢◌, IfOk, IfErr, IfSome, IfNone, Some, None};
+ghost use Rattle.std.specs.Prelude.{◌≡◌, ◌≢◌, ℕ, ◌+◌, ◌≤◌, ◌<◌, ◌∷◌, length, IfOk, IfErr, option_map};
 ghost use Rattle.std.specs.Result.{result_ok};
-ghost use Rattle.st_hash.specs.Base64url.{bytes_of_text};
-ghost use Rattle.st_hash.specs.Hash.{HashValue, IsHash, hash_text, hash_of_text, hash_of_multihash, multihash};
+ghost use Rattle.st_hash.specs.Hash.{HashValue, IsHash, IsOfVersion, digest_length, hash_text, hash_of_text, hash_of_text_at, hash_of_text_with};
 
 use crate::base64url::enc;
-use crate::hash::{Hash, SHA_256};
-use base64::engine::general_purpose::URL_SAFE_NO_PAD;
+use crate::fixed::read_fixed;
+use crate::hash::{Hash, SHA_256, SHA_512};
 use st_base::{Text, WantOfMemory};
 use std::alloc::Global;
 use thiserror::Error;
 
-// The lengths of a multihash of SHA-256, and of its base64url text.
-const MULTIHASH_LENGTH: usize = 34;
-
-const HASH_TEXT_LENGTH: usize = 46;
-
-const DECODED_ROOM: usize = 36;
+// The length of the longest multihash, which is that of SHA-512.
+const LONGEST_MULTIHASH: usize = 66;
 
 /// The text is the hash text of no hash.
 #[derive(Clone, Copy, Debug, PartialEq, Eq, Error)]
@@ -23,63 +18,111 @@ const DECODED_ROOM: usize = 36;
 pub struct BadHash;
 
 /// The hash text: the base64url of the multihash, which is the code, the digest's length and the
-/// digest. It has 46 characters.
+/// digest. It has 46 characters, or 88 for SHA-512.
 pub fn hash_text(alloc: Global, hash: &Hash) -> Result<Text, WantOfMemory>
-    ensures { IfOk result (λ text. text ≡ hash_text hash.now) }
+    ensures value { IfOk result (λ text. text ≡ hash_text hash.now) }
+    // Each version that has this hash reads it again.
+    ensures read { IfOk result (λ text. (version : ℕ) → IsOfVersion version hash.now
+        → hash_of_text_at version text ≡ Some hash.now) }
+    // So does `read_hash`, where it is of SHA-256.
+    ensures uri { IfOk result (λ text. hash.now.code ≡ 18 → hash_of_text text ≡ Some hash.now) }
 {
-    let mut bytes = [0u8; MULTIHASH_LENGTH];
-    bytes[0] = hash.code();
-    bytes[1] = 32;
-    bytes[2..].copy_from_slice(hash.digest());
-    enc(alloc, &bytes)
+    let digest = hash.digest();
+    let length = 2 + digest.len();
+    let mut bytes = [0u8; LONGEST_MULTIHASH];
+    put_multihash(hash.code(), digest, &mut bytes[..length]);
+    Ok(enc(alloc, &bytes[..length])?)
 }
 
-/// The hash whose text this is. It takes no memory.
+fn put_multihash(code: u8, digest: &[u8], into: &mut [u8])
+    requires short { length digest.now < 256 }
+    requires whole { length into.old ≡ 2 + length digest.now }
+    ensures { into.new ≡ code ∷ length digest.now ∷ digest.now }
+{
+    into[0] = code;
+    into[1] = digest.len() as u8;
+    into[2..].copy_from_slice(digest);
+}
+
+/// The SHA-256 hash whose text this is, as in URIs. It takes no memory.
 ///
-/// `BadHash` comes exactly where the text is the hash text of no hash.
+/// `BadHash` comes exactly where the text is the hash text of no SHA-256 hash.
 pub fn read_hash(text: &[u8]) -> Result<Hash, BadHash>
     ensures spelled { IfOk result (λ hash. text.now ≡ hash_text hash) }
-    ensures no_spelling { IfErr result (λ _. (hash : HashValue) → IsHash hash → text.now ≢ hash_text hash) }
+    ensures no_spelling { IfErr result (λ _. (hash : HashValue) → IsHash hash → hash.code ≡ 18
+        → text.now ≢ hash_text hash) }
     ensures value { result_ok result ≡ hash_of_text text.now }
 {
-    match read_multihash(text) {
-        Some(bytes) => match of_multihash(&bytes) {
-            Some(hash) => Ok(hash),
-            None => Err(BadHash),
-        },
+    match read_sha256(text) {
+        Some(hash) => Ok(hash),
         None => Err(BadHash),
     }
 }
 
-// The 34 bytes whose base64url text this is.
-fn read_multihash(text: &[u8]) -> Option<[u8; MULTIHASH_LENGTH]>
-    ensures found { IfSome result (λ bytes. bytes_of_text text.now ≡ Some bytes) }
-    ensures not_found { IfNone result (hash_of_text text.now ≡ None) }
+/// The hash of this version whose text this is: of SHA-256 in version 1, of either algorithm in
+/// version 2. It takes no memory.
+///
+/// `BadHash` comes exactly where the text is the hash text of no hash of that version.
+pub fn read_hash_at(text: &[u8], version: u8) -> Result<Hash, BadHash>
+    requires first { 1 ≤ version }
+    requires last { version ≤ 2 }
+    ensures spelled { IfOk result (λ hash. text.now ≡ hash_text hash) }
+    ensures no_spelling { IfErr result (λ _. (hash : HashValue) → IsHash hash → IsOfVersion version hash
+        → text.now ≢ hash_text hash) }
+    ensures value { result_ok result ≡ hash_of_text_at version text.now }
 {
-    if text.len() != HASH_TEXT_LENGTH {
-        return None;
+    if let Some(hash) = read_sha256(text) {
+        return Ok(hash);
     }
-    // Room for three bytes for each four characters begun.
-    let mut decoded = [0u8; DECODED_ROOM];
-    match URL_SAFE_NO_PAD.decode_slice_unchecked(text, &mut decoded) {
-        Ok(MULTIHASH_LENGTH) => {
-            let mut bytes = [0u8; MULTIHASH_LENGTH];
-            bytes.copy_from_slice(&decoded[..MULTIHASH_LENGTH]);
-            Some(bytes)
-        }
-        _ => None,
+    if version == 1 {
+        return Err(BadHash);
+    }
+    match read_sha512(text) {
+        Some(hash) => Ok(hash),
+        None => Err(BadHash),
     }
 }
 
-// The hash that has this multihash.
-fn of_multihash(bytes: &[u8; MULTIHASH_LENGTH]) -> Option<Hash>
-    ensures { result ≡ hash_of_multihash bytes.now }
+fn read_sha256(text: &[u8]) -> Option<Hash>
+    ensures { result ≡ hash_of_text_with 18 text.now }
 {
-    if bytes[0] == SHA_256 && bytes[1] == 32 {
-        let mut digest = [0u8; 32];
-        digest.copy_from_slice(&bytes[2..]);
-        Some(Hash::of_digest(digest))
-    } else {
-        None
+    match read_digest::<32, 34>(text, SHA_256) {
+        Some(digest) => Some(Hash::of_sha256(digest)),
+        None => None,
     }
+}
+
+fn read_sha512(text: &[u8]) -> Option<Hash>
+    ensures { result ≡ hash_of_text_with 19 text.now }
+{
+    match read_digest::<64, 66>(text, SHA_512) {
+        Some(digest) => Some(Hash::of_sha512(digest)),
+        None => None,
+    }
+}
+
+// The digest in the multihash whose text this is.
+fn read_digest<const DIGEST: usize, const MULTIHASH: usize>(
+    text: &[u8],
+    code: u8,
+) -> Option<[u8; DIGEST]>
+    requires digest { DIGEST ≡ digest_length code }
+    requires multihash { MULTIHASH ≡ 2 + DIGEST }
+    ensures { option_map (λ digest. record { code = code; digest = digest }) result
+        ≡ hash_of_text_with code text.now }
+{
+    let bytes: [u8; MULTIHASH] = match read_fixed(text) {
+        Some(bytes) => bytes,
+        None => return None,
+    };
+    if bytes[0] != code {
+        return None;
+    }
+    if bytes[1] as usize != DIGEST {
+        return None;
+    }
+    let whole = bytes.as_slice();
+    let mut digest = [0u8; DIGEST];
+    digest.copy_from_slice(&whole[2..]);
+    Some(digest)
 }

@@ -1,5 +1,5 @@
 -- What is joined from a signature over a payload opens to that payload and its key.
-use Rattle.std.proofs.Common.{◌≡◌, ◌∙◌, ℕ, ◌≤◌, true, cond, nat_le, List, ◌∷◌, ◌++◌, length, codes, Some, Ok, Err, refl, sym, ap, subst, append_assoc, lit≤, arith}
+use Rattle.std.proofs.Common.{◌≡◌, ◌∙◌, ℕ, ◌≤◌, true, nat_le, List, ◌∷◌, ◌++◌, length, codes, Some, Ok, refl, sym, ap, subst, append_assoc, lit≤, arith}
 use Rattle.std.proofs.lemmas.Bool.Decides.{nat_tests}
 use Rattle.std.specs.Str.{IsUtf8}
 use Rattle.base64.specs.GeneralPurpose.{IsBytes}
@@ -13,11 +13,10 @@ use Rattle.st_canon.proofs.Texts.{IsUtf8-canonical}
 use Rattle.st_hash.specs.Base64url.{base64url}
 use Rattle.st_hash.proofs.Spelling.{bytes_of_text-base64url}
 use Rattle.st_jws.specs.Jwk.{lms}
-use Rattle.st_jws.specs.Opening.{Opened, value_in, json_in, is_header, key_in, opened_under, opened_payload, opened_parts, opened_texts, opened}
+use Rattle.st_jws.specs.Opening.{Opened, value_in, json_in, is_header, key_in, opened}
 use Rattle.st_jws.specs.Signing.{header_text, signing_input, join_signed}
 use Rattle.st_jws.specs.Texts.{dot, texts_of_cut, texts_behind, texts_of}
 use Rattle.st_jws.specs.declared.jwk.Jwk.{Jwk}
-use Rattle.st_jws.specs.declared.refused.SignedRefused.TheVariants.{BadForm, BadHeader, BadSignature}
 use Rattle.st_jws.proofs.Dots.{no_dot}
 use Rattle.st_jws.proofs.Utf8Bytes.{IsBytes-IsUtf8}
 use Rattle.st_lms.specs.Signature.{IsSignature}
@@ -88,27 +87,13 @@ module _ (payload : Plain) (key : Jwk) (signature : List ℕ) (limit : ℕ) wher
     abbrev opens : Opened
     opens = record { payload = payload; key = key }
 
-    short : nat_le (length whole) limit ≡ true
-    short = grind (arith, nat_tests)
-
-    decoded : opened_texts (texts_of whole) ≡ opened_parts input (Some header_text) (Some (canonical payload)) (Some signature)
-    decoded =
+    pub opened-joined : opened whole limit ≡ Ok opens
+    opened-joined =
+        let short : nat_le (length whole) limit ≡ true = grind (arith, nat_tests) in
+        let texts = texts_of-joined header_text (canonical payload) signature in
         let first = bytes_of_text-base64url header_text header_bytes in
         let second = bytes_of_text-base64url (canonical payload) (IsBytes-IsUtf8 (canonical payload) (IsUtf8-canonical payload proper)) in
         let third = bytes_of_text-base64url signature are_bytes in
-        ap opened_texts (texts_of-joined header_text (canonical payload) signature) ∙ rw (first, second, third) refl
-
-    read : opened_payload input signature (json_in (canonical payload)) ≡ Ok opens
-    read =
         let json : json_in (canonical payload) ≡ Some payload = ap value_in (reads_back payload proper shallow) in
         let holds = is_signature-IsSignature key.public input signature signed in
-        ap (opened_payload input signature) json
-        ∙ ap (opened_under input signature payload) keyed
-        ∙ ap (λ b. cond b (Ok opens) (Err BadSignature)) holds
-
-    pub opened-joined : opened whole limit ≡ Ok opens
-    opened-joined =
-        ap (λ b. cond b (opened_texts (texts_of whole)) (Err BadForm)) short
-        ∙ decoded
-        ∙ ap (λ b. cond b (opened_payload input signature (json_in (canonical payload))) (Err BadHeader)) header_holds
-        ∙ read
+        rw (short, texts, first, second, third, header_holds, json, keyed, holds) refl

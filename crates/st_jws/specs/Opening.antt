@@ -1,12 +1,14 @@
 -- What a compact signed text opens to (RFC 7515, section 5.2) with the algorithm LMS and a key inside
 -- the payload.
-use Rattle.std.specs.Prelude.{◌≡◌, ⊤, ℕ, Bool, false, true, ◌&&◌, nat_le, if◌then◌else◌, List, [], ◌∷◌, length, codes, Option, Some, None, Result, Ok, Err}
+use Rattle.std.specs.Prelude.{ℕ, Bool, false, true, ◌&&◌, nat_le, List, [], ◌∷◌, length, codes, Option, Some, None, Result, Ok}
+use Rattle.std.specs.Option.{ok_or}
+use Rattle.st_base.specs.Answers.{◌>>=◌, ◌>>◌, holds_or}
 use Rattle.st_canon.specs.Find.{has_only, member_at}
 use Rattle.st_canon.specs.Plain.{Plain, text, object}
 use Rattle.st_canon.specs.Reading.{Reading, not_json, not_whole, value, json_of}
 use Rattle.st_hash.specs.Base64url.{bytes_of_text}
 use Rattle.st_jws.specs.Jwk.{is_lms, jwk_of}
-use Rattle.st_jws.specs.Texts.{Texts, texts_of}
+use Rattle.st_jws.specs.Texts.{texts_of}
 use Rattle.st_jws.specs.declared.jwk.Jwk.{Jwk}
 use Rattle.st_jws.specs.declared.refused.SignedRefused.{SignedRefused}
 use Rattle.st_jws.specs.declared.refused.SignedRefused.TheVariants.{BadForm, BadHeader, BadPayload, BadSignature, WantOfMemory}
@@ -53,33 +55,21 @@ pub record Opened : Type 0 where
   pub payload : Plain
   pub key : Jwk
 
-abbrev pub opened_under : List ℕ → List ℕ → Plain → Option Jwk → Result Opened SignedRefused
-opened_under input signature payload None = Err BadPayload
-opened_under input signature payload (Some key) =
-    if is_signature key.public input signature then Ok (record { payload = payload; key = key }) else Err BadSignature
-
-abbrev pub opened_payload : List ℕ → List ℕ → Option Plain → Result Opened SignedRefused
-opened_payload input signature None = Err BadPayload
-opened_payload input signature (Some payload) = opened_under input signature payload (key_in payload)
-
-abbrev pub opened_parts : List ℕ → Option (List ℕ) → Option (List ℕ) → Option (List ℕ) → Result Opened SignedRefused
-opened_parts input (Some header) (Some payload) (Some signature) =
-    if is_header (json_in header) then opened_payload input signature (json_in payload) else Err BadHeader
-opened_parts input first second third = Err BadForm
-
-abbrev pub opened_texts : Option Texts → Result Opened SignedRefused
-opened_texts None = Err BadForm
-opened_texts (Some texts) =
-    opened_parts texts.input (bytes_of_text texts.header) (bytes_of_text texts.payload) (bytes_of_text texts.signature)
-
 -- the payload and the key of a signed text of at most so many bytes, or the first rule that it breaks
 abbrev pub opened : List ℕ → ℕ → Result Opened SignedRefused
-opened compact limit = if nat_le (length compact) limit then opened_texts (texts_of compact) else Err BadForm
+opened compact limit = do
+  holds_or (nat_le (length compact) limit) BadForm
+  texts ← ok_or (texts_of compact) BadForm
+  header ← ok_or (bytes_of_text texts.header) BadForm
+  payload ← ok_or (bytes_of_text texts.payload) BadForm
+  signature ← ok_or (bytes_of_text texts.signature) BadForm
+  holds_or (is_header (json_in header)) BadHeader
+  json ← ok_or (json_in payload) BadPayload
+  key ← ok_or (key_in json) BadPayload
+  holds_or (is_signature key.public texts.input signature) BadSignature
+  Ok (record { payload = json; key = key })
 
--- it is refused for this, or memory was wanting
-abbrev pub Refuses : Result Opened SignedRefused → SignedRefused → Type 0
-Refuses opens BadForm = opens ≡ Err BadForm
-Refuses opens BadHeader = opens ≡ Err BadHeader
-Refuses opens BadPayload = opens ≡ Err BadPayload
-Refuses opens BadSignature = opens ≡ Err BadSignature
-Refuses opens WantOfMemory = ⊤
+-- the refusal that an error is
+abbrev pub refusal_of : SignedRefused → Option SignedRefused
+refusal_of WantOfMemory = None
+refusal_of refusal = Some refusal

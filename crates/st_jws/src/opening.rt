@@ -1,9 +1,11 @@
-ghost use Rattle.std.specs.Prelude.{◌≡◌, IfErr, IfOk, Ok, Some};
-ghost use Rattle.st_base.specs.Work.{counted};
-ghost use Rattle.st_canon.specs.View.{plain};
+ghost use Rattle.std.specs.Option.{ok_or};
+ghost use Rattle.std.specs.Prelude.{◌≡◌, IfOk};
+ghost use Rattle.st_base.specs.Answers.{Gives, GivesAs};
+ghost use Rattle.st_base.specs.Work.{one_proof};
 ghost use Rattle.st_hash.specs.Base64url.{bytes_of_text};
-ghost use Rattle.st_jws.specs.Opening.{Refuses, json_in, opened, opened_payload, opened_texts};
-ghost use Rattle.st_jws.specs.Texts.{texts_of};
+ghost use Rattle.st_jws.specs.Opening.{opened, refusal_of};
+ghost use Rattle.st_jws.specs.OpenedViews.{found_view, opened_view};
+ghost use Rattle.st_jws.specs.declared.refused.SignedRefused.TheVariants.{BadForm};
 
 use crate::header::{is_header, read_json};
 use crate::jwk::Jwk;
@@ -46,71 +48,50 @@ pub fn open_signed(
     limit: usize,
     work: &mut Work,
 ) -> Result<Signed, SignedRefused>
-    ensures opened { IfOk result (λ signed. opened text.now limit ≡ Ok (record { payload = plain signed.payload; key = signed.key })) }
+    ensures opened { GivesAs opened_view refusal_of (opened text.now limit) result }
     ensures text { IfOk result (λ signed. signed.text ≡ text.now) }
-    ensures refused { IfErr result (Refuses (opened text.now limit)) }
-    ensures counted { work.new ≡ record work.old { proofs = counted work.old.proofs } }
+    ensures counted { work.new ≡ one_proof work.old }
 {
     work.tick_proofs();
-    if text.as_str().len() > limit {
-        return Err(SignedRefused::BadForm);
-    }
-    let (payload, key) = open_text(alloc, text.as_str().as_bytes())?;
+    let (payload, key) = open_text(alloc, text.as_str().as_bytes(), limit)?;
     let text = text.copy(alloc)?;
     Ok(Signed { text, payload, key })
 }
 
-fn open_text(alloc: Global, text: &[u8]) -> Result<(Json, Jwk), SignedRefused>
-    ensures opened { IfOk result (λ found. opened_texts (texts_of text.now) ≡ Ok (record { payload = plain found.0; key = found.1 })) }
-    ensures refused { IfErr result (Refuses (opened_texts (texts_of text.now))) }
+fn open_text(alloc: Global, text: &[u8], limit: usize) -> Result<(Json, Jwk), SignedRefused>
+    ensures { GivesAs found_view refusal_of (opened text.now limit) result }
 {
+    if text.len() > limit {
+        return Err(SignedRefused::BadForm);
+    }
     let Some(texts) = texts_of(text) else {
         return Err(SignedRefused::BadForm);
     };
-    let Some(header) = decode(alloc, texts.header)? else {
-        return Err(SignedRefused::BadForm);
-    };
-    let Some(payload) = decode(alloc, texts.payload)? else {
-        return Err(SignedRefused::BadForm);
-    };
-    let Some(signature) = decode(alloc, texts.signature)? else {
-        return Err(SignedRefused::BadForm);
-    };
+    let header = decode(alloc, texts.header)?;
+    let payload = decode(alloc, texts.payload)?;
+    let signature = decode(alloc, texts.signature)?;
     if !is_header(alloc, header.as_slice())? {
         return Err(SignedRefused::BadHeader);
     }
-    open_payload(alloc, texts.input, payload.as_slice(), signature.as_slice())
-}
-
-// The bytes whose base64url this is.
-fn decode(alloc: Global, text: &[u8]) -> Result<Option<Bytes>, WantOfMemory>
-    ensures { IfOk result (λ bytes. bytes ≡ bytes_of_text text.now) }
-{
-    match dec(alloc, text) {
-        Ok(bytes) => Ok(Some(bytes)),
-        Err(DecRefused::BadBase64) => Ok(None),
-        Err(DecRefused::WantOfMemory) => Err(WantOfMemory),
-    }
-}
-
-fn open_payload(
-    alloc: Global,
-    input: &[u8],
-    payload: &[u8],
-    signature: &[u8],
-) -> Result<(Json, Jwk), SignedRefused>
-    ensures opened { IfOk result (λ found. opened_payload input.now signature.now (json_in payload.now) ≡ Ok (record { payload = plain found.0; key = found.1 })) }
-    ensures refused { IfErr result (Refuses (opened_payload input.now signature.now (json_in payload.now))) }
-{
-    let Some(payload) = read_json(alloc, payload)? else {
+    let Some(payload) = read_json(alloc, payload.as_slice())? else {
         return Err(SignedRefused::BadPayload);
     };
     let Some(key) = key_in(&payload) else {
         return Err(SignedRefused::BadPayload);
     };
-    if verify(&key.public, input, signature) {
-        Ok((payload, key))
-    } else {
-        Err(SignedRefused::BadSignature)
+    if !verify(&key.public, texts.input, signature.as_slice()) {
+        return Err(SignedRefused::BadSignature);
+    }
+    Ok((payload, key))
+}
+
+// The bytes whose base64url this is.
+fn decode(alloc: Global, text: &[u8]) -> Result<Bytes, SignedRefused>
+    ensures { Gives refusal_of (ok_or (bytes_of_text text.now) BadForm) result }
+{
+    match dec(alloc, text) {
+        Ok(bytes) => Ok(bytes),
+        Err(DecRefused::BadBase64) => Err(SignedRefused::BadForm),
+        Err(DecRefused::WantOfMemory) => Err(SignedRefused::WantOfMemory),
     }
 }

@@ -40,8 +40,8 @@ fn with_dot(alloc: Global, first: &[u8], second: &[u8]) -> Result<Bytes, WantOfM
     ensures { IfOk result (λ joined. joined ≡ first.now ++ dot ∷ second.now) }
 {
     let mut joined = Bytes::from_slice(alloc, first)?;
-    joined.push_all(b".")?;
-    joined.push_all(second)?;
+    joined.push_all(alloc, b".")?;
+    joined.push_all(alloc, second)?;
     Ok(joined)
 }
 

@@ -87,9 +87,7 @@ checksum_fits t s h =
     omega (arith, sizes.sum)
 
 -- the sum of a whole hash, shifted, is its checksum
-pub shifted-checksum : (t : ℕ) (s : List ℕ) (sum n w ls : ℕ) → IsOneTimeType t → sum ≡ shortfall t s n →
-    n ≡ 256 / w → w ≡ width t → ls ≡ shift t → sum * 2 ^ ls % 2 ^ 16 ≡ checksum t s
+pub shifted-checksum : (t : ℕ) (s : List ℕ) (sum ls : ℕ) → IsOneTimeType t → sum ≡ shortfall t s (256 / width t) → ls ≡ shift t
+    → sum * 2 ^ ls % 2 ^ 16 ≡ checksum t s
 unfolding checksum
-shifted-checksum t s sum n w ls h e k m l =
-    let whole : sum ≡ shortfall t s (256 / width t) = e ∙ ap (shortfall t s) (k ∙ ap (λ v. 256 / v) m) in
-    rw (whole, l) (mod-eq_of_lt (checksum_fits t s h))
+shifted-checksum t s sum ls h whole l = rw (whole, l) (mod-eq_of_lt (checksum_fits t s h))

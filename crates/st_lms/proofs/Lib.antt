@@ -1,4 +1,5 @@
 pub mod TypeLemmas
+pub mod KnownKeys
 pub mod Widths
 pub mod StringLemmas
 pub mod DigitLemmas
@@ -10,6 +11,6 @@ pub mod OneTimeLaw
 pub mod PathLemmas
 pub mod PublicTexts
 pub mod Nodes
-pub mod SignatureParts
+pub mod PartLemmas
 pub mod Decided
 pub mod Law

@@ -24,19 +24,6 @@ new_value old new value m n k e' =
     let whole : new ≡ take 23 old ++ value = rw (take_all 55 new (omega arith)) at e in
     ap (drop 23) whole ∙ drop_at (take 23 old) value 23 long
 
--- a block whose parts were written one after another
-pub written_head : (zeros one two three id q i : List ℕ) →
-    length id ≡ 16 → length q ≡ 4 → length i ≡ 2 →
-    take (0 + length id) one ≡ take 0 zeros ++ id →
-    take (16 + length q) two ≡ take 16 one ++ q →
-    take (20 + length i) three ≡ take 20 two ++ i →
-    take 22 three ≡ id ++ q ++ i
-written_head zeros one two three id q i k m n a b c =
-    let a' : take 16 one ≡ id = rw k at a in
-    let b' : take 20 two ≡ take 16 one ++ q = rw m at b in
-    let c' : take 22 three ≡ take 20 two ++ i = rw n at c in
-    cc
-
 -- a block of a chain with this head, at this value
 pub record IsAt (link start at : List ℕ) : Type 0 where
   pub head : take 22 link ≡ start

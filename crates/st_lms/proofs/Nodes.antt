@@ -1,5 +1,5 @@
 -- Which nodes a tree has.
-use Rattle.std.proofs.Common.{◌≡◌, ℕ, zero, suc, ◌+◌, ◌-◌, ◌*◌, ◌/◌, ◌%◌, ◌^◌, ◌<◌, ◌≤◌, inl, inr, arith}
+use Rattle.std.proofs.Common.{◌≡◌, ℕ, zero, suc, ◌+◌, ◌-◌, ◌*◌, ◌/◌, ◌%◌, ◌^◌, ◌<◌, ◌≤◌, [], ◌∷◌, slice_index, lit≤, inl, inr, arith}
 use Rattle.std.proofs.lemmas.Bool.{cases_lt}
 use Rattle.std.proofs.Math.Nat.{pow-suc, pow-le-pow_right}
 use Rattle.st_lms.specs.Parameters.{IsTreeType, height}
@@ -17,6 +17,16 @@ height-small (suc (suc (suc (suc zero)))) h = absurd (omega arith)
 height-small (suc (suc (suc (suc (suc zero))))) h = omega arith
 height-small (suc (suc (suc (suc (suc (suc zero)))))) h = omega arith
 height-small (suc (suc (suc (suc (suc (suc (suc n))))))) h = absurd (omega arith)
+
+-- no tree has a leaf whose number is large
+small_tree : (i : ℕ) → 2 ^ slice_index (5 ∷ 10 ∷ []) i ≤ 1024
+small_tree zero = lit≤ tt
+small_tree (suc zero) = lit≤ tt
+small_tree (suc (suc i)) = lit≤ tt
+
+pub small_leaf : (tree q : ℕ) → q < 2 ^ height tree → q < 2 ^ 32
+unfolding height
+small_leaf tree q below = omega (arith, small_tree (tree - 5))
 
 -- one level lower there are twice as many
 doubled : (h n : ℕ) → suc n ≤ h → 2 ^ (h - n) ≡ 2 * 2 ^ (h - suc n)

@@ -22,13 +22,18 @@ pub node_above-none : (id : List ℕ) (r : ℕ) (node path : List ℕ) → node_
 unfolding node_above
 node_above-none id r node path = refl
 
--- how far a path was written: what is out, and what is still to come
-pub record IsOnWay (secret : SecretKey) (out : List ℕ) (level r : ℕ) (start : List ℕ) (q : ℕ) : Type 0 where
-  pub at : IsNode secret.tree level r
-  pub rest : out ++ path_from secret level r (height secret.tree - level)
-      ≡ start ++ path_from secret 0 (2 ^ height secret.tree + q) (height secret.tree)
+-- how far a path was written: what is out, and the node whose sibling comes next
+pub record Way : Type 0 where
+  pub out : List ℕ
+  pub level : ℕ
+  pub r : ℕ
 
-pub path_from-level : (secret : SecretKey) (n r h : ℕ) → n < h →
+-- what is out, with what is still to come, is the whole
+pub record IsOnWay (secret : SecretKey) (whole : List ℕ) (way : Way) : Type 0 where
+  pub at : IsNode secret.tree way.level way.r
+  pub rest : way.out ++ path_from secret way.level way.r (height secret.tree - way.level) ≡ whole
+
+path_from-level : (secret : SecretKey) (n r h : ℕ) → n < h →
     path_from secret n r (h - n) ≡ node secret n (sibling r) ++ path_from secret (n + 1) (r / 2) (h - (n + 1))
 unfolding path_from
 path_from-level secret n r h k =
@@ -36,32 +41,37 @@ path_from-level secret n r h k =
     let next : n + 1 ≡ suc n = omega arith in
     rw (left, next)
 
+-- the whole path of a leaf behind a beginning
+abbrev pub whole_path : SecretKey → List ℕ → ℕ → List ℕ
+whole_path secret start q = start ++ path_from secret 0 (2 ^ height secret.tree + q) (height secret.tree)
+
 pub on_way_first : (secret : SecretKey) (start : List ℕ) (q : ℕ) → IsTreeType secret.tree
-    → q < 2 ^ height secret.tree →
-    IsOnWay secret start 0 (2 ^ height secret.tree + q) start q
+    → q < 2 ^ height secret.tree
+    → IsOnWay secret (whole_path secret start q) (record { out = start; level = 0; r = 2 ^ height secret.tree + q })
 on_way_first secret start q known below =
     let all : height secret.tree - 0 ≡ height secret.tree = omega arith in
     record { at = leaf_node secret.tree q known below; rest = rw all }
 
-pub on_way_next : (secret : SecretKey) (out : List ℕ) (level r : ℕ) (start : List ℕ) (q : ℕ) (out' other : List ℕ) →
-    level < height secret.tree → IsOnWay secret out level r start q →
-    out' ≡ out ++ other → other ≡ node secret level (sibling r) →
-    IsOnWay secret out' (level + 1) (r / 2) start q
-on_way_next secret out level r start q out' other below way e f =
+-- one level up
+pub on_way_next : (secret : SecretKey) (whole : List ℕ) (way : Way) (out' : List ℕ) → way.level < height secret.tree
+    → IsOnWay secret whole way → out' ≡ way.out ++ node secret way.level (sibling way.r)
+    → IsOnWay secret whole (record { out = out'; level = way.level + 1; r = way.r / 2 })
+on_way_next secret whole way out' below is e =
     let h = height secret.tree in
-    let after = path_from secret (level + 1) (r / 2) (h - (level + 1)) in
-    let more : path_from secret level r (h - level) ≡ node secret level (sibling r) ++ after = path_from-level secret level r h below in
+    let after = path_from secret (way.level + 1) (way.r / 2) (h - (way.level + 1)) in
+    let more : path_from secret way.level way.r (h - way.level) ≡ node secret way.level (sibling way.r) ++ after = path_from-level secret way.level way.r h below in
     record {
-      at = parent_node secret.tree level r below way.at;
-      rest = ap (λ xs. xs ++ after) (e ∙ ap (λ xs. out ++ xs) f)
-          ∙ append_assoc out (node secret level (sibling r)) after
-          ∙ ap (λ xs. out ++ xs) (sym more) ∙ way.rest;
+      at = parent_node secret.tree way.level way.r below is.at;
+      rest = ap (λ xs. xs ++ after) e
+          ∙ append_assoc way.out (node secret way.level (sibling way.r)) after
+          ∙ ap (λ xs. way.out ++ xs) (sym more) ∙ is.rest;
     }
 
-pub on_way_last : (secret : SecretKey) (out : List ℕ) (level r : ℕ) (start : List ℕ) (q : ℕ) →
-    height secret.tree ≤ level → IsOnWay secret out level r start q →
-    out ≡ start ++ path_from secret 0 (2 ^ height secret.tree + q) (height secret.tree)
+-- at the root all is out
+pub on_way_last : (secret : SecretKey) (whole : List ℕ) (way : Way) → height secret.tree ≤ way.level
+    → IsOnWay secret whole way
+    → way.out ≡ whole
 unfolding path_from
-on_way_last secret out level r start q past way =
-    let none : height secret.tree - level ≡ 0 = omega arith in
-    sym (append-nil out) ∙ (rw none at way.rest)
+on_way_last secret whole way past is =
+    let none : height secret.tree - way.level ≡ 0 = omega arith in
+    sym (append-nil way.out) ∙ (rw none at is.rest)

@@ -77,9 +77,12 @@ shows_key key text is e =
       parts = rw (ots_is, tree_is, id, root);
     }
 
--- a key whose parts were cut out of a text one after another
-pub cut-key_in : (text tree rest ots rest' id root : List ℕ) (one_time_type tree_type : ℕ) →
-    tree ≡ take 4 text → rest ≡ drop 4 text → ots ≡ take 4 rest → rest' ≡ drop 4 rest → id ≡ take 16 rest' → root ≡ drop 16 rest' →
-    one_time_type ≡ str_to_u32 ots → tree_type ≡ str_to_u32 tree →
-    let key : PublicKey = record { ots = one_time_type; tree = tree_type; id = id; root = root } in key ≡ key_in text
-cut-key_in text tree rest ots rest' id root one_time_type tree_type a b c d e f g h = rw (h, g, f, e, d, c, b, a)
+-- a key with the parts of a text
+pub same_key : (key : PublicKey) (text : List ℕ) → key.ots ≡ (key_in text).ots → key.tree ≡ (key_in text).tree
+    → key.id ≡ (key_in text).id → key.root ≡ (key_in text).root
+    → key ≡ key_in text
+same_key key text ots tree id root =
+    ap (λ t. record key { ots = t }) ots
+    ∙ ap (λ t. record key { ots = (key_in text).ots; tree = t }) tree
+    ∙ ap (λ t. record (key_in text) { id = t; root = key.root }) id
+    ∙ ap (λ t. record (key_in text) { root = t }) root

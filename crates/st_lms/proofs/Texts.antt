@@ -1,37 +1,15 @@
 -- Strings that are written part by part, and taken apart again.
-use Rattle.std.proofs.Common.{◌≡◌, ℕ, ◌+◌, ◌<◌, ◌≤◌, ◌^◌, List, ◌++◌, length, take, drop, get_or, inl, inr, refl, arith}
+use Rattle.std.proofs.Common.{◌≡◌, ℕ, ◌+◌, ◌<◌, ◌≤◌, ◌^◌, List, ◌++◌, length, take, drop, get_or, inl, inr, ap, ◌∙◌, refl, arith}
 use Rattle.std.proofs.lemmas.Bool.{cases_lt}
 use Rattle.std.proofs.lemmas.List.{take_all, length-take, get_or-take, get_or-drop, get_or_past}
 use Rattle.std.proofs.lemmas.Nat.{be_bytes_4, from_be_bytes-to_be_bytes_4}
 use Rattle.st_lms.specs.Strings.{u32str, str_to_u32}
 
--- the 56 bytes of a public key, after its parts were written
-pub written_text : (zeros one two three four tree ots id root : List ℕ) →
-    length tree ≡ 4 → length ots ≡ 4 → length id ≡ 16 → length root ≡ 32 → length four ≡ 56 →
-    take (0 + length tree) one ≡ take 0 zeros ++ tree →
-    take (4 + length ots) two ≡ take 4 one ++ ots →
-    take (8 + length id) three ≡ take 8 two ++ id →
-    take (24 + length root) four ≡ take 24 three ++ root →
-    four ≡ tree ++ ots ++ id ++ root
-written_text zeros one two three four tree ots id root k l m n long a b c d =
-    let a' : take 4 one ≡ tree = rw k at a in
-    let b' : take 8 two ≡ take 4 one ++ ots = rw l at b in
-    let c' : take 24 three ≡ take 8 two ++ id = rw m at c in
-    let d' : take 56 four ≡ take 24 three ++ root = rw n at d in
-    let all : take 56 four ≡ four = take_all 56 four (omega arith) in
-    cc
-
--- 34 bytes, after their two parts were written
-pub written_pair : (zeros one two first second : List ℕ) →
-    length first ≡ 32 → length second ≡ 2 → length two ≡ 34 →
-    take (0 + length first) one ≡ take 0 zeros ++ first →
-    take (32 + length second) two ≡ take 32 one ++ second →
-    two ≡ first ++ second
-written_pair zeros one two first second k l long a b =
-    let a' : take 32 one ≡ first = rw k at a in
-    let b' : take 34 two ≡ take 32 one ++ second = rw l at b in
-    let all : take 34 two ≡ two = take_all 34 two (omega arith) in
-    cc
+-- one part more behind those that were written, where `put` says what it wrote
+pub written : (before part old new : List ℕ) (at : ℕ) → take at old ≡ before
+    → take (at + length part) new ≡ take at old ++ part
+    → take (at + length part) new ≡ before ++ part
+written before part old new at e put = put ∙ ap (λ front. front ++ part) e
 
 -- ---- bytes that are numbers
 

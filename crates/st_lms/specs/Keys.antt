@@ -24,6 +24,13 @@ pub record IsPublicKey (key : PublicKey) : Type 0 where
   pub id : length key.id ≡ 16
   pub root : length key.root ≡ 32
 
+-- the values that a secret key has
+pub record IsSecretKey (key : SecretKey) : Type 0 where
+  pub ots : IsOneTimeType key.ots
+  pub tree : IsTreeType key.tree
+  pub id : length key.id ≡ 16
+  pub seed : length key.seed ≡ 32
+
 -- the 56 bytes of a public key (5.3)
 unfoldable pub public_text : PublicKey → List ℕ
 public_text key = u32str key.tree ++ u32str key.ots ++ key.id ++ key.root

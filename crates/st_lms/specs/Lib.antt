@@ -6,4 +6,6 @@ pub mod Keys
 pub mod Tree
 pub mod Signature
 pub mod Inverses
+pub mod Parts
+pub mod PartsOf
 pub mod Decided

@@ -1,8 +1,10 @@
-ghost use Rattle.std.specs.Prelude.{◌≡◌, ◌≢◌, ◌↔◌, length, IfOk};
+#![tactic(auto, using(crate::proofs::KnownKeys::known_public))]
+
+ghost use Rattle.std.specs.Prelude.{◌≡◌, ◌≢◌, ◌↔◌, ◌+◌, ◌*◌, ◌≤◌, length, IfOk};
 ghost use Rattle.std.specs.Result.{result_ok};
 ghost use Rattle.st_lms.specs.Decided.{public_in};
 ghost use Rattle.st_lms.specs.Keys.{PublicKey, IsPublicKey, public_text, tree_type_in, one_time_type_in};
-ghost use Rattle.st_lms.specs.Parameters.{IsOneTimeType, IsTreeType};
+ghost use Rattle.st_lms.specs.Parameters.{IsOneTimeType, IsTreeType, chains, height};
 
 use crate::parameters::{OneTimeType, TreeType};
 use crate::strings::{copied, put, str_to_u32, u32str};
@@ -107,29 +109,55 @@ impl Public {
 
     /// The number of the LM-OTS type: 1 to 4.
     pub fn ots(&self) -> u32
-        ensures { result ≡ self.now.ots }
+        ensures value { result ≡ self.now.ots }
+        ensures known { IsPublicKey self.now }
     {
         self.ots.parameters().number
     }
 
     /// The number of the LMS type: 5 or 6.
     pub fn tree(&self) -> u32
-        ensures { result ≡ self.now.tree }
+        ensures value { result ≡ self.now.tree }
+        ensures known { IsPublicKey self.now }
     {
         self.tree.number()
     }
 
     /// The identifier of the key pair.
     pub fn id(&self) -> [u8; 16]
-        ensures { result ≡ self.now.id }
+        ensures value { result ≡ self.now.id }
+        ensures known { IsPublicKey self.now }
     {
         self.id
     }
 
     /// The root of the tree.
     pub fn root(&self) -> [u8; 32]
-        ensures { result ≡ self.now.root }
+        ensures value { result ≡ self.now.root }
+        ensures known { IsPublicKey self.now }
     {
         self.root
+    }
+    /// How many bytes the values of a signature under this key have.
+    pub(crate) fn values_len(&self) -> usize
+        ensures len { result ≡ 32 * chains self.now.ots }
+        ensures small { result ≤ 8480 }
+    {
+        32 * self.ots.parameters().chains as usize
+    }
+
+    fn path_len(&self) -> usize
+        ensures len { result ≡ 32 * height self.now.tree }
+        ensures small { result ≤ 320 }
+    {
+        32 * self.tree.height() as usize
+    }
+
+    /// How many bytes a signature under this key has: 1,292 to 8,844.
+    pub fn signature_len(&self) -> usize
+        ensures value { result ≡ 44 + 32 * chains self.now.ots + 32 * height self.now.tree }
+        ensures small { result ≤ 8844 }
+    {
+        44 + self.values_len() + self.path_len()
     }
 }

@@ -1,5 +1,7 @@
+#![tactic(auto, using(crate::proofs::KnownKeys::known_secret))]
+
 ghost use Rattle.std.specs.Prelude.{◌≡◌, ◌↔◌, ◌≤◌, ◌^◌, IsOk, IfOk};
-ghost use Rattle.st_lms.specs.Keys.{SecretKey, secret_key};
+ghost use Rattle.st_lms.specs.Keys.{IsSecretKey, secret_key};
 ghost use Rattle.st_lms.specs.Parameters.{IsOneTimeType, IsTreeType, height};
 ghost use Rattle.st_lms.specs.Signature.{public_of, randomizer_of};
 ghost use Rattle.st_lms.specs.Tree.{IsNode, node};
@@ -78,28 +80,32 @@ impl Secret {
 
     /// The number of the LM-OTS type: 1 to 4.
     pub fn ots(&self) -> u32
-        ensures { result ≡ self.now.ots }
+        ensures value { result ≡ self.now.ots }
+        ensures known { IsSecretKey self.now }
     {
         self.ots.parameters().number
     }
 
     /// The number of the LMS type: 5 or 6.
     pub fn tree(&self) -> u32
-        ensures { result ≡ self.now.tree }
+        ensures value { result ≡ self.now.tree }
+        ensures known { IsSecretKey self.now }
     {
         self.tree.number()
     }
 
     /// The identifier of the key pair.
     pub fn id(&self) -> [u8; 16]
-        ensures { result ≡ self.now.id }
+        ensures value { result ≡ self.now.id }
+        ensures known { IsSecretKey self.now }
     {
         self.id
     }
 
     /// The seed of the one-time keys.
     pub fn seed(&self) -> [u8; 32]
-        ensures { result ≡ self.now.seed }
+        ensures value { result ≡ self.now.seed }
+        ensures known { IsSecretKey self.now }
     {
         self.seed
     }
@@ -108,7 +114,7 @@ impl Secret {
     pub fn height(&self) -> u32
         ensures height { result ≡ height self.now.tree }
         ensures small { result ≤ 10 }
-        ensures known { IsTreeType self.now.tree }
+        ensures known { IsSecretKey self.now }
     {
         self.tree.height()
     }
@@ -117,13 +123,15 @@ impl Secret {
     pub fn leaf_count(&self) -> u32
         ensures count { result ≡ 2 ^ height self.now.tree }
         ensures small { result ≤ 1024 }
+        ensures known { IsSecretKey self.now }
     {
         self.tree.leaf_count()
     }
 
     /// The public key, which takes about as long as all the one-time keys together.
     pub fn public(&self) -> Public
-        ensures { result ≡ public_of self.now }
+        ensures value { result ≡ public_of self.now }
+        ensures known { IsSecretKey self.now }
     {
         let root = node(self, self.height(), 1);
         Public {

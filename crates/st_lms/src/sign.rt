@@ -13,6 +13,7 @@ use std::alloc::Global;
 
 /// Appends what is signed of each digit.
 fn push_values(
+    alloc: Global,
     out: &mut Bytes,
     secret: &Secret,
     q: u32,
@@ -24,7 +25,7 @@ fn push_values(
     let count = secret.ots.parameters().chains;
     'digits: for i in 0..count {
         let value = signed_value(secret.ots, &secret.id, q, &secret.seed, digits, i);
-        out.push_all(&value)?;
+        out.push_all(alloc, &value)?;
     }
     Ok(())
 }
@@ -38,7 +39,7 @@ fn sibling(r: u32) -> u32
 }
 
 /// Appends the other nodes on the way from leaf `q` to the root.
-fn push_path(out: &mut Bytes, secret: &Secret, q: u32) -> Result<(), WantOfMemory>
+fn push_path(alloc: Global, out: &mut Bytes, secret: &Secret, q: u32) -> Result<(), WantOfMemory>
     requires { q < 2 ^ height secret.now.tree }
     ensures { OnOk result (out.new ≡ out.old
         ++ path_from secret.now 0 (2 ^ height secret.now.tree + q) (height secret.now.tree)) }
@@ -46,7 +47,7 @@ fn push_path(out: &mut Bytes, secret: &Secret, q: u32) -> Result<(), WantOfMemor
     let mut r = secret.tree.leaf_count() + q;
     'levels: for level in 0..secret.height() {
         let other = node(secret, level, sibling(r));
-        out.push_all(&other)?;
+        out.push_all(alloc, &other)?;
         r /= 2;
     }
     Ok(())
@@ -71,11 +72,11 @@ pub fn sign_at(
     let hash = message_hash(&secret.id, q, &randomizer, message);
     let digits = checked(&hash, secret.ots);
     let mut signature = Bytes::new(alloc);
-    signature.push_all(&u32str(q))?;
-    signature.push_all(&u32str(secret.ots()))?;
-    signature.push_all(&randomizer)?;
-    push_values(&mut signature, secret, q, &digits)?;
-    signature.push_all(&u32str(secret.tree()))?;
-    push_path(&mut signature, secret, q)?;
+    signature.push_all(alloc, &u32str(q))?;
+    signature.push_all(alloc, &u32str(secret.ots()))?;
+    signature.push_all(alloc, &randomizer)?;
+    push_values(alloc, &mut signature, secret, q, &digits)?;
+    signature.push_all(alloc, &u32str(secret.tree()))?;
+    push_path(alloc, &mut signature, secret, q)?;
     Ok(signature)
 }

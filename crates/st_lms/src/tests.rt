@@ -1,5 +1,6 @@
 ghost use Rattle.std.specs.Prelude.{◌≤◌};
 
+mod standard;
 mod types;
 mod vectors;
 
@@ -69,6 +70,7 @@ fn checks(
     for case in cases {
         assert!(rt; case.q < secret.leaf_count());
         let signature = sign_at(alloc, &secret, case.q, case.message)?;
+        assert_eq!(rt; signature.as_slice().len(), public.signature_len());
         assert_eq!(rt; Sha256::digest(signature.as_slice()), case.digest);
         assert!(rt; verify(&public, case.message, signature.as_slice()));
         let mut bytes = signature.into_vec();

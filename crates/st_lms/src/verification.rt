@@ -1,6 +1,8 @@
 ghost use Rattle.std.specs.Prelude.{◌≡◌, ◌↔◌, ◌+◌, ◌*◌, ◌^◌, ◌≤◌, ◌<◌, ◌++◌, IsTrue, length};
 ghost use Rattle.st_lms.specs.Decided.{is_signature};
 ghost use Rattle.st_lms.specs.Parameters.{chains, height};
+ghost use Rattle.st_lms.specs.Parts.{PartsHold};
+ghost use Rattle.st_lms.specs.PartsOf.{parts_seen};
 ghost use Rattle.st_lms.specs.Signature.{IsSignature, root_of};
 ghost use Rattle.st_lms.specs.Strings.{u32str};
 
@@ -68,20 +70,6 @@ fn root_of(
     node_above(&public.id, r, leaf, path, public.tree.height())
 }
 
-fn values_len(public: &Public) -> usize
-    ensures len { result ≡ 32 * chains public.now.ots }
-    ensures small { result ≤ 8480 }
-{
-    32 * public.ots.parameters().chains as usize
-}
-
-fn path_len(public: &Public) -> usize
-    ensures len { result ≡ 32 * height public.now.tree }
-    ensures small { result ≤ 320 }
-{
-    32 * public.tree.height() as usize
-}
-
 fn leaf_count(public: &Public) -> u32
     ensures count { result ≡ 2 ^ height public.now.tree }
     ensures small { result ≤ 1024 }
@@ -102,17 +90,14 @@ fn is_same(left: &[u8; 32], right: &[u8; 32]) -> bool
     left.as_slice() == right.as_slice()
 }
 
-/// Whether these bytes are a signature of the message under the public key (RFC 8554, section
-/// 5.4.2). Any bytes may be asked about. It takes no memory.
-pub fn verify(public: &Public, message: &[u8], signature: &[u8]) -> bool
-    ensures holds { IsTrue result ↔ IsSignature public.now message.now signature.now }
-    ensures value { result ≡ is_signature public.now message.now signature.now }
+/// Whether the parts have the types of the public key and the number of one of its leaves, and lead
+/// to its root.
+fn parts_hold(public: &Public, message: &[u8], parts: &Parts<'_>) -> bool
+    requires q { length parts.now.q.now ≡ 4 }
+    requires values { length parts.now.values.now ≡ 32 * chains public.now.ots }
+    requires path { length parts.now.path.now ≡ 32 * height public.now.tree }
+    ensures { IsTrue result ↔ PartsHold public.now message.now (parts_seen parts.now) }
 {
-    let values_len = values_len(public);
-    if signature.len() != 44 + values_len + path_len(public) {
-        return false;
-    }
-    let parts = parts_of(signature, values_len);
     if !has_types(public, parts.ots, parts.tree) {
         return false;
     }
@@ -129,4 +114,17 @@ pub fn verify(public: &Public, message: &[u8], signature: &[u8]) -> bool
         message,
     );
     is_same(&root, &public.root())
+}
+
+/// Whether these bytes are a signature of the message under the public key (RFC 8554, section
+/// 5.4.2). Any bytes may be asked about. It takes no memory.
+pub fn verify(public: &Public, message: &[u8], signature: &[u8]) -> bool
+    ensures holds { IsTrue result ↔ IsSignature public.now message.now signature.now }
+    ensures value { result ≡ is_signature public.now message.now signature.now }
+{
+    if signature.len() != public.signature_len() {
+        return false;
+    }
+    let parts = parts_of(signature, public.values_len());
+    parts_hold(public, message, &parts)
 }

@@ -75,3 +75,23 @@ fn only_known_types_make_a_key(rt: HostRuntime) {
     text[7] = 4;
     assert!(rt; Public::read(&text).is_ok());
 }
+
+#[test]
+fn a_signature_is_as_long_as_its_types_say(rt: HostRuntime) -> Result<(), Fail> {
+    let mut text = [0u8; 56];
+    for (tree, ots, len) in [
+        (5, 1, 8684),
+        (5, 2, 4460),
+        (5, 3, 2348),
+        (5, 4, 1292),
+        (6, 1, 8844),
+        (6, 2, 4620),
+        (6, 3, 2508),
+        (6, 4, 1452),
+    ] {
+        text[3] = tree;
+        text[7] = ots;
+        assert_eq!(rt; Public::read(&text)?.signature_len(), len);
+    }
+    Ok(())
+}

@@ -1,4 +1,5 @@
-use Rattle.std.proofs.Common.{◌≡◌, ◌+◌, ◌≤◌, ◌/◌, sym, arith}
+use Rattle.std.proofs.Common.{◌≡◌, ◌+◌, ◌≤◌, ◌/◌, ◌∙◌, ap, sym, arith}
+use Rattle.st_lms.specs.OneTime.{shortfall}
 use Rattle.st_lms.specs.TypeNumbers.{one_time_number}
 use Rattle.st_lms.proofs.DigitLemmas.{coef-greatest, shortfall-more, shortfall-none, shortfall_fits, shifted-checksum, sized}
 use Rattle.st_lms.proofs.Widths.{fits_byte}
@@ -50,6 +51,9 @@ overflow_shl-result c =
 
 pub returns : goal.returns
 returns c =
-    let last : c.digits.i ≡ 256 / c.parameters-parameters.result.width = omega arith in
-    shifted-checksum (one_time_number c.args.kind) c.args.hash.now c.digits.sum c.digits.i c.parameters-parameters.result.width c.parameters-parameters.result.shift
-    c.parameters-parameters.ensures.known c.digits.invariant last c.parameters-parameters.ensures.width c.parameters-parameters.ensures.shift
+    let t = one_time_number c.args.kind in
+    let hash = c.args.hash.now in
+    let parameters = c.parameters-parameters in
+    let last : c.digits.i ≡ 256 / parameters.result.width = omega arith in
+    let whole = c.digits.invariant ∙ ap (shortfall t hash) (last ∙ ap (λ w. 256 / w) parameters.ensures.width) in
+    shifted-checksum t hash c.digits.sum parameters.result.shift parameters.ensures.known whole parameters.ensures.shift

@@ -1,7 +1,9 @@
 use Rattle.std.proofs.Common.{ap, sym, subst, ◌∙◌, Some}
+use Rattle.st_canon.specs.Find.{OthersStay, member_at}
 use Rattle.st_canon.specs.Names.{NamesAscend}
 use Rattle.st_canon.specs.Place.{IsPlaceOf, IsGapFor}
 use Rattle.st_canon.specs.View.{plain, plain_members}
+use Rattle.st_canon.proofs.Named.{member_at-without_same, others_stay_without}
 use Rattle.st_canon.proofs.Places.{ascend_removed, value_at_place, removed_at_place, no_value_at_gap, kept_at_gap}
 use Rattle.st_canon.proofs.object.Object.remove.Goals as goal
 
@@ -29,3 +31,14 @@ pub returns-in-Err-clause-rest : goal.returns-in-Err-clause-rest
 returns-in-Err-clause-rest c =
     let gap = subst (λ pairs. IsGapFor c.args.name.now pairs c.in-Err.field-0) c.as_slice.ensures.value c.in-Err.ensures.gap in
     rw (← c.self.view_is) (kept_at_gap c.args.name.now c.self.inside.pairs.items c.in-Err.field-0 gap)
+
+pub returns-in-Ok-clause-gone : goal.returns-in-Ok-clause-gone
+returns-in-Ok-clause-gone c =
+    ap (member_at c.args.name.now) (returns-in-Ok-clause-rest c) ∙ member_at-without_same c.args.name.now (plain_members c.args.self.now)
+
+pub returns-in-Ok-clause-others : goal.returns-in-Ok-clause-others
+returns-in-Ok-clause-others c =
+    subst (OthersStay c.args.name.now (plain_members c.args.self.now)) (sym (returns-in-Ok-clause-rest c)) (others_stay_without c.args.name.now (plain_members c.args.self.now))
+
+pub returns-in-Err-clause-gone : goal.returns-in-Err-clause-gone
+returns-in-Err-clause-gone c = sym (returns-in-Err-clause-value c)

@@ -1,9 +1,9 @@
-use Rattle.std.proofs.Common.{◌≡◌, ◌∙◌, sym, ap, refl, take, Ok, Some, arith}
+use Rattle.std.proofs.Common.{◌≡◌, ◌∙◌, sym, ap, refl, take, drop, Ok, Some, arith}
 use Rattle.st_lms.specs.Keys.{PublicKey, public_text, tree_type_in, one_time_type_in}
 use Rattle.st_lms.specs.Parameters.{IsOneTimeType, IsTreeType}
 use Rattle.st_lms.specs.Strings.{str_to_u32}
 use Rattle.st_lms.specs.TypeNumbers.{one_time_number, tree_number}
-use Rattle.st_lms.proofs.PublicTexts.{key_in, public_text-key_in, shows_key, cut-key_in}
+use Rattle.st_lms.proofs.PublicTexts.{key_in, public_text-key_in, shows_key, same_key}
 use Rattle.st_lms.proofs.Decided.{public_in-known, public_in-none}
 use Rattle.st_lms.proofs.TypeLemmas.{one_time_known, tree_known}
 use Rattle.st_lms.proofs.public.Public.read.Goals as goal
@@ -20,15 +20,22 @@ unfolding tree_type_in
 tree_type_is c = c.str_to_u32-2.ensures ∙ ap str_to_u32 c.split_at.ensures.front
 
 -- the key that was read is the one in the text
-key_is : (c : After-copied-2) →
-    let key : PublicKey = record { ots = one_time_number c.in-Some.ots; tree = tree_number c.in-Some-read.tree; id = c.copied.result; root = c.copied-2.result } in
-    key ≡ key_in c.args.bytes.now
+abbrev key_read : After-copied-2 → PublicKey
+key_read c = record {
+  ots = one_time_number c.in-Some.ots;
+  tree = tree_number c.in-Some-read.tree;
+  id = c.copied.result;
+  root = c.copied-2.result;
+}
+
+key_is : (c : After-copied-2) → key_read c ≡ key_in c.args.bytes.now
+unfolding one_time_type_in tree_type_in
 key_is c =
-    cut-key_in c.args.bytes.now c.split_at.result.0.now c.split_at.result.1.now c.split_at-2.result.0.now c.split_at-2.result.1.now
-    c.copied.result c.copied-2.result (one_time_number c.in-Some.ots) (tree_number c.in-Some-read.tree)
-    c.split_at.ensures.front c.split_at.ensures.back c.split_at-2.ensures.front c.split_at-2.ensures.back
-    (c.copied.ensures ∙ c.split_at-3.ensures.front) (c.copied-2.ensures ∙ c.split_at-3.ensures.back)
-    (c.in-Some.ensures ∙ c.str_to_u32.ensures) (c.in-Some-read.ensures ∙ c.str_to_u32-2.ensures)
+    let behind = c.split_at-2.ensures.back ∙ ap (drop 4) c.split_at.ensures.back in
+    let ots : one_time_number c.in-Some.ots ≡ (key_in c.args.bytes.now).ots = c.in-Some.ensures ∙ c.str_to_u32.ensures ∙ ap str_to_u32 (c.split_at-2.ensures.front ∙ ap (take 4) c.split_at.ensures.back) in
+    let tree : tree_number c.in-Some-read.tree ≡ (key_in c.args.bytes.now).tree = c.in-Some-read.ensures ∙ c.str_to_u32-2.ensures ∙ ap str_to_u32 c.split_at.ensures.front in
+    same_key (key_read c) c.args.bytes.now ots tree
+    (c.copied.ensures ∙ c.split_at-3.ensures.front ∙ ap (take 16) behind) (c.copied-2.ensures ∙ c.split_at-3.ensures.back ∙ ap (drop 16) behind)
 
 pub returns-then-bytes-ne56-clause-written : goal.returns-then-bytes-ne56-clause-written
 returns-then-bytes-ne56-clause-written c =

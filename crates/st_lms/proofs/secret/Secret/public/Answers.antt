@@ -7,11 +7,11 @@ use Rattle.st_lms.proofs.Nodes.{root_node}
 use Rattle.st_lms.proofs.secret.Secret.public.Goals as goal
 
 pub node-root-requires : goal.node-root-requires
-node-root-requires c = rw c.height.ensures.height (root_node c.args.self.now.tree c.height.ensures.known)
+node-root-requires c = rw c.height.ensures.height (root_node c.args.self.now.tree c.height.ensures.known.tree)
 
-pub returns : goal.returns
+pub returns-clause-value : goal.returns-clause-value
 unfolding public_of
-returns c =
+returns-clause-value c =
     let key : SecretKey → PublicKey = λ secret. record {
       ots = secret.ots;
       tree = secret.tree;

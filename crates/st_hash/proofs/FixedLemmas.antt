@@ -1,0 +1,89 @@
+-- Texts that are the base64url of so many bytes.
+use Rattle.std.proofs.Common.{◌≡◌, ◌≢◌, ◌∙◌, ℕ, ◌+◌, ◌*◌, ◌/◌, ◌==◌, ◌<◌, nat_lt, Bool, true, false, List, length, if◌then◌else◌, Option, Some, None, option_and_then, refl, ap, arith}
+use Rattle.std.proofs.lemmas.Bool.{eq-eqb, eqb-true, ne_eqb}
+use Rattle.std.proofs.lemmas.Option.{cond_some}
+use Rattle.std.proofs.lemmas.Bool.Decides.{nat_tests}
+use Rattle.std.proofs.lemmas.List.{length-append}
+use Rattle.std.specs.declared.result.Result.{Result}
+use Rattle.std.specs.declared.result.Result.TheVariants.{Ok, Err}
+use Rattle.std.specs.Result.{result_ok}
+use Rattle.base64.specs.Engines.{url_safe_no_pad}
+use Rattle.base64.specs.GeneralPurpose.{IsBytes, decode_slice_of}
+use Rattle.base64.specs.Decode.{bytes_fit, decode_outcome, decoded_bytes, groups_before_last, groups_bytes, groups_error, lone_error, or_else, or_error, suffix_bytes, suffix_error}
+use Rattle.base64.specs.declared.decode.DecodeError.{DecodeError}
+use Rattle.base64.specs.declared.decode.DecodeSliceError.{DecodeSliceError}
+use Rattle.base64.specs.declared.decode.DecodeSliceError.TheVariants.{OutputSliceTooSmall}
+use Rattle.base64.proofs.Decoding.{length-groups_bytes}
+use Rattle.st_hash.specs.Base64url.{base64url, bytes_of_text, fixed_of_text, so_many}
+use Rattle.st_hash.proofs.Spelling.{bytes_of_text-base64url}
+
+-- what was written of so many bytes is read
+pub fixed_of_text-base64url : (n : ℕ) (bytes : List ℕ) → IsBytes bytes → length bytes ≡ n
+    → fixed_of_text n (base64url bytes) ≡ Some bytes
+fixed_of_text-base64url n bytes are_bytes long =
+    ap (option_and_then (so_many n)) (bytes_of_text-base64url bytes are_bytes) ∙ rw (eq-eqb (length bytes) n long) refl
+
+-- what is read are so many bytes
+by_found : (n : ℕ) (found : Option (List ℕ)) (bytes : List ℕ) → option_and_then (so_many n) found ≡ Some bytes → length bytes ≡ n
+by_found n None bytes e = cc
+by_found n (Some found) bytes e =
+    let taken = cond_some (length found == n) found bytes e in
+    rw (← taken.1) (eqb-true (length found) n taken.0)
+
+pub fixed_of_text-length : (n : ℕ) (text bytes : List ℕ) → fixed_of_text n text ≡ Some bytes → length bytes ≡ n
+fixed_of_text-length n text bytes found = by_found n (bytes_of_text text) bytes found
+
+-- bytes of another number
+so_many-none : (n : ℕ) (bytes : List ℕ) → length bytes ≢ n → so_many n bytes ≡ None
+so_many-none n bytes other = rw (ne_eqb (length bytes) n other) refl
+
+-- so many bytes fit into a slice of their length
+fits : (n m : ℕ) → m ≡ n → bytes_fit m n ≡ Ok n
+fits n m same =
+    let room : nat_lt n n ≡ false = grind (arith, nat_tests) in
+    rw (same, room) refl
+
+-- Where decoding into a slice of n bytes doesn't answer n, the text is of no n bytes.
+other_answer : (lone rest : Option DecodeError) (small : Bool) (n : ℕ) (bytes : List ℕ)
+    → (small ≡ true → n < length bytes)
+    → or_error lone (if small then Err OutputSliceTooSmall else or_error rest (bytes_fit (length bytes) n)) ≢ Ok n
+    → option_and_then (so_many n) (result_ok (decode_outcome (or_else lone rest) bytes)) ≡ None
+other_answer (Some error) rest small n bytes more other = refl
+other_answer None (Some error) small n bytes more other = refl
+other_answer None None true n bytes more other =
+    let longer = more refl in
+    so_many-none n bytes (λ same. omega (arith, longer, same))
+other_answer None None false n bytes more other = so_many-none n bytes (λ same. other (fits n (length bytes) same))
+
+ok_same : (answer : Result ℕ DecodeSliceError) (m n : ℕ) → answer ≡ Ok m → answer ≡ Ok n → m ≡ n
+ok_same answer m n first second = cc
+
+ok_no_error : (answer : Result ℕ DecodeSliceError) (n : ℕ) (error : DecodeSliceError) → answer ≡ Ok n → answer ≡ Err error → ⊥
+ok_no_error answer n error first second = cc
+
+fixed_of_text-none : (n : ℕ) (text : List ℕ) → decode_slice_of url_safe_no_pad text n ≢ Ok n
+    → fixed_of_text n text ≡ None
+fixed_of_text-none n text other =
+    let dec : List ℕ = url_safe_no_pad.decode_table in
+    let pad : ℕ = url_safe_no_pad.padding.value in
+    let groups : ℕ = groups_before_last (length text) in
+    let last : List ℕ = suffix_bytes dec pad (4 * groups) text in
+    let long = length-append (groups_bytes dec text groups) last in
+    let of_groups = length-groups_bytes dec text groups in
+    let more : nat_lt (n / 3) groups ≡ true → n < length (decoded_bytes dec pad text) =
+    λ small. let below : n / 3 < groups = grind (arith, nat_tests) in omega (arith, long, of_groups, below) in
+    let config = url_safe_no_pad.config in
+    other_answer (lone_error dec pad text) (or_else (groups_error dec text groups)
+    (suffix_error dec pad config.decode_allow_trailing_bits config.decode_padding_mode (4 * groups) text))
+    (nat_lt (n / 3) groups) n (decoded_bytes dec pad text) more other
+
+-- a text whose decoding into such a slice answers something else
+pub fixed_of_text-count : (n room : ℕ) (text : List ℕ) (count : ℕ) (answer : Result ℕ DecodeSliceError) → room ≡ n
+    → answer ≡ decode_slice_of url_safe_no_pad text room → answer ≡ Ok count → count ≢ n → fixed_of_text n text ≡ None
+fixed_of_text-count n room text count answer long decoded counted other =
+    fixed_of_text-none n text (λ same. other (ok_same answer count n counted (decoded ∙ ap (decode_slice_of url_safe_no_pad text) long ∙ same)))
+
+pub fixed_of_text-error : (n room : ℕ) (text : List ℕ) (error : DecodeSliceError) (answer : Result ℕ DecodeSliceError) → room ≡ n
+    → answer ≡ decode_slice_of url_safe_no_pad text room → answer ≡ Err error → fixed_of_text n text ≡ None
+fixed_of_text-error n room text error answer long decoded refused =
+    fixed_of_text-none n text (λ same. ok_no_error answer n error (decoded ∙ ap (decode_slice_of url_safe_no_pad text) long ∙ same) refused)

@@ -1,0 +1,16 @@
+-- What a digest of one of the two algorithms is to contracts.
+use Rattle.std.specs.Prelude.{◌≡◌, ℕ, ◌==◌, List, if◌then◌else◌, refl}
+use Rattle.st_hash.specs.declared.hash.Digest.{Digest}
+use Rattle.st_hash.specs.declared.hash.Digest.TheVariants.{Sha256, Sha512}
+use Rattle.st_hash.specs.Hash.{HashValue}
+
+abbrev pub hash_in : Digest → HashValue
+hash_in (Sha256 digest) = record { code = 0x12; digest = digest }
+hash_in (Sha512 digest) = record { code = 0x13; digest = digest }
+
+abbrev pub digest_in : HashValue → Digest
+digest_in hash = if hash.code == 0x13 then Sha512 hash.digest else Sha256 hash.digest
+
+pub digest_in-hash_in : (digest : Digest) → digest_in (hash_in digest) ≡ digest
+digest_in-hash_in (Sha256 digest) = refl
+digest_in-hash_in (Sha512 digest) = refl

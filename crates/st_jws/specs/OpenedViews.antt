@@ -1,0 +1,12 @@
+-- What was opened, as definitions see it.
+use Rattle.st_canon.specs.View.{plain}
+use Rattle.st_canon.specs.declared.value.Json.{Json}
+use Rattle.st_jws.specs.Opening.{Opened}
+use Rattle.st_jws.specs.declared.jwk.Jwk.{Jwk}
+use Rattle.st_jws.specs.declared.opening.Signed.{Signed}
+
+abbrev pub found_view : Json × Jwk → Opened
+found_view found = record { payload = plain found.0; key = found.1 }
+
+abbrev pub opened_view : Signed → Opened
+opened_view signed = record { payload = plain signed.payload; key = signed.key }

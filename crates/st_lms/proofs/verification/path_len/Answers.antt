@@ -1,9 +1,0 @@
-use Rattle.std.proofs.Common.{arith}
-use Rattle.st_lms.specs.TypeNumbers.{tree_number}
-use Rattle.st_lms.proofs.Nodes.{height-small}
-use Rattle.st_lms.proofs.TypeLemmas.{tree_known}
-use Rattle.st_lms.proofs.verification.path_len.Goals as goal
-
-pub returns-clause-small : goal.returns-clause-small
-returns-clause-small c =
-    omega (arith, c.height.ensures, height-small (tree_number c.public.inside.tree) (tree_known c.public.inside.tree))

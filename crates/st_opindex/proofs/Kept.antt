@@ -1,0 +1,62 @@
+-- States that are kept on the way through items.
+use Rattle.std.proofs.Common.{◌≡◌, ◌∙◌, ℕ, ◌+◌, ◌-◌, ◌*◌, ◌/◌, ◌<◌, ◌≤◌, List, length, take, get_or, sym, ap, refl, arith, ⊎_elim, length-take, get_or-take}
+use Rattle.std.proofs.lemmas.Bool.{cases_lt}
+use Rattle.std.proofs.lemmas.List.{take-take, take_all}
+use Rattle.st_opindex.specs.Items.{Held, folded}
+use Rattle.st_opindex.specs.Kept.{Reached, IsKeptBefore, IsRow}
+
+-- the first items are the same in a list that begins alike
+take_alike : {X : Type 0} (items other : List X) (n at : ℕ) → n ≤ at → take at other ≡ take at items → take n items ≡ take n other
+take_alike items other n at within alike = sym (take-take n at items within) ∙ ap (take n) (sym alike) ∙ take-take n at other within
+
+module _ {State Item : Type 0} {next : State → Item → State} {start : State} where
+  -- what is kept is kept for a list that begins alike
+  pub reached_alike : {items : List (Held Item)} {done : ℕ} {kept : List State} {last : State} (other : List (Held Item))
+      → take done other ≡ take done items → Reached next start items done kept last → Reached next start other done kept last
+  reached_alike {items} {done} other alike reached = record {
+    count = reached.count;
+    each = λ i d inside. reached.each i d inside ∙ ap (folded next start) (take_alike items other (8 * (i + 1)) done (omega (arith, reached.count)) alike);
+    now = reached.now ∙ ap (folded next start) (take_alike items other done done (omega arith) alike);
+  }
+
+  -- the last state of a row is what its items fold to
+  pub row_folds : {items : List (Held Item)} {kept : List State} {last : State} → IsRow next start items kept last → last ≡ folded next start items
+  row_folds {items} row = row.reached.now ∙ ap (folded next start) (take_all (length items) items (omega arith))
+
+  -- what a row keeps is kept before a place in a list that begins alike
+  pub kept_before : {items : List (Held Item)} {kept : List State} {last : State} → IsRow next start items kept last
+      → (other : List (Held Item)) (at : ℕ) → at ≤ length items → take at other ≡ take at items → IsKeptBefore next start other at kept
+  kept_before {items} row other at within alike = record {
+    enough = omega (arith, row.reached.count);
+    each = λ i d below. row.reached.each i d (omega (arith, row.reached.count, below)) ∙ ap (folded next start) (take_alike items other (8 * (i + 1)) at (omega (arith, below)) alike);
+  }
+
+  -- the last of these states is what the items up to it reach
+  pub reached_before : {items : List (Held Item)} {at : ℕ} {kept : List State} → IsKeptBefore next start items at kept
+      → (states : ℕ) (last : State) → states ≤ at / 8
+      → (length (take states kept) ≡ 0 → last ≡ start)
+      → (0 < length (take states kept) → last ≡ get_or (take states kept) (length (take states kept) - 1) last)
+      → Reached next start items (states * 8) (take states kept) last
+  reached_before {items} {at} {kept} is states last within none some = record {
+    count = omega (arith, count);
+    each = each;
+    now = ⊎_elim at_kept (λ zero. at_start (omega (arith, zero))) (cases_lt 0 states);
+  }
+    where
+      count : length (take states kept) ≡ states
+      count = omega (arith, length-take states kept, is.enough)
+
+      each : (i : ℕ) (d : State) → i < length (take states kept) → get_or (take states kept) i d ≡ folded next start (take (8 * (i + 1)) items)
+      each i d below =
+          let inside : i < states = omega (arith, count, below) in
+          get_or-take states kept i d inside ∙ is.each i d (omega (arith, inside, within))
+
+      at_start : states ≡ 0 → last ≡ folded next start (take (states * 8) items)
+      at_start zero = none (omega (arith, count, zero)) ∙ rw zero refl
+
+      at_kept : 0 < states → last ≡ folded next start (take (states * 8) items)
+      at_kept more =
+          let eight : 8 * (length (take states kept) - 1 + 1) ≡ states * 8 = omega (arith, count, more) in
+          some (omega (arith, count, more))
+          ∙ each (length (take states kept) - 1) last (omega (arith, count, more))
+          ∙ ap (λ n. folded next start (take n items)) eight

@@ -1,0 +1,99 @@
+-- What is placed, after a change.
+use Rattle.std.proofs.Common.{◌≡◌, ◌∙◌, ◌⊎◌, ◌<◌, ◌≤◌, ◌++◌, ℕ, Bool, true, false, cond, List, [], ◌∷◌, sym, ap, subst, refl, arith, Ordering, inl, inr}
+use Rattle.std.proofs.lemmas.Bool.{lt-ltb, le-ltb, eq-eqb, ne_eqb, false≢true, cases_Bool, cases_lt, cases_order}
+use Rattle.std.specs.BTreeMap.{is_at}
+use Rattle.std.specs.List.{AllByRecursion, list_any}
+use Rattle.std.specs.Ordering.{nat_cmp, is_eq, is_lt, ordering_then}
+use Rattle.std.specs.declared.cmp.Ordering.TheVariants.{Equal}
+use Rattle.st_base.proofs.Quantifiers.{each-weaker, any_before, any_last}
+use Rattle.st_opindex.specs.Items.{with_item}
+use Rattle.st_opindex.specs.ByKey.{ByKey, items_at, ChangesAt}
+use Rattle.st_opindex.specs.Placed.{placed_cmp, IsPlaced, AllPlaced}
+use Rattle.st_opindex.proofs.WithItem.{each-with_item}
+
+below : {a b : ℕ} → a < b → b ≤ a → ⊥
+below lt le = omega arith
+
+nat_cmp-same : (n : ℕ) → nat_cmp n n ≡ Equal
+nat_cmp-same n = rw (le-ltb n n (omega arith), eq-eqb n n refl) refl
+
+-- at one place keys are compared
+here : {K : Type 0} (cmp : K → K → Ordering) (place : ℕ) (key other : K) → is_at (placed_cmp cmp (place, key)) (place, other) ≡ is_at (cmp key) other
+here cmp place key other = ap (λ o. is_eq (ordering_then o (cmp key other))) (nat_cmp-same place)
+
+cond_true : (b c : Bool) → c ≡ true → cond b true c ≡ true
+cond_true true c is = refl
+cond_true false c is = is
+
+module _ {K Item : Type 0} (cmp : K → K → Ordering) where
+  module _ (place : ℕ) (key : K) (item : Item) (old new : List (ℕ × K))
+      (adds : (x : ℕ × K) → list_any (is_at (placed_cmp cmp x)) new ≡ cond (is_at (placed_cmp cmp (place, key)) x) true (list_any (is_at (placed_cmp cmp x)) old)) where
+    stays : (at : ℕ) (other : K) → IsPlaced cmp old at other → IsPlaced cmp new at other
+    stays at other was = adds (at, other) ∙ cond_true _ _ was
+
+    -- an item that is put is placed, and the others stay so
+    pub placed_put : (rows put : ByKey K Item)
+        → ChangesAt cmp key (with_item place item) rows put
+        → AllPlaced cmp old rows → AllPlaced cmp new put
+    placed_put rows put items placed other =
+        let rest : AllByRecursion (λ held. IsPlaced cmp new held.0 other) (items_at cmp other rows) =
+        each-weaker (λ held. IsPlaced cmp old held.0 other) (λ held. IsPlaced cmp new held.0 other) (λ held was. stays held.0 other was) (items_at cmp other rows) (placed other) in
+        elim (cases_Bool (is_at (cmp key) other)) [
+          | inl same ↦
+              let one : IsPlaced cmp new place other = adds (place, other) ∙ rw (here cmp place key other, same) refl in
+              let whole = each-with_item place (λ held. IsPlaced cmp new held.0 other) item (items_at cmp other rows) one rest in
+              rw (items other, same) whole
+          | inr apart ↦ rw (items other, apart) rest
+        ]
+
+-- ---- what is taken out from the end
+
+-- what is placed equally stands at the same place, with an equal key
+pub placed_same : {K : Type 0} (cmp : K → K → Ordering) (place at : ℕ) (key other : K) → is_at (placed_cmp cmp (place, key)) (at, other) ≡ true
+    → (place ≡ at) × (is_at (cmp key) other ≡ true)
+placed_same cmp place at key other same = elim (cases_order place at) [
+  | inl is ↦
+      let whole = subst (λ n. is_at (placed_cmp cmp (place, key)) (n, other) ≡ true) (sym is) same in
+      (is, sym (here cmp place key other) ∙ whole)
+  | inr apart ↦ elim apart [
+    | inl lt ↦ absurd (false≢true (rw (lt-ltb place at lt) at same))
+    | inr gt ↦ absurd (false≢true (rw (le-ltb place at (omega arith), ne_eqb place at (omega arith)) at same))
+  ]
+]
+
+-- nothing stands later than the last
+pub not_later : {K : Type 0} (cmp : K → K → Ordering) (place at : ℕ) (key other : K) → is_lt (placed_cmp cmp (place, key) (at, other)) ≡ false → at ≤ place
+not_later cmp place at key other least = elim (cases_lt place at) [
+  | inl lt ↦ absurd (false≢true (sym least ∙ rw (lt-ltb place at lt) refl))
+  | inr le ↦ le
+]
+
+module _ {K : Type 0} (cmp : K → K → Ordering) (place : ℕ) where
+  -- on the way: what was placed is so still, or was taken, and then it stands at the place or later
+  abbrev pub IsTakenApart : List (ℕ × K) → List (ℕ × K) → List K → Type 0
+  IsTakenApart old now late =
+      (at : ℕ) (key : K) → IsPlaced cmp old at key
+      → IsPlaced cmp now at key ⊎ ((place ≤ at) × (list_any (λ taken. is_at (cmp taken) key) late ≡ true))
+
+  pub taken_more : (old now new : List (ℕ × K)) (late : List K) (at : ℕ) (key : K) → place ≤ at
+      → ((x : ℕ × K) → list_any (is_at (placed_cmp cmp x)) new ≡ cond (is_at (placed_cmp cmp (at, key)) x) false (list_any (is_at (placed_cmp cmp x)) now))
+      → IsTakenApart old now late → IsTakenApart old new (late ++ key ∷ [])
+  taken_more old now new late at key le takes apart spot other was = elim (apart spot other was) [
+    | inr taken ↦ inr (taken.0, any_before (λ taken. is_at (cmp taken) other) late key taken.1)
+    | inl still ↦ elim (cases_Bool (is_at (placed_cmp cmp (at, key)) (spot, other))) [
+      | inl same ↦
+          let parts = placed_same cmp at spot key other same in
+          let here : place ≤ spot = omega arith in
+          inr (here, any_last (λ taken. is_at (cmp taken) other) late key parts.1)
+      | inr other_one ↦ inl (takes (spot, other) ∙ rw other_one still)
+    ]
+  ]
+
+  -- where all that is left stands before the place
+  module _ (old now : List (ℕ × K)) (late : List K) (apart : IsTakenApart old now late)
+      (early : (at : ℕ) (key : K) → IsPlaced cmp now at key → at < place) where
+    pub taken_late : (at : ℕ) (key : K) → place ≤ at → IsPlaced cmp old at key → list_any (λ taken. is_at (cmp taken) key) late ≡ true
+    taken_late at key le was = elim (apart at key was) [
+      | inl still ↦ absurd (below (early at key still) le)
+      | inr taken ↦ taken.1
+    ]

@@ -1,0 +1,63 @@
+-- An item put at its place. For crates above: what a put leaves, and how many items its bound speaks of.
+use Rattle.std.proofs.Common.{◌≡◌, ◌∙◌, ℕ, ◌<◌, true, false, ltb, leb, List, [], ◌∷◌, ◌++◌, length, ap, refl, arith, inl, inr}
+use Rattle.std.proofs.lemmas.Bool.{lt-ltb, le-ltb, le-leb, lt-leb, cases_lt, ltb-true}
+use Rattle.std.proofs.lemmas.List.Elements.{filter-append}
+use Rattle.std.specs.List.{AllByRecursion}
+use Rattle.st_base.proofs.Quantifiers.{each-weaker, each-filter, each-append, each-passes, filter_all, filter_none}
+use Rattle.st_opindex.specs.Items.{Held, Ascend, before, from, after, with_item}
+use Rattle.st_opindex.proofs.Ascending.{le_of_lt, later_all, none_before, Ascend-filter}
+
+module _ {Item : Type 0} (place : ℕ) where
+  -- what comes from its place on is it and what comes after
+  pub from-with_item : (item : Item) (items : List (Held Item)) → from place (with_item place item items) ≡ (place, item) ∷ after place items
+  from-with_item item items =
+      let front : from place (before place items) ≡ [] =
+      filter_none (λ held. leb place held.0) (before place items)
+      (each-weaker (λ held. ltb held.0 place ≡ true) (λ held. leb place held.0 ≡ false) (λ held is. lt-leb place held.0 (ltb-true held.0 place is)) (before place items)
+      (each-passes (λ held. ltb held.0 place) items)) in
+      let back : from place (after place items) ≡ after place items =
+      filter_all (λ held. leb place held.0) (after place items)
+      (each-weaker (λ held. ltb place held.0 ≡ true) (λ held. leb place held.0 ≡ true) (λ held is. le-leb place held.0 (le_of_lt place held.0 (ltb-true place held.0 is))) (after place items)
+      (each-passes (λ held. ltb place held.0) items)) in
+      filter-append (λ held. leb place held.0) (before place items) ((place, item) ∷ after place items)
+      ∙ rw (front, le-leb place place (omega arith)) (ap (λ rest. (place, item) ∷ rest) back)
+
+  module _ (item : Item) (items : List (Held Item)) (all : AllByRecursion (λ held. held.0 < place) items) where
+    none_after : after place items ≡ []
+    none_after =
+        filter_none (λ held. ltb place held.0) items
+        (each-weaker (λ held. held.0 < place) (λ held. ltb place held.0 ≡ false) (λ held lt. le-ltb place held.0 (le_of_lt held.0 place lt)) items all)
+
+    -- behind all others it stands last
+    pub with_item-last : with_item place item items ≡ items ++ (place, item) ∷ []
+    with_item-last =
+        let front : before place items ≡ items =
+        filter_all (λ held. ltb held.0 place) items (each-weaker (λ held. held.0 < place) (λ held. ltb held.0 place ≡ true) (λ held lt. lt-ltb held.0 place lt) items all) in
+        rw (front, none_after) refl
+
+    -- and alone from its place on
+    pub with_item-alone : length (from place (with_item place item items)) ≡ 1
+    with_item-alone = rw (from-with_item item items, none_after) refl
+
+  -- what holds of each item and of it holds of each
+  pub each-with_item : (P : Held Item → Type 0) (item : Item) (items : List (Held Item)) → P (place, item) → AllByRecursion P items
+      → AllByRecursion P (with_item place item items)
+  each-with_item P item items one all =
+      each-append P (before place items) ((place, item) ∷ after place items)
+      (each-filter P (λ held. ltb held.0 place) items all) (one, each-filter P (λ held. ltb place held.0) items all)
+
+  -- the items ascend as before
+  pub Ascend-with_item : (item : Item) (items : List (Held Item)) → Ascend items → Ascend (with_item place item items)
+  Ascend-with_item item [] ascends = (tt, tt)
+  Ascend-with_item item (held ∷ items) ascends = elim (cases_lt held.0 place) [
+    | inl lt ↦
+        rw (lt-ltb held.0 place lt, le-ltb place held.0 (le_of_lt held.0 place lt))
+        (each-with_item (λ later. held.0 < later.0) item items lt ascends.0, Ascend-with_item item items ascends.1)
+    | inr le ↦
+        let behind : AllByRecursion (λ later. place < later.0) (after place (held ∷ items)) =
+        each-weaker (λ later. ltb place later.0 ≡ true) (λ later. place < later.0) (λ later is. ltb-true place later.0 is) (after place (held ∷ items))
+        (each-passes (λ later. ltb place later.0) (held ∷ items)) in
+        let rest = Ascend-filter (λ later. ltb place later.0) (held ∷ items) ascends in
+        let none : before place (held ∷ items) ≡ [] = rw (le-ltb held.0 place le) (none_before place items (later_all place held items le ascends.0)) in
+        rw none (behind, rest)
+  ]

@@ -1,0 +1,5 @@
+pub mod ByKey
+pub mod Items
+pub mod Kept
+pub mod Placed
+pub mod Seen

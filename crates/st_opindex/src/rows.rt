@@ -1,0 +1,100 @@
+ghost use Rattle.std.specs.Prelude.{◌≡◌, ◌+◌, ◌*◌, List, [], length, IfOk, OnOk, if◌then◌else◌};
+ghost use Rattle.st_base.specs.Work.{AppliesAtMost};
+ghost use Rattle.st_opindex.specs.Items.{with_item, before, from, reaches};
+ghost use Rattle.st_opindex.specs.ByKey.{items_at, ChangesAt, NamesLosing, AreCut};
+ghost use Rattle.st_opindex.specs.Kept.{IsRow};
+ghost use Rattle.st_opindex.specs.Seen.{AreRows, seen_items};
+
+use crate::folder::Folder;
+use crate::row::{Row, cut_row, empty_row, put_row};
+use st_base::{WantOfMemory, Work};
+use std::alloc::Global;
+use std::collections::BTreeMap;
+
+/// The row of each key that has one.
+pub type Rows<K, F> = BTreeMap<K, Row<<F as Folder>::Item, <F as Folder>::State>>;
+
+// Inserts the item at this place of the key, or replaces the one there.
+pub fn put_item<K: Copy + Ord, F: Folder>(
+    alloc: Global,
+    folder: &F,
+    rows: &mut Rows<K, F>,
+    key: K,
+    place: u32,
+    item: F::Item,
+    work: &mut Work,
+) -> Result<(), WantOfMemory>
+    requires { AreRows K.cmp (F.next folder.now) (F.first folder.now) rows.old.entries }
+    ensures rows { OnOk result (AreRows K.cmp (F.next folder.now) (F.first folder.now) rows.new.entries) }
+    ensures items { OnOk result (ChangesAt K.cmp key (with_item place item) (seen_items rows.old.entries) (seen_items rows.new.entries)) }
+    ensures bound { AppliesAtMost (7 + length (from place (with_item place item (items_at K.cmp key (seen_items rows.old.entries))))) work.old work.new }
+{
+    let row = take_row(alloc, folder, rows, key)?;
+    let row = put_row(alloc, folder, row, place, item, work)?;
+    rows.insert(key, row)?;
+    Ok(())
+}
+
+// Takes the key's row out, or makes one where it has none.
+fn take_row<K: Copy + Ord, F: Folder>(
+    alloc: Global,
+    folder: &F,
+    rows: &mut Rows<K, F>,
+    key: K,
+) -> Result<Row<F::Item, F::State>, WantOfMemory>
+    requires { AreRows K.cmp (F.next folder.now) (F.first folder.now) rows.old.entries }
+    ensures row { IfOk result (λ row. IsRow (F.next folder.now) (F.first folder.now) row.items.items row.kept.items row.last) }
+    ensures items { IfOk result (λ row. row.items.items ≡ items_at K.cmp key (seen_items rows.old.entries)) }
+    ensures rows { AreRows K.cmp (F.next folder.now) (F.first folder.now) rows.new.entries }
+    ensures rest { ChangesAt K.cmp key (λ _. []) (seen_items rows.old.entries) (seen_items rows.new.entries) }
+{
+    match rows.remove(&key) {
+        Some(row) => Ok(row),
+        None => empty_row(alloc, folder),
+    }
+}
+
+// Drops the items of these keys at this place or later.
+pub fn cut_keys<K: Copy + Ord, F: Folder>(
+    alloc: Global,
+    folder: &F,
+    rows: &mut Rows<K, F>,
+    keys: &[K],
+    place: u32,
+    work: &mut Work,
+) -> Result<(), WantOfMemory>
+    requires { AreRows K.cmp (F.next folder.now) (F.first folder.now) rows.old.entries }
+    ensures rows { OnOk result (AreRows K.cmp (F.next folder.now) (F.first folder.now) rows.new.entries) }
+    ensures items { OnOk result (AreCut K.cmp place keys.now (seen_items rows.old.entries) (seen_items rows.new.entries)) }
+    ensures bound { (names : List K) → NamesLosing K.cmp place (seen_items rows.old.entries) names → AppliesAtMost (7 * length names) work.old work.new }
+{
+    'keys: for key in keys {
+        cut_key(alloc, folder, rows, *key, place, work)?;
+    }
+    Ok(())
+}
+
+// Drops the key's items at this place or later.
+fn cut_key<K: Copy + Ord, F: Folder>(
+    alloc: Global,
+    folder: &F,
+    rows: &mut Rows<K, F>,
+    key: K,
+    place: u32,
+    work: &mut Work,
+) -> Result<(), WantOfMemory>
+    requires { AreRows K.cmp (F.next folder.now) (F.first folder.now) rows.old.entries }
+    ensures rows { OnOk result (AreRows K.cmp (F.next folder.now) (F.first folder.now) rows.new.entries) }
+    ensures items { OnOk result (ChangesAt K.cmp key (before place) (seen_items rows.old.entries) (seen_items rows.new.entries)) }
+    ensures bound { AppliesAtMost (if reaches place (items_at K.cmp key (seen_items rows.old.entries)) then 7 else 0) work.old work.new }
+{
+    let Some(row) = rows.remove(&key) else {
+        return Ok(());
+    };
+    let row = cut_row(alloc, folder, row, place, work)?;
+    if row.items.is_empty() {
+        return Ok(());
+    }
+    rows.insert(key, row)?;
+    Ok(())
+}
