@@ -99,16 +99,6 @@ module _ {M C : Type 0} {means : Meaning M C} {cap : ℕ} (laws : Laws means cap
 
   -- ---- what was gathered is written
 
-  pub wrote_all : {m n : M} {c d : C} {ls : List (List ℕ)} {held between holds : Option (List ℕ)} {had has : List ℕ}
-      → Gathered means cap m c ls n d (record { held = held; had = had; holds = between; has = has }) → had ≡ []
-      → Appends between holds has → Wrote means cap m c ls n d held holds
-  wrote_all {held = held} {between = between} {holds = holds} {has = has} p none writes = record {
-    written = p.reply;
-    went = p.went;
-    writes =
-        subst (Appends held holds) (p.passes.all ∙ ap (λ xs. xs ++ p.reply) none) (Appends-trans held between holds p.passes.part has p.passes.writes writes);
-  }
-
   -- a part of it is written
   pub wrote_some : {m : M} {c d : C} {ls : List (List ℕ)} {held between holds : Option (List ℕ)} {had has : List ℕ}
       → GatheredSome means cap m c ls d (record { held = held; had = had; holds = between; has = has }) → had ≡ []
