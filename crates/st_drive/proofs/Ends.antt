@@ -1,9 +1,9 @@
 -- The ends of a run.
-use Rattle.std.proofs.Common.{◌<◌, ◌≤◌, ◌^◌, ◌≡◌, ◌∙◌, ◌++◌, ◌+◌, length, take, ℕ, true, List, [], Some, None, Ok, Err, Result, refl, inl, ap, sym, subst, arith, append_assoc, append-nil, length-append}
+use Rattle.std.proofs.Common.{◌<◌, ◌≤◌, ◌^◌, ◌≡◌, ◌∙◌, ◌++◌, ◌+◌, length, take, ℕ, List, [], Some, None, Ok, Err, Result, refl, inl, ap, sym, subst, arith, append_assoc, append-nil, length-append}
 use Rattle.std.proofs.lemmas.List.{take_at}
 use Rattle.std.specs.Prelude.{IfSome, OnOk, OnErr, IfErr}
 use Rattle.std.specs.declared.option.Option.{Option}
-use Rattle.std.specs.Io.KnownBytes.{Appends, Consumes, Keeps, IsAtEnd}
+use Rattle.std.specs.Io.KnownBytes.{Consumes, Keeps, IsAtEnd}
 use Rattle.std.proofs.KnownBytes.{Appends-nil, Appends-trans, Consumes-nil, Consumes-trans, Consumes-kept}
 use Rattle.st_drive.specs.declared.stop.Stop.{Stop}
 use Rattle.st_drive.specs.declared.stop.Stop.TheVariants.{ReadFault, WriteFault, DeviceFault, OverLimit, WantOfMemory}
@@ -11,7 +11,7 @@ use Rattle.st_base.specs.Words.{HasNo}
 use Rattle.st_drive.specs.Lines.{split, capped, whole_lines, last_line, all_lines, CutTo}
 use Rattle.st_drive.specs.Meaning.{Meaning, Laws}
 use Rattle.st_drive.specs.Runs.{Begins, RanOver, GaveUpOver}
-use Rattle.st_drive.specs.Parts.{Goes, Stops, GoesOverCut, StopsOverCut, Wrote, WroteSome}
+use Rattle.st_drive.specs.Parts.{Goes, Stops, GoesOverCut, Wrote, WroteSome}
 use Rattle.st_drive.specs.Stops.{IsAnswerStop}
 use Rattle.st_drive.specs.Tables.{Answered, EndsEarly, Row, Table}
 use Rattle.st_drive.proofs.LineLemmas.{split_append, capped_append, capped_rest, capped_nil}

@@ -1,5 +1,5 @@
 -- What a machine has answered of a piece that it was fed, and what of that is written or gathered.
-use Rattle.std.proofs.Common.{◌≡◌, ◌∙◌, ◌++◌, ℕ, true, List, [], ◌∷◌, refl, take, ap, sym, subst, append_assoc, append-nil}
+use Rattle.std.proofs.Common.{◌≡◌, ◌∙◌, ◌++◌, ℕ, List, [], ◌∷◌, refl, take, ap, sym, subst, append_assoc, append-nil}
 use Rattle.std.specs.Prelude.{Result, Ok, Err, IfOk, OnErr}
 use Rattle.std.specs.declared.option.Option.{Option}
 use Rattle.std.specs.Io.KnownBytes.{Appends}
@@ -8,7 +8,7 @@ use Rattle.st_base.specs.Words.{HasNo}
 use Rattle.st_drive.specs.Lines.{capped}
 use Rattle.st_drive.specs.Meaning.{Meaning, Laws}
 use Rattle.st_drive.specs.Runs.{Begins}
-use Rattle.st_drive.specs.Parts.{GoesOverCut, StopsOverCut, Wrote, WroteSome, Outlet, Passes, PassesSome, Gathered, GatheredSome}
+use Rattle.st_drive.specs.Parts.{StopsOverCut, WroteSome, Outlet, Gathered, GatheredSome}
 use Rattle.st_drive.proofs.LineLemmas.{capped_line, capped_open, open_append}
 use Rattle.st_drive.proofs.ReplyLemmas.{passes_more, passes_less}
 use Rattle.st_drive.proofs.RunLemmas.{begins_trans, begins_behind, went_none, went_more, stopped_more, went_stopped, stopped_longer, stopped_shorter}

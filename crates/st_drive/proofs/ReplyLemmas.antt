@@ -4,7 +4,7 @@ use Rattle.std.specs.declared.option.Option.{Option}
 use Rattle.std.specs.Io.KnownBytes.{Appends}
 use Rattle.std.proofs.KnownBytes.{Appends-nil, Appends-trans}
 use Rattle.st_drive.specs.Runs.{Begins}
-use Rattle.st_drive.specs.Parts.{Outlet, Passes, PassesSome}
+use Rattle.st_drive.specs.Parts.{Passes, PassesSome}
 
 -- nothing was written and nothing is lost
 pub none_lost : (held : Option (List ℕ)) (had : List ℕ) → PassesSome (record { held = held; had = had; holds = held; has = had }) []
@@ -50,7 +50,7 @@ passes_less {held} {between} {holds} {had} {kept} {has} {first} {second} p q = r
   front = (
     q.front.0,
     ap (λ xs. xs ++ q.front.0) (append_assoc p.part q.part has) ∙ append_assoc p.part (q.part ++ has) q.front.0
-    ∙ ap (λ xs. p.part ++ xs) q.front.1 ∙ sym (append_assoc p.part kept second) ∙ ap (λ xs. xs ++ second) p.all ∙ append_assoc had first second,
+        ∙ ap (λ xs. p.part ++ xs) q.front.1 ∙ sym (append_assoc p.part kept second) ∙ ap (λ xs. xs ++ second) p.all ∙ append_assoc had first second,
   );
   writes = Appends-trans held between holds p.part q.part p.writes q.writes;
 }

@@ -1,6 +1,6 @@
 -- The machines of the tests. One numbers the lines by one digit and shows the first four bytes of
 -- each; its context has an allowance of lines. The other says each line again.
-use Rattle.std.specs.Prelude.{◌≡◌, ◌<◌, refl, ⊤, ◌^◌, ◌%◌, ◌+◌, ℕ, List, [], ◌∷◌, ◌++◌, length, take}
+use Rattle.std.specs.Prelude.{◌≡◌, refl, ⊤, ◌%◌, ◌+◌, ℕ, List, [], ◌∷◌, ◌++◌, length, take}
 use Rattle.std.proofs.Common.{ap, arith, length-append}
 use Rattle.std.proofs.lemmas.List.{take-take}
 use Rattle.st_drive.specs.Meaning.{Meaning, Laws}

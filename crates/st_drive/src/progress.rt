@@ -25,12 +25,20 @@ fn answer_line<M: Machine, K: Sink>(
     ensures fits { IfOk result (λ next. M.fits next context.new) }
     ensures ok { IfOk result (λ next. Gathered M.meaning M.CAP
         machine context.old (line.now ∷ []) next context.new
-        (record { held = K.written sink.old; had = gathered.old.items;
-        holds = K.written sink.new; has = gathered.new.items })) }
+        (record {
+          held = K.written sink.old;
+          had = gathered.old.items;
+          holds = K.written sink.new;
+          has = gathered.new.items;
+        })) }
     ensures err { OnErr result (GatheredSome M.meaning M.CAP
         machine context.old (line.now ∷ []) context.new
-        (record { held = K.written sink.old; had = gathered.old.items;
-        holds = K.written sink.new; has = gathered.new.items })) }
+        (record {
+          held = K.written sink.old;
+          had = gathered.old.items;
+          holds = K.written sink.new;
+          has = gathered.new.items;
+        })) }
     ensures unfinished { FinishesNothing (K.is_finished sink.old) (K.is_finished sink.new) }
     ensures faults { Orderly (K.faults sink.old) (K.faults sink.new)
         (M.faults context.old) (M.faults context.new) result }
@@ -60,13 +68,21 @@ fn end_line<M: Machine, K: Sink>(
     ensures fits { IfOk result (λ next. M.fits next context.new) }
     ensures ok { IfOk result (λ next. Gathered M.meaning M.CAP
         machine context.old (take M.CAP (line.old.items ++ front.now) ∷ []) next context.new
-        (record { held = K.written sink.old; had = gathered.old.items;
-        holds = K.written sink.new; has = gathered.new.items })) }
+        (record {
+          held = K.written sink.old;
+          had = gathered.old.items;
+          holds = K.written sink.new;
+          has = gathered.new.items;
+        })) }
     ensures emptied { OnOk result (line.new.items ≡ []) }
     ensures err { OnErr result (GatheredSome M.meaning M.CAP
         machine context.old (take M.CAP (line.old.items ++ front.now) ∷ []) context.new
-        (record { held = K.written sink.old; had = gathered.old.items;
-        holds = K.written sink.new; has = gathered.new.items })) }
+        (record {
+          held = K.written sink.old;
+          had = gathered.old.items;
+          holds = K.written sink.new;
+          has = gathered.new.items;
+        })) }
     ensures unfinished { FinishesNothing (K.is_finished sink.old) (K.is_finished sink.new) }
     ensures faults { Orderly (K.faults sink.old) (K.faults sink.new)
         (M.faults context.old) (M.faults context.new) result }
@@ -108,15 +124,23 @@ impl<M: Machine> Progress<M> {
         ensures ok { IfOk result (λ next. Gathered M.meaning M.CAP
             self.machine context.old (capped M.CAP (self.line.items ++ piece.now)).0
             next.machine context.new
-            (record { held = K.written sink.old; had = gathered.old.items;
-            holds = K.written sink.new; has = gathered.new.items })) }
+            (record {
+              held = K.written sink.old;
+              had = gathered.old.items;
+              holds = K.written sink.new;
+              has = gathered.new.items;
+            })) }
         ensures cap { IfOk result (λ next. vec_len next.line ≤ M.CAP) }
         ensures line { IfOk result (λ next. next.line.items
             ≡ (capped M.CAP (self.line.items ++ piece.now)).1) }
         ensures err { OnErr result (GatheredSome M.meaning M.CAP
             self.machine context.old (capped M.CAP (self.line.items ++ piece.now)).0 context.new
-            (record { held = K.written sink.old; had = gathered.old.items;
-            holds = K.written sink.new; has = gathered.new.items })) }
+            (record {
+              held = K.written sink.old;
+              had = gathered.old.items;
+              holds = K.written sink.new;
+              has = gathered.new.items;
+            })) }
         ensures unfinished { FinishesNothing (K.is_finished sink.old) (K.is_finished sink.new) }
         ensures faults { Orderly (K.faults sink.old) (K.faults sink.new)
             (M.faults context.old) (M.faults context.new) result }

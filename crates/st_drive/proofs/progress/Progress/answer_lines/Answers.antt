@@ -1,8 +1,8 @@
-use Rattle.std.proofs.Common.{◌≡◌, ◌∙◌, ◌++◌, List, ℕ, [], length, take, rules, ap, sym, subst, arith}
+use Rattle.std.proofs.Common.{◌≡◌, ◌∙◌, ◌++◌, [], length, take, rules, ap, sym, subst, arith}
 use Rattle.st_base.specs.Words.{HasNo}
 use Rattle.st_drive.specs.Parts.{Gathered}
 use Rattle.st_drive.proofs.LineLemmas.{open_append}
-use Rattle.st_drive.proofs.Fed.{Pieces, no_pieces, one_more, all_pieces, gathered_none, gathered_more, gathered_less, gathered_some, some_of_all}
+use Rattle.st_drive.proofs.Fed.{no_pieces, one_more, all_pieces, gathered_none, gathered_more, gathered_less, gathered_some, some_of_all}
 use Rattle.st_drive.proofs.RunLemmas.{on_err}
 use Rattle.st_drive.proofs.progress.Progress.answer_lines.Goals as goal
 

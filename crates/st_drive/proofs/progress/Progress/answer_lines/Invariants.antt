@@ -1,4 +1,4 @@
-use Rattle.std.proofs.Common.{◌≡◌, ◌≤◌, ◌++◌, List, ℕ, true, length, vec_len}
+use Rattle.std.proofs.Common.{◌≤◌, ◌++◌, List, ℕ, length, vec_len}
 use Rattle.st_io.specs.Sinks.{FinishesNothing}
 use Rattle.st_base.specs.Words.{HasNo}
 use Rattle.st_drive.specs.Parts.{Gathered}
