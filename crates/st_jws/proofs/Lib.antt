@@ -2,3 +2,6 @@ pub mod Cutting
 pub mod Joining
 pub mod JwkJson
 pub mod Opens
+pub mod SameMembers
+pub mod Spelled
+pub mod WrittenKeys

@@ -1,4 +1,5 @@
 pub mod Commitment
+pub mod HasKey
 pub mod Jwk
 pub mod OpenedViews
 pub mod Opening

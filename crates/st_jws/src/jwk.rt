@@ -1,11 +1,14 @@
-ghost use Rattle.std.specs.Prelude.{◌≡◌, codes, length, option_and_then, option_map, IfOk, OnOk, Some};
+ghost use Rattle.std.specs.Prelude.{◌≡◌, codes, length, option_and_then, option_map, IfOk, IfSome, OnOk, Some};
 ghost use Rattle.std.specs.Result.{result_ok};
 ghost use Rattle.base64.specs.GeneralPurpose.{IsBytes};
+ghost use Rattle.st_canon.specs.Find.{member_at};
 ghost use Rattle.st_canon.specs.Objects.{some_listed};
 ghost use Rattle.st_canon.specs.Plain.{object, text};
-ghost use Rattle.st_canon.specs.Proper.{IsProper};
-ghost use Rattle.st_canon.specs.Shapes.{member_in, text_at};
+ghost use Rattle.st_canon.specs.Proper.{IsProper, MembersAreProper};
+ghost use Rattle.st_canon.specs.Shapes.{text_at};
 ghost use Rattle.st_canon.specs.View.{plain, plain_members};
+ghost use Rattle.st_hash.specs.Base64url.{base64url, fixed_of_text};
+ghost use Rattle.st_jws.specs.HasKey.{HasKey};
 ghost use Rattle.st_jws.specs.Jwk.{bytes_json, is_lms, is_lms_key, jwk_json, jwk_members, jwk_of, lms, nonce_at, public_of_text, IsNonce};
 ghost use Rattle.st_lms.specs.Keys.{IsPublicKey, public_text};
 
@@ -40,7 +43,9 @@ impl Jwk {
     /// `pub`, the base64url of the 56 bytes of a public key, and optionally `nonce`, the base64url of
     /// 16 bytes.
     pub fn read(value: &Json) -> Result<Jwk, BadJwk>
-        ensures { result_ok result ≡ jwk_of (plain value.now) }
+        ensures value { result_ok result ≡ jwk_of (plain value.now) }
+        // A proper value that is a key is the one that `json` writes of it.
+        ensures written { IfOk result (λ key. IsProper (plain value.now) → plain value.now ≡ jwk_json key) }
     {
         match value {
             Json::Object(members) => match read_members(members) {
@@ -118,7 +123,17 @@ fn lms_json(alloc: Global) -> Result<Json, WantOfMemory>
 }
 
 fn read_members(members: &Object) -> Option<Jwk>
-    ensures { result ≡ jwk_of (object (plain_members members.now)) }
+    ensures value { result ≡ jwk_of (object (plain_members members.now)) }
+    ensures written { IfSome result (λ key. MembersAreProper (plain_members members.now)
+        → plain_members members.now ≡ some_listed (jwk_members key)) }
+{
+    let key = find_key(members)?;
+    Some(key)
+}
+
+fn find_key(members: &Object) -> Option<Jwk>
+    ensures value { result ≡ jwk_of (object (plain_members members.now)) }
+    ensures has { IfSome result (HasKey (plain_members members.now)) }
 {
     if !is_lms_key(members) {
         return None;
@@ -147,16 +162,19 @@ pub(crate) fn is_lms(text: Option<&str>) -> bool
 }
 
 fn read_public(members: &Object) -> Option<Public>
-    ensures { result ≡ option_and_then public_of_text (text_at (codes "pub") (Some (object (plain_members members.now)))) }
+    ensures value { result ≡ option_and_then public_of_text (text_at (codes "pub") (Some (object (plain_members members.now)))) }
+    ensures spelled { IfSome result (λ public. text_at (codes "pub") (Some (object (plain_members members.now)))
+        ≡ Some (base64url (public_text public))) }
 {
     let text = members.text("pub")?;
     public_of_text(text.as_bytes())
 }
 
 fn public_of_text(text: &[u8]) -> Option<Public>
-    ensures { result ≡ public_of_text text.now }
+    ensures value { result ≡ public_of_text text.now }
+    ensures spelled { IfSome result (λ public. text.now ≡ base64url (public_text public)) }
 {
-    let bytes: [u8; 56] = read_fixed(text)?;
+    let bytes = fixed_bytes::<56>(text)?;
     match Public::read(&bytes) {
         Ok(public) => Some(public),
         Err(_) => None,
@@ -164,14 +182,27 @@ fn public_of_text(text: &[u8]) -> Option<Public>
 }
 
 fn read_nonce(members: &Object) -> Option<Option<[u8; 16]>>
-    ensures { result ≡ nonce_at (member_in (codes "nonce") (Some (object (plain_members members.now)))) }
+    ensures value { result ≡ nonce_at (member_at (codes "nonce") (plain_members members.now)) }
+    ensures spelled { IfSome result (λ nonce. member_at (codes "nonce") (plain_members members.now)
+        ≡ option_map bytes_json nonce) }
 {
     match members.get("nonce") {
         None => Some(None),
-        Some(Json::Text(text)) => match read_fixed(text.as_str().as_bytes()) {
+        Some(Json::Text(text)) => match fixed_bytes::<16>(text.as_str().as_bytes()) {
             Some(nonce) => Some(Some(nonce)),
             None => None,
         },
         Some(_) => None,
+    }
+}
+
+// The bytes whose base64url this is, which has no other spelling.
+fn fixed_bytes<const N: usize>(text: &[u8]) -> Option<[u8; N]>
+    ensures value { result ≡ fixed_of_text N text.now }
+    ensures spelled { IfSome result (λ bytes. text.now ≡ base64url bytes) }
+{
+    match read_fixed(text) {
+        Some(bytes) => Some(bytes),
+        None => None,
     }
 }
