@@ -1,5 +1,4 @@
 pub mod Commitment
-pub mod Fixed
 pub mod Jwk
 pub mod OpenedViews
 pub mod Opening
