@@ -2,6 +2,8 @@ ghost use Rattle.std.specs.Option.{ok_or};
 ghost use Rattle.std.specs.Prelude.{◌≡◌, IfOk};
 ghost use Rattle.st_base.specs.Answers.{Gives, GivesAs};
 ghost use Rattle.st_base.specs.Work.{one_proof};
+ghost use Rattle.st_canon.specs.Proper.{IsProper};
+ghost use Rattle.st_canon.specs.View.{plain};
 ghost use Rattle.st_hash.specs.Base64url.{bytes_of_text};
 ghost use Rattle.st_jws.specs.Opening.{opened, refusal_of};
 ghost use Rattle.st_jws.specs.OpenedViews.{found_view, opened_view};
@@ -50,6 +52,7 @@ pub fn open_signed(
 ) -> Result<Signed, SignedRefused>
     ensures opened { GivesAs opened_view refusal_of (opened text.now limit) result }
     ensures text { IfOk result (λ signed. signed.text ≡ text.now) }
+    ensures proper { IfOk result (λ signed. IsProper (plain signed.payload)) }
     ensures counted { work.new ≡ one_proof work.old }
 {
     work.tick_proofs();
@@ -59,7 +62,8 @@ pub fn open_signed(
 }
 
 fn open_text(alloc: Global, text: &[u8], limit: usize) -> Result<(Json, Jwk), SignedRefused>
-    ensures { GivesAs found_view refusal_of (opened text.now limit) result }
+    ensures opened { GivesAs found_view refusal_of (opened text.now limit) result }
+    ensures proper { IfOk result (λ found. IsProper (plain found.0)) }
 {
     if text.len() > limit {
         return Err(SignedRefused::BadForm);
