@@ -1,8 +1,8 @@
 -- What was written is read again: hashes, lists of entries, URIs.
 use Rattle.std.specs.Prelude.{is_some}
 use Rattle.std.specs.List.{cons_option, filter_map}
-use Rattle.std.specs.Option.{option_or, option_zip}
-use Rattle.std.proofs.Common.{◌≡◌, ◌∙◌, ℕ, ◌==◌, Bool, true, false, cond, List, [], ◌∷◌, Option, Some, None, option_map, map, refl, sym, ap}
+use Rattle.std.specs.Option.{option_or}
+use Rattle.std.proofs.Common.{◌≡◌, ◌∙◌, ℕ, ◌==◌, Bool, true, false, cond, List, [], ◌∷◌, Option, Some, None, option_and_then, option_map, map, refl, sym, ap}
 use Rattle.std.proofs.lemmas.Bool.{and_parts}
 use Rattle.st_base.specs.Each.{each_is}
 use Rattle.st_canon.specs.Objects.{some_list}
@@ -31,11 +31,12 @@ hash_again hash e = λ version.
     in_version (version == 1) (hash_of_text (hash_text hash)) (hash_of_text_with 0x13 (hash_text hash)) hash e
 
 -- what is made of two hashes is read again where they are
-pub pair_again : {Said : Type 0} (make : HashValue × HashValue → Said) (first second : Option HashValue) (x y : HashValue)
-    → ReadsAs first x → ReadsAs second y → ReadsAs (option_map make (option_zip first second)) (make (x, y))
-pair_again make None second x y p q = tt
-pair_again make (Some a) None x y p q = tt
-pair_again make (Some a) (Some b) x y p q = λ i. make (p i, q i)
+pub both_again : {Said : Type 0} (make : HashValue → HashValue → Said) (first second : Option HashValue) (x y : HashValue)
+    → ReadsAs first x → ReadsAs second y
+    → ReadsAs (option_and_then (λ a. option_and_then (λ b. Some (make a b)) second) first) (make x y)
+both_again make None second x y p q = tt
+both_again make (Some a) None x y p q = tt
+both_again make (Some a) (Some b) x y p q = λ i. make (p i) (q i)
 
 -- where it is read, it is read as this
 pub read_as : {Said : Type 0} (read : Option Said) (said : Said) → is_some read ≡ true → ReadsAs read said → read ≡ Some said

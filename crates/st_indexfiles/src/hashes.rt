@@ -1,7 +1,7 @@
-ghost use Rattle.std.specs.Prelude.{◌≡◌, ◌≤◌, IfOk, OnOk, Some, option_map};
+ghost use Rattle.std.specs.Prelude.{◌≡◌, ◌≤◌, IfOk, OnOk, option_map};
 ghost use Rattle.std.specs.Option.{option_copied};
 ghost use Rattle.st_canon.specs.View.{plain};
-ghost use Rattle.st_indexfiles.specs.Hashes.{hash_in, hash_json, is_uri_if_there, two_hashes, uri_in};
+ghost use Rattle.st_indexfiles.specs.Hashes.{hash_in, hash_json, is_uri_if_there, uri_in};
 ghost use Rattle.st_indexfiles.specs.Written.{IsHashReadAgain, IsUriReadAgain};
 
 use st_base::WantOfMemory;
@@ -42,25 +42,6 @@ pub(crate) fn is_uri_if_there(there: Option<&Json>) -> bool
     ensures { result ≡ is_uri_if_there (option_map plain (option_copied there.entry)) }
 {
     there.is_none() || uri_in(there).is_some()
-}
-
-/// The two hashes of an object with exactly these two members, hash texts of the version.
-pub(crate) fn two_hashes(
-    value: &Json,
-    first: &str,
-    second: &str,
-    version: u8,
-) -> Option<(Hash, Hash)>
-    requires first_version { 1 ≤ version }
-    requires last_version { version ≤ 2 }
-    ensures { result ≡ two_hashes version first.now second.now (Some (plain value.now)) }
-{
-    if !value.is_object_of(&[first, second]) {
-        return None;
-    }
-    let first = hash_in(value.member(first), version)?;
-    let second = hash_in(value.member(second), version)?;
-    Some((first, second))
 }
 
 /// The hash text of a hash as JSON. In whatever version it is read, it is read as this hash.

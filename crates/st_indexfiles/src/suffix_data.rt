@@ -4,7 +4,7 @@ ghost use Rattle.st_indexfiles.specs.SuffixData.{suffix_data_json, suffix_data_o
 ghost use Rattle.st_indexfiles.specs.Written.{IsHashReadAgain};
 
 use crate::entries::Entry;
-use crate::hashes::{hash_json, two_hashes};
+use crate::hashes::{hash_in, hash_json};
 use st_base::{Copied, WantOfMemory};
 use st_canon::{Json, Object, write};
 use st_hash::{Hash, hash_with};
@@ -27,12 +27,11 @@ impl SuffixData {
         requires last { version ≤ 2 }
         ensures { result ≡ suffix_data_of version (Some (plain value.now)) }
     {
-        let (delta_hash, recovery_commitment) = two_hashes(
-            value,
-            "deltaHash",
-            "recoveryCommitment",
-            version,
-        )?;
+        if !value.is_object_of(&["deltaHash", "recoveryCommitment"]) {
+            return None;
+        }
+        let delta_hash = hash_in(value.member("deltaHash"), version)?;
+        let recovery_commitment = hash_in(value.member("recoveryCommitment"), version)?;
         Some(SuffixData {
             delta_hash,
             recovery_commitment,

@@ -1,5 +1,5 @@
 use crate::entries::Entry;
-use crate::hashes::{hash_json, two_hashes};
+use crate::hashes::{hash_in, hash_json};
 use st_base::{Copied, WantOfMemory};
 use st_canon::{Json, Object};
 use st_hash::Hash;
@@ -27,7 +27,11 @@ impl Entry for Target {
     ghost json = { target_json };
 
     fn read(entry: &Json, version: u8) -> Option<Target> {
-        let (suffix, reveal) = two_hashes(entry, "didSuffix", "revealValue", version)?;
+        if !entry.is_object_of(&["didSuffix", "revealValue"]) {
+            return None;
+        }
+        let suffix = hash_in(entry.member("didSuffix"), version)?;
+        let reveal = hash_in(entry.member("revealValue"), version)?;
         Some(Target { suffix, reveal })
     }
 
