@@ -16,8 +16,8 @@ pub record AreRows {K State Item : Type 0} (cmp : K → K → Ordering) (next : 
 abbrev pub seen_items : {K State Item : Type 0} → List (K × Row Item State) → ByKey K Item
 seen_items entries = map (λ entry. (entry.0, entry.1.items.items)) entries
 
--- the state of a key without items, the rows, and the place of each item
-pub record IsKept {K State Item : Type 0} (cmp : K → K → Ordering) (next : State → Item → State) (first start : State)
+-- what an index keeps is the state of a key without items, right rows, and the place of each item
+pub record IsIndex {K State Item : Type 0} (cmp : K → K → Ordering) (next : State → Item → State) (first start : State)
     (entries : List (K × Row Item State)) (places : List (ℕ × K)) : Type 0 where
   pub none : start ≡ first
   pub rows : AreRows cmp next first entries

@@ -29,13 +29,13 @@ pub struct Index<K: Copy + Ord, F: Folder> {
 
 impl<K: Copy + Ord, F: Folder> Model for Index<K, F> {
     ghost use Rattle.st_opindex.specs.ByKey.{Indexed};
-    ghost use Rattle.st_opindex.specs.Seen.{IsKept, seen_items};
+    ghost use Rattle.st_opindex.specs.Seen.{IsIndex, seen_items};
 
     ghost Value = { Indexed K F F.Item };
 
     ghost view = { λ a. record { folder = a.folder; items = seen_items a.rows.entries } };
 
-    ghost invariant = { λ a. IsKept K.cmp (F.next a.folder) (F.first a.folder) a.start a.rows.entries a.placed.keys };
+    ghost invariant = { λ a. IsIndex K.cmp (F.next a.folder) (F.first a.folder) a.start a.rows.entries a.placed.keys };
 }
 
 impl<K: Copy + Ord, F: Folder> Index<K, F> {
