@@ -1,20 +1,29 @@
+-- Private: what the answers of this crate cite.
+mod Compact
+mod Compared
+mod Converting
+mod Data
+mod Depths
+mod Kept
+mod Outcomes
+mod Puts
+mod Searching
+mod Sorting
+mod Units
+-- For the crates above.
+-- a canonical text is read again, and no two values have one text
 pub mod Back
-pub mod Compact
-pub mod Compared
-pub mod Converting
-pub mod Counts
-pub mod Data
-pub mod Depths
+-- a list of values that is edited, over its plain items
 pub mod ItemLists
-pub mod Kept
+-- what is found by name after a put or a removal
 pub mod Named
+-- what is read back of an object whose members were listed, of a list and of a text
 pub mod ObjectLemmas
+-- names that are literals
 pub mod OnLiterals
+-- the order of names, and the test of a name
 pub mod Order
-pub mod Outcomes
+-- the plain members, where a pair was put among the pairs or is looked up
 pub mod Places
-pub mod Puts
-pub mod Searching
-pub mod Sorting
+-- a canonical text is UTF-8
 pub mod Texts
-pub mod Units

@@ -1,8 +1,11 @@
+-- Names that are literals, as `codes "type"`.
 use Rattle.std.specs.Prelude.{⊤}
 use Rattle.std.specs.Str.{chars}
 
--- What a proof unfolds to compute the order of names on literals, as that of `codes "a"` and
--- `codes "b"`.
+-- The order of names goes by code units, for which a text is decoded by `chars` of std, and a proof
+-- does not look into that. Where `names_on_literals` is named in `unfolding(..)` on a function, or in
+-- an `unfolding` line of a lemma, it does: `put`, `object_of` and `member_at` then compute at
+-- literals, so that members may be put in any order.
 unfoldable pub names_on_literals : ⊤
 unfolding chars
 names_on_literals = tt

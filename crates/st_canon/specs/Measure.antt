@@ -1,5 +1,5 @@
 -- How large a plain value is: the length of its canonical text, and how deep it nests.
-use Rattle.std.specs.Prelude.{ℕ, ◌+◌, ◌-◌, ◌^◌, Bool, ◌&&◌, nat_lt, nat_le, length, bytes_eq, if◌then◌else◌, Option, Some, None}
+use Rattle.std.specs.Prelude.{ℕ, ◌-◌, ◌^◌, min, Bool, ◌&&◌, nat_le, length, bytes_eq, if◌then◌else◌, Option, Some, None}
 use Rattle.st_canon.specs.Canonical.{canonical}
 use Rattle.st_canon.specs.Depth.{depth_of}
 use Rattle.st_canon.specs.Plain.{Plain}
@@ -17,14 +17,9 @@ is_equal p q = bytes_eq (canonical p) (canonical q)
 
 -- ---- counting
 
--- the number, where 64 bits hold it
-abbrev pub in_64_bits : ℕ → Option ℕ
-in_64_bits n = if nat_lt n (2 ^ 64) then Some n else None
-
--- a count with more
-abbrev pub plus : Option ℕ → ℕ → Option ℕ
-plus None more = None
-plus (Some n) more = in_64_bits (n + more)
+-- the number, or the greatest that 64 bits hold
+abbrev pub saturated : ℕ → ℕ
+saturated n = min n (2 ^ 64 - 1)
 
 -- what is left of the room for a text, where so many bytes go into it
 abbrev pub less : ℕ → ℕ → Option ℕ

@@ -1,10 +1,11 @@
 ghost use Rattle.std.specs.Prelude.{◌≡◌, false, length};
-ghost use Rattle.st_canon.specs.Canonical.{canonical_items, canonical_members, comma as comma_text, quoted};
+ghost use Rattle.std.specs.List.{flat_map};
+ghost use Rattle.st_canon.specs.Canonical.{canonical_items, canonical_members, comma as comma_text, escape, quoted};
 ghost use Rattle.st_canon.specs.Depth.{depth_of, items_depth, members_depth};
 ghost use Rattle.st_canon.specs.Measure.{fits, less, room_after, size_of};
 ghost use Rattle.st_canon.specs.View.{plain, plain_items, plain_members};
 
-use crate::counting::{digits, text_size};
+use crate::counting::{digits, escape_size};
 use crate::value::{Json, Object};
 use st_base::List;
 
@@ -73,5 +74,15 @@ fn less_comma(room: u64, comma: bool) -> Option<u64>
 fn less_text(room: u64, text: &str) -> Option<u64>
     ensures { result ≡ less room (length (quoted text.now)) }
 {
-    room.checked_sub(text_size(text)?)
+    less_bytes(room.checked_sub(2)?, text.as_bytes())
+}
+
+fn less_bytes(room: u64, bytes: &[u8]) -> Option<u64>
+    ensures { result ≡ less room (length (flat_map escape bytes.now)) }
+{
+    let mut left = room;
+    for byte in bytes {
+        left = left.checked_sub(escape_size(*byte))?;
+    }
+    Some(left)
 }

@@ -1,6 +1,6 @@
 ghost use Rattle.std.specs.Prelude.{◌≡◌, ◌-◌, ◌^◌, min};
 ghost use Rattle.st_canon.specs.Depth.{depth_of, items_depth, members_depth};
-ghost use Rattle.st_canon.specs.Measure.{in_64_bits};
+ghost use Rattle.st_canon.specs.Measure.{saturated};
 ghost use Rattle.st_canon.specs.View.{plain, plain_items, plain_members};
 
 use crate::value::{Json, Object};
@@ -8,46 +8,36 @@ use st_base::List;
 
 /// How deep a value nests, or `u64::MAX` where that is more: a scalar and what is empty have depth
 /// 1, and all else has 1 more than the deepest inside.
+#[cycle(depth)]
 pub fn depth(value: &Json) -> u64
     ensures { result ≡ min (depth_of (plain value.now)) (2 ^ 64 - 1) }
 {
-    match levels(value) {
-        Some(depth) => depth,
-        None => u64::MAX,
-    }
-}
-
-// How deep the value nests, where 64 bits hold it.
-#[cycle(levels)]
-fn levels(value: &Json) -> Option<u64>
-    ensures { result ≡ in_64_bits (depth_of (plain value.now)) }
-{
     match value {
-        Json::List(items) => deepest_item(items)?.checked_add(1),
-        Json::Object(members) => deepest_member(members)?.checked_add(1),
-        _ => Some(1),
+        Json::List(items) => deepest_item(items).saturating_add(1),
+        Json::Object(members) => deepest_member(members).saturating_add(1),
+        _ => 1,
     }
 }
 
-#[cycle(levels)]
-fn deepest_item(items: &List<Json>) -> Option<u64>
-    ensures { result ≡ in_64_bits (items_depth (plain_items items.now)) }
+#[cycle(depth)]
+fn deepest_item(items: &List<Json>) -> u64
+    ensures { result ≡ saturated (items_depth (plain_items items.now)) }
 {
     let mut deepest = 0u64;
     for item in items.as_slice() {
-        deepest = deepest.max(levels(item)?);
+        deepest = deepest.max(depth(item));
     }
-    Some(deepest)
+    deepest
 }
 
-#[cycle(levels)]
+#[cycle(depth)]
 #[tactic(auto, using(crate::proofs::Depths::value_below))]
-fn deepest_member(members: &Object) -> Option<u64>
-    ensures { result ≡ in_64_bits (members_depth (plain_members members.now)) }
+fn deepest_member(members: &Object) -> u64
+    ensures { result ≡ saturated (members_depth (plain_members members.now)) }
 {
     let mut deepest = 0u64;
     for (_, member) in members.pairs() {
-        deepest = deepest.max(levels(member)?);
+        deepest = deepest.max(depth(member));
     }
-    Some(deepest)
+    deepest
 }

@@ -1,14 +1,19 @@
-use Rattle.std.proofs.Common.{◌≡◌, ◌+◌, drop, length, ap, sym, subst, ◌∙◌}
+use Rattle.std.proofs.Common.{◌≡◌, ◌+◌, ℕ, Bool, true, List, ◌∷◌, ◌++◌, drop, length, length-append, ap, sym, subst, arith}
 use Rattle.std.specs.Str.{IsUtf8}
 use Rattle.st_base.proofs.Lists.{next_item}
-use Rattle.st_canon.specs.Canonical.{canonical_members, comma, quoted}
-use Rattle.st_canon.specs.Measure.{plus}
+use Rattle.st_canon.specs.Canonical.{canonical, canonical_members, comma, quoted}
 use Rattle.st_canon.specs.Names.{NamesAscend}
+use Rattle.st_canon.specs.Plain.{Plain, Members, member}
 use Rattle.st_canon.specs.View.{plain, plain_members}
-use Rattle.st_canon.proofs.Counts.{counted_member, held}
 use Rattle.st_canon.proofs.Kept.{one_more_member}
 use Rattle.st_canon.proofs.counting.+add.Goals as goal
-use Rattle.st_canon.proofs.counting.+add.Goals.{add_members-then-comma, add_members-else-comma}
+
+-- the parts of a member's text
+member_long : (b : Bool) (n : List ℕ) (p : Plain) (ms : Members)
+    → length (canonical_members b (member n p ms)) ≡ length (comma b) + (length (quoted n) + (1 + (length (canonical p) + length (canonical_members true ms))))
+member_long b n p ms =
+    let rest = canonical_members true ms in
+    omega (arith, length-append (comma b) (quoted n ++ (58 ∷ (canonical p ++ rest))), length-append (quoted n) (58 ∷ (canonical p ++ rest)), length-append (canonical p) rest)
 
 pub add_members-loop-name-preserved : goal.add_members-loop-name-preserved
 add_members-loop-name-preserved t c =
@@ -18,14 +23,11 @@ add_members-loop-name-preserved t c =
     let next = next_item pairs c.loop-name.name-index pair lt c.loop-name-item.is in
     let rest = plain_members (drop (c.loop-name.name-index + 1) pairs) in
     let ascend : NamesAscend pairs = subst NamesAscend (sym c.pairs-name-items.ensures.all) c.pairs-name-items.ensures.ascend in
-    let begun : c.if-comma.size ≡ plus c.loop-name.size (length (comma c.loop-name.comma)) = elim c.if-comma.branch [
-      | add_members-then-comma w ↦ w.size-is ∙ w.more-size-then-comma.ensures ∙ ap (λ b. plus c.loop-name.size (length (comma b))) (sym w.if-comma.true)
-      | add_members-else-comma w ↦ w.size-is ∙ sym c.loop-name.invariant.held ∙ ap (λ b. plus c.loop-name.size (length (comma b))) (sym w.if-comma.false)
-    ] in
+    let here = ap (λ l. length (canonical_members c.loop-name.comma (plain_members l))) next in
+    let long = member_long c.loop-name.comma pair.0 (plain pair.1) rest in
+    let name = ap (λ n. length (quoted n)) c.as_str.ensures in
     record {
-      size = c.loop-name.invariant.size ∙ ap (λ l. plus c.loop-name.size (length (canonical_members c.loop-name.comma (plain_members l)))) next
-          ∙ counted_member c.loop-name.size c.if-comma.size c.add_text.result c.more-size-in-loop-name.result c.add-size.result c.loop-name.comma pair.0 (plain pair.1) rest
-          begun (c.add_text.ensures.size ∙ ap (λ n. plus c.if-comma.size (length (quoted n))) c.as_str.ensures) c.more-size-in-loop-name.ensures c.add-size.ensures.size;
-      held = held c.add-size.result c.more-size-in-loop-name.result _ c.add-size.ensures.size;
-      proper = λ h. c.loop-name.invariant.proper (one_more_member pairs c.loop-name.name-index pair ascend lt c.loop-name-item.is (subst IsUtf8 c.as_str.ensures c.add_text.ensures.utf8) c.add-size.ensures.proper h);
+      size = omega (arith, here, long, name);
+      fits = omega arith;
+      proper = λ h. c.loop-name.invariant.proper (one_more_member pairs c.loop-name.name-index pair ascend lt c.loop-name-item.is (subst IsUtf8 c.as_str.ensures c.add_text-named.ensures.utf8) c.add-size.ensures.proper h);
     }
