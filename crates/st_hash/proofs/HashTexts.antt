@@ -7,8 +7,8 @@ use Rattle.std.proofs.lemmas.Option.{cond_some}
 use Rattle.std.proofs.lemmas.Bool.{and_parts, eqb-true, eqb-false, eq-eqb, ne_eqb}
 use Rattle.base64.specs.GeneralPurpose.{IsBytes}
 use Rattle.st_hash.specs.Base64url.{base64url, bytes_of_text, fixed_of_text, so_many}
-use Rattle.st_hash.specs.Hash.{HashValue, IsCode, IsHash, IsOfVersion, digest_length, hash_text, hash_of_text, hash_of_text_at, hash_of_text_with, hash_of_multihash, multihash}
-use Rattle.st_hash.proofs.Spelling.{spelled, bytes_of_text-base64url}
+use Rattle.st_hash.specs.Hash.{HashValue, IsCode, IsHash, IsOfVersion, digest_length, hash_text, hash_of_text, hash_of_text_at, hash_of_text_with, hash_of_multihash, multihash, text_length}
+use Rattle.st_hash.proofs.Spelling.{spelled, bytes_of_text-base64url, length-base64url}
 
 -- a choice by three tests that don't all hold
 first_fails : (a b c : Bool) (hash : HashValue) → a ≡ false → cond (a && (b && c)) (Some hash) None ≡ None
@@ -101,6 +101,21 @@ pub hash_of_text_with-another : (code : ℕ) (hash : HashValue) → IsHash hash 
 hash_of_text_with-another code hash is other =
     ap (option_and_then (hash_of_multihash code)) (bytes_of_text-base64url (multihash hash) (multihash_bytes hash is))
     ∙ hash_of_multihash-code code (multihash hash) other
+
+-- how many characters it has
+pub length-hash_text : (hash : HashValue) → IsHash hash → length (hash_text hash) ≡ text_length hash.code
+length-hash_text hash is =
+    let whole = length-base64url (multihash hash) in
+    elim is.code as (λ _. length (hash_text hash) ≡ text_length hash.code) [
+      | inl code ↦
+          let long : length hash.digest ≡ 32 = is.long ∙ ap digest_length code in
+          let characters : length (hash_text hash) ≡ 46 = omega (arith, whole, long) in
+          characters ∙ sym (ap text_length code)
+      | inr code ↦
+          let long : length hash.digest ≡ 64 = is.long ∙ ap digest_length code in
+          let characters : length (hash_text hash) ≡ 88 = omega (arith, whole, long) in
+          characters ∙ sym (ap text_length code)
+    ]
 
 -- each version that has the hash reads it
 of_sha256 : (first : Bool) (found other : Option HashValue) (hash : HashValue) → found ≡ Some hash

@@ -1,10 +1,13 @@
 -- Base64url and hash texts have one spelling each.
-use Rattle.std.proofs.Common.{◌≡◌, ◌≢◌, ◌∙◌, ℕ, List, Some, None, refl, sym, ap}
+use Rattle.std.proofs.Common.{◌≡◌, ◌≢◌, ◌∙◌, ◌+◌, ◌*◌, ◌/◌, ℕ, [], length, arith, List, Some, None, refl, sym, ap}
 use Rattle.std.specs.declared.result.Result.{Result}
 use Rattle.std.specs.declared.result.Result.TheVariants.{Ok, Err}
 use Rattle.std.specs.Result.{result_ok}
 use Rattle.base64.specs.Engines.{url_safe_no_pad}
+use Rattle.std.proofs.lemmas.List.{length-append}
 use Rattle.base64.specs.GeneralPurpose.{IsBytes}
+use Rattle.base64.specs.Rfc4648.{encode_symbols}
+use Rattle.base64.proofs.RoundTrip.{length-encode_symbols}
 use Rattle.base64.proofs.EngineFacts.{decode_of-encode_of, decode_of_strict}
 use Rattle.st_hash.specs.Base64url.{base64url, bytes_of_text}
 
@@ -26,3 +29,9 @@ bytes_of_text-none text bytes none are_bytes same =
     let read = bytes_of_text-base64url bytes are_bytes in
     let refused : bytes_of_text (base64url bytes) ≡ None = ap bytes_of_text (sym same) ∙ none in
     cc
+
+-- how long a text is
+pub length-base64url : (bytes : List ℕ) → length (base64url bytes) ≡ (4 * length bytes + 2) / 3
+length-base64url bytes =
+    let symbols = url_safe_no_pad.encode_table in
+    omega (arith, length-append (encode_symbols symbols bytes) [], length-encode_symbols symbols bytes)

@@ -18,9 +18,12 @@ pub record HashValue : Type 0 where
 abbrev pub IsCode : ℕ → Type 0
 IsCode code = (code ≡ 0x12) ⊎ (code ≡ 0x13)
 
--- how many bytes a digest of this algorithm has
+-- how many bytes a digest of this algorithm has, and how many characters its hash texts
 abbrev pub digest_length : ℕ → ℕ
 digest_length code = if code == 0x13 then 64 else 32
+
+abbrev pub text_length : ℕ → ℕ
+text_length code = if code == 0x13 then 88 else 46
 
 -- the digest of bytes by this algorithm
 abbrev pub digest_with : ℕ → List ℕ → List ℕ

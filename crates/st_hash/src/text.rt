@@ -1,6 +1,6 @@
 ghost use Rattle.std.specs.Prelude.{◌≡◌, ◌≢◌, ℕ, ◌+◌, ◌≤◌, ◌<◌, ◌∷◌, length, IfOk, IfErr, IfSome, option_map};
 ghost use Rattle.std.specs.Result.{result_ok};
-ghost use Rattle.st_hash.specs.Hash.{HashValue, IsHash, IsOfVersion, digest_length, hash_text, hash_of_text, hash_of_text_at, hash_of_text_with};
+ghost use Rattle.st_hash.specs.Hash.{HashValue, IsHash, IsOfVersion, digest_length, hash_text, hash_of_text, hash_of_text_at, hash_of_text_with, text_length};
 
 use crate::base64url::enc;
 use crate::fixed::read_fixed;
@@ -21,6 +21,7 @@ pub struct BadHash;
 /// digest. It has 46 characters, or 88 for SHA-512.
 pub fn hash_text(alloc: Global, hash: &Hash) -> Result<Text, WantOfMemory>
     ensures value { IfOk result (λ text. text ≡ hash_text hash.now) }
+    ensures characters { IfOk result (λ text. length text ≡ text_length hash.now.code) }
     // Each version that has this hash reads it again.
     ensures read { IfOk result (λ text. (version : ℕ) → IsOfVersion version hash.now
         → hash_of_text_at version text ≡ Some hash.now) }
