@@ -3,9 +3,9 @@ use Rattle.std.proofs.Common.{◌≡◌, ◌∙◌, ℕ, true, List, [], ◌∷�
 use Rattle.base64.specs.GeneralPurpose.{IsBytes}
 use Rattle.st_canon.specs.Objects.{object_of_some, put_some}
 use Rattle.st_canon.specs.Plain.{Plain, text}
-use Rattle.st_canon.specs.Shapes.{member_in, text_at}
+use Rattle.st_canon.specs.Shapes.{member_in}
 use Rattle.st_canon.proofs.OnLiterals.{names_on_literals}
-use Rattle.st_hash.specs.Base64url.{base64url, fixed_of_text}
+use Rattle.st_hash.specs.Base64url.{base64url}
 use Rattle.st_hash.proofs.FixedLemmas.{fixed_of_text-base64url}
 use Rattle.st_jws.specs.Jwk.{lms, bytes_json, jwk_json, is_lms_key, public_of_text, nonce_at, jwk_of, IsNonce}
 use Rattle.st_jws.specs.declared.jwk.Jwk.{Jwk}

@@ -6,7 +6,6 @@ use Rattle.std.specs.Str.{IsUtf8}
 use Rattle.base64.specs.GeneralPurpose.{IsBytes}
 use Rattle.st_base.proofs.Cuts.{cut_at-append}
 use Rattle.st_canon.specs.Canonical.{canonical, escape}
-use Rattle.st_canon.specs.Depth.{depth_of}
 use Rattle.st_canon.specs.Plain.{Plain, text, object, no_members, member}
 use Rattle.st_canon.specs.Proper.{IsProper}
 use Rattle.st_canon.specs.Shapes.{json_in}
@@ -17,11 +16,10 @@ use Rattle.st_hash.proofs.Separators.{no_dot}
 use Rattle.st_hash.proofs.Spelling.{bytes_of_text-base64url}
 use Rattle.st_hash.proofs.Utf8Bytes.{IsBytes-IsUtf8}
 use Rattle.st_jws.specs.Jwk.{lms}
-use Rattle.st_jws.specs.Opening.{Opened, is_header, key_in, opened}
-use Rattle.st_jws.specs.Signing.{header_text, signing_input, join_signed}
+use Rattle.st_jws.specs.Opening.{is_header, opened}
+use Rattle.st_jws.specs.Signing.{header_text, signing_input, join_signed, Signs}
 use Rattle.st_jws.specs.Texts.{dot, texts_of}
 use Rattle.st_jws.specs.declared.jwk.Jwk.{Jwk}
-use Rattle.st_lms.specs.Signature.{IsSignature}
 use Rattle.st_lms.proofs.Decided.{is_signature-IsSignature}
 use lib.Utf8.{encode}
 
@@ -77,25 +75,18 @@ texts_of-joined header payload signature =
 
 -- ---- the law
 
-module _ (payload : Plain) (key : Jwk) (signature : List ℕ) (limit : ℕ) where
-  module _ (proper : IsProper payload) (shallow : depth_of payload ≤ 127) (keyed : key_in payload ≡ Some key) (are_bytes : IsBytes signature)
-      (signed : IsSignature key.public (signing_input payload) signature) (within : length (join_signed (signing_input payload) signature) ≤ limit) where
-    abbrev input : List ℕ
-    input = signing_input payload
-
-    abbrev whole : List ℕ
-    whole = join_signed input signature
-
-    abbrev opens : Opened
-    opens = record { payload = payload; key = key }
-
-    pub opened-joined : opened whole limit ≡ Ok opens
-    opened-joined =
-        let short : nat_le (length whole) limit ≡ true = grind (arith, nat_tests) in
-        let texts = texts_of-joined header_text (canonical payload) signature in
-        let first = bytes_of_text-base64url header_text header_bytes in
-        let second = bytes_of_text-base64url (canonical payload) (IsBytes-IsUtf8 (canonical payload) (IsUtf8-canonical payload proper)) in
-        let third = bytes_of_text-base64url signature are_bytes in
-        let json : json_in (canonical payload) ≡ Some payload = ap result_ok (reads_back payload proper shallow) in
-        let holds = is_signature-IsSignature key.public input signature signed in
-        rw (short, texts, first, second, third, header_holds, json, keyed, holds) refl
+-- a signed text that is short enough opens to its payload and key
+pub opened-joined : (payload : Plain) (key : Jwk) (signature : List ℕ) (limit : ℕ) → Signs payload key signature
+    → IsBytes signature
+    → length (join_signed (signing_input payload) signature) ≤ limit
+    → opened (join_signed (signing_input payload) signature) limit ≡ Ok (record { payload = payload; key = key })
+opened-joined payload key signature limit signs are_bytes within =
+    let input = signing_input payload in
+    let short : nat_le (length (join_signed input signature)) limit ≡ true = grind (arith, nat_tests) in
+    let texts = texts_of-joined header_text (canonical payload) signature in
+    let first = bytes_of_text-base64url header_text header_bytes in
+    let second = bytes_of_text-base64url (canonical payload) (IsBytes-IsUtf8 (canonical payload) (IsUtf8-canonical payload signs.proper)) in
+    let third = bytes_of_text-base64url signature are_bytes in
+    let json : json_in (canonical payload) ≡ Some payload = ap result_ok (reads_back payload signs.proper signs.shallow) in
+    let holds = is_signature-IsSignature key.public input signature signs.signed in
+    rw (short, texts, first, second, third, header_holds, json, signs.keyed, holds) refl

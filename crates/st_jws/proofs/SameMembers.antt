@@ -1,5 +1,5 @@
 -- Members are told by what stands under each name.
-use Rattle.std.proofs.Common.{◌≡◌, ◌≢◌, ◌∙◌, ℕ, true, false, List, Option, Some, None, Less, Equal, Greater, refl, sym, ap, subst}
+use Rattle.std.proofs.Common.{◌≡◌, ◌≢◌, ◌∙◌, ℕ, true, false, if◌then◌else◌, List, Some, None, Less, Equal, Greater, refl, sym, ap, subst}
 use Rattle.std.proofs.lemmas.Bool.{and_parts}
 use Rattle.std.proofs.lemmas.Option.{same_Some}
 use Rattle.std.specs.List.{list_any}
@@ -31,18 +31,13 @@ missed low name p q ms ns less above same =
     let none : member_at low (member name q ns) ≡ None = not_above low (member name q ns) (less, above_lower low name ns less above) in
     cc
 
--- without two equal first members the others have the same under each name
-others_agree : (name : List ℕ) (p q : Plain) (ms ns : Members) → AllAbove name ms → AllAbove name ns
-    → ((other : List ℕ) → member_at other (member name p ms) ≡ member_at other (member name q ns))
-    → (other : List ℕ) → member_at other ms ≡ member_at other ns
-others_agree name p q ms ns first second agree other =
-    elim (is_name other name) as (λ t. is_name other name ≡ t → member_at other ms ≡ member_at other ns) [
-      | true ↦ λ is.
-          let same = same_from_is_name other name is in
-          let none : member_at name ms ≡ None = not_above name ms first in
-          let none_either : member_at name ns ≡ None = not_above name ns second in
-          rw same (none ∙ sym none_either)
-      | false ↦ λ is. rw is at (agree other)
+-- behind the first member stands what stands under the other names
+behind_first : (name other : List ℕ) (p : Plain) (ms : Members) → AllAbove name ms
+    → member_at other ms ≡ (if is_name other name then None else member_at other (member name p ms))
+behind_first name other p ms above =
+    elim (is_name other name) as (λ t. is_name other name ≡ t → member_at other ms ≡ (if t then None else (if t then Some p else member_at other ms))) [
+      | true ↦ λ is. rw (same_from_is_name other name is) (not_above name ms above)
+      | false ↦ λ is. refl
     ] refl
 
 -- Members that ascend, and have the same under each name, are the same.
@@ -65,7 +60,10 @@ same_members (member m p ms) (member n q ns) first second agree =
           let name : n ≡ m = sym (same_from_tied m n first.0 second.0 is) in
           let again : (other : List ℕ) → member_at other (member m p ms) ≡ member_at other (member m q ns) = rw name at agree in
           let value = same_Some p q (sym (first_found m p ms) ∙ again m ∙ first_found m q ns) in
-          let rest = same_members ms ns first.3 second.3 (others_agree m p q ms ns first.1 (rw name at second.1) again) in
+          let above : AllAbove m ns = rw name at second.1 in
+          let agree_behind : (other : List ℕ) → member_at other ms ≡ member_at other ns = λ other.
+          behind_first m other p ms first.1 ∙ ap (λ found. if is_name other m then None else found) (again other) ∙ sym (behind_first m other q ns above) in
+          let rest = same_members ms ns first.3 second.3 agree_behind in
           rw (name, value, rest) refl
       | Greater ↦ λ is. absurd (missed n m q p ns ms (less_from_greater m n is) first.1 (sym (agree n)))
     ] refl

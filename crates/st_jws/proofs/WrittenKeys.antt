@@ -1,16 +1,14 @@
 -- A proper value that is read as a key is the one that is written of it.
-use Rattle.std.proofs.Common.{◌≡◌, ◌∙◌, ℕ, Bool, true, false, List, [], ◌∷◌, codes, Option, Some, None, option_map, refl, sym, ap, subst}
-use Rattle.std.proofs.lemmas.Bool.{and_parts}
+use Rattle.std.proofs.Common.{◌≡◌, ◌∙◌, ℕ, true, false, List, [], ◌∷◌, codes, Option, Some, None, option_map, refl, sym, subst}
 use Rattle.std.specs.Str.{IsUtf8}
 use Rattle.std.proofs.lemmas.Str.{IsUtf8-from_ascii}
 use Rattle.base64.specs.Engines.{url_safe_no_pad}
 use Rattle.base64.proofs.EngineFacts.{IsAscii-encode_of}
-use Rattle.st_canon.specs.Entries.{text_in}
 use Rattle.st_canon.specs.Find.{member_at}
 use Rattle.st_canon.specs.Names.{is_name}
 use Rattle.st_canon.specs.Objects.{put_some, some_listed}
-use Rattle.st_canon.specs.Plain.{Plain, null, boolean, whole, text, list, object, Members}
-use Rattle.st_canon.specs.Proper.{IsProper, MembersAreProper}
+use Rattle.st_canon.specs.Plain.{Plain, text, Members}
+use Rattle.st_canon.specs.Proper.{MembersAreProper}
 use Rattle.st_canon.proofs.OnLiterals.{names_on_literals}
 use Rattle.st_canon.proofs.Order.{same_from_is_name}
 use Rattle.st_hash.specs.Base64url.{base64url}

@@ -45,7 +45,8 @@ impl Jwk {
     pub fn read(value: &Json) -> Result<Jwk, BadJwk>
         ensures value { result_ok result ≡ jwk_of (plain value.now) }
         // A proper value that is a key is the one that `json` writes of it.
-        ensures written { IfOk result (λ key. IsProper (plain value.now) → plain value.now ≡ jwk_json key) }
+        ensures written { IfOk result (λ key. IsProper (plain value.now)
+            → plain value.now ≡ jwk_json key) }
     {
         match value {
             Json::Object(members) => match read_members(members) {
@@ -66,8 +67,10 @@ impl Jwk {
 }
 
 fn all_members(alloc: Global, key: &Jwk) -> Result<Object, WantOfMemory>
-    ensures members { IfOk result (λ members. plain_members members ≡ some_listed (jwk_members key.now)) }
-    ensures read { IfOk result (λ members. jwk_of (object (plain_members members)) ≡ Some key.now) }
+    ensures members { IfOk result (λ members.
+        plain_members members ≡ some_listed (jwk_members key.now)) }
+    ensures read { IfOk result (λ members.
+        jwk_of (object (plain_members members)) ≡ Some key.now) }
 {
     let members = set_members(alloc, key)?;
     Ok(members)
@@ -75,7 +78,8 @@ fn all_members(alloc: Global, key: &Jwk) -> Result<Object, WantOfMemory>
 
 #[tactic(auto, unfolding(st_canon::proofs::OnLiterals::names_on_literals, st_canon::specs::Objects::put_some))]
 fn set_members(alloc: Global, key: &Jwk) -> Result<Object, WantOfMemory>
-    ensures members { IfOk result (λ members. plain_members members ≡ some_listed (jwk_members key.now)) }
+    ensures members { IfOk result (λ members.
+        plain_members members ≡ some_listed (jwk_members key.now)) }
     ensures public { OnOk result (IsPublicKey key.now.public) }
     ensures public_long { OnOk result (length (public_text key.now.public) ≡ 56) }
     ensures public_bytes { OnOk result (IsBytes (public_text key.now.public)) }
@@ -162,8 +166,10 @@ pub(crate) fn is_lms(text: Option<&str>) -> bool
 }
 
 fn read_public(members: &Object) -> Option<Public>
-    ensures value { result ≡ option_and_then public_of_text (text_at (codes "pub") (Some (object (plain_members members.now)))) }
-    ensures spelled { IfSome result (λ public. text_at (codes "pub") (Some (object (plain_members members.now)))
+    ensures value { result ≡ option_and_then public_of_text
+        (text_at (codes "pub") (Some (object (plain_members members.now)))) }
+    ensures spelled { IfSome result (λ public.
+        text_at (codes "pub") (Some (object (plain_members members.now)))
         ≡ Some (base64url (public_text public))) }
 {
     let text = members.text("pub")?;

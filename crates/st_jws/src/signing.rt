@@ -1,14 +1,12 @@
-ghost use Rattle.std.specs.Prelude.{◌≡◌, ◌≤◌, ◌++◌, ◌∷◌, ℕ, length, IfOk, IsAscii, OnOk, Ok, Some};
+ghost use Rattle.std.specs.Prelude.{◌≡◌, ◌≤◌, ◌++◌, ◌∷◌, ℕ, length, IfOk, IsAscii, OnOk, Ok};
 ghost use Rattle.base64.specs.GeneralPurpose.{IsBytes};
-ghost use Rattle.st_canon.specs.Depth.{depth_of};
 ghost use Rattle.st_canon.specs.Plain.{Plain};
 ghost use Rattle.st_canon.specs.Proper.{IsProper};
 ghost use Rattle.st_canon.specs.View.{plain};
-ghost use Rattle.st_jws.specs.Opening.{key_in, opened};
-ghost use Rattle.st_jws.specs.Signing.{join_signed, signing_input};
+ghost use Rattle.st_jws.specs.Opening.{opened};
+ghost use Rattle.st_jws.specs.Signing.{Signs, join_signed, signing_input};
 ghost use Rattle.st_jws.specs.Texts.{dot};
 ghost use Rattle.st_jws.specs.declared.jwk.Jwk.{Jwk};
-ghost use Rattle.st_lms.specs.Signature.{IsSignature};
 
 use st_base::{Bytes, Text, WantOfMemory};
 use st_canon::{Json, write};
@@ -52,9 +50,8 @@ pub fn join_signed(alloc: Global, input: &Bytes, signature: &Bytes) -> Result<Te
     ensures value { IfOk result (λ text. text ≡ join_signed input.now signature.now) }
     // A signature over a payload under the one key in it opens to that payload and key.
     ensures opens { IfOk result (λ text. (payload : Plain) (key : Jwk) (limit : ℕ)
-        → input.now ≡ signing_input payload → IsProper payload → depth_of payload ≤ 127
-        → key_in payload ≡ Some key → IsSignature key.public input.now signature.now
-        → length text ≤ limit → opened text limit ≡ Ok (record { payload = payload; key = key })) }
+        → Signs payload key signature.now → input.now ≡ signing_input payload → length text ≤ limit
+        → opened text limit ≡ Ok (record { payload = payload; key = key })) }
 {
     let text = joined(alloc, input.as_slice(), signature.as_slice())?;
     Ok(text)

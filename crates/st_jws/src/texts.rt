@@ -13,7 +13,12 @@ pub(crate) struct Texts<'a> {
 }
 
 pub(crate) fn texts_of(text: &[u8]) -> Option<Texts<'_>>
-    ensures { option_map (λ texts. record { input = texts.input.now; header = texts.header.now; payload = texts.payload.now; signature = texts.signature.now }) result ≡ texts_of text.now }
+    ensures { option_map (λ texts. record {
+      input = texts.input.now;
+      header = texts.header.now;
+      payload = texts.payload.now;
+      signature = texts.signature.now;
+    }) result ≡ texts_of text.now }
 {
     let (header, rest) = cut_at(text, b'.')?;
     let (payload, signature) = cut_at(rest, b'.')?;

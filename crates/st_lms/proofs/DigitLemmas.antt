@@ -1,5 +1,5 @@
 -- Bounds on digits and on the checksum.
-use Rattle.std.proofs.Common.{◌≡◌, ℕ, zero, suc, ◌+◌, ◌-◌, ◌*◌, ◌/◌, ◌%◌, ◌^◌, ◌<◌, ◌≤◌, List, get_or, refl, arith, ◌∙◌, ap}
+use Rattle.std.proofs.Common.{◌≡◌, ℕ, zero, suc, ◌+◌, ◌-◌, ◌*◌, ◌/◌, ◌%◌, ◌^◌, ◌<◌, ◌≤◌, List, get_or, refl, arith}
 use Rattle.std.proofs.lemmas.Nat.{mod_below, pow_pos, mul-le}
 use Rattle.std.proofs.Math.Nat.{suc-mul, mod-eq_of_lt}
 use Rattle.st_lms.specs.Strings.{coef}

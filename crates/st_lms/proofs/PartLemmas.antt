@@ -1,12 +1,12 @@
 -- A signature and its parts.
-use Rattle.std.proofs.Common.{◌≡◌, ℕ, ◌+◌, ◌*◌, ◌^◌, ◌<◌, ◌≤◌, List, ◌++◌, length, take, drop, append_assoc, ap, sym, ◌∙◌, refl, arith}
+use Rattle.std.proofs.Common.{◌≡◌, ℕ, ◌+◌, ◌*◌, ◌≤◌, List, ◌++◌, length, take, drop, append_assoc, ap, sym, ◌∙◌, arith}
 use Rattle.std.proofs.lemmas.List.{take_at, length-append, take-append-drop, length-take-le, length-drop}
 use Rattle.st_base.proofs.Cuts.{same_cut}
 use Rattle.st_lms.specs.Strings.{u32str, str_to_u32}
 use Rattle.st_lms.specs.Parameters.{chains, height}
 use Rattle.st_lms.specs.Keys.{PublicKey}
 use Rattle.st_lms.specs.Parts.{SignatureParts, parts_in, PartsHold}
-use Rattle.st_lms.specs.Signature.{IsSignature, root_of}
+use Rattle.st_lms.specs.Signature.{IsSignature}
 use Rattle.st_lms.proofs.StringLemmas.{length-u32str}
 use Rattle.st_lms.proofs.Texts.{AreBytes, bytes_of_take, u32str-str_to_u32, str_to_u32-u32str}
 use Rattle.st_lms.proofs.Nodes.{small_leaf}
