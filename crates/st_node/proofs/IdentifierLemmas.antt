@@ -1,7 +1,7 @@
 -- What stands behind the method's name of an identifier.
 use Rattle.std.proofs.Common.{◌≡◌, true, false, ℕ, List, take, drop, length, refl, Err}
 use Rattle.std.specs.Prelude.{bytes_eq}
-use Rattle.st_node.specs.Resolution.{did_prefix, suffix_behind, suffix_in}
+use Rattle.st_node.specs.Identifier.{did_prefix, suffix_behind, suffix_in}
 use Rattle.st_node.specs.declared.unresolved.Unresolved.TheVariants.{BadDid}
 
 -- a text that begins with the method's name is asked for its suffix

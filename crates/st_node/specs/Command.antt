@@ -12,6 +12,10 @@ use Rattle.st_node.specs.declared.command.LineCause.TheVariants as cause
 use Rattle.st_node.specs.declared.command.LineRefused.{LineRefused}
 use Rattle.st_node.specs.declared.command.LineRefused.TheVariants.{BadLine, WantOfMemory}
 
+-- the byte of a space
+abbrev pub space : ℕ
+space = 32
+
 -- `content <base64url>`, by what stands behind the command word's space
 abbrev pub content_of : Option (List ℕ) → Result Command LineCause
 content_of behind = do
@@ -23,7 +27,7 @@ content_of behind = do
 abbrev pub anchor_of : Option (List ℕ) → Result Command LineCause
 anchor_of behind = do
   rest ← ok_or behind cause.Words
-  words ← ok_or (cut_at 32 rest) cause.Words
+  words ← ok_or (cut_at space rest) cause.Words
   height ← ok_or (number_of (2 ^ 32 - 1) words.0) cause.Number
   Ok (Anchor height words.1)
 
@@ -44,7 +48,7 @@ command_of_words word behind =
 -- The command of a line, or the first cause for which it is none. The command word is what stands
 -- before the first space, or the whole line.
 abbrev pub command_of : List ℕ → Result Command LineCause
-command_of line = command_of_words (first_word 32 line) (other_words 32 line)
+command_of line = command_of_words (first_word space line) (other_words space line)
 
 -- the cause that an error names
 abbrev pub cause_of : LineRefused → Option LineCause

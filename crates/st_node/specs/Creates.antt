@@ -1,4 +1,4 @@
--- Core index files that hold creates alone.
+-- Core index files that hold creates alone (DIF Sidetree v1.0.0, "Core Index File").
 use Rattle.std.specs.Prelude.{ℕ, nat_le, Bool, true, not, ◌&&◌, List, [], ◌∷◌, length, map, codes, if◌then◌else◌, Option, Some, None, option_map, option_and_then, Result, Ok, Err}
 use Rattle.std.specs.List.{list_any}
 use Rattle.std.specs.Option.{ok_or}

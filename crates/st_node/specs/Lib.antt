@@ -1,5 +1,6 @@
 pub mod Command
 pub mod Creates
+pub mod Identifier
 pub mod Machine
 pub mod Resolution
 pub mod SuffixData

@@ -102,12 +102,14 @@ replies schedule state [] = []
 replies schedule state (line ∷ lines) =
     (answered schedule state line).reply ++ replies schedule (answered schedule state line).next lines
 
+-- ---- nodes
+
 -- a node: the schedule that it was given, which stays, and its state
 pub record NodeValue : Type 0 where
   pub schedule : Option ℕ
   pub state : State
 
 -- The node that comes of it has the state that the answer leaves, and gives its reply.
-abbrev pub Answers : NodeValue → Answered → NodeValue × List ℕ → Type 0
-Answers node answer done =
-    (done.0 ≡ record { schedule = node.schedule; state = answer.next }) × (done.1 ≡ answer.reply)
+abbrev pub AnswersWith : NodeValue → Answered → NodeValue × List ℕ → Type 0
+AnswersWith node answer done =
+    (done.0 ≡ record node { state = answer.next }) × (done.1 ≡ answer.reply)

@@ -1,52 +1,27 @@
--- What the entries of a ledger give, and what an identifier resolves to.
-use Rattle.std.specs.Prelude.{ℕ, List, [], ◌∷◌, ◌++◌, codes, true, find, length, take, drop, bytes_eq, is_none, if◌then◌else◌, Option, Some, None, option_and_then, unwrap_or, Result, Ok, Err}
+-- What the entries of a ledger give, and what an identifier resolves to (DIF Sidetree v1.0.0,
+-- "Resolution").
+use Rattle.std.specs.Prelude.{ℕ, List, [], ◌∷◌, codes, true, find, Option, Some, None, option_and_then, unwrap_or, Result, Ok, Err}
 use Rattle.std.specs.List.{flat_map}
 use Rattle.std.specs.Option.{ok_or}
 use Rattle.std.specs.Result.{result_ok}
-use Rattle.st_base.specs.Answers.{◌>>=◌, ◌>>◌, holds_or}
+use Rattle.st_base.specs.Answers.{◌>>=◌}
 use Rattle.st_canon.specs.Canonical.{canonical}
 use Rattle.st_canon.specs.Objects.{object_of}
 use Rattle.st_canon.specs.Plain.{Plain, boolean, text}
 use Rattle.st_content.specs.Files.{Files, file_at}
-use Rattle.st_hash.specs.Hash.{HashValue, hash_of_text, hash_text, same_hash}
+use Rattle.st_hash.specs.Hash.{HashValue, hash_text, same_hash}
 use Rattle.st_ledger.specs.Anchor.{anchor_of}
 use Rattle.st_ledger.specs.declared.anchor.Anchor.{Anchor}
 use Rattle.st_ledger.specs.declared.entry.Entry.{Entry}
 use Rattle.st_node.specs.Creates.{creates_of}
+use Rattle.st_node.specs.Identifier.{suffix_in}
 use Rattle.st_node.specs.SuffixData.{suffix_of}
-use Rattle.st_node.specs.Words.{first_word, other_words}
 use Rattle.st_node.specs.declared.unresolved.Unresolved.{Unresolved}
-use Rattle.st_node.specs.declared.unresolved.Unresolved.TheVariants.{BadDid, Unbuilt, NotFound}
+use Rattle.st_node.specs.declared.unresolved.Unresolved.TheVariants.{NotFound}
 use Rattle.st_node.specs.declared.unresolved.ResolveRefused.{ResolveRefused}
 use Rattle.st_node.specs.declared.unresolved.ResolveRefused.TheVariants as refused
 use Rattle.st_node.specs.declared.suffix_data.SuffixData.{SuffixData}
 use Rattle.st_params.specs.Schedule.{params_at}
-
--- ---- identifiers
-
-abbrev pub did_prefix : List ℕ
-did_prefix = codes "did:sidetree:"
-
--- the identifier of a suffix, in its short form
-abbrev pub did_of : HashValue → List ℕ
-did_of suffix = did_prefix ++ hash_text suffix
-
--- what stands behind this front
-abbrev pub behind : List ℕ → List ℕ → Option (List ℕ)
-behind front bytes = if bytes_eq (take (length front) bytes) front then Some (drop (length front) bytes) else None
-
--- the suffix behind the method's name; in the long form a `:` and more follow it
-abbrev pub suffix_behind : List ℕ → Result HashValue Unresolved
-suffix_behind rest = do
-  suffix ← ok_or (hash_of_text (first_word 58 rest)) BadDid
-  holds_or (is_none (other_words 58 rest)) Unbuilt
-  Ok suffix
-
--- the suffix of an identifier in its short form
-abbrev pub suffix_in : List ℕ → Result HashValue Unresolved
-suffix_in did = do
-  rest ← ok_or (behind did_prefix did) BadDid
-  suffix_behind rest
 
 -- ---- what entries give
 

@@ -1,5 +1,5 @@
--- What a create commits to, and the suffix that it gives (DIF Sidetree v1.0.0, "Create" and "DID
--- Suffix").
+-- What a create commits to, and the suffix that it gives (DIF Sidetree v1.0.0, "Create" and "DID URI
+-- Composition").
 use Rattle.std.specs.Prelude.{List, [], ◌∷◌, codes}
 use Rattle.st_canon.specs.Canonical.{canonical}
 use Rattle.st_canon.specs.Objects.{object_of}

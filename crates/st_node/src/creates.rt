@@ -3,8 +3,8 @@ ghost use Rattle.st_base.specs.Answers.{Gives};
 ghost use Rattle.st_canon.specs.View.{plain};
 ghost use Rattle.st_node.specs.Creates.{create_in, create_list, creates_in, creates_of, hash_at, refusal_of, suffix_data_in};
 
-use crate::suffix_data::{SuffixData, suffixes_of};
 use crate::distinct::all_different;
+use crate::suffix_data::{SuffixData, suffixes_of};
 use st_base::{List, WantOfMemory};
 use st_canon::{Json, read_json};
 use st_hash::{Hash, read_hash};

@@ -1,6 +1,6 @@
 ghost use Rattle.std.specs.Prelude.{◌≡◌, IfOk};
 ghost use Rattle.st_hash.specs.Hash.{hash_text};
-ghost use Rattle.st_node.specs.Resolution.{did_of, suffix_behind, suffix_in};
+ghost use Rattle.st_node.specs.Identifier.{did_of, suffix_behind, suffix_in};
 
 use crate::unresolved::Unresolved;
 use crate::words::cut_word;

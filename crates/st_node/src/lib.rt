@@ -6,9 +6,12 @@ mod creates;
 mod distinct;
 mod identifier;
 mod node;
+mod rendering;
 mod reply;
 mod resolution;
 mod suffix_data;
+#[cfg(test)]
+mod tests;
 mod unresolved;
 mod words;
 

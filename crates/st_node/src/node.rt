@@ -1,5 +1,5 @@
 ghost use Rattle.std.specs.Prelude.{◌≡◌, IfOk};
-ghost use Rattle.st_node.specs.Machine.{Answers, answered, answered_anchor, answered_command, answered_content, cause_word, empty, refusal_word, resolve_reply, unresolved_word};
+ghost use Rattle.st_node.specs.Machine.{AnswersWith, answered, answered_anchor, answered_command, answered_content, cause_word, empty, refusal_word, resolve_reply, unresolved_word};
 ghost use Rattle.st_node.specs.Resolution.{resolved};
 
 use crate::command::{Command, LineCause, LineRefused, read_command};
@@ -29,9 +29,9 @@ impl Model for Node {
     ghost Value = { NodeValue };
 
     ghost view = { λ n. record {
-        schedule = n.schedule;
-        state = record { ledger = n.ledger; files = n.content };
-      } };
+      schedule = n.schedule;
+      state = record { ledger = n.ledger; files = n.content };
+    } };
 }
 
 impl Node {
@@ -55,7 +55,7 @@ impl Node {
         line: &[u8],
         work: &mut Work,
     ) -> Result<(Node, Bytes), WantOfMemory>
-        ensures answer { IfOk result (Answers self (answered self.schedule self.state line.now)) }
+        ensures answer { IfOk result (AnswersWith self (answered self.schedule self.state line.now)) }
         ensures work { work.new ≡ work.old }
     {
         match read_command(alloc, line) {
@@ -75,7 +75,7 @@ impl Node {
         command: Command,
         work: &mut Work,
     ) -> Result<(Node, Bytes), WantOfMemory>
-        ensures answer { IfOk result (Answers self (answered_command self.schedule self.state command)) }
+        ensures answer { IfOk result (AnswersWith self (answered_command self.schedule self.state command)) }
         ensures work { work.new ≡ work.old }
     {
         match command {
@@ -90,7 +90,7 @@ impl Node {
 
     // `content`
     fn take(self, alloc: Global, bytes: Bytes) -> Result<(Node, Bytes), WantOfMemory>
-        ensures { IfOk result (Answers self (answered_content self.state bytes)) }
+        ensures { IfOk result (AnswersWith self (answered_content self.state bytes)) }
     {
         let Node {
             schedule,
@@ -113,13 +113,8 @@ impl Node {
     }
 
     // `anchor`
-    fn append(
-        self,
-        alloc: Global,
-        height: u32,
-        text: Bytes,
-    ) -> Result<(Node, Bytes), WantOfMemory>
-        ensures { IfOk result (Answers self (answered_anchor self.state (record { height = height; text = text }))) }
+    fn append(self, alloc: Global, height: u32, text: Bytes) -> Result<(Node, Bytes), WantOfMemory>
+        ensures { IfOk result (AnswersWith self (answered_anchor self.state (record { height = height; text = text }))) }
     {
         if let Err(refused) = self.ledger.admits(height) {
             let text = reply(alloc, "refused ", refusal_word(refused).as_bytes())?;

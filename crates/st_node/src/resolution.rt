@@ -1,17 +1,15 @@
 ghost use Rattle.std.specs.Prelude.{◌≡◌, IfOk};
-ghost use Rattle.st_canon.specs.Canonical.{canonical};
 ghost use Rattle.st_base.specs.Answers.{Gives};
-ghost use Rattle.st_canon.specs.View.{plain};
 ghost use Rattle.st_ledger.specs.Anchor.{anchor_of};
-ghost use Rattle.st_node.specs.Resolution.{did_of, document_of, find_of, first_create, gives, metadata_of, method_of, resolution_of, resolved, cause_of};
+ghost use Rattle.st_node.specs.Resolution.{cause_of, find_of, first_create, gives, resolved};
 ghost use Rattle.st_params.specs.Schedule.{params_at};
 
 use crate::creates::{CreatesRefused, read_creates};
-use crate::identifier::{read_did, short_form};
-use crate::suffix_data::{SuffixData, hash_json};
+use crate::identifier::read_did;
+use crate::rendering::rendered;
+use crate::suffix_data::SuffixData;
 use crate::unresolved::{ResolveRefused, Unresolved};
 use st_base::{Bytes, List, WantOfMemory};
-use st_canon::{Json, Object, write};
 use st_content::Content;
 use st_hash::Hash;
 use st_ledger::{Anchor, Entry, read_anchor};
@@ -30,20 +28,9 @@ pub fn resolve(
 {
     let suffix = read_did(did)?;
     match first_create(alloc, schedule, &suffix, content, entries)? {
-        Some(create) => Ok(resolution_text(alloc, &suffix, &create)?),
+        Some(create) => Ok(rendered(alloc, &suffix, &create)?),
         None => Err(ResolveRefused::Unresolved(Unresolved::NotFound)),
     }
-}
-
-fn resolution_text(
-    alloc: Global,
-    suffix: &Hash,
-    create: &SuffixData,
-) -> Result<Bytes, WantOfMemory>
-    ensures { IfOk result (λ text. text ≡ canonical (resolution_of (did_of suffix.now) create.now.recovery_commitment)) }
-{
-    let json = resolution(alloc, suffix, create)?;
-    Ok(write(alloc, &json)?)
 }
 
 // The first create of the suffix, in the order of the ledger. Each file is read anew.
@@ -125,49 +112,4 @@ fn find_create(
         }
     }
     Ok(None)
-}
-
-// The result of resolving an identifier of this suffix, which this create made: an active state
-// with an empty document, no update commitment, and the create's recovery commitment.
-fn resolution(alloc: Global, suffix: &Hash, create: &SuffixData) -> Result<Json, WantOfMemory>
-    ensures { IfOk result (λ json.
-        plain json ≡ resolution_of (did_of suffix.now) create.now.recovery_commitment) }
-{
-    let mut result = Object::new(alloc);
-    result.set(alloc, "didDocument", document(alloc, suffix)?)?;
-    result.set(
-        alloc,
-        "didDocumentMetadata",
-        metadata(alloc, suffix, create)?,
-    )?;
-    Ok(Json::Object(result))
-}
-
-fn document(alloc: Global, suffix: &Hash) -> Result<Json, WantOfMemory>
-    ensures { IfOk result (λ json. plain json ≡ document_of (did_of suffix.now)) }
-{
-    let mut document = Object::new(alloc);
-    document.set(alloc, "id", Json::Text(short_form(alloc, suffix)?))?;
-    Ok(Json::Object(document))
-}
-
-fn metadata(alloc: Global, suffix: &Hash, create: &SuffixData) -> Result<Json, WantOfMemory>
-    ensures { IfOk result (λ json.
-        plain json ≡ metadata_of (did_of suffix.now) create.now.recovery_commitment) }
-{
-    let mut metadata = Object::new(alloc);
-    metadata.set(alloc, "canonicalId", Json::Text(short_form(alloc, suffix)?))?;
-    metadata.set(alloc, "method", method(alloc, create)?)?;
-    Ok(Json::Object(metadata))
-}
-
-#[tactic(auto, unfolding(st_canon::proofs::OnLiterals::names_on_literals))]
-fn method(alloc: Global, create: &SuffixData) -> Result<Json, WantOfMemory>
-    ensures { IfOk result (λ json. plain json ≡ method_of create.now.recovery_commitment) }
-{
-    let mut method = Object::new(alloc);
-    method.set(alloc, "published", Json::Bool(true))?;
-    let recovery_commitment = hash_json(alloc, &create.recovery_commitment)?;
-    method.set(alloc, "recoveryCommitment", recovery_commitment)?;
-    Ok(Json::Object(method))
 }

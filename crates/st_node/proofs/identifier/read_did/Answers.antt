@@ -1,6 +1,6 @@
 use Rattle.std.proofs.Common.{◌≡◌, ◌∙◌, true, false, ℕ, List, Bool, take, drop, length, ap, sym}
 use Rattle.std.specs.Prelude.{bytes_eq}
-use Rattle.st_node.specs.Resolution.{did_prefix, suffix_behind}
+use Rattle.st_node.specs.Identifier.{did_prefix, suffix_behind}
 use Rattle.st_node.proofs.IdentifierLemmas.{suffix_in-front, suffix_in-other}
 use Rattle.st_node.proofs.identifier.read_did.Goals as goal
 
