@@ -29,12 +29,9 @@ module _ (es fs : List (List ℕ × Json)) (i : ℕ) (e f : List ℕ × Json) (W
   both : W → member e.0 (plain e.1) (plain_members (drop (i + 1) es)) ≡ member f.0 (plain f.1) (plain_members (drop (i + 1) fs))
   both whole = sym (ap plain_members first) ∙ so_far.1 whole ∙ ap plain_members second
 
-  -- where the wholes are the same, so are the names here, and the values here
+  -- where the wholes are the same, so are the names here
   pub name_here : W → e.0 ≡ f.0
   name_here whole = let b = both whole in cc
-
-  pub value_here : W → plain e.1 ≡ plain f.1
-  value_here whole = let b = both whole in cc
 
   pub same_so_far : e.0 ≡ f.0 → plain e.1 ≡ plain f.1 → (plain_members (drop (i + 1) es) ≡ plain_members (drop (i + 1) fs)) ↔ W
   same_so_far named valued = (

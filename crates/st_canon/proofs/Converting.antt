@@ -1,5 +1,5 @@
 -- Items and members that are converted one after another.
-use Rattle.std.proofs.Common.{◌≡◌, ℕ, List, [], ◌∷◌, ◌++◌, map, String, Global, string_bytes, Option, Some, None, option_map, Result, Ok, Err, Less, Equal, refl, sym, ap, ◌∙◌, subst, append-nil, append_assoc, is_eq, true, false}
+use Rattle.std.proofs.Common.{◌≡◌, ℕ, List, [], ◌∷◌, ◌++◌, map, String, Global, string_bytes, Option, Some, None, option_map, Ok, Less, Equal, refl, sym, ap, ◌∙◌, subst, append-nil, append_assoc, is_eq, true, false}
 use mathlib.Core.Bool.{true≢false}
 use Rattle.std.specs.List.{AllByRecursion}
 use Rattle.std.specs.List.Sorted.{IsStrictlySortedBy}
@@ -12,44 +12,21 @@ use Rattle.std.proofs.lemmas.Str.{IsUtf8-string_bytes}
 use Rattle.serde_json.specs.View.{view, items_view, members_view}
 use Rattle.serde_json.specs.declared.value.Value.{Value}
 use Rattle.std.specs.Prelude.{ok_or}
-use Rattle.st_base.specs.Answers.{GivesAs}
 use Rattle.st_canon.specs.Find.{put}
 use Rattle.st_canon.specs.InOrder.{in_order, AreApart, NamesDiffer}
 use Rattle.st_canon.specs.Names.{name_cmp}
 use Rattle.st_canon.specs.Plain.{Plain, Items, no_items, item, Members, no_members}
-use Rattle.st_canon.specs.Reading.{refusal_of, whole_value, whole_items, whole_members}
+use Rattle.st_canon.specs.Reading.{whole_value, whole_items, whole_members}
 use Rattle.st_canon.specs.View.{plain, items_of, plain_items, plain_members}
-use Rattle.st_canon.specs.declared.refused.ReadRefused.{ReadRefused}
-use Rattle.st_canon.specs.declared.refused.ReadRefused.TheVariants.{NotJson, NotWhole, WantOfMemory}
+use Rattle.st_canon.specs.declared.refused.ReadRefused.TheVariants.{NotWhole}
 use Rattle.st_canon.specs.declared.value.Json.{Json}
 use Rattle.st_canon.proofs.Order.{same_from_tied}
 use Rattle.st_canon.proofs.Places.{plain_members-placed}
 
--- ---- what is refused inside is refused as a whole
-
--- the answer is what was read as JSON already, where each number in it is whole
-abbrev pub Converts : {A P : Type 0} → (A → P) → Option P → Result A ReadRefused → Type 0
-Converts view o r = GivesAs view refusal_of (ok_or o NotWhole) r
-
-not_whole_only : {P : Type 0} (o : Option P) (e : ReadRefused) → ok_or o NotWhole ≡ Err e → (o ≡ None) × (e ≡ NotWhole)
-not_whole_only None e h = (refl, cc)
-not_whole_only (Some p) e h = cc
-
+-- a value that was given is that of whole numbers
 pub whole_from : {P : Type 0} (o : Option P) (p : P) → ok_or o NotWhole ≡ Ok p → o ≡ Some p
 whole_from None p h = cc
 whole_from (Some q) p h = cc
-
-refused_outside : {A B P Q : Type 0} (view : A → P) (outer : B → Q) (o : Option P) (all : Option Q) (e : ReadRefused)
-    → Converts view o (Err e) → (o ≡ None → all ≡ None) → Converts outer all (Err e)
-refused_outside view outer o all NotJson h none = let facts = not_whole_only o NotJson h in let other = facts.1 in cc
-refused_outside view outer o all NotWhole h none = ap (λ p. ok_or p NotWhole) (none (not_whole_only o NotWhole h).0)
-refused_outside view outer o all WantOfMemory h none = tt
-
-pub refused_also : {A B P Q : Type 0} (view : A → P) (outer : B → Q) (o : Option P) (all : Option Q) (e : ReadRefused) (r : Result B ReadRefused)
-    → r ≡ Err e → Converts view o (Err e) → (o ≡ None → all ≡ None)
-    → Converts outer all r
-refused_also view outer o all e r is h none =
-    subst (Converts outer all) (sym is) (refused_outside view outer o all e h none)
 
 -- ---- items
 
@@ -77,23 +54,11 @@ abbrev pub ItemsSoFar : List Value → List Value → List Json → Type 0
 ItemsSoFar all left js =
     whole_items (items_view all) ≡ option_map (items_after (map plain js)) (whole_items (items_view left))
 
-pub no_item_yet : (all left : List Value) (js : List Json) → left ≡ all → js ≡ [] → ItemsSoFar all left js
-no_item_yet all left js same none = rw (same, none) (begun (whole_items (items_view all)))
-  where
-    begun : (o : Option Items) → o ≡ option_map (items_after []) o
-    begun None = refl
-    begun (Some rest) = refl
-
 module _ (all left : List Value) (js : List Json) (v : Value) (so_far : ItemsSoFar all (v ∷ left) js) where
   pub one_more_item : (j : Json) → whole_value (view v) ≡ Some (plain j) → ItemsSoFar all left (js ++ j ∷ [])
   one_more_item j w =
       let step : whole_items (items_view (v ∷ left)) ≡ option_map (item (plain j)) (whole_items (items_view left)) = rw w refl in
       so_far ∙ ap (option_map (items_after (map plain js))) step ∙ item_pushed js j _
-
-  pub one_item_not_whole : whole_value (view v) ≡ None → whole_items (items_view all) ≡ None
-  one_item_not_whole w =
-      let step : whole_items (items_view (v ∷ left)) ≡ None = rw w refl in
-      so_far ∙ ap (option_map (items_after (map plain js))) step
 
 pub all_items : (all : List Value) (js : List Json) → ItemsSoFar all [] js → whole_items (items_view all) ≡ Some (plain_items js)
 all_items all js so_far = so_far ∙ ap Some (items_after-nil (map plain js))
@@ -140,21 +105,9 @@ module _ (all left : List Entry) (es : Pairs) (name : String Global) (v : Value)
       let step : whole_members (members_view ((name, v) ∷ left)) ≡ option_map (put k (plain j)) (whole_members (members_view left)) = rw (w, named) refl in
       so_far ∙ ap (option_map (puts es)) step ∙ member_pushed es (k, j) (whole_members (members_view left))
 
-  pub one_member_not_whole : whole_value (view v) ≡ None → whole_members (members_view all) ≡ None
-  one_member_not_whole w =
-      let step : whole_members (members_view ((name, v) ∷ left)) ≡ None = rw w refl in
-      so_far ∙ ap (option_map (puts es)) step
-
 pub all_members : (all : List Entry) (es : Pairs) → MembersSoFar all [] es
     → whole_members (members_view all) ≡ Some (plain_members (in_order es))
 all_members all es so_far = so_far ∙ ap Some (puts_in_order es)
-
-start : (o : Option Members) → o ≡ option_map (puts []) o
-start None = refl
-start (Some ms) = refl
-
-pub no_member_yet : (all left : List Entry) (es : Pairs) → left ≡ all → es ≡ [] → MembersSoFar all left es
-no_member_yet all left es same none = rw (same, none) (start (whole_members (members_view all)))
 
 -- ---- the names of a map differ
 

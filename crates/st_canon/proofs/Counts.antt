@@ -2,30 +2,23 @@
 use Rattle.std.proofs.Common.{◌≡◌, ℕ, ◌+◌, ◌<◌, ◌≤◌, ◌^◌, Bool, true, false, List, [], ◌∷◌, ◌++◌, length, length-append, Option, Some, None, if◌then◌else◌, nat_lt, refl, ap, sym, ◌∙◌, arith}
 use Rattle.std.proofs.lemmas.Bool.Decides.{nat_tests}
 use Rattle.st_canon.specs.Canonical.{canonical, canonical_members, comma, quoted}
-use Rattle.st_canon.specs.Measure.{counted, plus}
+use Rattle.st_canon.specs.Measure.{in_64_bits, plus}
 use Rattle.st_canon.specs.Plain.{Plain, Members, member}
 
-pub counted_small : (n : ℕ) → n < 2 ^ 64 → counted n ≡ Some n
+pub counted_small : (n : ℕ) → n < 2 ^ 64 → in_64_bits n ≡ Some n
 counted_small n small = grind (arith, nat_tests)
 
-pub counted_large : (n : ℕ) → 2 ^ 64 ≤ n → counted n ≡ None
+pub counted_large : (n : ℕ) → 2 ^ 64 ≤ n → in_64_bits n ≡ None
 counted_large n large = grind (arith, nat_tests)
 
-pub too_many : (m n : ℕ) → counted m ≡ None → m ≤ n → counted n ≡ None
+pub too_many : (m n : ℕ) → in_64_bits m ≡ None → m ≤ n → in_64_bits n ≡ None
 too_many m n none le = counted_large n (elim (nat_lt m (2 ^ 64)) as (λ b. nat_lt m (2 ^ 64) ≡ b → 2 ^ 64 ≤ n) [
   | true ↦ λ is. let small : m < 2 ^ 64 = grind (arith, nat_tests) in let some = counted_small m small in cc
   | false ↦ λ is. let large : 2 ^ 64 ≤ m = grind (arith, nat_tests) in omega arith
 ] refl)
 
--- a number that was counted is the number, and 64 bits hold it
-pub counted_some : (x n : ℕ) → Some x ≡ counted n → (x ≡ n) × (n < 2 ^ 64)
-counted_some x n is = elim (nat_lt n (2 ^ 64)) as (λ b. nat_lt n (2 ^ 64) ≡ b → Some x ≡ (if b then Some n else None) → (x ≡ n) × (n < 2 ^ 64)) [
-  | true ↦ λ lt same. (cc, grind (arith, nat_tests))
-  | false ↦ λ lt same. cc
-] refl is
-
-plus-counted : (m n : ℕ) → plus (counted m) n ≡ counted (m + n)
-plus-counted m n = elim (nat_lt m (2 ^ 64)) as (λ b. nat_lt m (2 ^ 64) ≡ b → plus (if b then Some m else None) n ≡ counted (m + n)) [
+plus-counted : (m n : ℕ) → plus (in_64_bits m) n ≡ in_64_bits (m + n)
+plus-counted m n = elim (nat_lt m (2 ^ 64)) as (λ b. nat_lt m (2 ^ 64) ≡ b → plus (if b then Some m else None) n ≡ in_64_bits (m + n)) [
   | true ↦ λ is. refl
   | false ↦ λ is. let large : 2 ^ 64 ≤ m = grind (arith, nat_tests) in sym (counted_large (m + n) (omega arith))
 ] refl
@@ -33,7 +26,7 @@ plus-counted m n = elim (nat_lt m (2 ^ 64)) as (λ b. nat_lt m (2 ^ 64) ≡ b �
 -- one more after another
 pub plus-plus : (o : Option ℕ) (m n : ℕ) → plus (plus o m) n ≡ plus o (m + n)
 plus-plus None m n = refl
-plus-plus (Some k) m n = plus-counted (k + m) n ∙ ap counted (omega arith)
+plus-plus (Some k) m n = plus-counted (k + m) n ∙ ap in_64_bits (omega arith)
 
 -- what was counted can be counted on with nothing more
 pub plus-zero : (o : Option ℕ) (m : ℕ) → plus (plus o m) 0 ≡ plus o m

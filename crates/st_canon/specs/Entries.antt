@@ -1,5 +1,5 @@
 -- What stands inside a plain value.
-use Rattle.std.specs.Prelude.{ℕ, List, [], ◌∷◌, Option, Some, None}
+use Rattle.std.specs.Prelude.{ℕ, List, [], ◌∷◌, Option, Some, None, option_map}
 use Rattle.st_canon.specs.Plain.{Plain, text, list, object, Items, no_items, item, Members}
 
 -- the items, as a list
@@ -16,6 +16,10 @@ text_in other = None
 abbrev pub items_in : Plain → Option Items
 items_in (list ps) = Some ps
 items_in other = None
+
+-- the entries of a list
+abbrev pub list_in : Plain → Option (List Plain)
+list_in p = option_map entries (items_in p)
 
 -- the members of an object
 abbrev pub members_in : Plain → Option Members

@@ -1,5 +1,5 @@
 -- How large a plain value is: the length of its canonical text, and how deep it nests.
-use Rattle.std.specs.Prelude.{ℕ, ◌+◌, ◌^◌, Bool, ◌&&◌, nat_lt, nat_le, length, bytes_eq, if◌then◌else◌, Option, Some, None}
+use Rattle.std.specs.Prelude.{ℕ, ◌+◌, ◌-◌, ◌^◌, Bool, ◌&&◌, nat_lt, nat_le, length, bytes_eq, if◌then◌else◌, Option, Some, None}
 use Rattle.st_canon.specs.Canonical.{canonical}
 use Rattle.st_canon.specs.Depth.{depth_of}
 use Rattle.st_canon.specs.Plain.{Plain}
@@ -15,11 +15,21 @@ fits max_depth max_size p = nat_le (depth_of p) max_depth && nat_le (size_of p) 
 abbrev pub is_equal : Plain → Plain → Bool
 is_equal p q = bytes_eq (canonical p) (canonical q)
 
+-- ---- counting
+
 -- the number, where 64 bits hold it
-abbrev pub counted : ℕ → Option ℕ
-counted n = if nat_lt n (2 ^ 64) then Some n else None
+abbrev pub in_64_bits : ℕ → Option ℕ
+in_64_bits n = if nat_lt n (2 ^ 64) then Some n else None
 
 -- a count with more
 abbrev pub plus : Option ℕ → ℕ → Option ℕ
 plus None more = None
-plus (Some n) more = counted (n + more)
+plus (Some n) more = in_64_bits (n + more)
+
+-- what is left of the room for a text, where so many bytes go into it
+abbrev pub less : ℕ → ℕ → Option ℕ
+less room size = if nat_le size room then Some (room - size) else None
+
+-- the same, where what is written nests no deeper than it may
+abbrev pub room_after : ℕ → ℕ → ℕ → ℕ → Option ℕ
+room_after max_depth room depth size = if nat_le depth max_depth then less room size else None

@@ -1,10 +1,10 @@
 -- The shapes of JSON values (RFC 8259) that rules ask for. `None` is a value that is not there, so
 -- that each test says something of every file.
-use Rattle.std.specs.Prelude.{ℕ, Bool, true, false, List, [], ◌∷◌, if◌then◌else◌, Option, Some, None, is_some, option_and_then, option_map, unwrap_or}
+use Rattle.std.specs.Prelude.{ℕ, Bool, true, false, List, [], ◌∷◌, if◌then◌else◌, Option, Some, None, is_some, option_and_then, unwrap_or}
 use Rattle.std.specs.Result.{result_ok}
-use Rattle.st_canon.specs.Entries.{entries, items_in, members_in, text_in}
+use Rattle.st_canon.specs.Entries.{items_in, list_in, members_in, text_in}
 use Rattle.st_canon.specs.Find.{has_only, member_at}
-use Rattle.st_canon.specs.Plain.{Plain, object, Items, Members}
+use Rattle.st_canon.specs.Plain.{Plain, object, Members}
 use Rattle.st_canon.specs.Reading.{json_of}
 
 -- the JSON that bytes are, where they are JSON with whole numbers
@@ -17,12 +17,12 @@ json_in bytes = result_ok (json_of bytes)
 abbrev pub member_in : List ℕ → Option Plain → Option Plain
 member_in name there = option_and_then (member_at name) (option_and_then members_in there)
 
--- the text, the list and the object that is the member of this name
+-- the text, the entries of the list, and the members of the object that is the member of this name
 abbrev pub text_at : List ℕ → Option Plain → Option (List ℕ)
 text_at name there = option_and_then text_in (member_in name there)
 
-abbrev pub list_at : List ℕ → Option Plain → Option Items
-list_at name there = option_and_then items_in (member_in name there)
+abbrev pub list_at : List ℕ → Option Plain → Option (List Plain)
+list_at name there = option_and_then list_in (member_in name there)
 
 abbrev pub object_at : List ℕ → Option Plain → Option Members
 object_at name there = option_and_then members_in (member_in name there)
@@ -54,7 +54,7 @@ is_object_if_there (Some value) = is_some (members_in value)
 
 -- the entries of a list; what is not there, or is no list, has none
 abbrev pub entries_in : Option Plain → List Plain
-entries_in there = unwrap_or (option_map entries (option_and_then items_in there)) []
+entries_in there = unwrap_or (option_and_then list_in there) []
 
 -- the one entry of a list that has no other
 abbrev pub only_of : List Plain → Option Plain

@@ -12,6 +12,7 @@ use st_base::List;
 pub fn equal(first: &Json, second: &Json) -> bool
     ensures value { result ≡ is_equal (plain first.now) (plain second.now) }
     ensures texts { IsTrue result ↔ (canonical (plain first.now) ≡ canonical (plain second.now)) }
+    ensures values { IsTrue result ↔ (plain first.now ≡ plain second.now) }
 {
     // The sizes say more than that they differ: what has one is proper, and no two proper values
     // have one text.

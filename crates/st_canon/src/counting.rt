@@ -2,7 +2,7 @@ ghost use Rattle.std.specs.Prelude.{◌≡◌, ◌-◌, ◌^◌, length, min};
 ghost use Rattle.std.specs.Fmt.{signed_decimal};
 ghost use Rattle.std.specs.Str.{IsUtf8};
 ghost use Rattle.st_canon.specs.Canonical.{canonical, escape, quoted};
-ghost use Rattle.st_canon.specs.Measure.{counted, plus, size_of};
+ghost use Rattle.st_canon.specs.Measure.{in_64_bits, plus, size_of};
 ghost use Rattle.st_canon.specs.Plain.{list, object};
 ghost use Rattle.st_canon.specs.Proper.{IsProper, ItemsAreProper, MembersAreProper};
 ghost use Rattle.st_canon.specs.View.{plain, plain_items, plain_members};
@@ -23,8 +23,8 @@ pub fn size(value: &Json) -> u64
 }
 
 // The length of the canonical text, where 64 bits hold it.
-pub(crate) fn count(value: &Json) -> Option<u64>
-    ensures size { result ≡ counted (size_of (plain value.now)) }
+fn count(value: &Json) -> Option<u64>
+    ensures size { result ≡ in_64_bits (size_of (plain value.now)) }
     ensures proper { IsProper (plain value.now) }
 {
     add(Some(0), value)
@@ -94,6 +94,13 @@ fn add_text(so_far: Option<u64>, text: &str) -> Option<u64>
     size
 }
 
+// The length of the text between quotes, where 64 bits hold it.
+pub(crate) fn text_size(text: &str) -> Option<u64>
+    ensures { result ≡ in_64_bits (length (quoted text.now)) }
+{
+    add_text(Some(0), text)
+}
+
 #[tactic(auto, unfolding(crate::specs::Canonical::escape))]
 fn escape_size(byte: u8) -> u64
     ensures { result ≡ length (escape byte) }
@@ -105,7 +112,7 @@ fn escape_size(byte: u8) -> u64
     }
 }
 
-fn digits(value: i64) -> u64
+pub(crate) fn digits(value: i64) -> u64
     ensures { result ≡ length (signed_decimal value) }
 {
     Buffer::new().format(value).len() as u64

@@ -1,6 +1,6 @@
 ghost use Rattle.std.specs.Prelude.{◌≡◌, ◌-◌, ◌^◌, min};
 ghost use Rattle.st_canon.specs.Depth.{depth_of, items_depth, members_depth};
-ghost use Rattle.st_canon.specs.Measure.{counted};
+ghost use Rattle.st_canon.specs.Measure.{in_64_bits};
 ghost use Rattle.st_canon.specs.View.{plain, plain_items, plain_members};
 
 use crate::value::{Json, Object};
@@ -19,8 +19,8 @@ pub fn depth(value: &Json) -> u64
 
 // How deep the value nests, where 64 bits hold it.
 #[cycle(levels)]
-pub(crate) fn levels(value: &Json) -> Option<u64>
-    ensures { result ≡ counted (depth_of (plain value.now)) }
+fn levels(value: &Json) -> Option<u64>
+    ensures { result ≡ in_64_bits (depth_of (plain value.now)) }
 {
     match value {
         Json::List(items) => deepest_item(items)?.checked_add(1),
@@ -31,7 +31,7 @@ pub(crate) fn levels(value: &Json) -> Option<u64>
 
 #[cycle(levels)]
 fn deepest_item(items: &List<Json>) -> Option<u64>
-    ensures { result ≡ counted (items_depth (plain_items items.now)) }
+    ensures { result ≡ in_64_bits (items_depth (plain_items items.now)) }
 {
     let mut deepest = 0u64;
     for item in items.as_slice() {
@@ -43,7 +43,7 @@ fn deepest_item(items: &List<Json>) -> Option<u64>
 #[cycle(levels)]
 #[tactic(auto, using(crate::proofs::Depths::value_below))]
 fn deepest_member(members: &Object) -> Option<u64>
-    ensures { result ≡ counted (members_depth (plain_members members.now)) }
+    ensures { result ≡ in_64_bits (members_depth (plain_members members.now)) }
 {
     let mut deepest = 0u64;
     for (_, member) in members.pairs() {

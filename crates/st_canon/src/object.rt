@@ -7,7 +7,7 @@ ghost use Rattle.st_canon.specs.Names.{is_name};
 ghost use Rattle.st_canon.specs.Objects.{is_empty};
 ghost use Rattle.st_canon.specs.Plain.{object};
 ghost use Rattle.st_canon.specs.Shapes.{list_at, object_at, only_member, text_at};
-ghost use Rattle.st_canon.specs.View.{plain, plain_items, plain_members};
+ghost use Rattle.st_canon.specs.View.{plain, plain_members};
 
 use crate::place::place_of;
 use crate::value::{Json, Object};
@@ -42,7 +42,7 @@ impl Object {
 
     /// The list that the member of this name is.
     pub fn list(&self, name: &str) -> Option<&List<Json>>
-        ensures { option_map (λ items. plain_items items.now) result ≡ list_at name.now (Some (object (plain_members self.now))) }
+        ensures { option_map (λ items. map plain items.now) result ≡ list_at name.now (Some (object (plain_members self.now))) }
     {
         self.get(name)?.as_list()
     }

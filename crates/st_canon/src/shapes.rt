@@ -1,7 +1,7 @@
 ghost use Rattle.std.specs.Prelude.{◌≡◌, Some, map, option_map};
 ghost use Rattle.std.specs.Borrow.{sem};
 ghost use Rattle.std.specs.Option.{option_copied};
-ghost use Rattle.st_canon.specs.Entries.{items_in, members_in, text_in};
+ghost use Rattle.st_canon.specs.Entries.{items_in, list_in, members_in, text_in};
 ghost use Rattle.st_canon.specs.LendsValue.{LendsList, LendsObject};
 ghost use Rattle.st_canon.specs.Shapes.{is_object_of, member_in, only_member};
 ghost use Rattle.st_canon.specs.View.{plain, plain_items, plain_members};
@@ -21,12 +21,14 @@ impl Json {
     }
 
     /// The list that this value is.
+    #[tactic(auto, using(crate::proofs::ItemLists::entries_listed))]
     pub fn as_list(&self) -> Option<&List<Json>>
-        ensures { option_map (λ items. plain_items items.now) result ≡ items_in (plain self.now) }
+        ensures items { option_map (λ items. plain_items items.now) result ≡ items_in (plain self.now) }
+        ensures list { option_map (λ items. map plain items.now) result ≡ list_in (plain self.now) }
     {
-        match self {
-            Json::List(items) => Some(items),
-            _ => None,
+        match items_of(self) {
+            Some(items) => Some(items),
+            None => None,
         }
     }
 
@@ -92,5 +94,14 @@ impl Json {
             Json::Object(members) => members.has_only(names),
             _ => false,
         }
+    }
+}
+
+fn items_of(value: &Json) -> Option<&List<Json>>
+    ensures { option_map (λ items. plain_items items.now) result ≡ items_in (plain value.now) }
+{
+    match value {
+        Json::List(items) => Some(items),
+        _ => None,
     }
 }

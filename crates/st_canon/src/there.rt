@@ -1,8 +1,8 @@
 ghost use Rattle.std.specs.Prelude.{◌≡◌, map, option_and_then, option_map};
 ghost use Rattle.std.specs.Option.{option_copied};
-ghost use Rattle.st_canon.specs.Entries.{items_in};
+ghost use Rattle.st_canon.specs.Entries.{list_in};
 ghost use Rattle.st_canon.specs.Shapes.{entries_in, is_list_if_there, is_object_if_there, is_text_if_there, only_of};
-ghost use Rattle.st_canon.specs.View.{plain, plain_items};
+ghost use Rattle.st_canon.specs.View.{plain};
 
 use crate::value::Json;
 use st_base::List;
@@ -41,7 +41,6 @@ pub fn is_object_if_there(there: Option<&Json>) -> bool
 }
 
 /// The entries of the list that is there. Where there is nothing, or no list, there are none.
-#[tactic(auto, using(crate::proofs::ItemLists::entries_listed))]
 pub fn entries_in<'a>(there: Option<&'a Json>) -> &'a [Json]
     ensures { map plain result.now ≡ entries_in (option_map plain (option_copied there.entry)) }
 {
@@ -52,7 +51,7 @@ pub fn entries_in<'a>(there: Option<&'a Json>) -> &'a [Json]
 }
 
 fn list_there(there: Option<&Json>) -> Option<&List<Json>>
-    ensures { option_map (λ items. plain_items items.now) result ≡ option_and_then items_in (option_map plain (option_copied there.entry)) }
+    ensures { option_map (λ items. map plain items.now) result ≡ option_and_then list_in (option_map plain (option_copied there.entry)) }
 {
     there?.as_list()
 }

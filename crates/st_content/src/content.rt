@@ -1,12 +1,16 @@
-ghost use Rattle.std.specs.Prelude.{◌≡◌, [], ◌↔◌, IsSome, IfOk, OnOk, OnErr};
-ghost use Rattle.std.specs.Option.{option_copied};
-ghost use Rattle.st_hash.specs.Hash.{uri_of};
-ghost use Rattle.st_content.specs.Files.{file_at, with_file};
+ghost use Rattle.std.specs.Prelude.{◌≡◌, ◌≢◌, [], ◌↔◌, IsSome, IfSome, IfOk, OnOk, OnErr, Some};
+ghost use Rattle.std.specs.Option.{option_copied, option_or};
+ghost use Rattle.std.specs.BTreeMap.{ContainsKey};
+ghost use Rattle.std.specs.Cmp.Lexicographic.{slice_cmp};
+ghost use Rattle.std.specs.Ordering.{nat_cmp};
+ghost use Rattle.st_hash.specs.Hash.{HashValue, uri_of};
+ghost use Rattle.st_content.specs.Files.{AreNamed, file_at, with_entry, with_file};
 
 use st_base::{Bytes, WantOfMemory};
-use st_hash::{Hash, uri_of};
+use st_hash::{Hash, sha256};
 use std::alloc::Global;
 use std::collections::BTreeMap;
+use std::collections::btree_map::Entry;
 use std::marker::Model;
 
 /// Whether a file was new.
@@ -21,15 +25,18 @@ pub enum Put {
 /// Files by their URI. Contracts see the pairs of a URI and its file, in the order of the URIs.
 #[derive(Drop)]
 pub struct Content {
-    files: BTreeMap<Hash, Bytes>,
+    // Under the digests of the URIs, which are all of SHA-256.
+    files: BTreeMap<[u8; 32], Bytes>,
 }
 
 impl Model for Content {
-    ghost use Rattle.st_content.specs.Files.{Files};
+    ghost use Rattle.st_content.specs.Files.{AreNamed, Files, files_of};
 
     ghost Value = { Files };
 
-    ghost view = { λ c. c.files.entries };
+    ghost view = { λ c. files_of c.files.entries };
+
+    ghost invariant = { λ c. AreNamed (files_of c.files.entries) };
 }
 
 impl Content {
@@ -44,24 +51,53 @@ impl Content {
 
     /// Keeps the file, where none of its URI is there, and gives its URI. `Had` comes exactly where
     /// one is there; then nothing changes.
-    pub fn put(&mut self, bytes: Bytes) -> Result<(Hash, Put), WantOfMemory>
+    pub fn put(&mut self, _alloc: Global, bytes: Bytes) -> Result<(Hash, Put), WantOfMemory>
         ensures uri { IfOk result (λ done. done.0 ≡ uri_of bytes) }
         ensures had { IfOk result (λ done. (done.1 ≡ Put.Had) ↔ IsSome (file_at (uri_of bytes) self.old)) }
         ensures ok { OnOk result (self.new ≡ with_file bytes self.old) }
+        // The first file of a URI stays, and so does the file of every other URI.
+        ensures first { OnOk result
+            (file_at (uri_of bytes) self.new ≡ option_or (file_at (uri_of bytes) self.old) (Some bytes)) }
+        ensures others { OnOk result
+            ((uri : HashValue) → uri ≢ uri_of bytes → file_at uri self.new ≡ file_at uri self.old) }
         ensures err { OnErr result (self.new ≡ self.old) }
     {
-        let uri = uri_of(bytes.as_slice());
-        if self.get(&uri).is_some() {
-            return Ok((uri, Put::Had));
-        }
-        self.files.insert(uri, bytes)?;
-        Ok((uri, Put::New))
+        let digest = sha256(bytes.as_slice());
+        let uri = Hash::of_sha256(digest);
+        let put = put_first(&mut self.files, digest, bytes)?;
+        Ok((uri, put))
     }
 
-    /// The file of this URI. None comes exactly where there is none.
+    /// The file of this URI. None comes exactly where there is none; a hash of another algorithm than
+    /// SHA-256 is no URI.
     pub fn get(&self, uri: &Hash) -> Option<&Bytes>
-        ensures { option_copied result ≡ file_at uri.now self.now }
+        ensures value { option_copied result ≡ file_at uri.now self.now }
+        // The file has the URI that was asked for.
+        ensures uri { IfSome result (λ file. uri_of file.now ≡ uri.now) }
+        ensures named { AreNamed self.now }
     {
-        self.files.get(uri)
+        match uri.sha256_digest() {
+            Some(digest) => self.files.get(&digest),
+            None => None,
+        }
+    }
+}
+
+// Puts the file under its digest, where none stands there. The map is searched once.
+fn put_first(
+    files: &mut BTreeMap<[u8; 32], Bytes>,
+    digest: [u8; 32],
+    file: Bytes,
+) -> Result<Put, WantOfMemory>
+    ensures had { IfOk result (λ put. (put ≡ Put.Had) ↔ ContainsKey (slice_cmp nat_cmp) files.old digest) }
+    ensures ok { OnOk result (files.new.entries ≡ with_entry digest file files.old.entries) }
+    ensures err { OnErr result (files.new.entries ≡ files.old.entries) }
+{
+    match files.entry(digest)? {
+        Entry::Occupied(_) => Ok(Put::Had),
+        Entry::Vacant(entry) => {
+            let _file = entry.insert(file);
+            Ok(Put::New)
+        }
     }
 }

@@ -1,21 +1,44 @@
 -- The ends of a run.
-use Rattle.std.proofs.Common.{◌<◌, ◌≤◌, ◌^◌, ◌≡◌, ◌∙◌, ◌++◌, ◌+◌, length, take, ℕ, true, List, [], Some, None, Ok, Err, Result, ap, sym, subst, arith, append_assoc, append-nil, length-append, refl, inl}
+use Rattle.std.proofs.Common.{◌<◌, ◌≤◌, ◌^◌, ◌≡◌, ◌∙◌, ◌++◌, ◌+◌, length, take, ℕ, List, [], Some, None, Ok, Err, Result, refl, inl, ap, sym, subst, arith, append_assoc, append-nil, length-append}
 use Rattle.std.proofs.lemmas.List.{take_at}
 use Rattle.std.specs.Prelude.{IfSome, OnOk, OnErr, IfErr}
 use Rattle.std.specs.declared.option.Option.{Option}
-use Rattle.std.specs.Io.KnownBytes.{Appends, Consumes, Keeps, IsAtEnd}
+use Rattle.std.specs.Io.KnownBytes.{Consumes, Keeps, IsAtEnd}
 use Rattle.std.proofs.KnownBytes.{Appends-nil, Appends-trans, Consumes-nil, Consumes-trans, Consumes-kept}
 use Rattle.st_drive.specs.declared.stop.Stop.{Stop}
 use Rattle.st_drive.specs.declared.stop.Stop.TheVariants.{ReadFault, WriteFault, DeviceFault, OverLimit, WantOfMemory}
-use Rattle.st_drive.specs.Lines.{split, capped, whole_lines, last_line, all_lines, has_no_feed, CutTo}
-use Rattle.st_drive.specs.Runs.{Begins, RanOver, GaveUpOver, Goes, Stops, GoesOverCut, StopsOverCut}
+use Rattle.st_base.specs.Words.{HasNo}
+use Rattle.st_drive.specs.Lines.{split, capped, whole_lines, last_line, all_lines, CutTo}
+use Rattle.st_drive.specs.Meaning.{Meaning, Laws}
+use Rattle.st_drive.specs.Runs.{Begins, RanOver, GaveUpOver}
+use Rattle.st_drive.specs.Parts.{Goes, Stops, GoesOverCut, Wrote, WroteSome}
 use Rattle.st_drive.specs.Stops.{IsAnswerStop}
 use Rattle.st_drive.specs.Tables.{Answered, EndsEarly, Row, Table}
 use Rattle.st_drive.proofs.LineLemmas.{split_append, capped_append, capped_rest, capped_nil}
 use Rattle.st_drive.proofs.CutLemmas.{whole_cut, all_cut}
-use Rattle.st_drive.specs.Meaning.{Meaning, Laws}
 use Rattle.st_drive.proofs.RunLemmas.{went_none, went_more, stopped_more, stops_longer}
-use Rattle.st_drive.proofs.Fed.{Taken}
+
+-- a machine and its context, what the source has left, and what the sink holds
+pub record Place (M C : Type 0) : Type 0 where
+  pub machine : M
+  pub context : C
+  pub left : Option (List ℕ)
+  pub holds : Option (List ℕ)
+
+-- What was taken from the start on is answered up to its last line feed, and the line is what stands behind it.
+-- There is room for so many bytes more.
+pub record Taken {M C : Type 0} (means : Meaning M C) (cap limit room : ℕ) (line : List ℕ) (start now : Place M C) : Type 0 where
+  pub taken : List ℕ
+  pub takes : Consumes start.left now.left taken
+  pub line_is : line ≡ (capped cap taken).1
+  pub wrote : Wrote means cap start.machine start.context (capped cap taken).0 now.machine now.context start.holds now.holds
+  pub budget : length taken + room ≡ limit
+
+-- one read gave these bytes, the first of which there is room for, and at most one more
+pub record Read (room : ℕ) (left rest : Option (List ℕ)) (piece extra : List ℕ) : Type 0 where
+  pub takes : Consumes left rest (piece ++ extra)
+  pub fits : length piece ≤ room
+  pub most : length (piece ++ extra) ≤ room + 1
 
 if_some : {X : Type 0} {P : X → Type 0} (o : Option X) → ((x : X) → P x) → IfSome o P
 if_some None f = tt
@@ -25,218 +48,36 @@ if_some_map : {X : Type 0} {P Q : X → Type 0} (o : Option X) → IfSome o P �
 if_some_map None p f = tt
 if_some_map (Some x) p f = f x p
 
+-- these lines are the first of all lines of the bytes
+abbrev AreFirst : List (List ℕ) → List ℕ → Type 0
+AreFirst lines bytes = (later : List (List ℕ)) × (lines ++ later ≡ all_lines bytes)
+
 -- the lines of more bytes begin with the whole lines of these
-whole_first : (bytes more : List ℕ) → (rest : List (List ℕ)) × (whole_lines bytes ++ rest ≡ all_lines (bytes ++ more))
+whole_first : (bytes more : List ℕ) → AreFirst (whole_lines bytes) (bytes ++ more)
 whole_first bytes more =
     let e = split_append bytes more in
     let next = (split bytes).1 ++ more in
     let rest = whole_lines next ++ last_line (split next).1 in
     (rest, sym (ap (λ p. p.0 ++ last_line p.1) e ∙ append_assoc (whole_lines bytes) (whole_lines next) (last_line (split next).1)))
 
-module _ {M C : Type 0} (means : Meaning M C) (cap : ℕ) (laws : Laws means cap) where
-  -- of the bytes so far and then a piece
-  piece_lines : (taken line piece : List ℕ) → line ≡ (capped cap taken).1
-      → capped cap (taken ++ piece) ≡ ((capped cap taken).0 ++ (capped cap (line ++ piece)).0, (capped cap (line ++ piece)).1)
-  piece_lines taken line piece e =
-      capped_append cap taken piece
-      ∙ ap (λ l. ((capped cap taken).0 ++ (capped cap (l ++ piece)).0, (capped cap (l ++ piece)).1)) (sym e)
+-- all lines are those of a source that is at its end
+all_at_end : (bytes : List ℕ) (left : Option (List ℕ)) → IsAtEnd left → IfSome left (λ rest. AreFirst (all_lines bytes) (bytes ++ rest))
+all_at_end bytes None end = tt
+all_at_end bytes (Some rest) end =
+    ([], append-nil (all_lines bytes) ∙ ap all_lines (sym (ap (λ xs. bytes ++ xs) end ∙ append-nil bytes)))
 
-  pub taken_start : (m : M) (c : C) (limit : ℕ) (had held : Option (List ℕ))
-      → Taken means cap m c m c [] limit limit had had held held
-  taken_start m c limit had held = record {
-    taken = [];
-    written = [];
-    takes = Consumes-nil had;
-    line_is = sym (capped_nil cap);
-    went = went_none means cap laws m c;
-    writes = Appends-nil held;
-    budget = omega arith;
-  }
+-- the row of a run that was stopped while it answered
+early_row : {answers : List (List ℕ) → List ℕ} {ran_over gave_up_over : List (List ℕ) → Type 0} {left : Option (List ℕ)} {taken written : List ℕ}
+    (T : Type 0) (limit : ℕ) (rose device : Type 0) (stop : Stop) → IsAnswerStop rose device stop → length taken ≤ limit + 1
+    → EndsEarly answers ran_over gave_up_over left taken written
+    → Row {T = T} answers ran_over gave_up_over limit left taken written (Err stop)
+early_row T limit rose device ReadFault cause le early = absurd cause
+early_row T limit rose device WriteFault cause le early = (le, early)
+early_row T limit rose device DeviceFault cause le early = (le, early)
+early_row T limit rose device OverLimit cause le early = absurd cause
+early_row T limit rose device WantOfMemory cause le early = (le, early)
 
-  pub taken_open : (m n : M) (c d : C) (line : List ℕ) (limit room : ℕ) (had left held holds : Option (List ℕ))
-      → Taken means cap m c n d line limit room had left held holds → has_no_feed line ≡ true
-  taken_open m n c d line limit room had left held holds t = ap has_no_feed t.line_is ∙ capped_rest cap t.taken
-
-  -- the lines of a piece were answered
-  pub taken_more : (m n o : M) (c d e : C) (line piece next : List ℕ) (limit room less : ℕ) (had left rest held holds new : Option (List ℕ))
-      → Taken means cap m c n d line limit room had left held holds
-      → Consumes left rest piece → length piece + less ≡ room → ((written : List ℕ) × GoesOverCut means cap n d (capped cap (line ++ piece)).0 written o e × Appends holds new written) → next ≡ (capped cap (line ++ piece)).1
-      → Taken means cap m c o e next limit less had rest held new
-  taken_more m n o c d e line piece next limit room less had left rest held holds new t takes count more line_is =
-      let lines = piece_lines t.taken line piece t.line_is in
-      record {
-        taken = t.taken ++ piece;
-        written = t.written ++ more.0;
-        takes = Consumes-trans had left rest t.taken piece t.takes takes;
-        line_is = line_is ∙ sym (ap (λ p. p.1) lines);
-        went =
-            subst (λ ls. GoesOverCut means cap m c ls (t.written ++ more.0) o e) (sym (ap (λ p. p.0) lines)) (went_more means cap laws m n o c d e _ _ t.written more.0 t.went more.1);
-        writes = Appends-trans held holds new t.written more.0 t.writes more.2;
-        budget = (let b = t.budget in omega (arith, length-append t.taken piece));
-      }
-
-  -- what was written of lines that went
-  answered_of : (m n : M) (c d : C) (lines : List (List ℕ)) (written : List ℕ)
-      → Goes means m c lines written n d → Answered (means.answers m) (RanOver means m c d) written lines
-  answered_of m n c d lines written p =
-      (sym (append-nil written) ∙ ap (λ xs. written ++ xs) (sym (laws.silent n)) ∙ sym (p.on []) ∙ ap (means.answers m) (append-nil lines), (n, p.context))
-
-  answered_whole : (m n : M) (c d : C) (bytes written : List ℕ) → length bytes < 2 ^ 62
-      → GoesOverCut means cap m c (capped cap bytes).0 written n d
-      → Answered (means.answers m) (RanOver means m c d) written (whole_lines bytes)
-  answered_whole m n c d bytes written short p =
-      answered_of m n c d (whole_lines bytes) written (p.of (whole_lines bytes) (whole_cut cap bytes short))
-
-  pub table_read_fault : {T : Type 0} (m n : M) (c d : C) (line : List ℕ) (limit room : ℕ) (had left rest held holds : Option (List ℕ))
-      → limit < 2 ^ 62 → Taken means cap m c n d line limit room had left held holds → Keeps left rest
-      → Table {T = T} (means.answers m) (RanOver means m c d) (GaveUpOver means m c d) limit had rest held holds (Err ReadFault)
-  table_read_fault m n c d line limit room had left rest held holds small t kept =
-      let b = t.budget in
-      record {
-        taken = t.taken;
-        written = t.written;
-        takes = Consumes-kept had left rest t.taken t.takes kept;
-        writes = t.writes;
-        row = (omega arith, answered_whole m n c d t.taken t.written (omega arith) t.went);
-      }
-
-  -- a run that stopped within the first lines of what was taken ended early
-  ends_early : (m : M) (c d : C) (lines : List (List ℕ)) (written taken : List ℕ) (left : Option (List ℕ))
-      → Stops means m c lines written d
-      → ((later : List (List ℕ)) × (lines ++ later ≡ all_lines taken)) → IfSome left (λ rest. (later : List (List ℕ)) × (lines ++ later ≡ all_lines (taken ++ rest)))
-      → EndsEarly (means.answers m) (RanOver means m c d) (GaveUpOver means m c d) left taken written
-  ends_early m c d lines written taken left stops now all =
-      let longer = stops_longer means cap laws m c d lines now.0 written stops in
-      record {
-        answered = longer.answered;
-        later = longer.later;
-        lines = longer.all ∙ now.1;
-        replies = subst (λ ls. Begins written (means.answers m ls)) (append-nil longer.answered) (longer.off []);
-        all_replies =
-            if_some_map left all (λ rest more. subst (λ ls. Begins written (means.answers m ls)) (sym (append_assoc stops.answered stops.later more.0) ∙ ap (λ ls. ls ++ more.0) stops.all ∙ more.1) (stops.off (stops.later ++ more.0)));
-        context = longer.context;
-      }
-
-  row_of_early : (T : Type 0) (m : M) (c d : C) (limit : ℕ) (rose device : Type 0) (stop : Stop) (left : Option (List ℕ)) (taken written : List ℕ)
-      → IsAnswerStop rose device stop → length taken ≤ limit + 1
-      → EndsEarly (means.answers m) (RanOver means m c d) (GaveUpOver means m c d) left taken written → Row {T = T} (means.answers m) (RanOver means m c d) (GaveUpOver means m c d) limit left taken written (Err stop)
-  row_of_early T m c d limit rose device ReadFault left taken written s le p = absurd s
-  row_of_early T m c d limit rose device WriteFault left taken written s le p = (le, p)
-  row_of_early T m c d limit rose device DeviceFault left taken written s le p = (le, p)
-  row_of_early T m c d limit rose device OverLimit left taken written s le p = absurd s
-  row_of_early T m c d limit rose device WantOfMemory left taken written s le p = (le, p)
-
-  -- the run stopped while it answered the lines of a piece; one byte more may have been taken
-  pub table_cut : {T : Type 0} (m n : M) (c d e : C) (line piece extra : List ℕ) (limit room : ℕ) (had left rest held holds new : Option (List ℕ)) (rose device : Type 0) (stop : Stop)
-      → limit < 2 ^ 62
-      → Taken means cap m c n d line limit room had left held holds → Consumes left rest (piece ++ extra) → length piece ≤ room → length (piece ++ extra) ≤ room + 1
-      → ((written : List ℕ) × StopsOverCut means cap n d (capped cap (line ++ piece)).0 written e × Appends holds new written) → IsAnswerStop rose device stop
-      → Table {T = T} (means.answers m) (RanOver means m c e) (GaveUpOver means m c e) limit had rest held new (Err stop)
-  table_cut {T} m n c d e line piece extra limit room had left rest held holds new rose device stop small t takes fits most cut cause =
-      let kept = piece_lines t.taken line piece t.line_is in
-      let written = t.written ++ cut.0 in
-      let bytes = t.taken ++ piece in
-      let b = t.budget in
-      let len = length-append t.taken piece in
-      let stopped : StopsOverCut means cap m c (capped cap bytes).0 written e = subst (λ ls. StopsOverCut means cap m c ls written e) (sym (ap (λ p. p.0) kept)) (stopped_more means cap laws m n c d e _ _ t.written cut.0 t.went cut.1) in
-      let stops : Stops means m c (whole_lines bytes) written e = stopped.of (whole_lines bytes) (whole_cut cap bytes (omega arith)) in
-      let assoc : (more : List ℕ) → bytes ++ (extra ++ more) ≡ (t.taken ++ (piece ++ extra)) ++ more =
-      λ more. append_assoc t.taken piece (extra ++ more) ∙ ap (λ xs. t.taken ++ xs) (sym (append_assoc piece extra more)) ∙ sym (append_assoc t.taken (piece ++ extra) more) in
-      let now = whole_first bytes extra in
-      record {
-        taken = t.taken ++ (piece ++ extra);
-        written = written;
-        takes = Consumes-trans had left rest t.taken (piece ++ extra) t.takes takes;
-        writes = Appends-trans held holds new t.written cut.0 t.writes cut.2;
-        row =
-            row_of_early T m c e limit rose device stop rest (t.taken ++ (piece ++ extra)) written cause (omega (arith, length-append t.taken (piece ++ extra)))
-            (ends_early m c e (whole_lines bytes) written (t.taken ++ (piece ++ extra)) rest stops (now.0, now.1 ∙ ap all_lines (append_assoc t.taken piece extra))
-            (if_some rest (λ more. let all = whole_first bytes (extra ++ more) in (all.0, all.1 ∙ ap all_lines (assoc more)))));
-      }
-
-  pub table_over : {T : Type 0} (m n o : M) (c d e : C) (line piece extra : List ℕ) (limit room : ℕ) (had left rest held holds new : Option (List ℕ))
-      → limit < 2 ^ 62
-      → Taken means cap m c n d line limit room had left held holds → Consumes left rest (piece ++ extra) → length piece ≡ room → length extra ≡ 1
-      → ((written : List ℕ) × GoesOverCut means cap n d (capped cap (line ++ piece)).0 written o e × Appends holds new written)
-      → Table {T = T} (means.answers m) (RanOver means m c e) (GaveUpOver means m c e) limit had rest held new (Err OverLimit)
-  table_over m n o c d e line piece extra limit room had left rest held holds new small t takes full one more =
-      let kept = piece_lines t.taken line piece t.line_is in
-      let written = t.written ++ more.0 in
-      let bytes = t.taken ++ piece in
-      let went : GoesOverCut means cap m c (capped cap bytes).0 written o e = subst (λ ls. GoesOverCut means cap m c ls written o e) (sym (ap (λ p. p.0) kept)) (went_more means cap laws m n o c d e _ _ t.written more.0 t.went more.1) in
-      let b = t.budget in
-      let len : length bytes ≡ limit = omega (arith, length-append t.taken piece) in
-      let first : take limit (t.taken ++ (piece ++ extra)) ≡ bytes = ap (take limit) (sym (append_assoc t.taken piece extra)) ∙ take_at bytes extra limit len in
-      record {
-        taken = t.taken ++ (piece ++ extra);
-        written = written;
-        takes = Consumes-trans had left rest t.taken (piece ++ extra) t.takes takes;
-        writes = Appends-trans held holds new t.written more.0 t.writes more.2;
-        row = (
-          omega (arith, length-append t.taken (piece ++ extra), length-append piece extra, length-append t.taken piece),
-          subst (λ xs. Answered (means.answers m) (RanOver means m c e) written (whole_lines xs)) (sym first) (answered_whole m o c e bytes written (omega arith) went),
-        );
-      }
-
-  pub table_end : {T : Type 0} (x : T) (m n o : M) (c d e : C) (line : List ℕ) (limit room : ℕ) (had left rest held holds new : Option (List ℕ))
-      → limit < 2 ^ 62
-      → Taken means cap m c n d line limit room had left held holds → Consumes left rest [] → IsAtEnd rest
-      → ((written : List ℕ) × GoesOverCut means cap n d (last_line line) written o e × Appends holds new written)
-      → Table (means.answers m) (RanOver means m c e) (GaveUpOver means m c e) limit had rest held new (Ok x)
-  table_end x m n o c d e line limit room had left rest held holds new small t takes end last =
-      let written = t.written ++ last.0 in
-      let b = t.budget in
-      let went = went_more means cap laws m n o c d e (capped cap t.taken).0 (last_line line) t.written last.0 t.went last.1 in
-      let kept : (capped cap t.taken).0 ++ last_line (capped cap t.taken).1 ≡ (capped cap t.taken).0 ++ last_line line = ap (λ xs. (capped cap t.taken).0 ++ last_line xs) (sym t.line_is) in
-      let goes = went.of (all_lines t.taken) (subst (CutTo cap (all_lines t.taken)) kept (all_cut cap t.taken laws.positive (omega arith))) in
-      record {
-        taken = t.taken ++ [];
-        written = written;
-        takes = Consumes-trans had left rest t.taken [] t.takes takes;
-        writes = Appends-trans held holds new t.written last.0 t.writes last.2;
-        row =
-            (end, omega (arith, length-append t.taken []), subst (λ xs. Answered (means.answers m) (RanOver means m c e) written (all_lines xs)) (sym (append-nil t.taken)) (answered_of m o c e (all_lines t.taken) written goes));
-      }
-
-  at_end : (lines : List (List ℕ)) (taken : List ℕ) (left : Option (List ℕ)) → IsAtEnd left → lines ≡ all_lines taken
-      → IfSome left (λ rest. (later : List (List ℕ)) × (lines ++ later ≡ all_lines (taken ++ rest)))
-  at_end lines taken None end e = tt
-  at_end lines taken (Some rest) end e =
-      ([], append-nil lines ∙ e ∙ ap all_lines (sym (ap (λ xs. taken ++ xs) end ∙ append-nil taken)))
-
-  pub table_end_cut : {T : Type 0} (m n : M) (c d e : C) (line : List ℕ) (limit room : ℕ) (had left rest held holds new : Option (List ℕ)) (rose device : Type 0) (stop : Stop)
-      → limit < 2 ^ 62
-      → Taken means cap m c n d line limit room had left held holds → Consumes left rest [] → IsAtEnd rest
-      → ((written : List ℕ) × StopsOverCut means cap n d (last_line line) written e × Appends holds new written) → IsAnswerStop rose device stop
-      → Table {T = T} (means.answers m) (RanOver means m c e) (GaveUpOver means m c e) limit had rest held new (Err stop)
-  table_end_cut {T} m n c d e line limit room had left rest held holds new rose device stop small t takes end cut cause =
-      let written = t.written ++ cut.0 in
-      let b = t.budget in
-      let stopped = stopped_more means cap laws m n c d e (capped cap t.taken).0 (last_line line) t.written cut.0 t.went cut.1 in
-      let kept : (capped cap t.taken).0 ++ last_line (capped cap t.taken).1 ≡ (capped cap t.taken).0 ++ last_line line = ap (λ xs. (capped cap t.taken).0 ++ last_line xs) (sym t.line_is) in
-      let stops = stopped.of (all_lines t.taken) (subst (CutTo cap (all_lines t.taken)) kept (all_cut cap t.taken laws.positive (omega arith))) in
-      let whole : all_lines t.taken ≡ all_lines (t.taken ++ []) = ap all_lines (sym (append-nil t.taken)) in
-      record {
-        taken = t.taken ++ [];
-        written = written;
-        takes = Consumes-trans had left rest t.taken [] t.takes takes;
-        writes = Appends-trans held holds new t.written cut.0 t.writes cut.2;
-        row =
-            row_of_early T m c e limit rose device stop rest (t.taken ++ []) written cause (omega (arith, length-append t.taken []))
-            (ends_early m c e (all_lines t.taken) written (t.taken ++ []) rest stops ([], append-nil (all_lines t.taken) ∙ whole) (at_end (all_lines t.taken) (t.taken ++ []) rest end whole));
-      }
-
-  pub table_of_end : (T : Type 0) (r : Result T Stop) (m n : M) (c d e : C) (line : List ℕ) (limit room : ℕ) (had left rest held holds new : Option (List ℕ)) (rose device : Type 0)
-      → limit < 2 ^ 62
-      → Taken means cap m c n d line limit room had left held holds → Consumes left rest [] → IsAtEnd rest
-      → OnOk r ((written : List ℕ) × (next : M) × GoesOverCut means cap n d (last_line line) written next e × Appends holds new written)
-      → OnErr r ((written : List ℕ) × StopsOverCut means cap n d (last_line line) written e × Appends holds new written) → IfErr r (IsAnswerStop rose device)
-      → Table (means.answers m) (RanOver means m c e) (GaveUpOver means m c e) limit had rest held new r
-  table_of_end T (Ok x) m n c d e line limit room had left rest held holds new rose device small t takes end ok err cause =
-      table_end x m n ok.1 c d e line limit room had left rest held holds new small t takes end (ok.0, ok.2, ok.3)
-  table_of_end T (Err stop) m n c d e line limit room had left rest held holds new rose device small t takes end ok err cause =
-      table_end_cut m n c d e line limit room had left rest held holds new rose device stop small t takes end err cause
-
+module _ {M C : Type 0} {means : Meaning M C} {cap : ℕ} (laws : Laws means cap) where
   -- before its first read a run has done nothing
   pub nothing_yet : (m : M) (c : C) (left : Option (List ℕ))
       → EndsEarly (means.answers m) (RanOver means m c c) (GaveUpOver means m c c) left [] []
@@ -248,3 +89,182 @@ module _ {M C : Type 0} (means : Meaning M C) (cap : ℕ) (laws : Laws means cap
     all_replies = if_some left (λ rest. (means.answers m (all_lines rest), refl));
     context = inl (m, laws.ran_none m c);
   }
+
+  pub taken_start : (start : Place M C) (limit : ℕ) → Taken means cap limit limit [] start start
+  taken_start start limit = record {
+    taken = [];
+    takes = Consumes-nil start.left;
+    line_is = sym (capped_nil cap);
+    wrote = record { written = []; went = went_none laws start.machine start.context; writes = Appends-nil start.holds };
+    budget = omega arith;
+  }
+
+  pub taken_open : {limit room : ℕ} {line : List ℕ} {start now : Place M C} → Taken means cap limit room line start now
+      → HasNo 10 line
+  taken_open t = subst (HasNo 10) (sym t.line_is) (capped_rest cap t.taken)
+
+  -- the lines of what was taken and of a piece
+  piece_lines : {limit room : ℕ} {line : List ℕ} {start now : Place M C} (t : Taken means cap limit room line start now) (piece : List ℕ)
+      → capped cap (t.taken ++ piece) ≡ ((capped cap t.taken).0 ++ (capped cap (line ++ piece)).0, (capped cap (line ++ piece)).1)
+  piece_lines t piece =
+      capped_append cap t.taken piece
+      ∙ ap (λ l. ((capped cap t.taken).0 ++ (capped cap (l ++ piece)).0, (capped cap (l ++ piece)).1)) (sym t.line_is)
+
+  -- the lines of a piece were answered
+  wrote_more : {m n o : M} {c d e : C} {ls ks : List (List ℕ)} {held between holds : Option (List ℕ)}
+      → Wrote means cap m c ls n d held between → Wrote means cap n d ks o e between holds → Wrote means cap m c (ls ++ ks) o e held holds
+  wrote_more {held = held} {between = between} {holds = holds} p q = record {
+    written = p.written ++ q.written;
+    went = went_more laws p.went q.went;
+    writes = Appends-trans held between holds p.written q.written p.writes q.writes;
+  }
+
+  wrote_less : {m n : M} {c d e : C} {ls ks : List (List ℕ)} {held between holds : Option (List ℕ)}
+      → Wrote means cap m c ls n d held between → WroteSome means cap n d ks e between holds → WroteSome means cap m c (ls ++ ks) e held holds
+  wrote_less {held = held} {between = between} {holds = holds} p q = record {
+    written = p.written ++ q.written;
+    stopped = stopped_more laws p.went q.stopped;
+    writes = Appends-trans held between holds p.written q.written p.writes q.writes;
+  }
+
+  pub taken_more : {limit room less : ℕ} {line next : List ℕ} {start now : Place M C} (new : Place M C) (piece : List ℕ)
+      → Taken means cap limit room line start now → Consumes now.left new.left piece → length piece + less ≡ room
+      → Wrote means cap now.machine now.context (capped cap (line ++ piece)).0 new.machine new.context now.holds new.holds
+      → next ≡ (capped cap (line ++ piece)).1 → Taken means cap limit less next start new
+  taken_more {start = start} {now = now} new piece t takes count more line_is =
+      let lines = piece_lines t piece in
+      let b = t.budget in
+      record {
+        taken = t.taken ++ piece;
+        takes = Consumes-trans start.left now.left new.left t.taken piece t.takes takes;
+        line_is = line_is ∙ sym (ap (λ p. p.1) lines);
+        wrote = subst (λ ls. Wrote means cap start.machine start.context ls new.machine new.context start.holds new.holds) (sym (ap (λ p. p.0) lines)) (wrote_more t.wrote more);
+        budget = omega (arith, length-append t.taken piece);
+      }
+
+  -- what was written of lines that went
+  answered_of : {m n : M} {c d : C} {lines : List (List ℕ)} {written : List ℕ} → Goes means m c lines written n d
+      → Answered (means.answers m) (RanOver means m c d) written lines
+  answered_of {m} {n} {c} {d} {lines} {written} p =
+      (sym (append-nil written) ∙ ap (λ xs. written ++ xs) (sym (laws.silent n)) ∙ sym (p.on []) ∙ ap (means.answers m) (append-nil lines), (n, p.context))
+
+  answered_whole : {m n : M} {c d : C} {written : List ℕ} (bytes : List ℕ) → length bytes < 2 ^ 62
+      → GoesOverCut means cap m c (capped cap bytes).0 written n d
+      → Answered (means.answers m) (RanOver means m c d) written (whole_lines bytes)
+  answered_whole bytes short p = answered_of (p.of (whole_lines bytes) (whole_cut cap bytes short))
+
+  -- a run that stopped within the first lines of what was taken ended early
+  ends_early : {m : M} {c d : C} {lines : List (List ℕ)} {written : List ℕ} (taken : List ℕ) (left : Option (List ℕ))
+      → Stops means m c lines written d → AreFirst lines taken → IfSome left (λ rest. AreFirst lines (taken ++ rest))
+      → EndsEarly (means.answers m) (RanOver means m c d) (GaveUpOver means m c d) left taken written
+  ends_early {m} {c} {d} {lines} {written} taken left stops now all =
+      let longer = stops_longer laws lines now.0 written stops in
+      record {
+        answered = longer.answered;
+        later = longer.later;
+        lines = longer.all ∙ now.1;
+        replies = subst (λ ls. Begins written (means.answers m ls)) (append-nil longer.answered) (longer.off []);
+        all_replies =
+            if_some_map left all (λ rest more. subst (λ ls. Begins written (means.answers m ls)) (sym (append_assoc stops.answered stops.later more.0) ∙ ap (λ ls. ls ++ more.0) stops.all ∙ more.1) (stops.off (stops.later ++ more.0)));
+        context = longer.context;
+      }
+
+  -- ---- the table at each end
+
+  pub table_read_fault : {T : Type 0} {limit room : ℕ} {line : List ℕ} {start now : Place M C} (rest : Option (List ℕ))
+      → limit < 2 ^ 62 → Taken means cap limit room line start now → Keeps now.left rest
+      → Table {T = T} (means.answers start.machine) (RanOver means start.machine start.context now.context) (GaveUpOver means start.machine start.context now.context) limit start.left rest start.holds now.holds (Err ReadFault)
+  table_read_fault {start = start} {now = now} rest small t kept =
+      let b = t.budget in
+      record {
+        taken = t.taken;
+        written = t.wrote.written;
+        takes = Consumes-kept start.left now.left rest t.taken t.takes kept;
+        writes = t.wrote.writes;
+        row = (omega arith, answered_whole t.taken (omega arith) t.wrote.went);
+      }
+
+  -- the run stopped while it answered the lines of a piece; one byte more may have been taken
+  pub table_cut : {T : Type 0} {limit room : ℕ} {line piece extra : List ℕ} {start now : Place M C} {rest new : Option (List ℕ)} {e : C} (rose device : Type 0) (stop : Stop)
+      → limit < 2 ^ 62 → Taken means cap limit room line start now → Read room now.left rest piece extra
+      → WroteSome means cap now.machine now.context (capped cap (line ++ piece)).0 e now.holds new → IsAnswerStop rose device stop
+      → Table {T = T} (means.answers start.machine) (RanOver means start.machine start.context e) (GaveUpOver means start.machine start.context e) limit start.left rest start.holds new (Err stop)
+  table_cut {T} {limit} {room} {line} {piece} {extra} {start} {now} {rest} {new} {e} rose device stop small t read cut cause =
+      let bytes = t.taken ++ piece in
+      let all = t.taken ++ (piece ++ extra) in
+      let b = t.budget in
+      let fits = read.fits in
+      let most = read.most in
+      let len = length-append t.taken piece in
+      let some = subst (λ ls. WroteSome means cap start.machine start.context ls e start.holds new) (sym (ap (λ p. p.0) (piece_lines t piece))) (wrote_less t.wrote cut) in
+      let stops = some.stopped.of (whole_lines bytes) (whole_cut cap bytes (omega arith)) in
+      let assoc : (more : List ℕ) → bytes ++ (extra ++ more) ≡ all ++ more =
+      λ more. append_assoc t.taken piece (extra ++ more) ∙ ap (λ xs. t.taken ++ xs) (sym (append_assoc piece extra more)) ∙ sym (append_assoc t.taken (piece ++ extra) more) in
+      let first = whole_first bytes extra in
+      let early = ends_early all rest stops (first.0, first.1 ∙ ap all_lines (append_assoc t.taken piece extra)) (if_some rest (λ more. let found = whole_first bytes (extra ++ more) in (found.0, found.1 ∙ ap all_lines (assoc more)))) in
+      record {
+        taken = all;
+        written = some.written;
+        takes = Consumes-trans start.left now.left rest t.taken (piece ++ extra) t.takes read.takes;
+        writes = some.writes;
+        row = early_row T limit rose device stop cause (omega (arith, length-append t.taken (piece ++ extra))) early;
+      }
+
+  -- the source gave one byte more than there was room for
+  pub table_over : {T : Type 0} {limit room : ℕ} {line piece extra : List ℕ} {start now : Place M C} {rest new : Option (List ℕ)} {o : M} {e : C}
+      → limit < 2 ^ 62 → Taken means cap limit room line start now → Read room now.left rest piece extra
+      → length piece ≡ room → length extra ≡ 1 → Wrote means cap now.machine now.context (capped cap (line ++ piece)).0 o e now.holds new
+      → Table {T = T} (means.answers start.machine) (RanOver means start.machine start.context e) (GaveUpOver means start.machine start.context e) limit start.left rest start.holds new (Err OverLimit)
+  table_over {T} {limit} {room} {line} {piece} {extra} {start} {now} {rest} {new} {o} {e} small t read full one more =
+      let bytes = t.taken ++ piece in
+      let all = t.taken ++ (piece ++ extra) in
+      let wrote = subst (λ ls. Wrote means cap start.machine start.context ls o e start.holds new) (sym (ap (λ p. p.0) (piece_lines t piece))) (wrote_more t.wrote more) in
+      let b = t.budget in
+      let len : length bytes ≡ limit = omega (arith, length-append t.taken piece) in
+      let first : take limit all ≡ bytes = ap (take limit) (sym (append_assoc t.taken piece extra)) ∙ take_at bytes extra limit len in
+      let answered = answered_whole bytes (omega arith) wrote.went in
+      record {
+        taken = all;
+        written = wrote.written;
+        takes = Consumes-trans start.left now.left rest t.taken (piece ++ extra) t.takes read.takes;
+        writes = wrote.writes;
+        row = (
+          omega (arith, length-append t.taken (piece ++ extra), length-append piece extra, length-append t.taken piece),
+          subst (λ xs. Answered (means.answers start.machine) (RanOver means start.machine start.context e) wrote.written (whole_lines xs)) (sym first) answered,
+        );
+      }
+
+  -- all lines of what was taken, the one without a line feed among them
+  last_cut : {limit room : ℕ} {line : List ℕ} {start now : Place M C} (t : Taken means cap limit room line start now) → limit < 2 ^ 62
+      → CutTo cap (all_lines t.taken) ((capped cap t.taken).0 ++ last_line line)
+  last_cut t small =
+      let b = t.budget in
+      subst (λ l. CutTo cap (all_lines t.taken) ((capped cap t.taken).0 ++ last_line l)) (sym t.line_is) (all_cut cap t.taken laws.positive (omega arith))
+
+  -- the source is at its end, and the last line was answered, or the run stopped at it
+  pub table_of_end : {T : Type 0} {limit room : ℕ} {line : List ℕ} {start now : Place M C} {rest new : Option (List ℕ)} {e : C} (rose device : Type 0) (ending : Result T Stop)
+      → limit < 2 ^ 62 → Taken means cap limit room line start now → Consumes now.left rest [] × IsAtEnd rest
+      → OnOk ending ((next : M) × Wrote means cap now.machine now.context (last_line line) next e now.holds new)
+      → OnErr ending (WroteSome means cap now.machine now.context (last_line line) e now.holds new) × IfErr ending (IsAnswerStop rose device)
+      → Table (means.answers start.machine) (RanOver means start.machine start.context e) (GaveUpOver means start.machine start.context e) limit start.left rest start.holds new ending
+  table_of_end {start = start} {now = now} {rest = rest} rose device (Ok x) small t end ok err =
+      let b = t.budget in
+      let wrote = wrote_more t.wrote ok.1 in
+      record {
+        taken = t.taken;
+        written = wrote.written;
+        takes = subst (Consumes start.left rest) (append-nil t.taken) (Consumes-trans start.left now.left rest t.taken [] t.takes end.0);
+        writes = wrote.writes;
+        row = (end.1, omega arith, answered_of (wrote.went.of (all_lines t.taken) (last_cut t small)));
+      }
+  table_of_end {T = T} {limit = limit} {start = start} {now = now} {rest = rest} rose device (Err stop) small t end ok err =
+      let b = t.budget in
+      let some = wrote_less t.wrote err.0 in
+      let stops = some.stopped.of (all_lines t.taken) (last_cut t small) in
+      record {
+        taken = t.taken;
+        written = some.written;
+        takes = subst (Consumes start.left rest) (append-nil t.taken) (Consumes-trans start.left now.left rest t.taken [] t.takes end.0);
+        writes = some.writes;
+        row = early_row T limit rose device stop err.1 (omega arith) (ends_early t.taken rest stops ([], append-nil (all_lines t.taken)) (all_at_end t.taken rest end.1));
+      }

@@ -16,9 +16,9 @@ pub uncut_laws : {M C : Type 0} (means : Meaning M C)
     → ((m : M) → means.answers m [] ≡ [])
     → ((m : M) (c : C) → means.ran m c [] m c)
     → ((m n o : M) (c d e : C) (lines more : List (List ℕ)) → means.ran m c lines n d → means.ran n d more o e
-        → means.ran m c (lines ++ more) o e)
+    → means.ran m c (lines ++ more) o e)
     → ((m n : M) (c d e : C) (lines more : List (List ℕ)) → means.ran m c lines n d → means.gave_up n d more e
-        → means.gave_up m c (lines ++ more) e)
+    → means.gave_up m c (lines ++ more) e)
     → Laws means no_cap
 uncut_laws means silent none more gave = record {
   silent = silent;

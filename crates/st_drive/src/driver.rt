@@ -1,10 +1,12 @@
-ghost use Rattle.std.specs.Prelude.{◌≡◌, ◌≤◌, ◌<◌, ◌^◌, List, ℕ, take, length, vec_len, true, IfOk, OnOk, OnErr, IfErr};
-ghost use Rattle.std.specs.Io.KnownBytes.{Appends, Consumes, Keeps, IsAtEnd};
+ghost use Rattle.std.specs.Prelude.{◌≡◌, ◌≤◌, ◌<◌, ◌^◌, take, length, vec_len, true, IfOk, OnOk, OnErr, IfErr};
+ghost use Rattle.std.specs.Io.KnownBytes.{Consumes, Keeps, IsAtEnd};
 ghost use Rattle.st_io.specs.Causes.{Rose, HasCause};
 ghost use Rattle.st_io.specs.Sinks.{FinishesNothing};
-ghost use Rattle.st_drive.specs.Lines.{last_line, has_no_feed};
-ghost use Rattle.st_drive.specs.Runs.{RanOver, GaveUpOver, GoesOverCut, StopsOverCut};
-ghost use Rattle.st_drive.specs.Stops.{IsRunStop, IsAnswerStop};
+ghost use Rattle.st_base.specs.Words.{HasNo};
+ghost use Rattle.st_drive.specs.Lines.{last_line};
+ghost use Rattle.st_drive.specs.Parts.{Wrote, WroteSome, Orderly};
+ghost use Rattle.st_drive.specs.Runs.{RanOver, GaveUpOver};
+ghost use Rattle.st_drive.specs.Stops.{IsRunStop};
 ghost use Rattle.st_drive.specs.Tables.{Table};
 
 use crate::machine::Machine;
@@ -38,21 +40,17 @@ fn answer_last<M: Machine, K: Sink>(
     sink: &mut K,
 ) -> Result<M, Stop>
     requires cap { vec_len progress.line ≤ M.CAP }
-    requires partial { has_no_feed progress.line.items ≡ true }
+    requires partial { HasNo 10 progress.line.items }
     requires fits { M.fits progress.machine context.old }
-    ensures ok { IfOk result (λ next. (written : List ℕ)
-        × GoesOverCut M.meaning M.CAP
-        progress.machine context.old (last_line progress.line.items) written next context.new
-        × Appends (K.written sink.old) (K.written sink.new) written) }
-    ensures err { OnErr result ((written : List ℕ)
-        × StopsOverCut M.meaning M.CAP
-        progress.machine context.old (last_line progress.line.items) written context.new
-        × Appends (K.written sink.old) (K.written sink.new) written) }
+    ensures ok { IfOk result (λ next. Wrote M.meaning M.CAP
+        progress.machine context.old (last_line progress.line.items)
+        next context.new (K.written sink.old) (K.written sink.new)) }
+    ensures err { OnErr result (WroteSome M.meaning M.CAP
+        progress.machine context.old (last_line progress.line.items)
+        context.new (K.written sink.old) (K.written sink.new)) }
     ensures unfinished { FinishesNothing (K.is_finished sink.old) (K.is_finished sink.new) }
-    ensures later { K.faults sink.old ≤ K.faults sink.new }
-    ensures context_later { M.faults context.old ≤ M.faults context.new }
-    ensures cause { IfErr result (IsAnswerStop (Rose (K.faults sink.old) (K.faults sink.new))
-        (Rose (M.faults context.old) (M.faults context.new))) }
+    ensures faults { Orderly (K.faults sink.old) (K.faults sink.new)
+        (M.faults context.old) (M.faults context.new) result }
 {
     if progress.line.is_empty() {
         return Ok(progress.machine);
@@ -72,23 +70,19 @@ fn end_run<M: Machine, K: Sink>(
     sink: &mut K,
 ) -> Result<(), Stop>
     requires cap { vec_len progress.line ≤ M.CAP }
-    requires partial { has_no_feed progress.line.items ≡ true }
+    requires partial { HasNo 10 progress.line.items }
     requires fits { M.fits progress.machine context.old }
-    ensures ok { OnOk result ((written : List ℕ) × (next : _)
-        × GoesOverCut M.meaning M.CAP
-        progress.machine context.old (last_line progress.line.items) written next context.new
-        × Appends (K.written sink.old) (K.written sink.new) written) }
+    ensures ok { OnOk result ((next : _) × Wrote M.meaning M.CAP
+        progress.machine context.old (last_line progress.line.items)
+        next context.new (K.written sink.old) (K.written sink.new)) }
     ensures finished { OnOk result (K.is_finished sink.new ≡ true) }
-    ensures err { OnErr result ((written : List ℕ)
-        × StopsOverCut M.meaning M.CAP
-        progress.machine context.old (last_line progress.line.items) written context.new
-        × Appends (K.written sink.old) (K.written sink.new) written) }
+    ensures err { OnErr result (WroteSome M.meaning M.CAP
+        progress.machine context.old (last_line progress.line.items)
+        context.new (K.written sink.old) (K.written sink.new)) }
     ensures unfinished { OnErr result
         (FinishesNothing (K.is_finished sink.old) (K.is_finished sink.new)) }
-    ensures later { K.faults sink.old ≤ K.faults sink.new }
-    ensures context_later { M.faults context.old ≤ M.faults context.new }
-    ensures cause { IfErr result (IsAnswerStop (Rose (K.faults sink.old) (K.faults sink.new))
-        (Rose (M.faults context.old) (M.faults context.new))) }
+    ensures faults { Orderly (K.faults sink.old) (K.faults sink.new)
+        (M.faults context.old) (M.faults context.new) result }
 {
     match answer_last(alloc, progress, context, sink) {
         Err(stop) => Err(stop),

@@ -3,9 +3,9 @@ ghost use Rattle.st_io.specs.Causes.{Rose};
 ghost use Rattle.st_drive.specs.Lines.{all_lines, last_line};
 ghost use Rattle.st_drive.specs.Runs.{RanOver};
 
-use crate::lines::cut_line;
+use crate::lines::LINE_FEED;
 use crate::machine::{Machine, StepError};
-use st_base::Bytes;
+use st_base::{Bytes, cut_at};
 use std::alloc::Global;
 
 // Answers one line, and adds the reply.
@@ -18,18 +18,18 @@ fn answer_next<M: Machine>(
 ) -> Result<M, StepError>
     requires { M.fits machine context.old }
     ensures reply { IfOk result (λ next. (more : List (List ℕ))
-        → replies.old ++ M.meaning.answers machine (line.now ∷ more) ≡ replies.new ++ M.meaning.answers next more) }
-    ensures ran { IfOk result (λ next. M.meaning.ran machine context.old (line.now ∷ []) next context.new) }
+        → replies.old ++ M.meaning.answers machine (line.now ∷ more)
+        ≡ replies.new ++ M.meaning.answers next more) }
+    ensures ran { IfOk result (λ next.
+        M.meaning.ran machine context.old (line.now ∷ []) next context.new) }
     ensures fits { IfOk result (λ next. M.fits next context.new) }
     ensures later { M.faults context.old ≤ M.faults context.new }
     ensures cause { IsErrOf result StepError.DeviceFault
         → Rose (M.faults context.old) (M.faults context.new) }
 {
     let (next, reply) = machine.step(alloc, context, line)?;
-    match replies.push_all(alloc, reply.as_slice()) {
-        Ok(()) => Ok(next),
-        Err(_) => Err(StepError::WantOfMemory),
-    }
+    replies.push_all(alloc, reply.as_slice())?;
+    Ok(next)
 }
 
 // Answers what no line feed ends, as a line where it has a byte.
@@ -78,7 +78,7 @@ pub fn answer_all<M: Machine>(
     let mut machine = machine;
     let mut replies = Bytes::new(alloc);
     let mut rest = bytes;
-    'lines: while let Some((line, after)) = cut_line(rest) {
+    'lines: while let Some((line, after)) = cut_at(rest, LINE_FEED) {
         machine = answer_next(alloc, machine, context, &mut replies, line)?;
         rest = after;
     }

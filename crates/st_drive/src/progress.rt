@@ -1,15 +1,14 @@
-ghost use Rattle.std.specs.Prelude.{◌≡◌, ◌≤◌, ℕ, List, [], ◌∷◌, ◌++◌, take, vec_len, true, IfOk, IfErr, OnOk, OnErr};
-ghost use Rattle.std.specs.Io.KnownBytes.{Appends};
-ghost use Rattle.st_io.specs.Causes.{Rose};
+ghost use Rattle.std.specs.Prelude.{◌≡◌, ◌≤◌, [], ◌∷◌, ◌++◌, take, vec_len, true, IfOk, OnOk, OnErr};
 ghost use Rattle.st_io.specs.Sinks.{FinishesNothing};
-ghost use Rattle.st_drive.specs.Lines.{capped, has_no_feed};
-ghost use Rattle.st_drive.specs.Runs.{GoesOverCut, StopsOverCut, Passes, PassesSome};
-ghost use Rattle.st_drive.specs.Stops.{IsAnswerStop};
+ghost use Rattle.st_base.specs.Words.{HasNo};
+ghost use Rattle.st_drive.specs.Lines.{capped};
+ghost use Rattle.st_drive.specs.Parts.{Wrote, WroteSome, Gathered, GatheredSome, Orderly};
 
-use crate::lines::{cut_front, cut_line, keep_front};
+use crate::lines::{LINE_FEED, cut_front, keep_front};
 use crate::machine::{Machine, StepError};
 use crate::replies::{gather, write_gathered};
 use crate::stop::Stop;
+use st_base::cut_at;
 use st_io::Sink;
 use std::alloc::Global;
 
@@ -24,19 +23,25 @@ fn answer_line<M: Machine, K: Sink>(
 ) -> Result<M, Stop>
     requires { M.fits machine context.old }
     ensures fits { IfOk result (λ next. M.fits next context.new) }
-    ensures ok { IfOk result (λ next. (reply : List ℕ) × GoesOverCut M.meaning M.CAP
-        machine context.old (line.now ∷ []) reply next context.new
-        × Passes (K.written sink.old) (K.written sink.new)
-        gathered.old.items reply gathered.new.items) }
-    ensures err { OnErr result ((reply : List ℕ) × StopsOverCut M.meaning M.CAP
-        machine context.old (line.now ∷ []) reply context.new
-        × PassesSome (K.written sink.old) (K.written sink.new)
-        gathered.old.items reply gathered.new.items) }
+    ensures ok { IfOk result (λ next. Gathered M.meaning M.CAP
+        machine context.old (line.now ∷ []) next context.new
+        (record {
+          held = K.written sink.old;
+          had = gathered.old.items;
+          holds = K.written sink.new;
+          has = gathered.new.items;
+        })) }
+    ensures err { OnErr result (GatheredSome M.meaning M.CAP
+        machine context.old (line.now ∷ []) context.new
+        (record {
+          held = K.written sink.old;
+          had = gathered.old.items;
+          holds = K.written sink.new;
+          has = gathered.new.items;
+        })) }
     ensures unfinished { FinishesNothing (K.is_finished sink.old) (K.is_finished sink.new) }
-    ensures later { K.faults sink.old ≤ K.faults sink.new }
-    ensures context_later { M.faults context.old ≤ M.faults context.new }
-    ensures cause { IfErr result (IsAnswerStop (Rose (K.faults sink.old) (K.faults sink.new))
-        (Rose (M.faults context.old) (M.faults context.new))) }
+    ensures faults { Orderly (K.faults sink.old) (K.faults sink.new)
+        (M.faults context.old) (M.faults context.new) result }
 {
     match machine.step(alloc, context, line) {
         Err(StepError::WantOfMemory) => Err(Stop::WantOfMemory),
@@ -61,20 +66,26 @@ fn end_line<M: Machine, K: Sink>(
     requires cap { vec_len line.old ≤ M.CAP }
     requires fits { M.fits machine context.old }
     ensures fits { IfOk result (λ next. M.fits next context.new) }
-    ensures ok { IfOk result (λ next. (reply : List ℕ) × GoesOverCut M.meaning M.CAP
-        machine context.old (take M.CAP (line.old.items ++ front.now) ∷ []) reply next context.new
-        × Passes (K.written sink.old) (K.written sink.new)
-        gathered.old.items reply gathered.new.items) }
+    ensures ok { IfOk result (λ next. Gathered M.meaning M.CAP
+        machine context.old (take M.CAP (line.old.items ++ front.now) ∷ []) next context.new
+        (record {
+          held = K.written sink.old;
+          had = gathered.old.items;
+          holds = K.written sink.new;
+          has = gathered.new.items;
+        })) }
     ensures emptied { OnOk result (line.new.items ≡ []) }
-    ensures err { OnErr result ((reply : List ℕ) × StopsOverCut M.meaning M.CAP
-        machine context.old (take M.CAP (line.old.items ++ front.now) ∷ []) reply context.new
-        × PassesSome (K.written sink.old) (K.written sink.new)
-        gathered.old.items reply gathered.new.items) }
+    ensures err { OnErr result (GatheredSome M.meaning M.CAP
+        machine context.old (take M.CAP (line.old.items ++ front.now) ∷ []) context.new
+        (record {
+          held = K.written sink.old;
+          had = gathered.old.items;
+          holds = K.written sink.new;
+          has = gathered.new.items;
+        })) }
     ensures unfinished { FinishesNothing (K.is_finished sink.old) (K.is_finished sink.new) }
-    ensures later { K.faults sink.old ≤ K.faults sink.new }
-    ensures context_later { M.faults context.old ≤ M.faults context.new }
-    ensures cause { IfErr result (IsAnswerStop (Rose (K.faults sink.old) (K.faults sink.new))
-        (Rose (M.faults context.old) (M.faults context.new))) }
+    ensures faults { Orderly (K.faults sink.old) (K.faults sink.new)
+        (M.faults context.old) (M.faults context.new) result }
 {
     if line.is_empty() {
         // The line stands whole in the piece, so it isn't copied.
@@ -107,35 +118,39 @@ impl<M: Machine> Progress<M> {
         piece: &[u8],
     ) -> Result<Self, Stop>
         requires cap { vec_len self.line ≤ M.CAP }
-        requires partial { has_no_feed self.line.items ≡ true }
+        requires partial { HasNo 10 self.line.items }
         requires fits { M.fits self.machine context.old }
-        requires empty { gathered.old.items ≡ [] }
         ensures fits { IfOk result (λ next. M.fits next.machine context.new) }
-        ensures ok { IfOk result (λ next. (written : List ℕ)
-            × GoesOverCut M.meaning M.CAP
+        ensures ok { IfOk result (λ next. Gathered M.meaning M.CAP
             self.machine context.old (capped M.CAP (self.line.items ++ piece.now)).0
-            (written ++ gathered.new.items) next.machine context.new
-            × Appends (K.written sink.old) (K.written sink.new) written) }
+            next.machine context.new
+            (record {
+              held = K.written sink.old;
+              had = gathered.old.items;
+              holds = K.written sink.new;
+              has = gathered.new.items;
+            })) }
         ensures cap { IfOk result (λ next. vec_len next.line ≤ M.CAP) }
         ensures line { IfOk result (λ next. next.line.items
             ≡ (capped M.CAP (self.line.items ++ piece.now)).1) }
-        ensures err { OnErr result ((written : List ℕ)
-            × StopsOverCut M.meaning M.CAP
-            self.machine context.old (capped M.CAP (self.line.items ++ piece.now)).0
-            (written ++ gathered.new.items) context.new
-            × Appends (K.written sink.old) (K.written sink.new) written) }
+        ensures err { OnErr result (GatheredSome M.meaning M.CAP
+            self.machine context.old (capped M.CAP (self.line.items ++ piece.now)).0 context.new
+            (record {
+              held = K.written sink.old;
+              had = gathered.old.items;
+              holds = K.written sink.new;
+              has = gathered.new.items;
+            })) }
         ensures unfinished { FinishesNothing (K.is_finished sink.old) (K.is_finished sink.new) }
-        ensures later { K.faults sink.old ≤ K.faults sink.new }
-        ensures context_later { M.faults context.old ≤ M.faults context.new }
-        ensures cause { IfErr result (IsAnswerStop (Rose (K.faults sink.old) (K.faults sink.new))
-            (Rose (M.faults context.old) (M.faults context.new))) }
+        ensures faults { Orderly (K.faults sink.old) (K.faults sink.new)
+            (M.faults context.old) (M.faults context.new) result }
     {
         let Progress {
             mut machine,
             mut line,
         } = self;
         let mut rest = piece;
-        'lines: while let Some((front, after)) = cut_line(rest) {
+        'lines: while let Some((front, after)) = cut_at(rest, LINE_FEED) {
             machine = end_line(alloc, machine, context, &mut line, sink, gathered, front)?;
             rest = after;
         }
@@ -155,27 +170,21 @@ impl<M: Machine> Progress<M> {
         piece: &[u8],
     ) -> Result<Self, Stop>
         requires cap { vec_len self.line ≤ M.CAP }
-        requires partial { has_no_feed self.line.items ≡ true }
+        requires partial { HasNo 10 self.line.items }
         requires fits { M.fits self.machine context.old }
         ensures fits { IfOk result (λ next. M.fits next.machine context.new) }
-        ensures ok { IfOk result (λ next. (written : List ℕ)
-            × GoesOverCut M.meaning M.CAP
+        ensures ok { IfOk result (λ next. Wrote M.meaning M.CAP
             self.machine context.old (capped M.CAP (self.line.items ++ piece.now)).0
-            written next.machine context.new
-            × Appends (K.written sink.old) (K.written sink.new) written) }
+            next.machine context.new (K.written sink.old) (K.written sink.new)) }
         ensures cap { IfOk result (λ next. vec_len next.line ≤ M.CAP) }
         ensures line { IfOk result (λ next. next.line.items
             ≡ (capped M.CAP (self.line.items ++ piece.now)).1) }
-        ensures err { OnErr result ((written : List ℕ)
-            × StopsOverCut M.meaning M.CAP
+        ensures err { OnErr result (WroteSome M.meaning M.CAP
             self.machine context.old (capped M.CAP (self.line.items ++ piece.now)).0
-            written context.new
-            × Appends (K.written sink.old) (K.written sink.new) written) }
+            context.new (K.written sink.old) (K.written sink.new)) }
         ensures unfinished { FinishesNothing (K.is_finished sink.old) (K.is_finished sink.new) }
-        ensures later { K.faults sink.old ≤ K.faults sink.new }
-        ensures context_later { M.faults context.old ≤ M.faults context.new }
-        ensures cause { IfErr result (IsAnswerStop (Rose (K.faults sink.old) (K.faults sink.new))
-            (Rose (M.faults context.old) (M.faults context.new))) }
+        ensures faults { Orderly (K.faults sink.old) (K.faults sink.new)
+            (M.faults context.old) (M.faults context.new) result }
     {
         let mut gathered = Vec::new(alloc);
         let outcome = self.answer_lines(alloc, context, sink, &mut gathered, piece);

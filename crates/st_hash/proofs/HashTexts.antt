@@ -108,9 +108,9 @@ of_sha256 : (first : Bool) (found other : Option HashValue) (hash : HashValue) �
 of_sha256 true found other hash e = e
 of_sha256 false found other hash e = rw e refl
 
-of_sha512 : (first : Bool) (none found : Option HashValue) (hash : HashValue) → first ≡ false → none ≡ None
-    → found ≡ Some hash → (if first then none else option_or none found) ≡ Some hash
-of_sha512 first none found hash second e f = rw (second, e, f) refl
+of_sha512 : (first : Bool) (missing found : Option HashValue) (hash : HashValue) → first ≡ false → missing ≡ None
+    → found ≡ Some hash → (if first then missing else option_or missing found) ≡ Some hash
+of_sha512 first missing found hash second e f = rw (second, e, f) refl
 
 second_version : (version code : ℕ) (first : Bool) → (version == 1) ≡ first → (version ≡ 1 → code ≡ 0x12) → code ≡ 0x13
     → first ≡ false

@@ -2,8 +2,8 @@
 use Rattle.std.specs.Prelude.{◌≡◌, ℕ, Bool, bytes_eq, List, ◌∷◌, ◌==◌, ◌&&◌, ◌⊎◌, length, if◌then◌else◌, Option, Some, None, option_and_then}
 use Rattle.std.specs.Option.{option_or}
 use Rattle.base64.specs.GeneralPurpose.{IsBytes}
-use Rattle.sha2.specs.Sha256.{sha256}
-use Rattle.sha2.specs.Sha512.{sha512}
+pub use Rattle.sha2.specs.Sha256.{sha256}
+pub use Rattle.sha2.specs.Sha512.{sha512}
 use Rattle.std.specs.Cmp.Lexicographic.{slice_cmp}
 use Rattle.std.specs.Ordering.{nat_cmp, ordering_then}
 use Rattle.std.specs.declared.cmp.Ordering.{Ordering}
@@ -42,6 +42,10 @@ hash_of bytes = record { code = 0x12; digest = sha256 bytes }
 
 abbrev pub uri_of : List ℕ → HashValue
 uri_of file = hash_of file
+
+-- the digest of a SHA-256 hash
+abbrev pub sha256_digest : HashValue → Option (List ℕ)
+sha256_digest hash = if hash.code == 0x12 then Some hash.digest else None
 
 -- the code, the length of the digest, the digest
 abbrev pub multihash : HashValue → List ℕ

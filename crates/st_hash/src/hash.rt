@@ -1,6 +1,6 @@
 ghost use Rattle.std.specs.Prelude.{◌≡◌, length, refl};
 ghost use Rattle.std.specs.Ordering.{as_partial_cmp};
-ghost use Rattle.st_hash.specs.Hash.{IsCode, IsHash, hash_cmp, same_hash, digest_length};
+ghost use Rattle.st_hash.specs.Hash.{IsCode, IsHash, hash_cmp, same_hash, digest_length, sha256_digest};
 ghost use Rattle.st_hash.specs.Order.{same_hash-equivalence, hash_cmp-total, same_hash-ties, hash_cmp-partial};
 
 use st_base::{Copied, WantOfMemory};
@@ -44,7 +44,8 @@ impl Model for Hash {
 }
 
 impl Hash {
-    pub(crate) fn of_sha256(digest: [u8; 32]) -> Hash
+    /// The SHA-256 hash with this digest.
+    pub fn of_sha256(digest: [u8; 32]) -> Hash
         ensures value { result ≡ record { code = 18; digest = digest } }
         ensures is { IsHash result }
     {
@@ -71,6 +72,16 @@ impl Hash {
         match &self.digest {
             Digest::Sha256(_) => SHA_256,
             Digest::Sha512(_) => SHA_512,
+        }
+    }
+
+    /// The digest of a SHA-256 hash. None comes exactly where the algorithm is another.
+    pub fn sha256_digest(&self) -> Option<[u8; 32]>
+        ensures { result ≡ sha256_digest self.now }
+    {
+        match &self.digest {
+            Digest::Sha256(digest) => Some(*digest),
+            Digest::Sha512(_) => None,
         }
     }
 

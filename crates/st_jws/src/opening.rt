@@ -7,13 +7,13 @@ ghost use Rattle.st_jws.specs.Opening.{opened, refusal_of};
 ghost use Rattle.st_jws.specs.OpenedViews.{found_view, opened_view};
 ghost use Rattle.st_jws.specs.declared.refused.SignedRefused.TheVariants.{BadForm};
 
-use crate::header::{is_header, read_json};
+use crate::header::is_header;
 use crate::jwk::Jwk;
 use crate::payload::key_in;
 use crate::refused::SignedRefused;
 use crate::texts::texts_of;
 use st_base::{Bytes, Copied, Text, WantOfMemory, Work};
-use st_canon::Json;
+use st_canon::{Json, read_json};
 use st_hash::{DecRefused, dec};
 use st_lms::verify;
 use std::alloc::Global;

@@ -1,5 +1,5 @@
 -- Where a search among ascending items ends.
-use Rattle.std.proofs.Common.{◌≡◌, ◌∙◌, ℕ, suc, ◌+◌, ◌<◌, ◌≤◌, true, false, ltb, leb, List, [], ◌∷◌, ◌++◌, length, take, drop, get_or, set, insert, add-zero, drop-cons, length-append, length-drop, get_or-drop, sym, ap, refl, arith}
+use Rattle.std.proofs.Common.{◌≡◌, ◌∙◌, ℕ, suc, ◌+◌, ◌<◌, ◌≤◌, true, ltb, leb, List, [], ◌∷◌, length, take, drop, get_or, set, insert, add-zero, drop-cons, length-append, length-drop, get_or-drop, sym, ap, refl, arith}
 use Rattle.std.proofs.lemmas.Bool.{true_from_ne_false}
 use Rattle.std.proofs.lemmas.List.{set_split, take_all, take_at}
 use Rattle.std.proofs.lemmas.List.Sums.{length-filter, count_by-le-length}

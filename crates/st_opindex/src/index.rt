@@ -6,8 +6,7 @@ ghost use Rattle.st_opindex.specs.Seen.{seen_items};
 
 use crate::folder::Folder;
 use crate::places::take_late;
-use crate::row::Row;
-use crate::rows::{cut_keys, put_item};
+use crate::rows::{Rows, cut_keys, put_item};
 use st_base::{WantOfMemory, Work};
 use std::alloc::Global;
 use std::collections::{BTreeMap, BTreeSet};
@@ -22,24 +21,21 @@ pub struct Index<K: Copy + Ord, F: Folder> {
     // The state of each key without items.
     start: F::State,
 
-    rows: BTreeMap<K, Row<F::Item, F::State>>,
+    rows: Rows<K, F>,
 
     // The place of each item with its key, so that a cut finds the keys that lose one.
     placed: BTreeSet<(u32, K)>,
 }
 
 impl<K: Copy + Ord, F: Folder> Model for Index<K, F> {
-    ghost use Rattle.std.specs.Prelude.{◌≡◌};
     ghost use Rattle.st_opindex.specs.ByKey.{Indexed};
-    ghost use Rattle.st_opindex.specs.Placed.{AllPlaced};
-    ghost use Rattle.st_opindex.specs.Seen.{AreRows, seen_items};
+    ghost use Rattle.st_opindex.specs.Seen.{IsKept, seen_items};
 
     ghost Value = { Indexed K F F.Item };
 
     ghost view = { λ a. record { folder = a.folder; items = seen_items a.rows.entries } };
 
-    ghost invariant = { λ a. (a.start ≡ F.first a.folder) × AreRows K.cmp (F.next a.folder) (F.first a.folder) a.rows.entries
-        × AllPlaced K.cmp a.placed.keys (seen_items a.rows.entries) };
+    ghost invariant = { λ a. IsKept K.cmp (F.next a.folder) (F.first a.folder) a.start a.rows.entries a.placed.keys };
 }
 
 impl<K: Copy + Ord, F: Folder> Index<K, F> {

@@ -11,11 +11,14 @@ use st_base::{WantOfMemory, Work};
 use std::alloc::Global;
 use std::collections::BTreeMap;
 
+/// The row of each key that has one.
+pub type Rows<K, F> = BTreeMap<K, Row<<F as Folder>::Item, <F as Folder>::State>>;
+
 // Inserts the item at this place of the key, or replaces the one there.
 pub fn put_item<K: Copy + Ord, F: Folder>(
     alloc: Global,
     folder: &F,
-    rows: &mut BTreeMap<K, Row<F::Item, F::State>>,
+    rows: &mut Rows<K, F>,
     key: K,
     place: u32,
     item: F::Item,
@@ -36,7 +39,7 @@ pub fn put_item<K: Copy + Ord, F: Folder>(
 fn take_row<K: Copy + Ord, F: Folder>(
     alloc: Global,
     folder: &F,
-    rows: &mut BTreeMap<K, Row<F::Item, F::State>>,
+    rows: &mut Rows<K, F>,
     key: K,
 ) -> Result<Row<F::Item, F::State>, WantOfMemory>
     requires { AreRows K.cmp (F.next folder.now) (F.first folder.now) rows.old.entries }
@@ -55,7 +58,7 @@ fn take_row<K: Copy + Ord, F: Folder>(
 pub fn cut_keys<K: Copy + Ord, F: Folder>(
     alloc: Global,
     folder: &F,
-    rows: &mut BTreeMap<K, Row<F::Item, F::State>>,
+    rows: &mut Rows<K, F>,
     keys: &[K],
     place: u32,
     work: &mut Work,
@@ -75,7 +78,7 @@ pub fn cut_keys<K: Copy + Ord, F: Folder>(
 fn cut_key<K: Copy + Ord, F: Folder>(
     alloc: Global,
     folder: &F,
-    rows: &mut BTreeMap<K, Row<F::Item, F::State>>,
+    rows: &mut Rows<K, F>,
     key: K,
     place: u32,
     work: &mut Work,

@@ -1,7 +1,7 @@
 ghost use Rattle.std.specs.Prelude.{◌<◌};
 
 use crate::run::run;
-use crate::tests::support::{OF_ABC, OF_NOTHING, one_word};
+use crate::tests::support::{OF_ABC, OF_NOTHING, words_of};
 use st_base::{Bytes, Copied, List, WantOfMemory, Work};
 use st_io::{ScriptSink, ScriptSource};
 use std::test::Fail;
@@ -20,7 +20,7 @@ fn run_pieces(
     requires write { 0 < write }
 {
     let alloc = rt.alloc();
-    let words = one_word(alloc, "node")?;
+    let words = words_of(alloc, "node")?;
     let mut failing_reads = List::new(alloc);
     failing_reads.push(alloc, failing_read)?;
     let mut failing_writes = List::new(alloc);

@@ -1,7 +1,7 @@
 use crate::form::{MAX_INPUT, NodeOptions};
 use crate::plain::plain_replies;
 use crate::run::run;
-use crate::tests::support::{OF_ABC, OF_BRACES, OF_NOTHING, node_replies, node_run, one_word};
+use crate::tests::support::{OF_ABC, OF_BRACES, OF_NOTHING, node_replies, node_run, words_of};
 use st_base::{Bytes, List, Work};
 use st_io::{PlainSink, PlainSource};
 use std::test::Fail;
@@ -14,6 +14,12 @@ const CREATE: &str =
 const ANCHOR: &str = "anchor 1 1.EiA10dvb-_d3kAW7ki4Rzo6ZaD84v2bZZ4O2fJ21bh1ChA\n";
 
 const RESOLVE: &str = "resolve did:sidetree:EiATdX8Q5MV_plJJmuNAF_0nOfwoAX70r-tP5eSOPf86vA\n";
+
+const EARLIER: &str = "anchor 0 1.EiA10dvb-_d3kAW7ki4Rzo6ZaD84v2bZZ4O2fJ21bh1ChA\n";
+
+const NOT_FOUND: &str = "unresolved notFound\n";
+
+const HAD: &str = "had EiA10dvb-_d3kAW7ki4Rzo6ZaD84v2bZZ4O2fJ21bh1ChA\n";
 
 const HAVE: &str = "have EiA10dvb-_d3kAW7ki4Rzo6ZaD84v2bZZ4O2fJ21bh1ChA\n";
 
@@ -34,22 +40,24 @@ fn no_input_has_no_replies(rt: HostRuntime) -> Result<(), Fail> {
 #[test]
 fn other_words_are_refused_unread(rt: HostRuntime) -> Result<(), Fail> {
     let alloc = rt.alloc();
-    for word in [
+    for line in [
         "",
         "Node",
         "node ",
         "nodes",
+        "node --limit=7",
+        "node node",
         "--help",
         "--version",
         "wallet",
     ] {
-        let words = one_word(alloc, word)?;
+        let words = words_of(alloc, line)?;
         let mut source = PlainSource::new(Bytes::from_slice(alloc, b"content \n")?);
         let mut sink = PlainSink::new(alloc);
         let mut work = Work::new(&rt);
         let status = run(alloc, words.as_slice(), &mut source, &mut sink, &mut work);
-        assert_eq!(rt; status, 1, "{word}");
-        assert_eq!(rt; sink.written().as_slice(), b"".as_slice(), "{word}");
+        assert_eq!(rt; status, 1, "{line}");
+        assert_eq!(rt; sink.written().as_slice(), b"".as_slice(), "{line}");
     }
     let mut source = PlainSource::new(Bytes::new(alloc));
     let mut sink = PlainSink::new(alloc);
@@ -91,9 +99,23 @@ fn a_create_resolves_once_its_file_has_come(rt: HostRuntime) -> Result<(), Fail>
     Ok(())
 }
 
+// The session of examples/create.in, and its replies as in examples/create.out.
+#[test]
+fn the_example_session_is_answered(rt: HostRuntime) -> Result<(), Fail> {
+    let input = format!(in rt.alloc();
+        "{RESOLVE}{ANCHOR}{RESOLVE}{CREATE}{RESOLVE}{EARLIER}{CREATE}"
+    )?;
+    let replies = format!(in rt.alloc();
+        "{NOT_FOUND}anchored 0\n{NOT_FOUND}{HAVE}{RESOLVED}refused height\n{HAD}"
+    )?;
+    assert!(rt; node_replies(&rt, input.as_str(), replies.as_str())?);
+    Ok(())
+}
+
 #[test]
 fn the_plain_program_replies_alike(rt: HostRuntime) -> Result<(), Fail> {
     let alloc = rt.alloc();
+    let options = NodeOptions { limit: MAX_INPUT };
     for input in [
         CREATE,
         ANCHOR,

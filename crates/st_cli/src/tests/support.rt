@@ -11,17 +11,19 @@ pub const OF_ABC: &str = "EiC6eBa_jwHP6kFBQN5driIjsANho5YXepy0EP9h8gAVrQ";
 
 pub const OF_BRACES: &str = "EiBEE2-jVbNnihFGrRb36GSelPtPwh_nfoMQwGD2HKr_ig";
 
-// The command line of one word.
-pub fn one_word(alloc: Global, word: &str) -> Result<List<Text>, WantOfMemory> {
+// The words of a command line, each behind one space.
+pub fn words_of(alloc: Global, line: &str) -> Result<List<Text>, WantOfMemory> {
     let mut words = List::new(alloc);
-    words.push(alloc, Text::from_text(alloc, word)?)?;
+    for word in line.split(' ') {
+        words.push(alloc, Text::from_text(alloc, word)?)?;
+    }
     Ok(words)
 }
 
 // What a node in memory replies to this input, and the status of its run.
 pub fn node_run(rt: &HostRuntime, input: &[u8]) -> Result<(u8, Bytes), WantOfMemory> {
     let alloc = rt.alloc();
-    let words = one_word(alloc, "node")?;
+    let words = words_of(alloc, "node")?;
     let mut source = PlainSource::new(Bytes::from_slice(alloc, input)?);
     let mut sink = PlainSink::new(alloc);
     let mut work = Work::new(rt);

@@ -1,6 +1,6 @@
 // The machines of the tests.
 ghost use Rattle.std.specs.Prelude.{◌≡◌, ◌+◌, ◌%◌, ◌<◌, ◌++◌, [], ◌∷◌, take, ⊤, IfOk};
-ghost use Rattle.st_drive.specs.Numbered.{numbered_reply, numbered_meaning, numbered_laws, echo_meaning, echo_laws};
+ghost use Rattle.st_drive.specs.TestMachines.{numbered_reply, numbered_meaning, numbered_laws, echo_meaning, echo_laws};
 ghost use Rattle.st_drive.specs.Uncut.{no_cap};
 
 use crate::machine::{Machine, StepError};
@@ -16,7 +16,7 @@ pub struct Allowance {
 }
 
 impl Model for Allowance {
-    ghost use Rattle.st_drive.specs.Numbered.{Allowance as Allowed};
+    ghost use Rattle.st_drive.specs.TestMachines.{Allowance as Allowed};
 
     ghost Value = { Allowed };
 

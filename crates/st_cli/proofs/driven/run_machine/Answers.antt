@@ -5,7 +5,7 @@ use Rattle.st_cli.proofs.driven.run_machine.Goals as goal
 
 pub returns-in-Err-clause-table : goal.returns-in-Err-clause-table
 returns-in-Err-clause-table g c =
-    let early = nothing_yet g.M.Machine.meaning g.M.Machine.CAP g.met.M.Machine.laws c.args.machine c.args.context.now (g.S.Source.left c.args.source.now) in
+    let early = nothing_yet g.met.M.Machine.laws c.args.machine c.args.context.now (g.S.Source.left c.args.source.now) in
     record {
       taken = [];
       written = [];

@@ -3,7 +3,7 @@ use Rattle.std.proofs.lemmas.Bool.Decides.{nat_tests}
 use Rattle.std.proofs.lemmas.List.{nil_from_length}
 use Rattle.std.proofs.KnownBytes.{Appends-nil}
 use Rattle.st_drive.specs.Lines.{last_line}
-use Rattle.st_drive.specs.Runs.{GoesOverCut, StopsOverCut}
+use Rattle.st_drive.specs.Parts.{Wrote, WroteSome}
 use Rattle.st_drive.proofs.LineLemmas.{last_fed}
 use Rattle.st_drive.proofs.RunLemmas.{went_none}
 use Rattle.st_drive.proofs.driver.answer_last.Goals as goal
@@ -11,19 +11,18 @@ use Rattle.st_drive.proofs.driver.answer_last.Goals as goal
 pub returns-then-is_empty-clause-ok : goal.returns-then-is_empty-clause-ok
 returns-then-is_empty-clause-ok g c =
     let empty : c.args.progress.line.items ≡ [] = nil_from_length c.args.progress.line.items (grind (arith, nat_tests)) in
-    let went = went_none g.M.Machine.meaning g.M.Machine.CAP g.met.M.Machine.laws c.args.progress.machine c.args.context.now in
-    ([], subst (λ lines. GoesOverCut g.M.Machine.meaning g.M.Machine.CAP c.args.progress.machine c.args.context.now lines [] c.args.progress.machine c.args.context.now) (sym (ap last_line empty)) went, Appends-nil _)
+    let none : Wrote g.M.Machine.meaning g.M.Machine.CAP c.args.progress.machine c.args.context.now [] c.args.progress.machine c.args.context.now (g.K.Sink.written c.args.sink.now) (g.K.Sink.written c.args.sink.now) =
+    record { written = []; went = went_none g.met.M.Machine.laws c.args.progress.machine c.args.context.now; writes = Appends-nil _ } in
+    subst (λ lines. Wrote g.M.Machine.meaning g.M.Machine.CAP c.args.progress.machine c.args.context.now lines c.args.progress.machine c.args.context.now (g.K.Sink.written c.args.sink.now) (g.K.Sink.written c.args.sink.now)) (sym (ap last_line empty)) none
 
 pub returns-in-Ok-clause-ok : goal.returns-in-Ok-clause-ok
 returns-in-Ok-clause-ok g c =
     let some : 0 < length c.args.progress.line.items = grind (arith, nat_tests) in
     let lines = last_fed g.M.Machine.CAP c.args.progress.line.items (omega arith) c.requires.partial some in
-    let fed = c.in-Ok.ensures.ok in
-    (fed.0, subst (λ lines. GoesOverCut g.M.Machine.meaning g.M.Machine.CAP c.args.progress.machine c.args.context.now lines fed.0 c.in-Ok.next.machine c.feed.new.context) lines fed.1, fed.2)
+    subst (λ lines. Wrote g.M.Machine.meaning g.M.Machine.CAP c.args.progress.machine c.args.context.now lines c.in-Ok.next.machine c.feed.new.context (g.K.Sink.written c.args.sink.now) (g.K.Sink.written c.feed.new.sink)) lines c.in-Ok.ensures.ok
 
 pub returns-in-Err-clause-err : goal.returns-in-Err-clause-err
 returns-in-Err-clause-err g c =
     let some : 0 < length c.args.progress.line.items = grind (arith, nat_tests) in
     let lines = last_fed g.M.Machine.CAP c.args.progress.line.items (omega arith) c.requires.partial some in
-    let cut = c.in-Err.ensures.err in
-    (cut.0, subst (λ lines. StopsOverCut g.M.Machine.meaning g.M.Machine.CAP c.args.progress.machine c.args.context.now lines cut.0 c.feed.new.context) lines cut.1, cut.2)
+    subst (λ lines. WroteSome g.M.Machine.meaning g.M.Machine.CAP c.args.progress.machine c.args.context.now lines c.feed.new.context (g.K.Sink.written c.args.sink.now) (g.K.Sink.written c.feed.new.sink)) lines c.in-Err.ensures.err

@@ -1,5 +1,6 @@
-use Rattle.std.proofs.Common.{vec_len, ◌≤◌, ◌≡◌, true}
-use Rattle.st_drive.proofs.Fed.{Taken}
+use Rattle.std.proofs.Common.{vec_len, ◌≤◌}
+use Rattle.st_io.specs.Sinks.{FinishesNothing}
+use Rattle.st_drive.proofs.Ends.{Taken}
 use Rattle.st_drive.proofs.driver.drive.Given as goal
 
 abbrev pub invariant-pieces : goal.invariant-pieces
@@ -8,9 +9,11 @@ invariant-pieces g l = record {
   context_later : g.M.Machine.faults l.fn.context ≤ g.M.Machine.faults l.context;
   source_later : g.S.Source.faults l.fn.source ≤ g.S.Source.faults l.source;
   sink_later : g.K.Sink.faults l.fn.sink ≤ g.K.Sink.faults l.sink;
-  unfinished : g.K.Sink.is_finished l.sink ≡ true → g.K.Sink.is_finished l.fn.sink ≡ true;
+  unfinished : FinishesNothing (g.K.Sink.is_finished l.fn.sink) (g.K.Sink.is_finished l.sink);
   cap : vec_len l.progress.line ≤ g.M.Machine.CAP;
-  taken : Taken g.M.Machine.meaning g.M.Machine.CAP l.fn.machine l.fn.context l.progress.machine l.context l.progress.line.items l.limit l.room (g.S.Source.left l.fn.source) (g.S.Source.left l.source) (g.K.Sink.written l.fn.sink) (g.K.Sink.written l.sink);
+  taken : Taken g.M.Machine.meaning g.M.Machine.CAP l.limit l.room l.progress.line.items
+      (record { machine = l.fn.machine; context = l.fn.context; left = g.S.Source.left l.fn.source; holds = g.K.Sink.written l.fn.sink })
+      (record { machine = l.progress.machine; context = l.context; left = g.S.Source.left l.source; holds = g.K.Sink.written l.sink });
 }
 
 abbrev pub decreases-pieces : goal.decreases-pieces

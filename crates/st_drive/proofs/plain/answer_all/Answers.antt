@@ -9,7 +9,7 @@ lines-preserved g c =
     let cut = c.in-Some.ensures in
     let next = c.in_ok-machine.ensures in
     let line = c.in-Some.line.now in
-    let first : all_lines c.lines.rest.now ≡ line ∷ all_lines c.in-Some.after.now = all_line c.lines.rest.now line c.in-Some.after.now cut.0 cut.1 in
+    let first : all_lines c.lines.rest.now ≡ line ∷ all_lines c.in-Some.after.now = all_line c.lines.rest.now line c.in-Some.after.now cut.first cut.whole in
     record {
       fits = next.fits;
       later = omega (arith, next.later);
@@ -23,12 +23,12 @@ lines-preserved g c =
 
 pub returns-clause-replies : goal.returns-clause-replies
 returns-clause-replies g c =
-    let last = all_open c.lines.rest.now c.in_default.ensures in
+    let last = all_open c.lines.rest.now c.in_default.ensures.none in
     c.in_ok-answer_rest.ensures.replies ∙ ap (λ ls. c.lines.replies ++ g.M.Machine.meaning.answers c.lines.machine ls) (sym last) ∙ c.lines.invariant.replies
 
 pub returns-clause-ran : goal.returns-clause-ran
 returns-clause-ran g c =
     let i = c.lines.invariant.lines in
     let rest = c.in_ok-answer_rest.ensures.ran in
-    let all = ap (λ ls. i.0 ++ ls) (sym (all_open c.lines.rest.now c.in_default.ensures)) ∙ i.1 in
+    let all = ap (λ ls. i.0 ++ ls) (sym (all_open c.lines.rest.now c.in_default.ensures.none)) ∙ i.1 in
     (rest.0, subst (λ ls. g.M.Machine.meaning.ran c.args.machine c.args.context.now ls rest.0 c.answer_rest.new.context) all (g.met.M.Machine.laws.ran_more _ _ _ _ _ _ i.0 (last_line c.lines.rest.now) i.2 rest.1))

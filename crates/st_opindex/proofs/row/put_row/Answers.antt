@@ -1,6 +1,6 @@
 use Rattle.std.proofs.Common.{◌≡◌, ◌+◌, ◌-◌, length, take, ap, arith}
 use Rattle.st_base.proofs.Counted.{applies-few}
-use Rattle.st_opindex.specs.Items.{SplitsAt, with_item}
+use Rattle.st_opindex.specs.Items.{with_item}
 use Rattle.st_opindex.proofs.WithItem.{Ascend-with_item}
 use Rattle.st_opindex.proofs.Splits.{split-within, split-alike, split-length}
 use Rattle.st_opindex.proofs.Kept.{reached_alike, kept_before}

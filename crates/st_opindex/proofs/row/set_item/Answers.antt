@@ -1,11 +1,12 @@
-use Rattle.std.proofs.Common.{arith, ◌∙◌, sym, ap}
+use Rattle.std.proofs.Common.{arith, rules, ◌∙◌, sym, ap}
 use Rattle.std.proofs.lemmas.List.{get_or_default}
 use Rattle.st_opindex.proofs.Splits.{split-within, split-set, split-insert}
 use Rattle.st_opindex.proofs.row.set_item.Goals as goal
 use Rattle.st_opindex.proofs.row.set_item.Goals.{else-at-len-via-then-at-len+else-index-place, else-at-len-via-else-at-len}
 
 pub returns-then-index-place : goal.returns-then-index-place
-returns-then-index-place g c = split-set c.requires c.args.item c.index.result.now (omega arith) c.index.ensures c.if-index-place.true
+returns-then-index-place g c =
+    rw (← split-set c.requires c.args.item c.index.result.now (omega arith) c.index.ensures c.if-index-place.true) (search rules)
 
 pub insert-requires : goal.insert-requires
 insert-requires g c = omega (arith, split-within c.requires, c.args.items.ok.0)

@@ -9,7 +9,8 @@ invariant-keys g l =
     let cmp = g.K.Ord.cmp in
     let old = seen_items l.fn.rows.entries in
     let now = seen_items l.rows.entries in
-    AreRows cmp (g.F.Folder.next l.folder) (g.F.Folder.first l.folder) l.rows.entries
-    × AreCut cmp l.place (take l.key-index l.keys) old now
-    × ((names : List _) → NamesLosing cmp l.place old names
-    → Paid cmp l.place names old now l.fn.work l.work)
+    record {
+      rows : AreRows cmp (g.F.Folder.next l.folder) (g.F.Folder.first l.folder) l.rows.entries;
+      cut : AreCut cmp l.place (take l.key-index l.keys) old now;
+      paid : (names : List _) → NamesLosing cmp l.place old names → Paid cmp l.place names old now l.fn.work l.work;
+    }

@@ -1,17 +1,22 @@
-use Rattle.std.proofs.Common.{◌≡◌, ◌≤◌, ◌++◌, true, length, vec_len}
-use Rattle.st_drive.specs.Lines.{has_no_feed}
-use Rattle.st_drive.proofs.Fed.{Fed}
+use Rattle.std.proofs.Common.{◌≤◌, ◌++◌, List, ℕ, length, vec_len}
+use Rattle.st_io.specs.Sinks.{FinishesNothing}
+use Rattle.st_base.specs.Words.{HasNo}
+use Rattle.st_drive.specs.Parts.{Gathered}
+use Rattle.st_drive.proofs.Fed.{Pieces}
 use Rattle.st_drive.proofs.progress.Progress.answer_lines.Given as goal
 
+-- the lines so far were answered, and the others are those of the line and the rest
 abbrev pub invariant-lines : goal.invariant-lines
 invariant-lines g l = record {
   fits : g.M.Machine.fits l.machine l.context;
-  context_later : g.M.Machine.faults l.fn.context ≤ g.M.Machine.faults l.context;
   cap : vec_len l.line ≤ g.M.Machine.CAP;
-  partial : has_no_feed l.line.items ≡ true;
+  partial : HasNo 10 l.line.items;
   later : g.K.Sink.faults l.fn.sink ≤ g.K.Sink.faults l.sink;
-  unfinished : g.K.Sink.is_finished l.sink ≡ true → g.K.Sink.is_finished l.fn.sink ≡ true;
-  fed : Fed g.M.Machine.meaning g.M.Machine.CAP l.fn.self.machine l.fn.context l.machine l.context (l.fn.self.line.items ++ l.piece) (l.line.items ++ l.rest) (g.K.Sink.written l.fn.sink) (g.K.Sink.written l.sink) l.gathered.items;
+  context_later : g.M.Machine.faults l.fn.context ≤ g.M.Machine.faults l.context;
+  unfinished : FinishesNothing (g.K.Sink.is_finished l.fn.sink) (g.K.Sink.is_finished l.sink);
+  answered : (lines : List (List ℕ))
+      × Pieces g.M.Machine.CAP (l.fn.self.line.items ++ l.piece) lines (l.line.items ++ l.rest)
+      × Gathered g.M.Machine.meaning g.M.Machine.CAP l.fn.self.machine l.fn.context lines l.machine l.context (record { held = g.K.Sink.written l.fn.sink; had = l.fn.gathered.items; holds = g.K.Sink.written l.sink; has = l.gathered.items });
 }
 
 abbrev pub decreases-lines : goal.decreases-lines

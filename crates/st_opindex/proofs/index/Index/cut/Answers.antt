@@ -1,31 +1,28 @@
 use Rattle.st_opindex.specs.Seen.{seen_items}
 use Rattle.st_opindex.proofs.Cutting.{all_cut, placed_cut}
-use Rattle.st_opindex.proofs.Losing.{losing, length-losing, losing-named}
+use Rattle.st_opindex.proofs.Losing.{losing_bound}
 use Rattle.st_opindex.proofs.index.Index.cut.Goals as goal
 
 pub invariant_of-result : goal.invariant_of-result
 invariant_of-result g c =
-    let cut = rw c.as_slice.ensures.value at c.in_ok-cut_keys.ensures.items in (
-      c.self.invariant.0,
-      c.in_ok-cut_keys.ensures.rows,
-      placed_cut g.K.Ord.cmp c.args.place c.self.inside.placed.keys c.take_late.new.placed.keys c.self.invariant.2 c.in_ok-late.ensures.late cut c.in_ok-late.ensures.rest,
-    )
+    let cut = rw c.as_slice.ensures.value at c.in_ok-cut_keys.ensures.items in
+    record {
+      none = c.self.invariant.none;
+      rows = c.in_ok-cut_keys.ensures.rows;
+      placed = placed_cut c.self.invariant.placed c.in_ok-late.ensures.late cut c.take_late.new.placed.keys c.in_ok-late.ensures.rest;
+    }
 
 pub returns-clause-items : goal.returns-clause-items
 returns-clause-items g c =
     let cut = rw c.as_slice.ensures.value at c.in_ok-cut_keys.ensures.items in
     rw (← c.self.view_is)
-    (all_cut g.K.Ord.cmp c.args.place c.self.inside.placed.keys c.take_late.new.placed.keys c.self.invariant.2 c.in_ok-late.ensures.late cut)
+    (all_cut c.self.invariant.placed c.in_ok-late.ensures.late cut)
 
 pub returns-in_err-cut_keys-clause-bound : goal.returns-in_err-cut_keys-clause-bound
-returns-in_err-cut_keys-clause-bound g c =
-    let items = seen_items c.self.inside.rows.entries in
-    rw (← c.self.view_is, ← length-losing c.args.place items) (c.cut_keys.ensures.bound (losing c.args.place items) (losing-named g.K.Ord.cmp c.args.place items))
+returns-in_err-cut_keys-clause-bound g c = rw (← c.self.view_is) (losing_bound g.K.Ord.cmp c.args.place (seen_items c.self.inside.rows.entries) c.cut_keys.ensures.bound)
 
 pub returns-clause-bound : goal.returns-clause-bound
-returns-clause-bound g c =
-    let items = seen_items c.self.inside.rows.entries in
-    rw (← c.self.view_is, ← length-losing c.args.place items) (c.cut_keys.ensures.bound (losing c.args.place items) (losing-named g.K.Ord.cmp c.args.place items))
+returns-clause-bound g c = rw (← c.self.view_is) (losing_bound g.K.Ord.cmp c.args.place (seen_items c.self.inside.rows.entries) c.cut_keys.ensures.bound)
 
 pub returns-in_err-cut_keys-clause-named : goal.returns-in_err-cut_keys-clause-named
 returns-in_err-cut_keys-clause-named g c = rw (← c.self.view_is) c.cut_keys.ensures.bound

@@ -1,0 +1,54 @@
+-- The machines of the tests. One numbers the lines by one digit and shows the first four bytes of
+-- each; its context has an allowance of lines. The other says each line again.
+use Rattle.std.specs.Prelude.{◌≡◌, refl, ⊤, ◌%◌, ◌+◌, ℕ, List, [], ◌∷◌, ◌++◌, length, take}
+use Rattle.std.proofs.Common.{ap, arith, length-append}
+use Rattle.std.proofs.lemmas.List.{take-take}
+use Rattle.st_drive.specs.Meaning.{Meaning, Laws}
+use Rattle.st_drive.specs.Uncut.{no_cap, uncut_laws}
+
+-- the digit, the front of the line and a line feed
+abbrev pub numbered_reply : ℕ → List ℕ → List ℕ
+numbered_reply digit line = (48 + digit) ∷ (take 4 line ++ 10 ∷ [])
+
+abbrev pub numbered : ℕ → List (List ℕ) → List ℕ
+numbered digit [] = []
+numbered digit (line ∷ lines) = numbered_reply digit line ++ numbered ((digit + 1) % 10) lines
+
+-- the lines that may still be answered, and the faults
+pub record Allowance : Type 0 where
+  pub left : ℕ
+  pub faults : ℕ
+
+-- the allowance fell by one a line
+pub record Spends (m : ℕ) (c : Allowance) (lines : List (List ℕ)) (n : ℕ) (d : Allowance) : Type 0 where
+  pub spent : d.left + length lines ≡ c.left
+
+-- by one line fewer
+pub record SpendsLess (m : ℕ) (c : Allowance) (lines : List (List ℕ)) (d : Allowance) : Type 0 where
+  pub spent : d.left + length lines ≡ c.left + 1
+
+abbrev pub numbered_meaning : Meaning ℕ Allowance
+numbered_meaning = record { answers = numbered; ran = Spends; gave_up = SpendsLess }
+
+pub numbered_laws : Laws numbered_meaning 4
+numbered_laws = record {
+  silent = λ m. refl;
+  positive = omega arith;
+  cut_answers = λ m line more short. ap (λ front. ((48 + m) ∷ (front ++ 10 ∷ [])) ++ numbered ((m + 1) % 10) more) (take-take 4 4 line (omega arith));
+  cut_ran = λ m n c d line short p. record { spent = p.spent };
+  cut_gave_up = λ m c d line short p. record { spent = p.spent };
+  ran_none = λ m c. record { spent = omega arith };
+  ran_more = λ m n o c d e lines more p q. record { spent = omega (arith, length-append lines more, p.spent, q.spent) };
+  gave_up_more = λ m n c d e lines more p q. record { spent = omega (arith, length-append lines more, p.spent, q.spent) };
+}
+
+-- each line with a line feed
+abbrev pub echoed : List (List ℕ) → List ℕ
+echoed [] = []
+echoed (line ∷ lines) = (line ++ 10 ∷ []) ++ echoed lines
+
+abbrev pub echo_meaning : {M : Type 0} → Meaning M (Unit {0})
+echo_meaning = record { answers = λ _. echoed; ran = λ _ _ _ _ _. ⊤; gave_up = λ _ _ _ _. ⊤ }
+
+pub echo_laws : {M : Type 0} → Laws {M = M} echo_meaning no_cap
+echo_laws = uncut_laws echo_meaning (λ _. refl) (λ _ _. tt) (λ _ _ _ _ _ _ _ _ _ _. tt) (λ _ _ _ _ _ _ _ _ _. tt)
