@@ -1,16 +1,11 @@
 -- What the steps of a JSON Patch make of a value (RFC 6902, section 4).
-use Rattle.std.specs.Prelude.{ℕ, ◌&&◌, Bool, true, false, List, [], ◌∷◌, bytes_eq, if◌then◌else◌, Option, Some, None}
+use Rattle.std.specs.Prelude.{ℕ, Bool, true, false, not, ◌&&◌, List, [], ◌∷◌, bytes_eq, Option, Some, None}
+use Rattle.st_base.specs.Options.{◌>>=◌, ◌>>◌}
 use Rattle.st_canon.specs.Measure.{fits, is_equal}
 use Rattle.st_canon.specs.Plain.{Plain}
 use Rattle.st_jsonpatch.specs.At.{at}
 use Rattle.st_jsonpatch.specs.Edited.{edited, put_new, take_out, set_to}
 use Rattle.st_jsonpatch.specs.Step.{PlainStep, add, remove, replace, move, copy, test}
-
--- the ? of definitions: the second step, where the first gave something
-infixl 10 ◌>>=◌
-abbrev pub ◌>>=◌ : {A B : Type 0} → Option A → (A → Option B) → Option B
-None >>= f = None
-Some x >>= f = f x
 
 -- at the empty path the value replaces all
 abbrev pub added : Plain → List (List ℕ) → Plain → Option Plain
@@ -34,10 +29,11 @@ is_above (first ∷ from) (token ∷ path) = bytes_eq first token && is_above fr
 
 -- no value is moved into itself
 abbrev pub moved : List (List ℕ) → List (List ℕ) → Plain → Option Plain
-moved from path value = if is_above from path then None else (do
+moved from path value = do
+  not (is_above from path)
   entry ← at from value
   rest ← removed from value
-  added entry path rest)
+  added entry path rest
 
 abbrev pub copied : List (List ℕ) → List (List ℕ) → Plain → Option Plain
 copied from path value = do
@@ -47,7 +43,8 @@ copied from path value = do
 abbrev pub tested : Plain → List (List ℕ) → Plain → Option Plain
 tested expected path value = do
   entry ← at path value
-  if is_equal entry expected then Some value else None
+  is_equal entry expected
+  Some value
 
 -- the value after a step, where no bound is looked at
 abbrev pub changed : PlainStep → Plain → Option Plain
@@ -63,4 +60,5 @@ changed (test path expected) = tested expected path
 abbrev pub stepped : ℕ → ℕ → PlainStep → Plain → Option Plain
 stepped max_depth max_size step value = do
   new ← changed step value
-  if fits max_depth max_size new then Some new else None
+  fits max_depth max_size new
+  Some new
