@@ -3,7 +3,7 @@ use Rattle.std.proofs.Common.{List, ◌++◌, Option, option_map}
 use Rattle.std.specs.Result.{result_ok}
 use Rattle.st_canon.specs.Plain.{Plain}
 use Rattle.st_jsonpatch.specs.Step.{PlainStep, step_of}
-use Rattle.st_doc.specs.Patch.{each_of}
+use Rattle.st_base.specs.Each.{each_of}
 
 abbrev pub steps_in : List Plain → Option (List PlainStep)
 steps_in values = each_of (λ value. result_ok (step_of value)) values

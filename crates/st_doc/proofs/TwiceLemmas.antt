@@ -1,6 +1,6 @@
 -- No text stands twice where there are as many different ones as all.
 use Rattle.std.proofs.Common.{◌≡◌, ◌∙◌, ℕ, suc, ◌≤◌, nat_eq, Bool, true, false, not, cond, List, [], ◌∷◌, length, map, refl, ap, arith, Bor}
-use Rattle.std.specs.Prelude.{◌&&◌, bytes_eq}
+use Rattle.std.specs.Prelude.{◌||◌, bytes_eq}
 use Rattle.std.specs.List.{list_any}
 use Rattle.std.specs.Set.{distinct_count, unique_keys}
 use Rattle.std.specs.Cmp.Lexicographic.{slice_cmp}
@@ -11,6 +11,7 @@ use Rattle.std.specs.Cmp.{IsTotalOrder}
 use Rattle.std.proofs.lemmas.Cmp.{nat_list_cmp_total, on_total}
 use Rattle.std.proofs.lemmas.Map.Made.{distinct_count-le}
 use Rattle.std.proofs.lemmas.Map.Text.{is_eq-slice_cmp}
+use Rattle.st_base.specs.Twice.{has_twice}
 use Rattle.st_doc.specs.Alike.{is_among, none_twice}
 
 -- texts in order
@@ -35,10 +36,10 @@ counted : (texts : List (Bor (List ℕ)))
     → nat_eq (distinct_count (eq_by_cmp text_cmp) texts) (length texts) ≡ none_twice (map (λ t. t.now) texts)
 counted [] = refl
 counted (text ∷ texts) =
-    (elim (list_any (eq_by_cmp text_cmp text) texts) as (λ found. nat_eq (length (cond found (unique_keys (eq_by_cmp text_cmp) texts) (text ∷ unique_keys (eq_by_cmp text_cmp) texts))) (suc (length texts)) ≡ (not found && none_twice (map (λ t. t.now) texts))) [
+    (elim (list_any (eq_by_cmp text_cmp text) texts) as (λ found. nat_eq (length (cond found (unique_keys (eq_by_cmp text_cmp) texts) (text ∷ unique_keys (eq_by_cmp text_cmp) texts))) (suc (length texts)) ≡ not (found || has_twice bytes_eq (map (λ t. t.now) texts))) [
       | true ↦ fewer (distinct_count (eq_by_cmp text_cmp) texts) (length texts) (distinct_count-le (eq_by_cmp text_cmp) texts)
       | false ↦ same_count (distinct_count (eq_by_cmp text_cmp) texts) (length texts) ∙ counted texts
-    ]) ∙ ap (λ found. not found && none_twice (map (λ t. t.now) texts)) (any-now text texts)
+    ]) ∙ ap (λ found. not (found || has_twice bytes_eq (map (λ t. t.now) texts))) (any-now text texts)
 
 pub none_twice-count : (texts : List (Bor (List ℕ))) (n : ℕ) → n ≡ distinct_count (eq_by_cmp text_cmp) texts
     → nat_eq n (length texts) ≡ none_twice (map (λ t. t.now) texts)

@@ -1,6 +1,7 @@
 -- Documents, and the values that are one in a version of the parameters.
-use Rattle.std.specs.Prelude.{ℕ, ◌==◌, Bool, ◌&&◌, ◌||◌, List, [], ◌∷◌, length, map, codes, if◌then◌else◌, Option, Some, None, is_some, Result, Ok, Err}
+use Rattle.std.specs.Prelude.{ℕ, ◌==◌, Bool, ◌&&◌, ◌||◌, List, [], ◌∷◌, length, map, codes, if◌then◌else◌, Option, Some, None, Result, Ok, Err}
 use Rattle.std.specs.List.{list_all}
+use Rattle.st_base.specs.Each.{each_is}
 use Rattle.st_canon.specs.Entries.{text_in}
 use Rattle.st_canon.specs.Measure.{fits}
 use Rattle.st_canon.specs.Objects.{some_list, some_listed}
@@ -69,10 +70,6 @@ is_document limits document = all_hold (document_rules limits document)
 abbrev pub document_names : ℕ → List (List ℕ)
 document_names version = codes "publicKeys" ∷ codes "services" ∷ (if may_have_names version then codes "alsoKnownAs" ∷ [] else [])
 
--- a list of texts
-abbrev pub are_texts : List Plain → Bool
-are_texts values = list_all (λ value. is_some (text_in value)) values
-
 -- an object with no other members, each of them a list, that of the names a list of texts
 abbrev pub form_rules : ℕ → Option Plain → List Bool
 form_rules version value =
@@ -80,7 +77,7 @@ form_rules version value =
     ∷ is_list_if_there (member_in (codes "publicKeys") value)
     ∷ is_list_if_there (member_in (codes "services") value)
     ∷ is_list_if_there (member_in (codes "alsoKnownAs") value)
-    ∷ are_texts (entries_in (member_in (codes "alsoKnownAs") value))
+    ∷ each_is text_in (entries_in (member_in (codes "alsoKnownAs") value))
     ∷ []
 
 unfoldable pub has_document_form : ℕ → Plain → Bool

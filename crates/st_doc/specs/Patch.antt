@@ -1,18 +1,19 @@
 -- The patches of a delta (Sidetree v1.0.0, "Standard Patch Actions"; those on names are this project's
 -- own): each an object with exactly `action` and the member that this action needs.
-use Rattle.std.specs.Prelude.{ℕ, Bool, ◌&&◌, List, [], ◌∷◌, map, codes, if◌then◌else◌, bytes_eq, Option, Some, None, is_some, option_map}
-use Rattle.std.specs.List.{list_all, filter_map}
+use Rattle.std.specs.Prelude.{ℕ, ◌&&◌, List, [], ◌∷◌, map, codes, if◌then◌else◌, bytes_eq, Option, Some, None}
+use Rattle.std.specs.List.{list_all}
 use Rattle.std.specs.Result.{result_ok}
-use Rattle.st_canon.specs.Entries.{entries, text_in}
+use Rattle.st_base.specs.Each.{each_of}
+use Rattle.st_base.specs.Options.{◌>>=◌, ◌>>◌}
+use Rattle.st_canon.specs.Entries.{text_in}
 use Rattle.st_canon.specs.Plain.{Plain}
-use Rattle.st_canon.specs.Shapes.{entries_in, is_object_of, list_at, member_in, text_at}
+use Rattle.st_canon.specs.Shapes.{is_object_of, list_at, member_in, text_at}
 use Rattle.st_canon.specs.View.{plain}
 use Rattle.st_jsonpatch.specs.Step.{PlainStep, plain_step, step_of}
-use Rattle.st_jsonpatch.specs.Stepped.{◌>>=◌}
 use Rattle.st_params.specs.Limits.{Limits}
 use Rattle.st_doc.specs.Alike.{none_twice}
 use Rattle.st_doc.specs.Document.{PlainDocument, document_of, may_have_names, plain_document}
-use Rattle.st_doc.specs.Entries.{id_of, is_id, is_key, is_name, is_service, texts_of}
+use Rattle.st_doc.specs.Entries.{id_of, is_id, is_key, is_name, is_service}
 use Rattle.st_doc.specs.declared.patch.Patch.{Patch}
 use Rattle.st_doc.specs.declared.patch.Patch.TheVariants.{AddKeys, RemoveKeys, AddServices, RemoveServices, Replace, Steps, AddNames, RemoveNames}
 
@@ -40,46 +41,35 @@ plain_patch (RemoveNames names) = remove_names names
 
 -- ---- what stands in a patch
 
--- what each of these values is, where each is one
-abbrev pub each_of : {A : Type 0} → (Plain → Option A) → List Plain → Option (List A)
-each_of read values = if list_all (λ value. is_some (read value)) values then Some (filter_map read values) else None
-
 -- the values of the list that is the one member beside `action`
 abbrev pub values_at : List ℕ → Plain → Option (List Plain)
-values_at name patch =
-    if is_object_of (codes "action" ∷ name ∷ []) (Some patch) then option_map entries (list_at name (Some patch)) else None
+values_at name patch = do
+  is_object_of (codes "action" ∷ name ∷ []) (Some patch)
+  list_at name (Some patch)
 
--- these entries, where each has the form and no id stands twice
-abbrev pub if_entries : (Plain → Bool) → List Plain → Option (List Plain)
-if_entries has_form values = if list_all has_form values && none_twice (map id_of values) then Some values else None
-
--- the texts that these values are, where each is one of the form
-abbrev pub if_texts : (List ℕ → Bool) → List Plain → Option (List (List ℕ))
-if_texts has_form values =
-    if list_all (λ value. is_some (text_in value)) values && list_all has_form (texts_of values) then Some (texts_of values) else None
-
--- these texts, where none stands twice
-abbrev pub if_none_twice : List (List ℕ) → Option (List (List ℕ))
-if_none_twice texts = if none_twice texts then Some texts else None
-
--- the ids that a patch names
+-- the ids that a patch lists
 abbrev pub ids_in : Plain → Option (List (List ℕ))
 ids_in patch = do
   values ← values_at (codes "ids") patch
-  if_texts is_id values
+  ids ← each_of text_in values
+  list_all is_id ids
+  Some ids
 
--- the names that a patch names
+-- the names that a patch lists
 abbrev pub names_in : Plain → Option (List (List ℕ))
 names_in patch = do
   values ← values_at (codes "uris") patch
-  if_texts is_name values
+  names ← each_of text_in values
+  list_all is_name names
+  Some names
 
 -- ---- the rows
 
 abbrev pub add_keys_of : Plain → Option PlainPatch
 add_keys_of patch = do
-  values ← values_at (codes "publicKeys") patch
-  keys ← if_entries is_key values
+  keys ← values_at (codes "publicKeys") patch
+  list_all is_key keys
+  none_twice (map id_of keys)
   Some (add_keys keys)
 
 abbrev pub remove_keys_of : Plain → Option PlainPatch
@@ -89,8 +79,9 @@ remove_keys_of patch = do
 
 abbrev pub add_services_of : Plain → Option PlainPatch
 add_services_of patch = do
-  values ← values_at (codes "services") patch
-  services ← if_entries is_service values
+  services ← values_at (codes "services") patch
+  list_all is_service services
+  none_twice (map id_of services)
   Some (add_services services)
 
 abbrev pub remove_services_of : Plain → Option PlainPatch
@@ -99,12 +90,11 @@ remove_services_of patch = do
   Some (remove_services ids)
 
 abbrev pub replace_of : Limits → Plain → Option PlainPatch
-replace_of limits patch =
-    if is_object_of (codes "action" ∷ codes "document" ∷ []) (Some patch) then (do
-      value ← member_in (codes "document") (Some patch)
-      document ← result_ok (document_of limits value)
-      Some (replace document))
-    else None
+replace_of limits patch = do
+  is_object_of (codes "action" ∷ codes "document" ∷ []) (Some patch)
+  value ← member_in (codes "document") (Some patch)
+  document ← result_ok (document_of limits value)
+  Some (replace document)
 
 abbrev pub steps_of : Plain → Option PlainPatch
 steps_of patch = do
@@ -115,8 +105,8 @@ steps_of patch = do
 abbrev pub add_names_of : Plain → Option PlainPatch
 add_names_of patch = do
   names ← names_in patch
-  new ← if_none_twice names
-  Some (add_names new)
+  none_twice names
+  Some (add_names names)
 
 abbrev pub remove_names_of : Plain → Option PlainPatch
 remove_names_of patch = do

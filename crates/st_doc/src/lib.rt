@@ -17,6 +17,8 @@ mod patch_reading;
 mod reading;
 mod refused;
 mod service;
+#[cfg(test)]
+mod tests;
 
 pub use applying::apply_all;
 pub use delta::Delta;

@@ -1,11 +1,12 @@
 ghost use Rattle.std.specs.Prelude.{◌≡◌, map, option_map, IfOk, Some};
 ghost use Rattle.std.specs.List.{list_all};
 ghost use Rattle.std.specs.Result.{result_ok};
+ghost use Rattle.st_base.specs.Each.{each_of};
 ghost use Rattle.st_canon.specs.Shapes.{text_at};
 ghost use Rattle.st_canon.specs.View.{plain};
 ghost use Rattle.st_jsonpatch.specs.Step.{plain_step, step_of};
 ghost use Rattle.st_doc.specs.Entries.{is_id};
-ghost use Rattle.st_doc.specs.Patch.{add_keys_of, add_names_of, add_services_of, each_of, ids_in, names_in, patch_named, patch_of, plain_patch, remove_keys_of, remove_names_of, remove_services_of, replace_of, steps_of, values_at};
+ghost use Rattle.st_doc.specs.Patch.{add_keys_of, add_names_of, add_services_of, ids_in, names_in, patch_named, patch_of, plain_patch, remove_keys_of, remove_names_of, remove_services_of, replace_of, steps_of, values_at};
 
 use crate::check::{are_names, may_have_names};
 use crate::document::Document;

@@ -1,8 +1,10 @@
 ghost use Rattle.std.specs.Prelude.{◌≡◌, map, IfOk, Some};
 ghost use Rattle.st_base.specs.Answers.{GivesAs};
+ghost use Rattle.st_base.specs.Each.{each_is};
+ghost use Rattle.st_canon.specs.Entries.{text_in};
 ghost use Rattle.st_canon.specs.Shapes.{is_object_of};
 ghost use Rattle.st_canon.specs.View.{plain};
-ghost use Rattle.st_doc.specs.Document.{are_texts, document_in, document_names, document_of, has_document_form, plain_document, refusal_of};
+ghost use Rattle.st_doc.specs.Document.{document_in, document_names, document_of, has_document_form, plain_document, refusal_of};
 ghost use Rattle.st_doc.specs.Entries.{texts_of};
 
 use crate::check::{is_document, may_have_names};
@@ -67,7 +69,7 @@ fn has_document_names(value: &Json, version: u8) -> bool
 }
 
 pub(crate) fn are_texts(values: &[Json]) -> bool
-    ensures { result ≡ are_texts (map plain values.now) }
+    ensures { result ≡ each_is text_in (map plain values.now) }
 {
     for value in values {
         if value.as_text().is_none() {
