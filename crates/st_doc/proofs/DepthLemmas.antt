@@ -28,8 +28,14 @@ mutual
   shallow_members b no_members = omega arith
   shallow_members b (member name p ms) =
       let rest = canonical_members true ms in
-      omega (arith, shallow p, shallow_members true ms, length-append (comma b) (quoted name ++ (58 ∷ (canonical p ++ rest))),
-        length-append (quoted name) (58 ∷ (canonical p ++ rest)), length-append (canonical p) rest)
+      omega (
+        arith,
+        shallow p,
+        shallow_members true ms,
+        length-append (comma b) (quoted name ++ (58 ∷ (canonical p ++ rest))),
+        length-append (quoted name) (58 ∷ (canonical p ++ rest)),
+        length-append (canonical p) rest,
+      )
 
 bounded : (depth size most : ℕ) → depth ≤ max 1 size → most < 2 ^ 64
     → not (nat_le depth (2 ^ 64 - 1) && nat_le size most) ≡ nat_lt most size

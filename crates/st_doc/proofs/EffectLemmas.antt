@@ -12,7 +12,7 @@ pub filter-plain : (keep : Plain → Bool) (values : List Json)
 filter-plain keep [] = refl
 filter-plain keep (value ∷ values) =
     elim (keep (plain value)) as (λ kept. map plain (cond kept (value ∷ filter (λ v. keep (plain v)) values) (filter (λ v. keep (plain v)) values))
-        ≡ cond kept (plain value ∷ filter keep (map plain values)) (filter keep (map plain values))) [
+    ≡ cond kept (plain value ∷ filter keep (map plain values)) (filter keep (map plain values))) [
       | true ↦ ap (λ rest. plain value ∷ rest) (filter-plain keep values)
       | false ↦ filter-plain keep values
     ]
@@ -26,7 +26,7 @@ seam change (p ∷ ps) (suc at) none inside = seam change ps at none (omega arit
 
 set_seam : (change : Plain → Plain) (start : List Plain) (at : ℕ) (none : Plain) → at < length start
     → set (map change (take at start) ++ drop at start) at (change (get_or start at none))
-      ≡ map change (take (suc at) start) ++ drop (suc at) start
+    ≡ map change (take (suc at) start) ++ drop (suc at) start
 set_seam change [] at none inside = absurd (omega arith)
 set_seam change (p ∷ ps) zero none inside = refl
 set_seam change (p ∷ ps) (suc at) none inside = ap (λ rest. change p ∷ rest) (set_seam change ps at none (omega arith))

@@ -59,7 +59,11 @@ fn apply(
             let next = with_keys(alloc, document, keys.as_slice())?;
             if_document(alloc, next, params)
         }
-        Patch::RemoveKeys(ids) => if_document(alloc, without_keys(document, ids.as_slice()), params),
+        Patch::RemoveKeys(ids) => if_document(
+            alloc,
+            without_keys(document, ids.as_slice()),
+            params,
+        ),
         Patch::AddServices(services) => {
             let next = with_services(alloc, document, services.as_slice())?;
             if_document(alloc, next, params)
@@ -106,7 +110,13 @@ fn after_steps(
     ensures { IfOk result (λ next. option_map plain_document next ≡ after_steps params.now (map plain_step steps.now) (plain_document document.now)) }
 {
     let json = document.json(alloc)?;
-    match apply_steps(alloc, &json, steps, params.max_depth(), params.max_document()) {
+    match apply_steps(
+        alloc,
+        &json,
+        steps,
+        params.max_depth(),
+        params.max_document(),
+    ) {
         Ok(value) => read_document(alloc, &value, params),
         Err(StepsRefused::Failed(_)) => Ok(None),
         Err(StepsRefused::WantOfMemory) => Err(WantOfMemory),

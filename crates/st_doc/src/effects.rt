@@ -41,11 +41,7 @@ fn others(alloc: Global, entries: &[Json], new: &[Json]) -> Result<Vec<Json>, Wa
 }
 
 // Each entry becomes a copy of the new one of its id, where there is one.
-fn replace_entries(
-    alloc: Global,
-    entries: &mut [Json],
-    new: &[Json],
-) -> Result<(), WantOfMemory>
+fn replace_entries(alloc: Global, entries: &mut [Json], new: &[Json]) -> Result<(), WantOfMemory>
     ensures { OnOk result (map plain entries.new
         ≡ map (λ entry. unwrap_or (entry_of (id_of entry) (map plain new.now)) entry) (map plain entries.old)) }
 {

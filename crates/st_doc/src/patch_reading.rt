@@ -121,11 +121,7 @@ fn read_remove_services(alloc: Global, patch: &Json) -> Result<Option<Patch>, Wa
     Ok(Some(Patch::RemoveServices(ids)))
 }
 
-fn read_replace(
-    alloc: Global,
-    patch: &Json,
-    params: &Params,
-) -> Result<Option<Patch>, WantOfMemory>
+fn read_replace(alloc: Global, patch: &Json, params: &Params) -> Result<Option<Patch>, WantOfMemory>
     ensures { IfOk result (λ read. option_map plain_patch read ≡ replace_of params.now (plain patch.now)) }
 {
     if !patch.is_object_of(&["action", "document"]) {

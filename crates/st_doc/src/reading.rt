@@ -19,11 +19,7 @@ impl Document {
     /// The document at these parameters that this value is.
     ///
     /// `NotDocument` comes exactly where the value is none.
-    pub fn read(
-        alloc: Global,
-        value: &Json,
-        params: &Params,
-    ) -> Result<Document, DocumentRefused>
+    pub fn read(alloc: Global, value: &Json, params: &Params) -> Result<Document, DocumentRefused>
         ensures { GivesAs plain_document refusal_of (document_of params.now (plain value.now)) result }
     {
         if !has_document_form(value, params.version()) {

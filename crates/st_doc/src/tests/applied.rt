@@ -37,9 +37,14 @@ fn each_patch_does_what_its_action_says(rt: HostRuntime) -> Result<(), Fail> {
 
 #[test]
 fn a_failing_patch_fails_them_all(rt: HostRuntime) -> Result<(), Fail> {
-    let document = document(&rt, r#"{"services":[{"id":"s0","serviceEndpoint":"e","type":"T"}]}"#, &params("1"))?
-        .ok_or("no document")?;
-    let patches = r#"[{"action":"add-services","services":[{"id":"s1","serviceEndpoint":"e","type":"T"}]},{"action":"ietf-json-patch","patches":[{"op":"remove","path":"/services/9"}]}]"#;
+    let document = document(
+        &rt,
+        r#"{"services":[{"id":"s0","serviceEndpoint":"e","type":"T"}]}"#,
+        &params("1"),
+    )?
+    .ok_or("no document")?;
+    let patches =
+        r#"[{"action":"add-services","services":[{"id":"s1","serviceEndpoint":"e","type":"T"}]},{"action":"ietf-json-patch","patches":[{"op":"remove","path":"/services/9"}]}]"#;
     let Ok(delta) = delta(&rt, with_patches(&rt, patches)?.as_str(), &params("1"))? else {
         return Err(Fail::from("no delta"));
     };
@@ -56,7 +61,10 @@ fn a_failing_patch_fails_them_all(rt: HostRuntime) -> Result<(), Fail> {
 #[test]
 fn the_empty_document_has_two_empty_lists(rt: HostRuntime) -> Result<(), Fail> {
     let document = Document::empty(rt.alloc());
-    assert_eq!(rt; text(&rt, &document)?.as_str(), r#"{"publicKeys":[],"services":[]}"#);
+    assert_eq!(rt;
+        text(&rt, &document)?.as_str(),
+        r#"{"publicKeys":[],"services":[]}"#
+    );
     assert_eq!(rt; document.keys().len(), 0);
     assert_eq!(rt; document.names().len(), 0);
     Ok(())

@@ -30,7 +30,9 @@ fn adding(rt: &HostRuntime, service: &str) -> Result<String, Fail> {
 }
 
 fn replacing(rt: &HostRuntime, service: &str) -> Result<String, Fail> {
-    Ok(format!(in rt.alloc(); "[{{\"action\":\"replace\",\"document\":{{\"services\":[{service}]}}}}]")?)
+    Ok(format!(in rt.alloc();
+        "[{{\"action\":\"replace\",\"document\":{{\"services\":[{service}]}}}}]"
+    )?)
 }
 
 fn refused(rt: &HostRuntime, patches: &str, version: &str) -> Result<String, Fail> {
@@ -63,14 +65,30 @@ fn what_is_added_meets_the_bounds_of_a_document_when_it_is_applied(
     let deeper = deep_service(&rt, 30)?;
     let replacing_deep = replacing(&rt, deep.as_str())?;
     let replacing_deeper = replacing(&rt, deeper.as_str())?;
-    assert_eq!(rt; refused(&rt, replacing_deep.as_str(), "1")?.as_str(), "accepted");
-    assert_eq!(rt; refused(&rt, replacing_deeper.as_str(), "1")?.as_str(), "bad patch 0");
+    assert_eq!(rt;
+        refused(&rt, replacing_deep.as_str(), "1")?.as_str(),
+        "accepted"
+    );
+    assert_eq!(rt;
+        refused(&rt, replacing_deeper.as_str(), "1")?.as_str(),
+        "bad patch 0"
+    );
     let adding_deeper = adding(&rt, deeper.as_str())?;
-    assert_eq!(rt; refused(&rt, adding_deeper.as_str(), "1")?.as_str(), "accepted");
-    assert_eq!(rt; after(&rt, "{}", adding_deeper.as_str(), &params("1"))?.as_str(), "failed 0");
+    assert_eq!(rt;
+        refused(&rt, adding_deeper.as_str(), "1")?.as_str(),
+        "accepted"
+    );
+    assert_eq!(rt;
+        after(&rt, "{}", adding_deeper.as_str(), &params("1"))?.as_str(),
+        "failed 0"
+    );
     let full = with_services(&rt, long_service(&rt, 16_353)?.as_str())?;
-    let key = r#"[{"action":"add-public-keys","publicKeys":[{"id":"k","publicKeyJwk":{},"type":"T"}]}]"#;
-    assert_eq!(rt; after(&rt, full.as_str(), key, &params("1"))?.as_str(), "failed 0");
+    let key =
+        r#"[{"action":"add-public-keys","publicKeys":[{"id":"k","publicKeyJwk":{},"type":"T"}]}]"#;
+    assert_eq!(rt;
+        after(&rt, full.as_str(), key, &params("1"))?.as_str(),
+        "failed 0"
+    );
     Ok(())
 }
 
@@ -89,12 +107,18 @@ fn a_document_has_at_most_16384_bytes(rt: HostRuntime) -> Result<(), Fail> {
 
 #[test]
 fn copies_of_a_list_into_itself_grow_past_the_bound(rt: HostRuntime) -> Result<(), Fail> {
-    let mut patches = String::from_str(rt.alloc(), r#"[{"action":"ietf-json-patch","patches":[{"op":"add","path":"/a","value":[]}"#)?;
+    let mut patches = String::from_str(
+        rt.alloc(),
+        r#"[{"action":"ietf-json-patch","patches":[{"op":"add","path":"/a","value":[]}"#,
+    )?;
     for _ in 0..20 {
         patches.push_str(r#",{"from":"/a","op":"copy","path":"/a/-"}"#)?;
     }
     patches.push_str("]}]")?;
     assert_eq!(rt; with_patches(&rt, patches.as_str())?.len(), 958);
-    assert_eq!(rt; after(&rt, "{}", patches.as_str(), &params("1"))?.as_str(), "failed 0");
+    assert_eq!(rt;
+        after(&rt, "{}", patches.as_str(), &params("1"))?.as_str(),
+        "failed 0"
+    );
     Ok(())
 }

@@ -76,7 +76,8 @@ const PATCHES: &str = r#"1  accepted  [{"action":"replace","document":{}}]
 2  bad patch 0  [{"action":"replace","document":{"alsoKnownAs":[7]}}]"#;
 
 // Version, what becomes of it, delta. The last two have a hash text of SHA-512.
-const DELTAS: &str = r#"1  accepted  {"patches":[],"updateCommitment":"EiC6eBa_jwHP6kFBQN5driIjsANho5YXepy0EP9h8gAVrQ"}
+const DELTAS: &str =
+    r#"1  accepted  {"patches":[],"updateCommitment":"EiC6eBa_jwHP6kFBQN5driIjsANho5YXepy0EP9h8gAVrQ"}
 1  bad delta  []
 1  bad delta  {"patches":[]}
 1  bad delta  {"updateCommitment":"EiC6eBa_jwHP6kFBQN5driIjsANho5YXepy0EP9h8gAVrQ"}
@@ -97,7 +98,9 @@ fn first_wrong<'a>(
 ) -> Result<Option<&'a str>, Fail> {
     for line in lines.lines() {
         let (expected, added) = line.split_once("  ").ok_or("no value")?;
-        let patches = format!(in rt.alloc(); "[{{\"action\":\"{action}\",\"{member}\":[{added}]}}]")?;
+        let patches = format!(in rt.alloc();
+            "[{{\"action\":\"{action}\",\"{member}\":[{added}]}}]"
+        )?;
         let delta = with_patches(rt, patches.as_str())?;
         if refusal(rt, delta.as_str(), &params("2"))?.as_str() != expected {
             return Ok(Some(line));
@@ -108,8 +111,14 @@ fn first_wrong<'a>(
 
 #[test]
 fn keys_services_and_names_have_their_forms(rt: HostRuntime) -> Result<(), Fail> {
-    assert_eq!(rt; first_wrong(&rt, KEYS, "add-public-keys", "publicKeys")?, None);
-    assert_eq!(rt; first_wrong(&rt, SERVICES, "add-services", "services")?, None);
+    assert_eq!(rt;
+        first_wrong(&rt, KEYS, "add-public-keys", "publicKeys")?,
+        None
+    );
+    assert_eq!(rt;
+        first_wrong(&rt, SERVICES, "add-services", "services")?,
+        None
+    );
     assert_eq!(rt; first_wrong(&rt, NAMES, "add-also-known-as", "uris")?, None);
     Ok(())
 }
