@@ -5,8 +5,9 @@ usage: bench/run.py
 
 It builds small programs beside a copy of the repository's crates: one that only decodes and
 hashes, with the same kit crates (content.py), one that only reads and writes JSON, one that only
-verifies, makes keys and signs, and one that only puts into an index and cuts it. The times are the best
-of three or five of whole processes; the last two programs take their own. Nothing here is part of the
+verifies, makes keys and signs, one that only puts into an index and cuts it, and one that only applies
+deltas to a document. The times are the best of three or five of whole processes; the last three
+programs take their own. Nothing here is part of the
 gate.
 """
 import hashlib
@@ -22,7 +23,8 @@ import content
 
 TOP = os.path.dirname(os.path.dirname(os.path.abspath(__file__)))
 PROGRAMS = {"bare_cost": "base64 memchr sha2", "json_cost": "st_base st_canon",
-            "lms_cost": "st_base st_lms sha2 anyhow", "index_cost": "st_base st_opindex anyhow"}
+            "lms_cost": "st_base st_lms sha2 anyhow", "index_cost": "st_base st_opindex anyhow",
+            "patch_cost": "st_base st_canon st_doc st_params anyhow"}
 
 
 def build(folder):
@@ -143,6 +145,18 @@ def index(program):
               % (keys, items, what, dear, dear / cheap), flush=True)
 
 
+def patches(program):
+    """Prints what the worst deltas cost on a document near its bound, against copying it once."""
+    best = {}
+    for line in subprocess.run([program], stdout=subprocess.PIPE, check=True).stdout.decode().splitlines():
+        size, patches, steps, *times = [int(word) for word in line.split()[:5]]
+        best[size, patches, steps] = [min(pair) for pair in zip(times, best.get((size, patches, steps), times))]
+    for (size, patches, steps), (copy, apply) in best.items():
+        what = "%d copies in one patch" % steps if steps else "%d patches that remove nothing" % patches
+        print("a delta of %d bytes with %s, on a document of 16,276 bytes: %d us, %.1f times the time for copying the document"
+              % (size, what, apply // 1000, apply / copy), flush=True)
+
+
 def main():
     # The launcher builds it, and is left out of what is measured.
     subprocess.run([os.path.join(TOP, "sidetree"), "node"], stdin=subprocess.DEVNULL, check=True)
@@ -167,6 +181,7 @@ def main():
         print("127 open brackets: %.3f s" % seconds([paths["json_cost"]], given), flush=True)
         lms(paths["lms_cost"])
         index(paths["index_cost"])
+        patches(paths["patch_cost"])
 
 
 if __name__ == "__main__":

@@ -1,0 +1,46 @@
+-- No value nests deeper than its canonical text is long, but for a scalar, whose depth is 1.
+use Rattle.std.proofs.Common.{◌≡◌, ℕ, ◌+◌, ◌-◌, ◌<◌, ◌≤◌, ◌^◌, max, Bool, true, false, not, nat_le, nat_lt, List, [], ◌∷◌, ◌++◌, length, refl, arith, length-append}
+use Rattle.std.specs.Prelude.{◌&&◌}
+use Rattle.std.proofs.lemmas.Bool.Decides.{nat_tests}
+use Rattle.st_canon.specs.Canonical.{canonical, canonical_items, canonical_members, comma, quoted}
+use Rattle.st_canon.specs.Depth.{depth_of, items_depth, members_depth}
+use Rattle.st_canon.specs.Measure.{fits, size_of}
+use Rattle.st_canon.specs.Plain.{Plain, null, boolean, whole, text, list, object, Items, no_items, item, Members, no_members, member}
+
+mutual
+  shallow : (p : Plain) → depth_of p ≤ max 1 (length (canonical p))
+  shallow null = omega arith
+  shallow (boolean b) = omega arith
+  shallow (whole z) = omega arith
+  shallow (text t) = omega arith
+  shallow (list ps) =
+      omega (arith, shallow_items false ps, length-append (canonical_items false ps) (93 ∷ []))
+  shallow (object ms) =
+      omega (arith, shallow_members false ms, length-append (canonical_members false ms) (125 ∷ []))
+
+  shallow_items : (b : Bool) (ps : Items) → items_depth ps ≤ length (canonical_items b ps) + 1
+  shallow_items b no_items = omega arith
+  shallow_items b (item p ps) =
+      let rest = canonical_items true ps in
+      omega (arith, shallow p, shallow_items true ps, length-append (comma b) (canonical p ++ rest), length-append (canonical p) rest)
+
+  shallow_members : (b : Bool) (ms : Members) → members_depth ms ≤ length (canonical_members b ms) + 1
+  shallow_members b no_members = omega arith
+  shallow_members b (member name p ms) =
+      let rest = canonical_members true ms in
+      omega (
+        arith,
+        shallow p,
+        shallow_members true ms,
+        length-append (comma b) (quoted name ++ (58 ∷ (canonical p ++ rest))),
+        length-append (quoted name) (58 ∷ (canonical p ++ rest)),
+        length-append (canonical p) rest,
+      )
+
+bounded : (depth size most : ℕ) → depth ≤ max 1 size → most < 2 ^ 64
+    → not (nat_le depth (2 ^ 64 - 1) && nat_le size most) ≡ nat_lt most size
+bounded depth size most shallow fits = grind (arith, nat_tests)
+
+-- where 64 bits hold the bound on the size, none on the depth is needed beside it
+pub too_long : (p : Plain) (most : ℕ) → most < 2 ^ 64 → not (fits (2 ^ 64 - 1) most p) ≡ nat_lt most (size_of p)
+too_long p most held = bounded (depth_of p) (length (canonical p)) most (shallow p) held

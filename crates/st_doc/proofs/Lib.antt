@@ -1,0 +1,5 @@
+pub mod DepthLemmas
+pub mod EffectLemmas
+pub mod PatchLists
+pub mod StepLists
+pub mod TwiceLemmas

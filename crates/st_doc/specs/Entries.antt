@@ -1,0 +1,113 @@
+-- The forms of the keys and services of a document (Sidetree v1.0.0, "DID State Patches", in bounds of
+-- this project's own). `None` is a value that is not there.
+use Rattle.std.specs.Prelude.{ℕ, ◌==◌, Bool, true, false, ◌&&◌, ◌||◌, nat_le, List, [], ◌∷◌, length, codes, Option, Some, None, is_some, unwrap_or, option_and_then}
+use Rattle.std.specs.Char.{is_ascii_alphanumeric}
+use Rattle.std.specs.List.{list_all, filter_map}
+use Rattle.st_canon.specs.Entries.{entries, text_in, members_in, items_in}
+use Rattle.st_canon.specs.Plain.{Plain, text, list, object}
+use Rattle.st_canon.specs.Shapes.{entries_in, is_object_of, member_in, text_at}
+use Rattle.st_doc.specs.Alike.{is_among, none_twice}
+
+abbrev pub all_hold : List Bool → Bool
+all_hold tests = list_all (λ holds. holds) tests
+
+-- ---- texts
+
+-- a text of 1 to so many bytes
+abbrev pub is_short : ℕ → List ℕ → Bool
+is_short most bytes = nat_le 1 (length bytes) && nat_le (length bytes) most
+
+abbrev pub is_short_text : ℕ → Option Plain → Bool
+is_short_text most (Some (text bytes)) = is_short most bytes
+is_short_text most other = false
+
+abbrev pub is_short_text_if_there : ℕ → Option Plain → Bool
+is_short_text_if_there most None = true
+is_short_text_if_there most (Some value) = is_short_text most (Some value)
+
+-- a letter, a digit, `-` or `_` (RFC 4648, section 5)
+abbrev pub is_base64url_sign : ℕ → Bool
+is_base64url_sign byte = is_ascii_alphanumeric byte || ((byte == 45) || (byte == 95))
+
+-- 1 to 50 signs of base64url
+abbrev pub is_id : List ℕ → Bool
+is_id bytes = is_short 50 bytes && list_all is_base64url_sign bytes
+
+abbrev pub is_id_text : Option Plain → Bool
+is_id_text (Some (text bytes)) = is_id bytes
+is_id_text other = false
+
+-- 1 to 100 bytes
+abbrev pub is_name : List ℕ → Bool
+is_name bytes = is_short 100 bytes
+
+-- ---- keys
+
+abbrev pub is_object : Option Plain → Bool
+is_object (Some (object _)) = true
+is_object other = false
+
+abbrev pub purposes : List (List ℕ)
+purposes = codes "authentication" ∷ codes "assertionMethod" ∷ codes "keyAgreement"
+    ∷ codes "capabilityInvocation" ∷ codes "capabilityDelegation" ∷ []
+
+-- a text that is one of the purposes
+abbrev pub is_purpose : Plain → Bool
+is_purpose (text bytes) = is_among purposes bytes
+is_purpose other = false
+
+-- the texts of a list
+abbrev pub texts_of : List Plain → List (List ℕ)
+texts_of values = filter_map text_in values
+
+-- a list of purposes, each once
+abbrev pub are_purposes : Option Plain → Bool
+are_purposes (Some (list items)) = list_all is_purpose (entries items) && none_twice (texts_of (entries items))
+are_purposes other = false
+
+abbrev pub are_purposes_if_there : Option Plain → Bool
+are_purposes_if_there None = true
+are_purposes_if_there (Some value) = are_purposes (Some value)
+
+abbrev pub key_names : List (List ℕ)
+key_names = codes "id" ∷ codes "type" ∷ codes "publicKeyJwk" ∷ codes "purposes" ∷ codes "controller" ∷ []
+
+-- a key: what must hold of its members
+abbrev pub key_rules : Option Plain → List Bool
+key_rules key =
+    is_object_of key_names key
+    ∷ is_id_text (member_in (codes "id") key)
+    ∷ is_short_text 100 (member_in (codes "type") key)
+    ∷ is_object (member_in (codes "publicKeyJwk") key)
+    ∷ are_purposes_if_there (member_in (codes "purposes") key)
+    ∷ is_short_text_if_there 200 (member_in (codes "controller") key)
+    ∷ []
+
+unfoldable pub is_key : Plain → Bool
+is_key key = all_hold (key_rules (Some key))
+
+-- ---- services
+
+abbrev pub service_names : List (List ℕ)
+service_names = codes "id" ∷ codes "type" ∷ codes "serviceEndpoint" ∷ []
+
+-- a text of 1 to 100 bytes, or an object
+abbrev pub is_endpoint : Option Plain → Bool
+is_endpoint there = is_short_text 100 there || is_object there
+
+abbrev pub service_rules : Option Plain → List Bool
+service_rules service =
+    is_object_of service_names service
+    ∷ is_id_text (member_in (codes "id") service)
+    ∷ is_short_text 30 (member_in (codes "type") service)
+    ∷ is_endpoint (member_in (codes "serviceEndpoint") service)
+    ∷ []
+
+unfoldable pub is_service : Plain → Bool
+is_service service = all_hold (service_rules (Some service))
+
+-- ---- ids
+
+-- the id of a key or a service; of what has none, the empty text
+abbrev pub id_of : Plain → List ℕ
+id_of entry = unwrap_or (text_at (codes "id") (Some entry)) []

@@ -1,0 +1,133 @@
+-- The patches of a delta (Sidetree v1.0.0, "Standard Patch Actions"; those on names are this project's
+-- own): each an object with exactly `action` and the member that this action needs.
+use Rattle.std.specs.Prelude.{ℕ, ◌&&◌, List, [], ◌∷◌, map, codes, if◌then◌else◌, bytes_eq, Option, Some, None}
+use Rattle.std.specs.List.{list_all}
+use Rattle.std.specs.Result.{result_ok}
+use Rattle.st_base.specs.Each.{each_of}
+use Rattle.st_base.specs.Options.{◌>>=◌, ◌>>◌}
+use Rattle.st_canon.specs.Entries.{text_in}
+use Rattle.st_canon.specs.Plain.{Plain}
+use Rattle.st_canon.specs.Shapes.{is_object_of, list_at, member_in, text_at}
+use Rattle.st_canon.specs.View.{plain}
+use Rattle.st_jsonpatch.specs.Step.{PlainStep, plain_step, step_of}
+use Rattle.st_params.specs.Limits.{Limits}
+use Rattle.st_doc.specs.Alike.{none_twice}
+use Rattle.st_doc.specs.Document.{PlainDocument, document_of, may_have_names, plain_document}
+use Rattle.st_doc.specs.Entries.{id_of, is_id, is_key, is_name, is_service}
+use Rattle.st_doc.specs.declared.patch.Patch.{Patch}
+use Rattle.st_doc.specs.declared.patch.Patch.TheVariants.{AddKeys, RemoveKeys, AddServices, RemoveServices, Replace, Steps, AddNames, RemoveNames}
+
+-- a patch over plain values
+pub data PlainPatch : Type 0 where
+  add_keys : List Plain → PlainPatch
+  remove_keys : List (List ℕ) → PlainPatch
+  add_services : List Plain → PlainPatch
+  remove_services : List (List ℕ) → PlainPatch
+  replace : PlainDocument → PlainPatch
+  steps : List PlainStep → PlainPatch
+  add_names : List (List ℕ) → PlainPatch
+  remove_names : List (List ℕ) → PlainPatch
+
+-- the plain patch that a `Patch` stands for
+abbrev pub plain_patch : Patch → PlainPatch
+plain_patch (AddKeys keys) = add_keys (map plain keys)
+plain_patch (RemoveKeys ids) = remove_keys ids
+plain_patch (AddServices services) = add_services (map plain services)
+plain_patch (RemoveServices ids) = remove_services ids
+plain_patch (Replace document) = replace (plain_document document)
+plain_patch (Steps list) = steps (map plain_step list)
+plain_patch (AddNames names) = add_names names
+plain_patch (RemoveNames names) = remove_names names
+
+-- ---- what stands in a patch
+
+-- the values of the list that is the one member beside `action`
+abbrev pub values_at : List ℕ → Plain → Option (List Plain)
+values_at name patch = do
+  is_object_of (codes "action" ∷ name ∷ []) (Some patch)
+  list_at name (Some patch)
+
+-- the ids that a patch lists
+abbrev pub ids_in : Plain → Option (List (List ℕ))
+ids_in patch = do
+  values ← values_at (codes "ids") patch
+  ids ← each_of text_in values
+  list_all is_id ids
+  Some ids
+
+-- the names that a patch lists
+abbrev pub names_in : Plain → Option (List (List ℕ))
+names_in patch = do
+  values ← values_at (codes "uris") patch
+  names ← each_of text_in values
+  list_all is_name names
+  Some names
+
+-- ---- the rows
+
+abbrev pub add_keys_of : Plain → Option PlainPatch
+add_keys_of patch = do
+  keys ← values_at (codes "publicKeys") patch
+  list_all is_key keys
+  none_twice (map id_of keys)
+  Some (add_keys keys)
+
+abbrev pub remove_keys_of : Plain → Option PlainPatch
+remove_keys_of patch = do
+  ids ← ids_in patch
+  Some (remove_keys ids)
+
+abbrev pub add_services_of : Plain → Option PlainPatch
+add_services_of patch = do
+  services ← values_at (codes "services") patch
+  list_all is_service services
+  none_twice (map id_of services)
+  Some (add_services services)
+
+abbrev pub remove_services_of : Plain → Option PlainPatch
+remove_services_of patch = do
+  ids ← ids_in patch
+  Some (remove_services ids)
+
+abbrev pub replace_of : Limits → Plain → Option PlainPatch
+replace_of limits patch = do
+  is_object_of (codes "action" ∷ codes "document" ∷ []) (Some patch)
+  value ← member_in (codes "document") (Some patch)
+  document ← result_ok (document_of limits value)
+  Some (replace document)
+
+abbrev pub steps_of : Plain → Option PlainPatch
+steps_of patch = do
+  values ← values_at (codes "patches") patch
+  list ← each_of (λ value. result_ok (step_of value)) values
+  Some (steps list)
+
+abbrev pub add_names_of : Plain → Option PlainPatch
+add_names_of patch = do
+  names ← names_in patch
+  none_twice names
+  Some (add_names names)
+
+abbrev pub remove_names_of : Plain → Option PlainPatch
+remove_names_of patch = do
+  names ← names_in patch
+  Some (remove_names names)
+
+-- the patch of this action; the last two stand only in version 2
+abbrev pub patch_named : Limits → List ℕ → Plain → Option PlainPatch
+patch_named limits action patch =
+    if bytes_eq action (codes "add-public-keys") then add_keys_of patch else
+    if bytes_eq action (codes "remove-public-keys") then remove_keys_of patch else
+    if bytes_eq action (codes "add-services") then add_services_of patch else
+    if bytes_eq action (codes "remove-services") then remove_services_of patch else
+    if bytes_eq action (codes "replace") then replace_of limits patch else
+    if bytes_eq action (codes "ietf-json-patch") then steps_of patch else
+    if bytes_eq action (codes "add-also-known-as") && may_have_names limits.version then add_names_of patch else
+    if bytes_eq action (codes "remove-also-known-as") && may_have_names limits.version then remove_names_of patch else
+    None
+
+-- The patch that a value is.
+unfoldable pub patch_of : Limits → Plain → Option PlainPatch
+patch_of limits value = do
+  action ← text_at (codes "action") (Some value)
+  patch_named limits action value

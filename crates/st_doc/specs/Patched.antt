@@ -1,0 +1,21 @@
+-- What the patches of a delta make of a document, one after another. One that fails fails them all.
+use Rattle.std.specs.Prelude.{ℕ, ◌+◌, List, [], ◌∷◌, Option, Some, None, ok_or, Result, Ok}
+use Rattle.st_base.specs.Answers.{◌>>=◌}
+use Rattle.st_params.specs.Limits.{Limits}
+use Rattle.st_doc.specs.After.{after_patch}
+use Rattle.st_doc.specs.Document.{PlainDocument}
+use Rattle.st_doc.specs.Patch.{PlainPatch}
+use Rattle.st_doc.specs.declared.refused.PatchRefused.{PatchRefused}
+use Rattle.st_doc.specs.declared.refused.PatchRefused.TheVariants.{PatchFailed, WantOfMemory}
+
+-- The document after all patches, or the number of the first that fails, the first of these being `i`.
+abbrev pub patched : Limits → ℕ → List PlainPatch → PlainDocument → Result PlainDocument ℕ
+patched limits i [] document = Ok document
+patched limits i (patch ∷ patches) document = do
+  next ← ok_or (after_patch limits patch document) i
+  patched limits (i + 1) patches next
+
+-- the number of the patch that a refusal blames: none, where memory was wanting
+abbrev pub blamed : PatchRefused → Option ℕ
+blamed (PatchFailed i) = Some i
+blamed WantOfMemory = None

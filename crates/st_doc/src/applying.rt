@@ -1,0 +1,138 @@
+ghost use Rattle.std.specs.Prelude.{◌≡◌, map, option_map, IfOk};
+ghost use Rattle.std.specs.Result.{result_ok};
+ghost use Rattle.st_base.specs.Answers.{GivesAs};
+ghost use Rattle.st_canon.specs.View.{plain};
+ghost use Rattle.st_jsonpatch.specs.Step.{plain_step};
+ghost use Rattle.st_doc.specs.After.{after_patch, after_steps, if_document};
+ghost use Rattle.st_doc.specs.Document.{document_of, plain_document};
+ghost use Rattle.st_doc.specs.Patch.{plain_patch};
+ghost use Rattle.st_doc.specs.Patched.{blamed, patched};
+
+use crate::changes::{
+    with_keys, with_names, with_services, without_keys, without_names, without_services,
+};
+use crate::check::is_document;
+use crate::delta::Delta;
+use crate::document::Document;
+use crate::patch::Patch;
+use crate::refused::{DocumentRefused, PatchRefused};
+use st_base::{Copied, WantOfMemory};
+use st_canon::Json;
+use st_jsonpatch::{Step, StepsRefused, apply_steps};
+use st_params::Params;
+use std::alloc::Global;
+
+/// The document after the patches of the delta.
+///
+/// `PatchFailed(i)` comes exactly where patch `i`, counted from 0, is the first that fails: where its
+/// result is no document at these parameters, or a step of it fails.
+pub fn apply_all(
+    alloc: Global,
+    document: &Document,
+    delta: &Delta,
+    params: &Params,
+) -> Result<Document, PatchRefused>
+    ensures { let says = patched params.now 0 (map plain_patch delta.now.patches) (plain_document document.now) in
+        GivesAs plain_document blamed says result }
+{
+    let mut now = document.copy(alloc)?;
+    for (at, patch) in delta.patches.as_slice().iter().enumerate() {
+        match apply(alloc, now, patch, params)? {
+            Some(next) => now = next,
+            None => return Err(PatchRefused::PatchFailed(at)),
+        }
+    }
+    Ok(now)
+}
+
+// The document after the patch, where that does not fail.
+fn apply(
+    alloc: Global,
+    document: Document,
+    patch: &Patch,
+    params: &Params,
+) -> Result<Option<Document>, WantOfMemory>
+    ensures { IfOk result (λ next. option_map plain_document next ≡ after_patch params.now (plain_patch patch.now) (plain_document document)) }
+{
+    match patch {
+        Patch::AddKeys(keys) => {
+            let next = with_keys(alloc, document, keys.as_slice())?;
+            if_document(alloc, next, params)
+        }
+        Patch::RemoveKeys(ids) => if_document(
+            alloc,
+            without_keys(document, ids.as_slice()),
+            params,
+        ),
+        Patch::AddServices(services) => {
+            let next = with_services(alloc, document, services.as_slice())?;
+            if_document(alloc, next, params)
+        }
+        Patch::RemoveServices(ids) => {
+            if_document(alloc, without_services(document, ids.as_slice()), params)
+        }
+        Patch::Replace(new) => {
+            let next = new.copy(alloc)?;
+            if_document(alloc, next, params)
+        }
+        Patch::Steps(steps) => after_steps(alloc, &document, steps.as_slice(), params),
+        Patch::AddNames(names) => {
+            let next = with_names(alloc, document, names.as_slice())?;
+            if_document(alloc, next, params)
+        }
+        Patch::RemoveNames(names) => {
+            if_document(alloc, without_names(document, names.as_slice()), params)
+        }
+    }
+}
+
+fn if_document(
+    alloc: Global,
+    document: Document,
+    params: &Params,
+) -> Result<Option<Document>, WantOfMemory>
+    ensures { IfOk result (λ next. option_map plain_document next ≡ if_document params.now (plain_document document)) }
+{
+    if is_document(alloc, &document, params)? {
+        Ok(Some(document))
+    } else {
+        Ok(None)
+    }
+}
+
+// The steps applied to the document's JSON, where none fails and the result is a document.
+fn after_steps(
+    alloc: Global,
+    document: &Document,
+    steps: &[Step],
+    params: &Params,
+) -> Result<Option<Document>, WantOfMemory>
+    ensures { IfOk result (λ next. option_map plain_document next ≡ after_steps params.now (map plain_step steps.now) (plain_document document.now)) }
+{
+    let json = document.json(alloc)?;
+    match apply_steps(
+        alloc,
+        &json,
+        steps,
+        params.max_depth(),
+        params.max_document(),
+    ) {
+        Ok(value) => read_document(alloc, &value, params),
+        Err(StepsRefused::Failed(_)) => Ok(None),
+        Err(StepsRefused::WantOfMemory) => Err(WantOfMemory),
+    }
+}
+
+fn read_document(
+    alloc: Global,
+    value: &Json,
+    params: &Params,
+) -> Result<Option<Document>, WantOfMemory>
+    ensures { IfOk result (λ next. option_map plain_document next ≡ result_ok (document_of params.now (plain value.now))) }
+{
+    match Document::read(alloc, value, params) {
+        Ok(document) => Ok(Some(document)),
+        Err(DocumentRefused::NotDocument) => Ok(None),
+        Err(DocumentRefused::WantOfMemory) => Err(WantOfMemory),
+    }
+}

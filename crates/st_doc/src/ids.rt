@@ -1,0 +1,94 @@
+ghost use Rattle.std.specs.Prelude.{◌≡◌, map, IfOk};
+ghost use Rattle.std.specs.BTreeSet.{IsFromIterResult};
+ghost use Rattle.st_canon.specs.View.{plain};
+ghost use Rattle.st_doc.specs.Alike.{is_among, none_twice};
+ghost use Rattle.st_doc.specs.Entries.{id_of};
+
+use st_base::{Text, WantOfMemory};
+use st_canon::Json;
+use std::alloc::{AllocError, Global};
+use std::collections::BTreeSet;
+
+/// The id of a key or a service; of what has none, the empty text.
+pub(crate) fn id_of(entry: &Json) -> &str
+    ensures { result.now ≡ id_of (plain entry.now) }
+{
+    match entry.member("id") {
+        Some(Json::Text(id)) => id.as_str(),
+        _ => "",
+    }
+}
+
+/// Whether the text is one of these.
+pub(crate) fn is_among(texts: &[Text], text: &str) -> bool
+    ensures { result ≡ is_among texts.now text.now }
+{
+    for other in texts {
+        if text == other.as_str() {
+            return true;
+        }
+    }
+    false
+}
+
+/// Whether an entry has this id.
+pub(crate) fn has_id(entries: &[Json], id: &str) -> bool
+    ensures { result ≡ is_among (map id_of (map plain entries.now)) id.now }
+{
+    for entry in entries {
+        if id == id_of(entry) {
+            return true;
+        }
+    }
+    false
+}
+
+/// Whether no id stands twice.
+pub(crate) fn ids_stand_once(alloc: Global, entries: &[Json]) -> Result<bool, WantOfMemory>
+    ensures { IfOk result (λ once. once ≡ none_twice (map id_of (map plain entries.now))) }
+{
+    let ids = ids_of(alloc, entries)?;
+    none_twice(alloc, ids.as_slice())
+}
+
+/// Whether no text stands twice.
+pub(crate) fn texts_stand_once(alloc: Global, texts: &[Text]) -> Result<bool, WantOfMemory>
+    ensures { IfOk result (λ once. once ≡ none_twice texts.now) }
+{
+    let texts = strs_of(alloc, texts)?;
+    none_twice(alloc, texts.as_slice())
+}
+
+fn ids_of<'a>(alloc: Global, entries: &'a [Json]) -> Result<Vec<&'a str>, WantOfMemory>
+    ensures { IfOk result (λ ids. map (λ id. id.now) ids.items ≡ map id_of (map plain entries.now)) }
+{
+    let mut ids = Vec::new(alloc);
+    for entry in entries {
+        ids.push(id_of(entry))?;
+    }
+    Ok(ids)
+}
+
+fn strs_of<'a>(alloc: Global, texts: &'a [Text]) -> Result<Vec<&'a str>, WantOfMemory>
+    ensures { IfOk result (λ strs. map (λ text. text.now) strs.items ≡ texts.now) }
+{
+    let mut strs = Vec::new(alloc);
+    for text in texts {
+        strs.push(text.as_str())?;
+    }
+    Ok(strs)
+}
+
+fn none_twice(alloc: Global, texts: &[&str]) -> Result<bool, WantOfMemory>
+    ensures { IfOk result (λ once. once ≡ none_twice (map (λ text. text.now) texts.now)) }
+{
+    let different = set_of(alloc, texts)?;
+    Ok(different.len() == texts.len())
+}
+
+// The texts, each once and in order.
+fn set_of<'a>(alloc: Global, texts: &[&'a str]) -> Result<BTreeSet<&'a str>, AllocError>
+    ensures { IfOk result (IsFromIterResult ⟦<&'a str as Ord>⟧.cmp texts.now) }
+{
+    texts.iter().copied().collect(alloc)
+}

@@ -1,0 +1,41 @@
+use crate::document::Document;
+use st_base::{Copied, List, Text, WantOfMemory};
+use st_canon::Json;
+use st_jsonpatch::Step;
+use std::alloc::Global;
+
+/// A change of a document.
+#[derive(Drop)]
+pub enum Patch {
+    /// Each key replaces the key of its id in its place, else goes last.
+    AddKeys(List<Json>),
+    /// Each key with one of these ids goes.
+    RemoveKeys(List<Text>),
+    /// Each service replaces the service of its id in its place, else goes last.
+    AddServices(List<Json>),
+    /// Each service with one of these ids goes.
+    RemoveServices(List<Text>),
+    /// The document becomes this.
+    Replace(Document),
+    /// These steps are applied to the document's JSON.
+    Steps(List<Step>),
+    /// Each name that is not there goes last.
+    AddNames(List<Text>),
+    /// Each of these names goes.
+    RemoveNames(List<Text>),
+}
+
+impl Copied for Patch {
+    fn copy(&self, alloc: Global) -> Result<Patch, WantOfMemory> {
+        match self {
+            Patch::AddKeys(keys) => Ok(Patch::AddKeys(keys.copy(alloc)?)),
+            Patch::RemoveKeys(ids) => Ok(Patch::RemoveKeys(ids.copy(alloc)?)),
+            Patch::AddServices(services) => Ok(Patch::AddServices(services.copy(alloc)?)),
+            Patch::RemoveServices(ids) => Ok(Patch::RemoveServices(ids.copy(alloc)?)),
+            Patch::Replace(document) => Ok(Patch::Replace(document.copy(alloc)?)),
+            Patch::Steps(steps) => Ok(Patch::Steps(steps.copy(alloc)?)),
+            Patch::AddNames(names) => Ok(Patch::AddNames(names.copy(alloc)?)),
+            Patch::RemoveNames(names) => Ok(Patch::RemoveNames(names.copy(alloc)?)),
+        }
+    }
+}

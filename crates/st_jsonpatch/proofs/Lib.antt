@@ -1,0 +1,4 @@
+pub mod Changing
+pub mod Indices
+pub mod Paths
+pub mod Pieces

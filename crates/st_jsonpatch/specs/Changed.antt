@@ -1,0 +1,32 @@
+-- What a call that changes a value in place answers, and what it leaves.
+use Rattle.std.specs.Prelude.{◌≡◌, ⊤, Option, Some, None, option_map, Result, Ok, Err, IfOk}
+use Rattle.st_canon.specs.Plain.{Plain}
+use Rattle.st_canon.specs.View.{plain}
+use Rattle.st_canon.specs.declared.value.Json.{Json}
+use Rattle.st_jsonpatch.specs.Edited.{Act, put_new, take_out, set_to}
+use Rattle.st_jsonpatch.specs.declared.action.Action.{Action}
+use Rattle.st_jsonpatch.specs.declared.action.Action.TheVariants.{Put, Take, Set}
+use Rattle.st_jsonpatch.specs.declared.refused.ChangeRefused.{ChangeRefused}
+use Rattle.st_jsonpatch.specs.declared.refused.ChangeRefused.TheVariants.{Fails, WantOfMemory}
+
+-- the value is now what the change makes of it; where the change fails, or memory was wanting,
+-- nothing is said of the value
+abbrev pub Changes : {P T : Type 0} → Option P → P → Result T ChangeRefused → Type 0
+Changes change new (Ok done) = change ≡ Some new
+Changes change new (Err Fails) = change ≡ None
+Changes change new (Err WantOfMemory) = ⊤
+
+-- the act that an `Action` stands for
+abbrev pub plain_act : Action → Act
+plain_act (Put new) = put_new (plain new)
+plain_act Take = take_out
+plain_act (Set new) = set_to (plain new)
+
+-- what an act hands out, of what stood there
+abbrev pub handed_out : Act → Option Plain → Option Plain
+handed_out (put_new new) there = None
+handed_out take_out there = there
+handed_out (set_to new) there = None
+
+abbrev pub HandsOut : Act → Option Plain → Result (Option Json) ChangeRefused → Type 0
+HandsOut act there result = IfOk result (λ out. option_map plain out ≡ handed_out act there)

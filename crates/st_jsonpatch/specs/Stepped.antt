@@ -1,0 +1,64 @@
+-- What the steps of a JSON Patch make of a value (RFC 6902, section 4).
+use Rattle.std.specs.Prelude.{ℕ, Bool, true, false, not, ◌&&◌, List, [], ◌∷◌, bytes_eq, Option, Some, None}
+use Rattle.st_base.specs.Options.{◌>>=◌, ◌>>◌}
+use Rattle.st_canon.specs.Measure.{fits, is_equal}
+use Rattle.st_canon.specs.Plain.{Plain}
+use Rattle.st_jsonpatch.specs.At.{at}
+use Rattle.st_jsonpatch.specs.Edited.{edited, put_new, take_out, set_to}
+use Rattle.st_jsonpatch.specs.Step.{PlainStep, add, remove, replace, move, copy, test}
+
+-- at the empty path the value replaces all
+abbrev pub added : Plain → List (List ℕ) → Plain → Option Plain
+added new [] value = Some new
+added new (token ∷ path) value = edited (put_new new) token path value
+
+-- the whole is not removed
+abbrev pub removed : List (List ℕ) → Plain → Option Plain
+removed [] value = None
+removed (token ∷ path) value = edited take_out token path value
+
+abbrev pub replaced : Plain → List (List ℕ) → Plain → Option Plain
+replaced new [] value = Some new
+replaced new (token ∷ path) value = edited (set_to new) token path value
+
+-- the first path leads to a value that the second leads into
+abbrev pub is_above : List (List ℕ) → List (List ℕ) → Bool
+is_above from [] = false
+is_above [] (token ∷ path) = true
+is_above (first ∷ from) (token ∷ path) = bytes_eq first token && is_above from path
+
+-- no value is moved into itself
+abbrev pub moved : List (List ℕ) → List (List ℕ) → Plain → Option Plain
+moved from path value = do
+  not (is_above from path)
+  entry ← at from value
+  rest ← removed from value
+  added entry path rest
+
+abbrev pub copied : List (List ℕ) → List (List ℕ) → Plain → Option Plain
+copied from path value = do
+  entry ← at from value
+  added entry path value
+
+abbrev pub tested : Plain → List (List ℕ) → Plain → Option Plain
+tested expected path value = do
+  entry ← at path value
+  is_equal entry expected
+  Some value
+
+-- the value after a step, where no bound is looked at
+abbrev pub changed : PlainStep → Plain → Option Plain
+changed (add path new) = added new path
+changed (remove path) = removed path
+changed (replace path new) = replaced new path
+changed (move from path) = moved from path
+changed (copy from path) = copied from path
+changed (test path expected) = tested expected path
+
+-- The value after a step, where the step does not fail. It fails too where the whole value after it
+-- nests too deep, or has too long a canonical text.
+abbrev pub stepped : ℕ → ℕ → PlainStep → Plain → Option Plain
+stepped max_depth max_size step value = do
+  new ← changed step value
+  fits max_depth max_size new
+  Some new

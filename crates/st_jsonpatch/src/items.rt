@@ -1,0 +1,119 @@
+ghost use Rattle.std.specs.Prelude.{◌≡◌, ◌≤◌, option_map, IfOk, IfSome, Some};
+ghost use Rattle.std.specs.Borrow.{sem};
+ghost use Rattle.std.specs.Option.{option_copied, option_copied_mut};
+ghost use Rattle.st_canon.specs.View.{plain, plain_items};
+ghost use Rattle.st_jsonpatch.specs.At.{item_at};
+ghost use Rattle.st_jsonpatch.specs.Changed.{plain_act, Changes, HandsOut};
+ghost use Rattle.st_jsonpatch.specs.Edited.{items_after, place_in, put_new, set_to, take_out};
+ghost use Rattle.st_jsonpatch.specs.Lends.{LendsItem};
+
+use crate::action::Action;
+use crate::index::read_index;
+use crate::refused::ChangeRefused;
+use st_base::List;
+use st_canon::Json;
+use std::alloc::Global;
+
+// The item that a token selects.
+pub(crate) fn item<'a>(items: &'a List<Json>, token: &str) -> Option<&'a Json>
+    ensures { option_map plain (option_copied result) ≡ item_at token.now (plain_items items.now) }
+{
+    match read_index(token, items.len()) {
+        Some(at) => items.get(at),
+        None => None,
+    }
+}
+
+// The same, to be changed.
+pub(crate) fn item_mut<'a>(items: &'a mut List<Json>, token: &str) -> Option<&'a mut Json>
+    ensures* writes_back { sem 𝓛 (LendsItem items.entry token.now result) }
+    ensures item { option_map plain (option_copied_mut result) ≡ item_at token.now (plain_items items.old) }
+{
+    let length = items.len();
+    match read_index(token, length) {
+        Some(at) => items.get_mut(at),
+        None => None,
+    }
+}
+
+// The token acts on the list that it selects in.
+pub(crate) fn act_on_items(
+    alloc: Global,
+    items: &mut List<Json>,
+    token: &str,
+    action: Action,
+) -> Result<Option<Json>, ChangeRefused>
+    ensures items { Changes (items_after (plain_act action) token.now (plain_items items.old)) (plain_items items.new) result }
+    ensures out { HandsOut (plain_act action) (item_at token.now (plain_items items.old)) result }
+{
+    match action {
+        Action::Put(new) => {
+            insert_item(alloc, items, token, new)?;
+            Ok(None)
+        }
+        Action::Take => {
+            let item = take_item(items, token)?;
+            Ok(Some(item))
+        }
+        Action::Set(new) => {
+            set_item(items, token, new)?;
+            Ok(None)
+        }
+    }
+}
+
+fn insert_item(
+    alloc: Global,
+    items: &mut List<Json>,
+    token: &str,
+    new: Json,
+) -> Result<(), ChangeRefused>
+    ensures { Changes (items_after (put_new (plain new)) token.now (plain_items items.old)) (plain_items items.new) result }
+{
+    match place_in(token, items.len()) {
+        Some(at) => {
+            items.insert(alloc, at, new)?;
+            Ok(())
+        }
+        None => Err(ChangeRefused::Fails),
+    }
+}
+
+// Where an item goes in a list of this length.
+fn place_in(token: &str, length: usize) -> Option<usize>
+    ensures place { result ≡ place_in length token.now }
+    ensures within { IfSome result (λ at. at ≤ length) }
+{
+    if token == "-" {
+        Some(length)
+    } else {
+        read_index(token, length)
+    }
+}
+
+fn take_item(items: &mut List<Json>, token: &str) -> Result<Json, ChangeRefused>
+    ensures items { Changes (items_after take_out token.now (plain_items items.old)) (plain_items items.new) result }
+    ensures out { IfOk result (λ item. item_at token.now (plain_items items.old) ≡ Some (plain item)) }
+{
+    let length = items.len();
+    match read_index(token, length) {
+        Some(at) => if at < length {
+            Ok(items.remove(at))
+        } else {
+            Err(ChangeRefused::Fails)
+        },
+        None => Err(ChangeRefused::Fails),
+    }
+}
+
+fn set_item(items: &mut List<Json>, token: &str, new: Json) -> Result<(), ChangeRefused>
+    ensures { Changes (items_after (set_to (plain new)) token.now (plain_items items.old)) (plain_items items.new) result }
+{
+    match item_mut(items, token) {
+        Some(item) => {
+            *item = new;
+            Ok(())
+        }
+        None => Err(ChangeRefused::Fails),
+    }
+}
