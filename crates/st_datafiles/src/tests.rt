@@ -1,0 +1,19 @@
+mod chunk_files;
+mod proof_files;
+
+use st_base::{Bytes, WantOfMemory, read_number};
+use std::alloc::Global;
+
+// A case of a table: how many of each kind are wanted, the answer, and the file.
+fn case_of(line: &str) -> Option<(usize, &str, &str)> {
+    let (wanted, rest) = line.split_once(' ')?;
+    let (answer, file) = rest.split_once(' ')?;
+    let wanted = read_number(wanted.as_bytes(), 10_000)?;
+    Some((wanted as usize, answer, file))
+}
+
+// So many spaces.
+fn spaces(alloc: Global, count: usize) -> Result<Bytes, WantOfMemory> {
+    let bytes = vec![in alloc; b' '; count]?;
+    Bytes::from_slice(alloc, bytes.as_slice())
+}

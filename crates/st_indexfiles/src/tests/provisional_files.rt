@@ -28,9 +28,7 @@ fn answer(
     let alloc = rt.alloc();
     let mut work = Work::new(rt);
     let params = Schedule::with_second(2).at(version);
-    let read = read_provisional(alloc, file, core, count, &params, &mut work);
-    assert_eq!(rt; work.files(), 1);
-    match read {
+    match read_provisional(alloc, file, core, count, &params, &mut work) {
         Ok(_) => Ok(String::from_str(alloc, "read")?),
         Err(FileRefused::Rejected(rule)) => Ok(format!(in alloc; "{rule:?}")?),
         Err(FileRefused::WantOfMemory) => Err(Fail::from("out of memory")),
@@ -117,5 +115,6 @@ fn a_provisional_index_is_written_and_read_again(rt: HostRuntime) -> Result<(), 
     let read = read_provisional(alloc, file.as_slice(), &core, 1, &params, &mut work)?;
     assert_eq!(rt; (read.proof, read.chunk), (index.proof, index.chunk));
     assert_eq!(rt; read.updates.as_slice(), index.updates.as_slice());
+    assert_eq!(rt; work.files(), 1);
     Ok(())
 }

@@ -1,0 +1,118 @@
+use super::{case_of, spaces};
+use crate::{
+    CoreProofs, read_core_proof, read_provisional_proof, write_core_proof, write_provisional_proof,
+};
+use st_base::{Copied, FileRefused, List, Text, Work};
+use st_params::Schedule;
+use std::test::Fail;
+
+// How a core proof file is answered where no recover and so many deactivates are wanted: `read`, or
+// the rule that rejects it.
+fn core_answer(rt: &HostRuntime, file: &[u8], deactivates: usize) -> Result<String, Fail> {
+    let alloc = rt.alloc();
+    let mut work = Work::new(rt);
+    let params = Schedule::new().newest();
+    match read_core_proof(alloc, file, 0, deactivates, &params, &mut work) {
+        Ok(_) => Ok(String::from_str(alloc, "read")?),
+        Err(FileRefused::Rejected(rule)) => Ok(format!(in alloc; "{rule:?}")?),
+        Err(FileRefused::WantOfMemory) => Err(Fail::from("out of memory")),
+    }
+}
+
+// The same of a provisional proof file.
+fn provisional_answer(rt: &HostRuntime, file: &[u8], updates: usize) -> Result<String, Fail> {
+    let alloc = rt.alloc();
+    let mut work = Work::new(rt);
+    let params = Schedule::new().newest();
+    match read_provisional_proof(alloc, file, updates, &params, &mut work) {
+        Ok(_) => Ok(String::from_str(alloc, "read")?),
+        Err(FileRefused::Rejected(rule)) => Ok(format!(in alloc; "{rule:?}")?),
+        Err(FileRefused::WantOfMemory) => Err(Fail::from("out of memory")),
+    }
+}
+
+#[test]
+fn a_core_proof_file_fails_its_first_rule(rt: HostRuntime) -> Result<(), Fail> {
+    let cases = "1 Q2 x
+1 Q3 {}
+1 Q3 []
+1 Q3 {\"operations\":{\"deactivate\":[{\"signedData\":\"x\"}]},\"a\":1}
+1 Q3 {\"operations\":null}
+1 Q3 {\"operations\":{\"update\":[]}}
+1 Q3 {\"operations\":{\"deactivate\":null}}
+1 Q3 {\"operations\":{\"deactivate\":[\"x\"]}}
+1 Q3 {\"operations\":{\"deactivate\":[{\"signedData\":1}]}}
+1 Q3 {\"operations\":{\"deactivate\":[{\"signedData\":\"x\",\"a\":1}]}}
+1 Q4 {\"operations\":{\"deactivate\":[]}}
+1 Q4 {\"operations\":{\"recover\":[{\"signedData\":\"x\"}]}}
+1 Q4 {\"operations\":{\"deactivate\":[{\"signedData\":\"x\"},{\"signedData\":\"y\"}]}}
+1 read {\"operations\":{\"deactivate\":[{\"signedData\":\"x\"}]}}
+0 read {\"operations\":{}}";
+    for case in cases.lines() {
+        let Some((wanted, rule, file)) = case_of(case) else {
+            return Err(Fail::from("a case"));
+        };
+        let found = core_answer(&rt, file.as_bytes(), wanted)?;
+        assert_eq!(rt; found.as_str(), rule, "{case}");
+    }
+    for (size, rule) in [(16_000_000, "Q2"), (16_000_001, "Q1")] {
+        let file = spaces(rt.alloc(), size)?;
+        assert_eq!(rt; core_answer(&rt, file.as_slice(), 1)?.as_str(), rule);
+        assert_eq!(rt; provisional_answer(&rt, file.as_slice(), 1)?.as_str(), rule);
+    }
+    Ok(())
+}
+
+#[test]
+fn a_provisional_proof_file_fails_its_first_rule(rt: HostRuntime) -> Result<(), Fail> {
+    let cases = "1 Q2 1.5
+1 Q3 {}
+1 Q3 {\"operations\":{\"recover\":[]}}
+1 Q3 {\"operations\":{\"update\":[{}]}}
+1 Q4 {\"operations\":{}}
+1 Q4 {\"operations\":{\"update\":[]}}
+2 Q4 {\"operations\":{\"update\":[{\"signedData\":\"x\"}]}}
+1 read {\"operations\":{\"update\":[{\"signedData\":\"x\"}]}}";
+    for case in cases.lines() {
+        let Some((wanted, rule, file)) = case_of(case) else {
+            return Err(Fail::from("a case"));
+        };
+        let found = provisional_answer(&rt, file.as_bytes(), wanted)?;
+        assert_eq!(rt; found.as_str(), rule, "{case}");
+    }
+    Ok(())
+}
+
+fn texts(rt: &HostRuntime, first: &str, second: &str) -> Result<List<Text>, Fail> {
+    let alloc = rt.alloc();
+    let mut texts = List::new(alloc);
+    texts.push(alloc, Text::from_text(alloc, first)?)?;
+    texts.push(alloc, Text::from_text(alloc, second)?)?;
+    Ok(texts)
+}
+
+#[test]
+fn signed_texts_are_written_and_read_again(rt: HostRuntime) -> Result<(), Fail> {
+    let alloc = rt.alloc();
+    let proofs = CoreProofs {
+        recovers: List::new(alloc),
+        deactivates: texts(&rt, "a.b.c", "\"")?,
+    };
+    let file = write_core_proof(alloc, &proofs.copy(alloc)?)?;
+    let wanted =
+        "{\"operations\":{\"deactivate\":[{\"signedData\":\"a.b.c\"},{\"signedData\":\"\\\"\"}]}}";
+    assert_eq!(rt; file.as_slice(), wanted.as_bytes());
+    let mut work = Work::new(&rt);
+    let params = Schedule::new().newest();
+    let read = read_core_proof(alloc, file.as_slice(), 0, 2, &params, &mut work)?;
+    assert_eq!(rt; (read.recovers.len(), read.deactivates.len()), (0, 2));
+    let file = write_provisional_proof(alloc, read.deactivates.as_slice())?;
+    let read = read_provisional_proof(alloc, file.as_slice(), 2, &params, &mut work)?;
+    let Some(second) = read.get(1) else {
+        return Err(Fail::from("no text"));
+    };
+    assert_eq!(rt; second.as_str(), "\"");
+    assert_eq!(rt; write_provisional_proof(alloc, &[])?.as_slice(), b"{}".as_slice());
+    assert_eq!(rt; work.files(), 2);
+    Ok(())
+}
