@@ -8,6 +8,7 @@ pub mod LendsValue
 pub mod Measure
 pub mod Names
 pub mod Objects
+pub mod ObjectsOfLists
 pub mod Place
 pub mod Plain
 pub mod Proper

@@ -1,31 +1,52 @@
-ghost use Rattle.std.specs.Prelude.{◌≡◌, [], ◌∷◌, ◌&&◌, codes, is_some, IfOk, OnOk, Some, None};
-ghost use Rattle.st_canon.specs.Find.{has_only, member_at};
-ghost use Rattle.st_canon.specs.Plain.{object, member, no_members};
+ghost use Rattle.std.specs.Prelude.{◌≡◌, [], ◌∷◌, ◌&&◌, codes, is_some, map, option_map, IfOk, OnOk, Some, None};
+ghost use Rattle.st_canon.specs.Find.{member_at};
+ghost use Rattle.st_canon.specs.Objects.{object_of, object_of_some, some_list};
+ghost use Rattle.st_canon.specs.Shapes.{is_object_of, is_text_if_there, member_in, text_at};
 ghost use Rattle.st_canon.specs.View.{plain, plain_members};
 
+mod measures;
 mod members;
+mod shapes;
 mod spelling;
 
-use crate::{Json, Object, ReadRefused, read};
-use st_base::WantOfMemory;
+use crate::{Json, Object, is_text_if_there, read, some_list, write};
+use st_base::{List, WantOfMemory};
 use std::alloc::Global;
+use std::test::Fail;
 
-// An object of fixed members, which are put in any order.
+// An object of fixed members, which are put in another order than they are listed.
 #[tactic(auto, unfolding(crate::proofs::OnLiterals::names_on_literals))]
 fn pair_of(alloc: Global, first: Json, second: Json) -> Result<Json, WantOfMemory>
-    ensures { IfOk result (λ json. plain json ≡ object (member (codes "deltaHash") (plain first) (member (codes "type") (plain second) no_members))) }
+    ensures { IfOk result (λ json. plain json ≡ object_of ((codes "type", plain first) ∷ (codes "deltaHash", plain second) ∷ [])) }
 {
     let mut pair = Object::new(alloc);
-    pair.set(alloc, "type", second)?;
-    pair.set(alloc, "deltaHash", first)?;
+    pair.set(alloc, "deltaHash", second)?;
+    pair.set(alloc, "type", first)?;
     Ok(Json::Object(pair))
 }
 
-// Whether these are the members of a fixed shape, the second of which may be absent.
-fn is_entry(members: &Object) -> bool
-    ensures { result ≡ (has_only (codes "didSuffix" ∷ codes "revealValue" ∷ []) (plain_members members.now) && is_some (member_at (codes "didSuffix") (plain_members members.now))) }
+// An object of members that may be left out, which are put in the order in which they are listed.
+fn step_of(alloc: Global, from: Option<Json>, ids: List<Json>) -> Result<Json, WantOfMemory>
+    ensures { IfOk result (λ json. plain json ≡ object_of_some ((codes "from", option_map plain from) ∷ (codes "ids", some_list (map plain ids)) ∷ [])) }
 {
-    members.has_only(&["didSuffix", "revealValue"]) && members.get("didSuffix").is_some()
+    let mut step = Object::new(alloc);
+    step.set_some(alloc, "from", from)?;
+    step.set_some(alloc, "ids", some_list(ids))?;
+    Ok(Json::Object(step))
+}
+
+// A test of a shape, whose definition is total.
+fn is_header(json: &Json) -> bool
+    ensures { result ≡ (is_object_of (codes "alg" ∷ codes "kid" ∷ []) (Some (plain json.now))
+        && (is_some (text_at (codes "alg") (Some (plain json.now)))
+        && is_text_if_there (member_in (codes "kid") (Some (plain json.now))))) }
+{
+    match json.as_object() {
+        Some(members) => members.has_only(&["alg", "kid"])
+            && members.text("alg").is_some()
+            && is_text_if_there(members.get("kid")),
+        None => false,
+    }
 }
 
 // A member that was set is found, one that was removed is gone, and the others stay.
@@ -40,9 +61,20 @@ fn moved(alloc: Global, object: &mut Object, value: Json) -> Result<(), WantOfMe
     Ok(())
 }
 
-fn is_refused(rt: &HostRuntime, text: &[u8], refused: ReadRefused) -> bool {
-    match read(rt.alloc(), text) {
-        Ok(_) => false,
-        Err(e) => e == refused,
+fn json(rt: &HostRuntime, text: &str) -> Result<Json, Fail> {
+    match read(rt.alloc(), text.as_bytes()) {
+        Ok(json) => Ok(json),
+        Err(_) => Err(Fail::from("not read")),
     }
+}
+
+fn object(rt: &HostRuntime, text: &str) -> Result<Object, Fail> {
+    match json(rt, text)? {
+        Json::Object(object) => Ok(object),
+        _ => Err(Fail::from("no object")),
+    }
+}
+
+fn is_written(rt: &HostRuntime, json: &Json, text: &str) -> Result<bool, Fail> {
+    Ok(write(rt.alloc(), json)?.as_slice() == text.as_bytes())
 }

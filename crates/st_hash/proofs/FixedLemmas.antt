@@ -1,5 +1,5 @@
 -- Texts that are the base64url of so many bytes.
-use Rattle.std.proofs.Common.{◌≡◌, ◌≢◌, ◌∙◌, ℕ, ◌+◌, ◌*◌, ◌/◌, ◌==◌, ◌<◌, nat_lt, Bool, true, false, List, length, if◌then◌else◌, Option, Some, None, option_and_then, refl, ap, arith}
+use Rattle.std.proofs.Common.{◌≡◌, ◌≢◌, ◌∙◌, ℕ, ◌*◌, ◌/◌, ◌==◌, ◌<◌, nat_lt, Bool, true, false, List, length, if◌then◌else◌, Option, Some, None, option_and_then, refl, ap, arith}
 use Rattle.std.proofs.lemmas.Bool.{eq-eqb, eqb-true, ne_eqb}
 use Rattle.std.proofs.lemmas.Option.{cond_some}
 use Rattle.std.proofs.lemmas.Bool.Decides.{nat_tests}

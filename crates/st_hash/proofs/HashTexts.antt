@@ -148,6 +148,26 @@ pub hash_of_text_with-spelled : (code : ℕ) (text : List ℕ) (hash : HashValue
 hash_of_text_with-spelled code text hash are_bytes found =
     by_bytes code text (bytes_of_text text) hash (λ bytes e. spelled text bytes are_bytes e) found
 
+-- what a version reads a text as
+either : (first : Bool) (found other : Option HashValue) (hash : HashValue)
+    → (if first then found else option_or found other) ≡ Some hash
+    → (found ≡ Some hash) ⊎ ((first ≡ false) × (other ≡ Some hash))
+either true found other hash e = inl e
+either false None other hash e = inr (refl, e)
+either false (Some found) other hash e = inl e
+
+pub hash_of_text_at-spelled : (version : ℕ) (text : List ℕ) (hash : HashValue) → IsBytes text
+    → hash_of_text_at version text ≡ Some hash → (text ≡ hash_text hash) × IsOfVersion version hash
+hash_of_text_at-spelled version text hash are_bytes found =
+    elim (either (version == 1) (hash_of_text text) (hash_of_text_with 0x13 text) hash found) [
+      | inl e ↦
+          let parts = hash_of_text_with-spelled 0x12 text hash are_bytes e in
+          (parts.0, λ first. parts.1)
+      | inr e ↦
+          let parts = hash_of_text_with-spelled 0x13 text hash are_bytes e.1 in
+          (parts.0, λ first. absurd (eqb-false version 1 e.0 first))
+    ]
+
 -- a text that is read as no hash by an algorithm is the text of none of its hashes
 pub hash_of_text_with-none : (code : ℕ) (text : List ℕ) (hash : HashValue) → hash_of_text_with code text ≡ None
     → IsHash hash → hash.code ≡ code → text ≢ hash_text hash

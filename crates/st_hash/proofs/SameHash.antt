@@ -1,5 +1,5 @@
 -- Two hashes are the same exactly where `same_hash` says so.
-use Rattle.std.proofs.Common.{◌≡◌, ◌≢◌, ◌∙◌, ◌==◌, ◌&&◌, bytes_eq, Bool, true, false, refl, ap}
+use Rattle.std.proofs.Common.{◌≡◌, ◌≢◌, ◌==◌, bytes_eq, Bool, true, false, refl}
 use Rattle.std.proofs.lemmas.Bool.{and_parts, eqb-true}
 use Rattle.std.proofs.lemmas.Slice.Eq.{bytes_eq-Decides}
 use Rattle.st_hash.specs.Hash.{HashValue, same_hash}

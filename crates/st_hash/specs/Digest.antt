@@ -1,5 +1,5 @@
 -- What a digest of one of the two algorithms is to contracts.
-use Rattle.std.specs.Prelude.{◌≡◌, ℕ, ◌==◌, List, if◌then◌else◌, refl}
+use Rattle.std.specs.Prelude.{◌≡◌, ◌==◌, if◌then◌else◌, refl}
 use Rattle.st_hash.specs.declared.hash.Digest.{Digest}
 use Rattle.st_hash.specs.declared.hash.Digest.TheVariants.{Sha256, Sha512}
 use Rattle.st_hash.specs.Hash.{HashValue}

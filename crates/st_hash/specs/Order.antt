@@ -1,8 +1,9 @@
--- The laws of the order of hashes.
-use Rattle.std.specs.Prelude.{◌≡◌}
-use Rattle.std.specs.Cmp.{IsEquivalence, IsPartialOrder, IsTotalOrder, on_equiv, on_total, and_equiv, then_total, both_tied, po, nat_cmp_total, nat_eq_equiv, unsigned_ties}
-use Rattle.std.specs.Cmp.Lexicographic.{nat_list_cmp_total, nat_list_eq_equiv, texts_ties}
+-- The laws of the order of hashes, and of what a hash feeds a hasher.
+use Rattle.std.specs.Prelude.{◌≡◌, ℕ, List, [], ◌∷◌, bytes_eq, ◌==◌, IsTrue}
+use Rattle.std.specs.Cmp.{IsEquivalence, IsPartialOrder, IsTotalOrder, on_equiv, on_total, and_equiv, then_total, both_tied, po, nat_cmp_total, nat_eq_equiv, second_so, unsigned_ties}
+use Rattle.std.specs.Cmp.Lexicographic.{bytes_decides, nat_list_cmp_total, nat_list_eq_equiv, texts_ties}
 use Rattle.std.specs.Ordering.{as_partial_cmp, eq_by_cmp}
+use Rattle.std.proofs.Common.{ap}
 use Rattle.st_hash.specs.Hash.{HashValue, hash_cmp, same_hash}
 
 pub same_hash-equivalence : IsEquivalence same_hash
@@ -18,3 +19,12 @@ same_hash-ties first second =
 
 pub hash_cmp-partial : IsPartialOrder same_hash (as_partial_cmp hash_cmp)
 hash_cmp-partial = po hash_cmp-total same_hash-ties
+
+-- a hash feeds a hasher the bytes of its digest
+abbrev pub fed : HashValue → List (List ℕ)
+fed hash = hash.digest ∷ []
+
+pub same_hash-fed : (first second : HashValue) → IsTrue (same_hash first second) → fed first ≡ fed second
+same_hash-fed first second same =
+    ap (λ digest. digest ∷ [])
+    ((bytes_decides first.digest second.digest).0 (second_so (first.code == second.code) (bytes_eq first.digest second.digest) same))

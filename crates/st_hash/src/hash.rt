@@ -1,11 +1,12 @@
 ghost use Rattle.std.specs.Prelude.{◌≡◌, length, refl};
 ghost use Rattle.std.specs.Ordering.{as_partial_cmp};
 ghost use Rattle.st_hash.specs.Hash.{IsCode, IsHash, hash_cmp, same_hash, digest_length, sha256_digest};
-ghost use Rattle.st_hash.specs.Order.{same_hash-equivalence, hash_cmp-total, same_hash-ties, hash_cmp-partial};
+ghost use Rattle.st_hash.specs.Order.{fed, same_hash-equivalence, same_hash-fed, hash_cmp-total, same_hash-ties, hash_cmp-partial};
 
 use st_base::{Copied, WantOfMemory};
 use std::alloc::Global;
 use std::cmp::Ordering;
+use std::hash::Hasher;
 use std::marker::Model;
 
 /// The multihash code of SHA-256, whose digests have 32 bytes.
@@ -137,6 +138,16 @@ impl Ord for Hash {
         let codes = self.code().cmp(&other.code());
         let digests = self.digest().cmp(other.digest());
         codes.then(digests)
+    }
+}
+
+impl std::hash::Hash for Hash {
+    ghost hash_input = { fed };
+
+    ghost respects_eq = { same_hash-fed };
+
+    fn hash<H: Hasher>(&self, state: &mut H) {
+        state.write(self.digest());
     }
 }
 

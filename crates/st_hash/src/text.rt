@@ -1,4 +1,4 @@
-ghost use Rattle.std.specs.Prelude.{◌≡◌, ◌≢◌, ℕ, ◌+◌, ◌≤◌, ◌<◌, ◌∷◌, length, IfOk, IfErr, option_map};
+ghost use Rattle.std.specs.Prelude.{◌≡◌, ◌≢◌, ℕ, ◌+◌, ◌≤◌, ◌<◌, ◌∷◌, length, IfOk, IfErr, IfSome, option_map};
 ghost use Rattle.std.specs.Result.{result_ok};
 ghost use Rattle.st_hash.specs.Hash.{HashValue, IsHash, IsOfVersion, digest_length, hash_text, hash_of_text, hash_of_text_at, hash_of_text_with};
 
@@ -52,6 +52,7 @@ pub fn read_hash(text: &[u8]) -> Result<Hash, BadHash>
     ensures no_spelling { IfErr result (λ _. (hash : HashValue) → IsHash hash → hash.code ≡ 18
         → text.now ≢ hash_text hash) }
     ensures value { result_ok result ≡ hash_of_text text.now }
+    ensures is { IfOk result IsHash }
 {
     match read_sha256(text) {
         Some(hash) => Ok(hash),
@@ -70,6 +71,8 @@ pub fn read_hash_at(text: &[u8], version: u8) -> Result<Hash, BadHash>
     ensures no_spelling { IfErr result (λ _. (hash : HashValue) → IsHash hash → IsOfVersion version hash
         → text.now ≢ hash_text hash) }
     ensures value { result_ok result ≡ hash_of_text_at version text.now }
+    ensures is { IfOk result IsHash }
+    ensures of_version { IfOk result (IsOfVersion version) }
 {
     if let Some(hash) = read_sha256(text) {
         return Ok(hash);
@@ -84,7 +87,8 @@ pub fn read_hash_at(text: &[u8], version: u8) -> Result<Hash, BadHash>
 }
 
 fn read_sha256(text: &[u8]) -> Option<Hash>
-    ensures { result ≡ hash_of_text_with 18 text.now }
+    ensures value { result ≡ hash_of_text_with 18 text.now }
+    ensures is { IfSome result IsHash }
 {
     match read_digest::<32, 34>(text, SHA_256) {
         Some(digest) => Some(Hash::of_sha256(digest)),
@@ -93,7 +97,8 @@ fn read_sha256(text: &[u8]) -> Option<Hash>
 }
 
 fn read_sha512(text: &[u8]) -> Option<Hash>
-    ensures { result ≡ hash_of_text_with 19 text.now }
+    ensures value { result ≡ hash_of_text_with 19 text.now }
+    ensures is { IfSome result IsHash }
 {
     match read_digest::<64, 66>(text, SHA_512) {
         Some(digest) => Some(Hash::of_sha512(digest)),

@@ -1,7 +1,7 @@
 pub mod Cutting
-pub mod Dots
-pub mod Fixed
 pub mod Joining
 pub mod JwkJson
 pub mod Opens
-pub mod Utf8Bytes
+pub mod SameMembers
+pub mod Spelled
+pub mod WrittenKeys

@@ -1,6 +1,7 @@
 -- What is joined from a signature over a payload opens to that payload and its key.
 use Rattle.std.proofs.Common.{◌≡◌, ◌∙◌, ℕ, ◌≤◌, true, nat_le, List, ◌∷◌, ◌++◌, length, codes, Some, Ok, refl, sym, ap, subst, append_assoc, lit≤, arith}
 use Rattle.std.proofs.lemmas.Bool.Decides.{nat_tests}
+use Rattle.std.specs.Result.{result_ok}
 use Rattle.std.specs.Str.{IsUtf8}
 use Rattle.base64.specs.GeneralPurpose.{IsBytes}
 use Rattle.st_base.proofs.Cuts.{cut_at-append}
@@ -8,17 +9,18 @@ use Rattle.st_canon.specs.Canonical.{canonical, escape}
 use Rattle.st_canon.specs.Depth.{depth_of}
 use Rattle.st_canon.specs.Plain.{Plain, text, object, no_members, member}
 use Rattle.st_canon.specs.Proper.{IsProper}
+use Rattle.st_canon.specs.Shapes.{json_in}
 use Rattle.st_canon.proofs.Back.{reads_back}
 use Rattle.st_canon.proofs.Texts.{IsUtf8-canonical}
 use Rattle.st_hash.specs.Base64url.{base64url}
+use Rattle.st_hash.proofs.Separators.{no_dot}
 use Rattle.st_hash.proofs.Spelling.{bytes_of_text-base64url}
+use Rattle.st_hash.proofs.Utf8Bytes.{IsBytes-IsUtf8}
 use Rattle.st_jws.specs.Jwk.{lms}
-use Rattle.st_jws.specs.Opening.{Opened, value_in, json_in, is_header, key_in, opened}
+use Rattle.st_jws.specs.Opening.{Opened, is_header, key_in, opened}
 use Rattle.st_jws.specs.Signing.{header_text, signing_input, join_signed}
-use Rattle.st_jws.specs.Texts.{dot, texts_of_cut, texts_behind, texts_of}
+use Rattle.st_jws.specs.Texts.{dot, texts_of}
 use Rattle.st_jws.specs.declared.jwk.Jwk.{Jwk}
-use Rattle.st_jws.proofs.Dots.{no_dot}
-use Rattle.st_jws.proofs.Utf8Bytes.{IsBytes-IsUtf8}
 use Rattle.st_lms.specs.Signature.{IsSignature}
 use Rattle.st_lms.proofs.Decided.{is_signature-IsSignature}
 use lib.Utf8.{encode}
@@ -45,7 +47,7 @@ canonical_header = refl
 
 json_in-header_text : json_in header_text ≡ Some lms_header
 json_in-header_text =
-    ap json_in (sym canonical_header) ∙ ap value_in (reads_back lms_header proper_header (lit≤ tt))
+    ap json_in (sym canonical_header) ∙ ap result_ok (reads_back lms_header proper_header (lit≤ tt))
 
 header_holds : is_header (json_in header_text) ≡ true
 header_holds = ap is_header json_in-header_text
@@ -69,9 +71,9 @@ texts_of-joined header payload signature =
     let second = base64url payload in
     let third = base64url signature in
     let whole : join_signed (first ++ dot ∷ second) signature ≡ first ++ dot ∷ (second ++ dot ∷ third) = append_assoc first (dot ∷ second) (dot ∷ third) in
-    ap texts_of whole
-    ∙ ap texts_of_cut (cut_at-append dot first (second ++ dot ∷ third) (no_dot header))
-    ∙ ap (texts_behind first) (cut_at-append dot second third (no_dot payload))
+    let cut = cut_at-append dot first (second ++ dot ∷ third) (no_dot header) in
+    let cut_again = cut_at-append dot second third (no_dot payload) in
+    rw (whole, cut, cut_again) refl
 
 -- ---- the law
 
@@ -94,6 +96,6 @@ module _ (payload : Plain) (key : Jwk) (signature : List ℕ) (limit : ℕ) wher
         let first = bytes_of_text-base64url header_text header_bytes in
         let second = bytes_of_text-base64url (canonical payload) (IsBytes-IsUtf8 (canonical payload) (IsUtf8-canonical payload proper)) in
         let third = bytes_of_text-base64url signature are_bytes in
-        let json : json_in (canonical payload) ≡ Some payload = ap value_in (reads_back payload proper shallow) in
+        let json : json_in (canonical payload) ≡ Some payload = ap result_ok (reads_back payload proper shallow) in
         let holds = is_signature-IsSignature key.public input signature signed in
         rw (short, texts, first, second, third, header_holds, json, keyed, holds) refl

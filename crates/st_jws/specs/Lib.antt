@@ -1,5 +1,5 @@
 pub mod Commitment
-pub mod Fixed
+pub mod HasKey
 pub mod Jwk
 pub mod OpenedViews
 pub mod Opening

@@ -1,11 +1,10 @@
 -- What a compact signed text opens to (RFC 7515, section 5.2) with the algorithm LMS and a key inside
 -- the payload.
-use Rattle.std.specs.Prelude.{ℕ, Bool, false, true, ◌&&◌, nat_le, List, [], ◌∷◌, length, codes, Option, Some, None, Result, Ok}
-use Rattle.std.specs.Option.{ok_or}
+use Rattle.std.specs.Prelude.{ℕ, Bool, ◌&&◌, nat_le, List, [], ◌∷◌, length, codes, Option, Some, None, option_and_then, Result, Ok}
+use Rattle.std.specs.Option.{ok_or, option_xor}
 use Rattle.st_base.specs.Answers.{◌>>=◌, ◌>>◌, holds_or}
-use Rattle.st_canon.specs.Find.{has_only, member_at}
-use Rattle.st_canon.specs.Plain.{Plain, text, object}
-use Rattle.st_canon.specs.Reading.{Reading, not_json, not_whole, value, json_of}
+use Rattle.st_canon.specs.Plain.{Plain}
+use Rattle.st_canon.specs.Shapes.{is_object_of, is_text_if_there, json_in, member_in, text_at}
 use Rattle.st_hash.specs.Base64url.{bytes_of_text}
 use Rattle.st_jws.specs.Jwk.{is_lms, jwk_of}
 use Rattle.st_jws.specs.Texts.{texts_of}
@@ -14,42 +13,16 @@ use Rattle.st_jws.specs.declared.refused.SignedRefused.{SignedRefused}
 use Rattle.st_jws.specs.declared.refused.SignedRefused.TheVariants.{BadForm, BadHeader, BadPayload, BadSignature, WantOfMemory}
 use Rattle.st_lms.specs.Decided.{is_signature}
 
--- ---- the header and the payload
-
--- the value of a JSON text with whole numbers
-abbrev pub value_in : Reading → Option Plain
-value_in not_json = None
-value_in not_whole = None
-value_in (value json) = Some json
-
-abbrev pub json_in : List ℕ → Option Plain
-json_in bytes = value_in (json_of bytes)
-
--- a text stands there, or nothing
-abbrev pub is_text_at_most : Option Plain → Bool
-is_text_at_most None = true
-is_text_at_most (Some (text t)) = true
-is_text_at_most (Some other) = false
-
 -- an object with exactly `alg`, which is `LMS`, and optionally a text `kid`
 abbrev pub is_header : Option Plain → Bool
-is_header (Some (object members)) =
-    has_only (codes "alg" ∷ codes "kid" ∷ []) members
-    && (is_lms (member_at (codes "alg") members) && is_text_at_most (member_at (codes "kid") members))
-is_header other = false
+is_header there =
+    is_object_of (codes "alg" ∷ codes "kid" ∷ []) there
+    && (is_lms (text_at (codes "alg") there) && is_text_if_there (member_in (codes "kid") there))
 
--- exactly one of two values, where it is a key
-abbrev pub one_key : Option Plain → Option Plain → Option Jwk
-one_key (Some key) None = jwk_of key
-one_key None (Some key) = jwk_of key
-one_key first second = None
-
--- the key of an object with exactly one of `updateKey` and `recoveryKey` among its members
+-- the key of a payload: there is exactly one of `updateKey` and `recoveryKey` among its members
 abbrev pub key_in : Plain → Option Jwk
-key_in (object members) = one_key (member_at (codes "updateKey") members) (member_at (codes "recoveryKey") members)
-key_in other = None
-
--- ---- what a signed text opens to
+key_in payload =
+    option_and_then jwk_of (option_xor (member_in (codes "updateKey") (Some payload)) (member_in (codes "recoveryKey") (Some payload)))
 
 pub record Opened : Type 0 where
   pub payload : Plain

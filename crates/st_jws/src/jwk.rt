@@ -1,17 +1,20 @@
-ghost use Rattle.std.specs.Prelude.{◌≡◌, codes, length, IfOk, OnOk, Some};
+ghost use Rattle.std.specs.Prelude.{◌≡◌, codes, length, option_and_then, option_map, IfOk, IfSome, OnOk, Some};
 ghost use Rattle.std.specs.Result.{result_ok};
 ghost use Rattle.base64.specs.GeneralPurpose.{IsBytes};
 ghost use Rattle.st_canon.specs.Find.{member_at};
-ghost use Rattle.st_canon.specs.Plain.{text, no_members, member};
+ghost use Rattle.st_canon.specs.Objects.{some_listed};
+ghost use Rattle.st_canon.specs.Plain.{object, text};
+ghost use Rattle.st_canon.specs.Proper.{IsProper, MembersAreProper};
+ghost use Rattle.st_canon.specs.Shapes.{text_at};
 ghost use Rattle.st_canon.specs.View.{plain, plain_members};
-ghost use Rattle.st_hash.specs.Base64url.{base64url};
-ghost use Rattle.st_jws.specs.Jwk.{has_jwk_names, is_lms, jwk_in, jwk_json, jwk_members, jwk_of, lms, nonce_at, nonce_before, IsNonce, public_at, public_of_text};
+ghost use Rattle.st_hash.specs.Base64url.{base64url, fixed_of_text};
+ghost use Rattle.st_jws.specs.HasKey.{HasKey};
+ghost use Rattle.st_jws.specs.Jwk.{bytes_json, is_lms, is_lms_key, jwk_json, jwk_members, jwk_of, lms, nonce_at, public_of_text, IsNonce};
 ghost use Rattle.st_lms.specs.Keys.{IsPublicKey, public_text};
 
-use crate::buffer::{read_nonce_bytes, read_public_bytes};
 use st_base::{Text, WantOfMemory};
 use st_canon::{Json, Object};
-use st_hash::enc;
+use st_hash::{enc, read_fixed};
 use st_lms::Public;
 use std::alloc::Global;
 use thiserror::Error;
@@ -40,7 +43,9 @@ impl Jwk {
     /// `pub`, the base64url of the 56 bytes of a public key, and optionally `nonce`, the base64url of
     /// 16 bytes.
     pub fn read(value: &Json) -> Result<Jwk, BadJwk>
-        ensures { result_ok result ≡ jwk_of (plain value.now) }
+        ensures value { result_ok result ≡ jwk_of (plain value.now) }
+        // A proper value that is a key is the one that `json` writes of it.
+        ensures written { IfOk result (λ key. IsProper (plain value.now) → plain value.now ≡ jwk_json key) }
     {
         match value {
             Json::Object(members) => match read_members(members) {
@@ -61,38 +66,31 @@ impl Jwk {
 }
 
 fn all_members(alloc: Global, key: &Jwk) -> Result<Object, WantOfMemory>
-    ensures members { IfOk result (λ members. plain_members members ≡ jwk_members key.now) }
-    ensures read { IfOk result (λ members. jwk_in (plain_members members) ≡ Some key.now) }
+    ensures members { IfOk result (λ members. plain_members members ≡ some_listed (jwk_members key.now)) }
+    ensures read { IfOk result (λ members. jwk_of (object (plain_members members)) ≡ Some key.now) }
 {
-    let mut members = key_members(alloc, key)?;
-    members.set(alloc, "kty", lms_json(alloc)?)?;
-    members.set(alloc, "alg", lms_json(alloc)?)?;
+    let members = set_members(alloc, key)?;
     Ok(members)
 }
 
-// The members that differ from key to key.
-#[tactic(auto, unfolding(st_canon::proofs::OnLiterals::names_on_literals))]
-fn key_members(alloc: Global, key: &Jwk) -> Result<Object, WantOfMemory>
-    ensures members { IfOk result (λ members. plain_members members ≡ nonce_before key.now.nonce
-        (member (codes "pub") (text (base64url (public_text key.now.public))) no_members)) }
+#[tactic(auto, unfolding(st_canon::proofs::OnLiterals::names_on_literals, st_canon::specs::Objects::put_some))]
+fn set_members(alloc: Global, key: &Jwk) -> Result<Object, WantOfMemory>
+    ensures members { IfOk result (λ members. plain_members members ≡ some_listed (jwk_members key.now)) }
     ensures public { OnOk result (IsPublicKey key.now.public) }
     ensures public_long { OnOk result (length (public_text key.now.public) ≡ 56) }
     ensures public_bytes { OnOk result (IsBytes (public_text key.now.public)) }
     ensures nonce { OnOk result (IsNonce key.now.nonce) }
 {
     let mut members = Object::new(alloc);
+    members.set(alloc, "alg", lms_json(alloc)?)?;
+    members.set(alloc, "kty", lms_json(alloc)?)?;
     members.set(alloc, "pub", public_json(alloc, &key.public)?)?;
-    match &key.nonce {
-        Some(nonce) => {
-            members.set(alloc, "nonce", nonce_json(alloc, nonce)?)?;
-            Ok(members)
-        }
-        None => Ok(members),
-    }
+    members.set_some(alloc, "nonce", nonce_json(alloc, &key.nonce)?)?;
+    Ok(members)
 }
 
 fn public_json(alloc: Global, public: &Public) -> Result<Json, WantOfMemory>
-    ensures value { IfOk result (λ json. plain json ≡ text (base64url (public_text public.now))) }
+    ensures value { IfOk result (λ json. plain json ≡ bytes_json (public_text public.now)) }
     ensures known { OnOk result (IsPublicKey public.now) }
     ensures long { OnOk result (length (public_text public.now) ≡ 56) }
     ensures bytes { OnOk result (IsBytes (public_text public.now)) }
@@ -100,12 +98,22 @@ fn public_json(alloc: Global, public: &Public) -> Result<Json, WantOfMemory>
     Ok(Json::Text(enc(alloc, &public.write())?))
 }
 
-fn nonce_json(alloc: Global, nonce: &[u8; 16]) -> Result<Json, WantOfMemory>
-    ensures value { IfOk result (λ json. plain json ≡ text (base64url nonce.now)) }
-    ensures long { OnOk result (length nonce.now ≡ 16) }
-    ensures bytes { OnOk result (IsBytes nonce.now) }
+fn nonce_json(alloc: Global, nonce: &Option<[u8; 16]>) -> Result<Option<Json>, WantOfMemory>
+    ensures value { IfOk result (λ json. option_map plain json ≡ option_map bytes_json nonce.now) }
+    ensures known { OnOk result (IsNonce nonce.now) }
 {
-    Ok(Json::Text(enc(alloc, nonce)?))
+    match nonce {
+        Some(nonce) => Ok(Some(sixteen_json(alloc, nonce)?)),
+        None => Ok(None),
+    }
+}
+
+fn sixteen_json(alloc: Global, bytes: &[u8; 16]) -> Result<Json, WantOfMemory>
+    ensures value { IfOk result (λ json. plain json ≡ bytes_json bytes.now) }
+    ensures long { OnOk result (length bytes.now ≡ 16) }
+    ensures bytes { OnOk result (IsBytes bytes.now) }
+{
+    Ok(Json::Text(enc(alloc, bytes)?))
 }
 
 fn lms_json(alloc: Global) -> Result<Json, WantOfMemory>
@@ -115,9 +123,19 @@ fn lms_json(alloc: Global) -> Result<Json, WantOfMemory>
 }
 
 fn read_members(members: &Object) -> Option<Jwk>
-    ensures { result ≡ jwk_in (plain_members members.now) }
+    ensures value { result ≡ jwk_of (object (plain_members members.now)) }
+    ensures written { IfSome result (λ key. MembersAreProper (plain_members members.now)
+        → plain_members members.now ≡ some_listed (jwk_members key)) }
 {
-    if !has_names(members) {
+    let key = find_key(members)?;
+    Some(key)
+}
+
+fn find_key(members: &Object) -> Option<Jwk>
+    ensures value { result ≡ jwk_of (object (plain_members members.now)) }
+    ensures has { IfSome result (HasKey (plain_members members.now)) }
+{
+    if !is_lms_key(members) {
         return None;
     }
     let public = read_public(members)?;
@@ -125,37 +143,38 @@ fn read_members(members: &Object) -> Option<Jwk>
     Some(Jwk { public, nonce })
 }
 
-fn has_names(members: &Object) -> bool
-    ensures { result ≡ has_jwk_names (plain_members members.now) }
+fn is_lms_key(members: &Object) -> bool
+    ensures { result ≡ is_lms_key (Some (object (plain_members members.now))) }
 {
-    members.has_only(&["alg", "kty", "nonce", "pub"])
-        && is_lms_at(members, "alg")
-        && is_lms_at(members, "kty")
+    members.has_only(&["alg", "kty", "pub", "nonce"])
+        && is_lms(members.text("alg"))
+        && is_lms(members.text("kty"))
 }
 
-// Whether the member of this name is the text `LMS`.
-pub(crate) fn is_lms_at(members: &Object, name: &str) -> bool
-    ensures { result ≡ is_lms (member_at name.now (plain_members members.now)) }
+/// Whether the text is there, and is `LMS`.
+pub(crate) fn is_lms(text: Option<&str>) -> bool
+    ensures { result ≡ is_lms (option_map (λ text. text.now) text.entry) }
 {
-    match members.get(name) {
-        Some(Json::Text(text)) => text.as_str() == LMS,
-        _ => false,
+    match text {
+        Some(text) => text == LMS,
+        None => false,
     }
 }
 
 fn read_public(members: &Object) -> Option<Public>
-    ensures { result ≡ public_at (member_at (codes "pub") (plain_members members.now)) }
+    ensures value { result ≡ option_and_then public_of_text (text_at (codes "pub") (Some (object (plain_members members.now)))) }
+    ensures spelled { IfSome result (λ public. text_at (codes "pub") (Some (object (plain_members members.now)))
+        ≡ Some (base64url (public_text public))) }
 {
-    match members.get("pub") {
-        Some(Json::Text(text)) => public_of_text(text.as_str().as_bytes()),
-        _ => None,
-    }
+    let text = members.text("pub")?;
+    public_of_text(text.as_bytes())
 }
 
 fn public_of_text(text: &[u8]) -> Option<Public>
-    ensures { result ≡ public_of_text text.now }
+    ensures value { result ≡ public_of_text text.now }
+    ensures spelled { IfSome result (λ public. text.now ≡ base64url (public_text public)) }
 {
-    let bytes = read_public_bytes(text)?;
+    let bytes = fixed_bytes::<56>(text)?;
     match Public::read(&bytes) {
         Ok(public) => Some(public),
         Err(_) => None,
@@ -163,14 +182,27 @@ fn public_of_text(text: &[u8]) -> Option<Public>
 }
 
 fn read_nonce(members: &Object) -> Option<Option<[u8; 16]>>
-    ensures { result ≡ nonce_at (member_at (codes "nonce") (plain_members members.now)) }
+    ensures value { result ≡ nonce_at (member_at (codes "nonce") (plain_members members.now)) }
+    ensures spelled { IfSome result (λ nonce. member_at (codes "nonce") (plain_members members.now)
+        ≡ option_map bytes_json nonce) }
 {
     match members.get("nonce") {
         None => Some(None),
-        Some(Json::Text(text)) => match read_nonce_bytes(text.as_str().as_bytes()) {
+        Some(Json::Text(text)) => match fixed_bytes::<16>(text.as_str().as_bytes()) {
             Some(nonce) => Some(Some(nonce)),
             None => None,
         },
         Some(_) => None,
+    }
+}
+
+// The bytes whose base64url this is, which has no other spelling.
+fn fixed_bytes<const N: usize>(text: &[u8]) -> Option<[u8; N]>
+    ensures value { result ≡ fixed_of_text N text.now }
+    ensures spelled { IfSome result (λ bytes. text.now ≡ base64url bytes) }
+{
+    match read_fixed(text) {
+        Some(bytes) => Some(bytes),
+        None => None,
     }
 }

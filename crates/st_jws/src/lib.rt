@@ -2,7 +2,6 @@
 //! (RFC 7515) with the algorithm LMS.
 #![tactic(auto)]
 
-mod buffer;
 mod commit;
 mod header;
 mod jwk;
@@ -14,7 +13,7 @@ mod signing;
 mod tests;
 mod texts;
 
-pub use commit::{commitment, meets, reveal};
+pub use commit::{commitment, commitment_with, meets, reveal, reveal_with};
 pub use jwk::{BadJwk, Jwk};
 pub use opening::{Signed, open_signed};
 pub use refused::SignedRefused;

@@ -2,18 +2,20 @@ ghost use Rattle.std.specs.Option.{ok_or};
 ghost use Rattle.std.specs.Prelude.{◌≡◌, IfOk};
 ghost use Rattle.st_base.specs.Answers.{Gives, GivesAs};
 ghost use Rattle.st_base.specs.Work.{one_proof};
+ghost use Rattle.st_canon.specs.Proper.{IsProper};
+ghost use Rattle.st_canon.specs.View.{plain};
 ghost use Rattle.st_hash.specs.Base64url.{bytes_of_text};
 ghost use Rattle.st_jws.specs.Opening.{opened, refusal_of};
 ghost use Rattle.st_jws.specs.OpenedViews.{found_view, opened_view};
 ghost use Rattle.st_jws.specs.declared.refused.SignedRefused.TheVariants.{BadForm};
 
-use crate::header::{is_header, read_json};
+use crate::header::is_header;
 use crate::jwk::Jwk;
 use crate::payload::key_in;
 use crate::refused::SignedRefused;
 use crate::texts::texts_of;
 use st_base::{Bytes, Copied, Text, WantOfMemory, Work};
-use st_canon::Json;
+use st_canon::{Json, read_json};
 use st_hash::{DecRefused, dec};
 use st_lms::verify;
 use std::alloc::Global;
@@ -50,6 +52,7 @@ pub fn open_signed(
 ) -> Result<Signed, SignedRefused>
     ensures opened { GivesAs opened_view refusal_of (opened text.now limit) result }
     ensures text { IfOk result (λ signed. signed.text ≡ text.now) }
+    ensures proper { IfOk result (λ signed. IsProper (plain signed.payload)) }
     ensures counted { work.new ≡ one_proof work.old }
 {
     work.tick_proofs();
@@ -59,7 +62,8 @@ pub fn open_signed(
 }
 
 fn open_text(alloc: Global, text: &[u8], limit: usize) -> Result<(Json, Jwk), SignedRefused>
-    ensures { GivesAs found_view refusal_of (opened text.now limit) result }
+    ensures opened { GivesAs found_view refusal_of (opened text.now limit) result }
+    ensures proper { IfOk result (λ found. IsProper (plain found.0)) }
 {
     if text.len() > limit {
         return Err(SignedRefused::BadForm);

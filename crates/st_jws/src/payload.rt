@@ -1,27 +1,16 @@
 ghost use Rattle.std.specs.Prelude.{◌≡◌};
-ghost use Rattle.std.specs.Result.{result_ok};
-ghost use Rattle.st_canon.specs.Plain.{object};
-ghost use Rattle.st_canon.specs.View.{plain, plain_members};
+ghost use Rattle.st_canon.specs.View.{plain};
 ghost use Rattle.st_jws.specs.Jwk.{jwk_of};
 ghost use Rattle.st_jws.specs.Opening.{key_in};
 
 use crate::jwk::Jwk;
-use st_canon::{Json, Object};
+use st_canon::Json;
 
 /// The key of a payload: that of its one member `updateKey` or `recoveryKey`.
 pub(crate) fn key_in(payload: &Json) -> Option<Jwk>
     ensures { result ≡ key_in (plain payload.now) }
 {
-    match payload {
-        Json::Object(members) => one_key(members),
-        _ => None,
-    }
-}
-
-fn one_key(members: &Object) -> Option<Jwk>
-    ensures { result ≡ key_in (object (plain_members members.now)) }
-{
-    match (members.get("updateKey"), members.get("recoveryKey")) {
+    match (payload.member("updateKey"), payload.member("recoveryKey")) {
         (Some(key), None) => key_of(key),
         (None, Some(key)) => key_of(key),
         _ => None,

@@ -1,2 +1,3 @@
-pub mod Creates
-pub mod Identifiers
+mod AnchorLemmas
+mod CreateLemmas
+mod IdentifierLemmas

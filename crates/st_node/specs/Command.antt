@@ -1,7 +1,10 @@
 -- What a line asks for.
-use Rattle.std.specs.Prelude.{◌≡◌, ⊤, ℕ, ◌-◌, ◌^◌, List, bytes_eq, codes, if◌then◌else◌, Option, Some, None, Result, Ok, Err}
-use Rattle.st_hash.specs.Base64url.{bytes_of_text}
+use Rattle.std.specs.Prelude.{ℕ, ◌-◌, ◌^◌, List, bytes_eq, codes, if◌then◌else◌, Option, Some, None, Result, Ok, Err}
+use Rattle.std.specs.Option.{ok_or}
+use Rattle.st_base.specs.Answers.{◌>>=◌}
 use Rattle.st_base.specs.Words.{cut_at, number_of}
+use Rattle.st_hash.specs.Base64url.{bytes_of_text}
+use Rattle.st_node.specs.Words.{first_word, other_words}
 use Rattle.st_node.specs.declared.command.Command.{Command}
 use Rattle.st_node.specs.declared.command.Command.TheVariants.{Content, Anchor, Resolve}
 use Rattle.st_node.specs.declared.command.LineCause.{LineCause}
@@ -9,54 +12,41 @@ use Rattle.st_node.specs.declared.command.LineCause.TheVariants as cause
 use Rattle.st_node.specs.declared.command.LineRefused.{LineRefused}
 use Rattle.st_node.specs.declared.command.LineRefused.TheVariants.{BadLine, WantOfMemory}
 
--- `content <base64url>`
-abbrev pub content_of_bytes : Option (List ℕ) → Result Command LineCause
-content_of_bytes None = Err cause.Base64
-content_of_bytes (Some bytes) = Ok (Content bytes)
-
-abbrev pub content_of : List ℕ → Result Command LineCause
-content_of text = content_of_bytes (bytes_of_text text)
+-- `content <base64url>`, by what stands behind the command word's space
+abbrev pub content_of : Option (List ℕ) → Result Command LineCause
+content_of behind = do
+  text ← ok_or behind cause.Words
+  bytes ← ok_or (bytes_of_text text) cause.Base64
+  Ok (Content bytes)
 
 -- `anchor <height> <text>`
-abbrev pub anchor_at : Option ℕ → List ℕ → Result Command LineCause
-anchor_at None text = Err cause.Number
-anchor_at (Some height) text = Ok (Anchor height text)
-
-abbrev pub anchor_of_words : Option (List ℕ × List ℕ) → Result Command LineCause
-anchor_of_words None = Err cause.Words
-anchor_of_words (Some words) = anchor_at (number_of (2 ^ 32 - 1) words.0) words.1
-
-abbrev pub anchor_of : List ℕ → Result Command LineCause
-anchor_of rest = anchor_of_words (cut_at 32 rest)
+abbrev pub anchor_of : Option (List ℕ) → Result Command LineCause
+anchor_of behind = do
+  rest ← ok_or behind cause.Words
+  words ← ok_or (cut_at 32 rest) cause.Words
+  height ← ok_or (number_of (2 ^ 32 - 1) words.0) cause.Number
+  Ok (Anchor height words.1)
 
 -- `resolve <did>`
-abbrev pub resolve_of : List ℕ → Result Command LineCause
-resolve_of did = Ok (Resolve did)
+abbrev pub resolve_of : Option (List ℕ) → Result Command LineCause
+resolve_of behind = do
+  did ← ok_or behind cause.Words
+  Ok (Resolve did)
 
--- what stands behind the space, which must be there
-abbrev pub behind_space : Option (List ℕ) → (List ℕ → Result Command LineCause) → Result Command LineCause
-behind_space None read = Err cause.Words
-behind_space (Some rest) read = read rest
-
--- by the command word, and what stands behind its space
+-- by the command word
 abbrev pub command_of_words : List ℕ → Option (List ℕ) → Result Command LineCause
-command_of_words word rest =
-    if bytes_eq word (codes "content") then behind_space rest content_of
-    else if bytes_eq word (codes "anchor") then behind_space rest anchor_of
-    else if bytes_eq word (codes "resolve") then behind_space rest resolve_of
+command_of_words word behind =
+    if bytes_eq word (codes "content") then content_of behind
+    else if bytes_eq word (codes "anchor") then anchor_of behind
+    else if bytes_eq word (codes "resolve") then resolve_of behind
     else Err cause.Command
 
--- the command word is what stands before the first space, or the whole line
-abbrev pub command_of_cut : List ℕ → Option (List ℕ × List ℕ) → Result Command LineCause
-command_of_cut line None = command_of_words line None
-command_of_cut line (Some words) = command_of_words words.0 (Some words.1)
-
--- the command of a line, or the first cause for which it is none
+-- The command of a line, or the first cause for which it is none. The command word is what stands
+-- before the first space, or the whole line.
 abbrev pub command_of : List ℕ → Result Command LineCause
-command_of line = command_of_cut line (cut_at 32 line)
+command_of line = command_of_words (first_word 32 line) (other_words 32 line)
 
--- the answer is this command or this cause, or memory was wanting
-abbrev pub Reads : Result Command LineCause → Result Command LineRefused → Type 0
-Reads command (Ok read) = command ≡ Ok read
-Reads command (Err (BadLine cause)) = command ≡ Err cause
-Reads command (Err WantOfMemory) = ⊤
+-- the cause that an error names
+abbrev pub cause_of : LineRefused → Option LineCause
+cause_of (BadLine cause) = Some cause
+cause_of WantOfMemory = None

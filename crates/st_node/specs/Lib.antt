@@ -1,9 +1,6 @@
 pub mod Command
-pub mod Ledger
-pub mod Anchor
-pub mod Identifier
-pub mod SuffixData
-pub mod Distinct
-pub mod CoreIndex
-pub mod Resolution
+pub mod Creates
 pub mod Machine
+pub mod Resolution
+pub mod SuffixData
+pub mod Words

@@ -1,6 +1,8 @@
 ghost use Rattle.std.specs.Option.{option_copied};
-ghost use Rattle.st_node.specs.Command.{Reads, command_of, content_of, anchor_of, resolve_of, behind_space, command_of_words};
+ghost use Rattle.st_base.specs.Answers.{Gives};
+ghost use Rattle.st_node.specs.Command.{anchor_of, cause_of, command_of, command_of_words, content_of, resolve_of};
 
+use crate::words::cut_word;
 use st_base::{Bytes, Copied, WantOfMemory, cut_at, read_number};
 use st_hash::{DecRefused, dec};
 use std::alloc::Global;
@@ -75,33 +77,24 @@ impl From<WantOfMemory> for LineRefused {
 ///
 /// `BadLine` comes exactly where the line is no command, with the first cause that holds.
 pub fn read_command(alloc: Global, line: &[u8]) -> Result<Command, LineRefused>
-    ensures { Reads (command_of line.now) result }
+    ensures { Gives cause_of (command_of line.now) result }
 {
-    match cut_at(line, b' ') {
-        Some((word, rest)) => read_words(alloc, word, Some(rest)),
-        None => read_words(alloc, line, None),
-    }
-}
-
-// The command of this word and of what stands behind its space, where there is one.
-fn read_words(alloc: Global, word: &[u8], rest: Option<&[u8]>) -> Result<Command, LineRefused>
-    ensures { Reads (command_of_words word.now (option_copied rest.entry)) result }
-{
+    let (word, behind) = cut_word(line, b' ');
     if word == CONTENT {
-        read_content(alloc, rest)
+        read_content(alloc, behind)
     } else if word == ANCHOR {
-        read_entry(alloc, rest)
+        read_entry(alloc, behind)
     } else if word == RESOLVE {
-        read_resolve(alloc, rest)
+        read_resolve(alloc, behind)
     } else {
         Err(LineRefused::BadLine(LineCause::Command))
     }
 }
 
-fn read_content(alloc: Global, rest: Option<&[u8]>) -> Result<Command, LineRefused>
-    ensures { Reads (behind_space (option_copied rest.entry) content_of) result }
+fn read_content(alloc: Global, behind: Option<&[u8]>) -> Result<Command, LineRefused>
+    ensures { Gives cause_of (content_of (option_copied behind.entry)) result }
 {
-    let Some(text) = rest else {
+    let Some(text) = behind else {
         return Err(LineRefused::BadLine(LineCause::Words));
     };
     match dec(alloc, text) {
@@ -111,10 +104,10 @@ fn read_content(alloc: Global, rest: Option<&[u8]>) -> Result<Command, LineRefus
     }
 }
 
-fn read_entry(alloc: Global, rest: Option<&[u8]>) -> Result<Command, LineRefused>
-    ensures { Reads (behind_space (option_copied rest.entry) anchor_of) result }
+fn read_entry(alloc: Global, behind: Option<&[u8]>) -> Result<Command, LineRefused>
+    ensures { Gives cause_of (anchor_of (option_copied behind.entry)) result }
 {
-    let Some(rest) = rest else {
+    let Some(rest) = behind else {
         return Err(LineRefused::BadLine(LineCause::Words));
     };
     let Some((height, text)) = cut_at(rest, b' ') else {
@@ -127,10 +120,10 @@ fn read_entry(alloc: Global, rest: Option<&[u8]>) -> Result<Command, LineRefused
     Ok(Command::Anchor { height, text })
 }
 
-fn read_resolve(alloc: Global, rest: Option<&[u8]>) -> Result<Command, LineRefused>
-    ensures { Reads (behind_space (option_copied rest.entry) resolve_of) result }
+fn read_resolve(alloc: Global, behind: Option<&[u8]>) -> Result<Command, LineRefused>
+    ensures { Gives cause_of (resolve_of (option_copied behind.entry)) result }
 {
-    let Some(did) = rest else {
+    let Some(did) = behind else {
         return Err(LineRefused::BadLine(LineCause::Words));
     };
     let did = Bytes::from_slice(alloc, did)?;

@@ -1,5 +1,5 @@
 ghost use Rattle.std.specs.Prelude.{◌≡◌};
-ghost use Rattle.st_node.specs.Distinct.{all_different};
+ghost use Rattle.st_node.specs.Creates.{all_different};
 
 use st_hash::Hash;
 

@@ -1,50 +1,39 @@
 ghost use Rattle.std.specs.Prelude.{◌≡◌, IfOk};
-ghost use Rattle.st_hash.specs.Hash.{HashValue, hash_text};
-ghost use Rattle.st_node.specs.Identifier.{asked_of, asked_behind, did_of};
+ghost use Rattle.st_hash.specs.Hash.{hash_text};
+ghost use Rattle.st_node.specs.Resolution.{did_of, suffix_behind, suffix_in};
 
-use st_base::{Text, WantOfMemory, cut_at};
+use crate::unresolved::Unresolved;
+use crate::words::cut_word;
+use st_base::{Text, WantOfMemory};
 use st_hash::{Hash, hash_text, read_hash};
 use std::alloc::Global;
 
 const DID_PREFIX: &str = "did:sidetree:";
 
-// Which identifier a text asks for.
-#[derive(Clone, Copy, Debug, PartialEq, Eq)]
-pub enum Asked {
-    // It is no identifier.
-    Nothing,
-    // `did:sidetree:`, a suffix, `:` and more.
-    LongForm,
-    // `did:sidetree:` and this suffix.
-    ShortForm(Hash),
-}
-
-pub fn read_identifier(text: &[u8]) -> Asked
-    ensures value { result ≡ asked_of text.now }
-    ensures spelled { (suffix : HashValue) → result ≡ Asked.ShortForm suffix → text.now ≡ did_of suffix }
+// The suffix of an identifier in its short form. It takes no memory.
+pub fn read_did(did: &[u8]) -> Result<Hash, Unresolved>
+    ensures value { result ≡ suffix_in did.now }
+    ensures spelled { IfOk result (λ suffix. did.now ≡ did_of suffix) }
 {
-    if text.starts_with(DID_PREFIX.as_bytes()) {
-        read_suffix(&text[DID_PREFIX.len()..])
-    } else {
-        Asked::Nothing
+    match did.strip_prefix(DID_PREFIX.as_bytes()) {
+        Some(rest) => read_suffix(rest),
+        None => Err(Unresolved::BadDid),
     }
 }
 
-// The suffix behind the method's name, alone or up to a `:`.
-fn read_suffix(rest: &[u8]) -> Asked
-    ensures value { result ≡ asked_behind rest.now }
-    ensures spelled { (suffix : HashValue) → result ≡ Asked.ShortForm suffix → rest.now ≡ hash_text suffix }
+// The suffix behind the method's name, where no `:` follows it.
+fn read_suffix(rest: &[u8]) -> Result<Hash, Unresolved>
+    ensures value { result ≡ suffix_behind rest.now }
+    ensures spelled { IfOk result (λ suffix. rest.now ≡ hash_text suffix) }
 {
-    match cut_at(rest, b':') {
-        Some((suffix, _)) => match read_hash(suffix) {
-            Ok(_) => Asked::LongForm,
-            Err(_) => Asked::Nothing,
-        },
-        None => match read_hash(rest) {
-            Ok(suffix) => Asked::ShortForm(suffix),
-            Err(_) => Asked::Nothing,
-        },
+    let (suffix, more) = cut_word(rest, b':');
+    let Ok(suffix) = read_hash(suffix) else {
+        return Err(Unresolved::BadDid);
+    };
+    if more.is_some() {
+        return Err(Unresolved::Unbuilt);
     }
+    Ok(suffix)
 }
 
 // The identifier of this suffix: its short form.

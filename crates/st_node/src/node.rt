@@ -1,41 +1,46 @@
-ghost use Rattle.std.specs.Prelude.{◌≡◌, IfOk, OnErr};
-ghost use Rattle.st_node.specs.Machine.{Answered, answered, answered_anchor, answered_command, answered_content, empty, resolve_reply, cause_word};
-ghost use Rattle.st_node.specs.Identifier.{asked_of};
+ghost use Rattle.std.specs.Prelude.{◌≡◌, IfOk};
+ghost use Rattle.st_node.specs.Machine.{Answers, answered, answered_anchor, answered_command, answered_content, cause_word, empty, refusal_word, resolve_reply, unresolved_word};
+ghost use Rattle.st_node.specs.Resolution.{resolved};
 
 use crate::command::{Command, LineCause, LineRefused, read_command};
-use crate::identifier::{Asked, read_identifier};
-use crate::ledger::{Entry, Ledger};
-use crate::reply::{reply, reply_bytes};
-use crate::resolution::{first_create, resolution};
+use crate::reply::reply;
+use crate::resolution::resolve;
+use crate::unresolved::{ResolveRefused, Unresolved};
 use itoa::Buffer;
 use st_base::{Bytes, WantOfMemory, Work};
-use st_canon::write;
 use st_content::{Content, Put};
 use st_hash::hash_text;
+use st_ledger::{Ledger, LedgerRefused};
+use st_params::Schedule;
 use std::alloc::Global;
 use std::marker::Model;
 
-/// A node. Contracts see its ledger and its files.
+/// A node. Contracts see its schedule, and its ledger and files.
 #[derive(Drop)]
 pub struct Node {
+    schedule: Schedule,
     ledger: Ledger,
     content: Content,
 }
 
 impl Model for Node {
-    ghost use Rattle.st_node.specs.Machine.{State};
+    ghost use Rattle.st_node.specs.Machine.{NodeValue};
 
-    ghost Value = { State };
+    ghost Value = { NodeValue };
 
-    ghost view = { λ n. record { ledger = n.ledger; files = n.content } };
+    ghost view = { λ n. record {
+        schedule = n.schedule;
+        state = record { ledger = n.ledger; files = n.content };
+      } };
 }
 
 impl Node {
-    /// A node that knows nothing yet. It takes no memory.
-    pub fn new(alloc: Global) -> Node
-        ensures { result ≡ empty }
+    /// A node that knows nothing yet, under this schedule of limits. It takes no memory.
+    pub fn new(alloc: Global, schedule: Schedule) -> Node
+        ensures { result ≡ record { schedule = schedule; state = empty } }
     {
         Node {
+            schedule,
             ledger: Ledger::new(alloc),
             content: Content::new(alloc),
         }
@@ -50,13 +55,13 @@ impl Node {
         line: &[u8],
         work: &mut Work,
     ) -> Result<(Node, Bytes), WantOfMemory>
-        ensures answer { IfOk result (λ done. record { next = done.0; reply = done.1 } ≡ answered self line.now) }
+        ensures answer { IfOk result (Answers self (answered self.schedule self.state line.now)) }
         ensures work { work.new ≡ work.old }
     {
         match read_command(alloc, line) {
             Ok(command) => self.step(alloc, command, work),
             Err(LineRefused::BadLine(cause)) => {
-                let text = reply(alloc, "refused line ", cause_word(cause))?;
+                let text = reply(alloc, "refused line ", cause_word(cause).as_bytes())?;
                 Ok((self, text))
             }
             Err(LineRefused::WantOfMemory) => Err(WantOfMemory),
@@ -70,12 +75,12 @@ impl Node {
         command: Command,
         work: &mut Work,
     ) -> Result<(Node, Bytes), WantOfMemory>
-        ensures answer { IfOk result (λ done. record { next = done.0; reply = done.1 } ≡ answered_command self command) }
+        ensures answer { IfOk result (Answers self (answered_command self.schedule self.state command)) }
         ensures work { work.new ≡ work.old }
     {
         match command {
             Command::Content(bytes) => self.take(alloc, bytes),
-            Command::Anchor { height, text } => self.append(alloc, Entry { height, text }),
+            Command::Anchor { height, text } => self.append(alloc, height, text),
             Command::Resolve(did) => {
                 let text = self.resolve(alloc, did.as_slice())?;
                 Ok((self, text))
@@ -85,60 +90,74 @@ impl Node {
 
     // `content`
     fn take(self, alloc: Global, bytes: Bytes) -> Result<(Node, Bytes), WantOfMemory>
-        ensures { IfOk result (λ done. record { next = done.0; reply = done.1 } ≡ answered_content self bytes) }
+        ensures { IfOk result (Answers self (answered_content self.state bytes)) }
     {
         let Node {
+            schedule,
             ledger,
             mut content,
         } = self;
-        let (uri, put) = content.put(bytes)?;
+        let (uri, put) = content.put(alloc, bytes)?;
         let uri = hash_text(alloc, &uri)?;
-        let text = match put {
-            Put::New => reply(alloc, "have ", uri.as_str())?,
-            Put::Had => reply(alloc, "had ", uri.as_str())?,
+        let word = match put {
+            Put::New => "have ",
+            Put::Had => "had ",
         };
-        Ok((Node { ledger, content }, text))
+        let text = reply(alloc, word, uri.as_str().as_bytes())?;
+        let node = Node {
+            schedule,
+            ledger,
+            content,
+        };
+        Ok((node, text))
     }
 
     // `anchor`
-    fn append(self, alloc: Global, entry: Entry) -> Result<(Node, Bytes), WantOfMemory>
-        ensures { IfOk result (λ done. record { next = done.0; reply = done.1 } ≡ answered_anchor self entry) }
+    fn append(
+        self,
+        alloc: Global,
+        height: u32,
+        text: Bytes,
+    ) -> Result<(Node, Bytes), WantOfMemory>
+        ensures { IfOk result (Answers self (answered_anchor self.state (record { height = height; text = text }))) }
     {
-        if !self.ledger.admits(entry.height) {
-            let text = reply(alloc, "refused ", "height")?;
+        if let Err(refused) = self.ledger.admits(height) {
+            let text = reply(alloc, "refused ", refusal_word(refused).as_bytes())?;
             return Ok((self, text));
         }
         let Node {
+            schedule,
             mut ledger,
             content,
         } = self;
-        let Entry { height, text } = entry;
-        let number = ledger.append(height, text)?;
-        let text = reply(alloc, "anchored ", Buffer::new().format(number))?;
-        Ok((Node { ledger, content }, text))
+        let number = ledger.append(alloc, height, text)?;
+        let text = reply(alloc, "anchored ", Buffer::new().format(number).as_bytes())?;
+        let node = Node {
+            schedule,
+            ledger,
+            content,
+        };
+        Ok((node, text))
     }
 
     // `resolve`
     fn resolve(&self, alloc: Global, did: &[u8]) -> Result<Bytes, WantOfMemory>
-        ensures { IfOk result (λ text. text ≡ resolve_reply self.now did.now (asked_of did.now)) }
+        ensures { IfOk result (λ text. text
+            ≡ resolve_reply (resolved self.now.schedule self.now.state.files self.now.state.ledger did.now)) }
     {
-        let suffix = match read_identifier(did) {
-            Asked::Nothing => return reply(alloc, "unresolved ", "badDid"),
-            Asked::LongForm => return reply(alloc, "unresolved ", "unbuilt"),
-            Asked::ShortForm(suffix) => suffix,
-        };
-        match first_create(alloc, &suffix, &self.content, self.ledger.entries())? {
-            Some(create) => {
-                let json = resolution(alloc, &suffix, &create)?;
-                let text = write(alloc, &json)?;
-                reply_bytes(alloc, "resolved ", text.as_slice())
+        let entries = self.ledger.entries();
+        match resolve(alloc, &self.schedule, &self.content, entries, did) {
+            Ok(text) => reply(alloc, "resolved ", text.as_slice()),
+            Err(ResolveRefused::Unresolved(cause)) => {
+                reply(alloc, "unresolved ", unresolved_word(cause).as_bytes())
             }
-            None => reply(alloc, "unresolved ", "notFound"),
+            Err(ResolveRefused::WantOfMemory) => Err(WantOfMemory),
         }
     }
 }
 
-// The word of a cause, as it stands in the reply.
+// The words of causes, as they stand in replies.
+
 fn cause_word(cause: LineCause) -> &'static str
     ensures { result.now ≡ cause_word cause }
 {
@@ -147,5 +166,24 @@ fn cause_word(cause: LineCause) -> &'static str
         LineCause::Words => "words",
         LineCause::Number => "number",
         LineCause::Base64 => "base64",
+    }
+}
+
+fn refusal_word(refused: LedgerRefused) -> &'static str
+    ensures { result.now ≡ refusal_word refused }
+{
+    match refused {
+        LedgerRefused::HeightFalls(_) => "height",
+        LedgerRefused::LedgerFull => "full",
+    }
+}
+
+fn unresolved_word(cause: Unresolved) -> &'static str
+    ensures { result.now ≡ unresolved_word cause }
+{
+    match cause {
+        Unresolved::BadDid => "badDid",
+        Unresolved::Unbuilt => "unbuilt",
+        Unresolved::NotFound => "notFound",
     }
 }

@@ -50,7 +50,7 @@ module _ {Item : Type 0} where
         filter_all (λ held. ltb place held.0) items
         (each-weaker (λ held. place < held.0) (λ held. ltb place held.0 ≡ true) (λ held late. lt-ltb place held.0 late) items all)
 
-    -- ascending items are those before a place, and then those from it on
+    -- the first of ascending items are those before a place
     pub take-before : (items : List (Held Item)) → Ascend items → take (length (before place items)) items ≡ before place items
     take-before [] ascends = refl
     take-before (held ∷ items) ascends = elim (cases_lt held.0 place) [
@@ -58,6 +58,7 @@ module _ {Item : Type 0} where
       | inr le ↦ rw (le-ltb held.0 place le, none_before items (later_all place held items le ascends.0)) refl
     ]
 
+    -- so the others are those from it on
     pub drop-before : (items : List (Held Item)) → Ascend items → drop (length (before place items)) items ≡ from place items
     drop-before [] ascends = refl
     drop-before (held ∷ items) ascends = elim (cases_lt held.0 place) [

@@ -129,7 +129,7 @@ module _ {K Item : Type 0} {cmp : K → K → Ordering} (order : IsTotalOrder cm
     }
 
 -- the keys of all that was placed late are cut
-module _ {K Item : Type 0} (cmp : K → K → Ordering) (place : ℕ) (placed below : List (ℕ × K)) {late : List K} {old new : ByKey K Item}
+module _ {K Item : Type 0} {cmp : K → K → Ordering} {place : ℕ} {placed : List (ℕ × K)} {late : List K} {old new : ByKey K Item}
     (all : AllPlaced cmp placed old)
     (found : (at : ℕ) (key : K) → place ≤ at → IsPlaced cmp placed at key → list_any (λ taken. is_at (cmp taken) key) late ≡ true)
     (cut : AreCut cmp place late old new) where
@@ -141,15 +141,16 @@ module _ {K Item : Type 0} (cmp : K → K → Ordering) (place : ℕ) (placed be
         let early : AllByRecursion (λ held. ltb held.0 place ≡ true) (items_at cmp key old) =
         each-weaker (λ held. IsPlaced cmp placed held.0 key) (λ held. ltb held.0 place ≡ true) (λ held is.
         true_from_ne_false (ltb held.0 place) (λ not_before. false≢true (sym missing ∙ found held.0 key (ltb-false held.0 place not_before) is)))
-        (items_at cmp key old) (all key) in
+        (items_at cmp key old) (all.each key) in
         cut.each key ∙ rw missing (sym (filter_all (λ held. ltb held.0 place) (items_at cmp key old) early))
   ]
 
   -- each item that stays is still placed
-  pub placed_cut : ((at : ℕ) (key : K) → at < place → IsPlaced cmp placed at key → IsPlaced cmp below at key) → AllPlaced cmp below new
-  placed_cut rest key =
-      rw (all_cut key)
-      (each-both (λ held. IsPlaced cmp placed held.0 key) (λ held. ltb held.0 place ≡ true) (λ held. IsPlaced cmp below held.0 key)
-      (λ held was is. rest held.0 key (ltb-true held.0 place is) was) (before place (items_at cmp key old))
-      (each-filter (λ held. IsPlaced cmp placed held.0 key) (λ held. ltb held.0 place) (items_at cmp key old) (all key))
-      (each-passes (λ held. ltb held.0 place) (items_at cmp key old)))
+  pub placed_cut : (below : List (ℕ × K)) → ((at : ℕ) (key : K) → at < place → IsPlaced cmp placed at key → IsPlaced cmp below at key) → AllPlaced cmp below new
+  placed_cut below rest = record {
+    each = λ key. rw (all_cut key)
+        (each-both (λ held. IsPlaced cmp placed held.0 key) (λ held. ltb held.0 place ≡ true) (λ held. IsPlaced cmp below held.0 key)
+        (λ held was is. rest held.0 key (ltb-true held.0 place is) was) (before place (items_at cmp key old))
+        (each-filter (λ held. IsPlaced cmp placed held.0 key) (λ held. ltb held.0 place) (items_at cmp key old) (all.each key))
+        (each-passes (λ held. ltb held.0 place) (items_at cmp key old)));
+  }

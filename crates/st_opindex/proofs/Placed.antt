@@ -25,26 +25,25 @@ cond_true : (b c : Bool) → c ≡ true → cond b true c ≡ true
 cond_true true c is = refl
 cond_true false c is = is
 
-module _ {K Item : Type 0} (cmp : K → K → Ordering) where
-  module _ (place : ℕ) (key : K) (item : Item) (old new : List (ℕ × K))
-      (adds : (x : ℕ × K) → list_any (is_at (placed_cmp cmp x)) new ≡ cond (is_at (placed_cmp cmp (place, key)) x) true (list_any (is_at (placed_cmp cmp x)) old)) where
-    stays : (at : ℕ) (other : K) → IsPlaced cmp old at other → IsPlaced cmp new at other
-    stays at other was = adds (at, other) ∙ cond_true _ _ was
-
-    -- an item that is put is placed, and the others stay so
-    pub placed_put : (rows put : ByKey K Item)
-        → ChangesAt cmp key (with_item place item) rows put
-        → AllPlaced cmp old rows → AllPlaced cmp new put
-    placed_put rows put items placed other =
-        let rest : AllByRecursion (λ held. IsPlaced cmp new held.0 other) (items_at cmp other rows) =
-        each-weaker (λ held. IsPlaced cmp old held.0 other) (λ held. IsPlaced cmp new held.0 other) (λ held was. stays held.0 other was) (items_at cmp other rows) (placed other) in
-        elim (cases_Bool (is_at (cmp key) other)) [
-          | inl same ↦
-              let one : IsPlaced cmp new place other = adds (place, other) ∙ rw (here cmp place key other, same) refl in
-              let whole = each-with_item place (λ held. IsPlaced cmp new held.0 other) item (items_at cmp other rows) one rest in
-              rw (items other, same) whole
-          | inr apart ↦ rw (items other, apart) rest
-        ]
+-- an item that is put is placed, and the others stay so
+module _ {K Item : Type 0} {cmp : K → K → Ordering} {old : List (ℕ × K)} {items : ByKey K Item} (placed : AllPlaced cmp old items)
+    (place : ℕ) (key : K) (item : Item) where
+  pub placed_put : (put : ByKey K Item) → ChangesAt cmp key (with_item place item) items put
+      → (new : List (ℕ × K))
+      → ((x : ℕ × K) → list_any (is_at (placed_cmp cmp x)) new ≡ cond (is_at (placed_cmp cmp (place, key)) x) true (list_any (is_at (placed_cmp cmp x)) old))
+      → AllPlaced cmp new put
+  placed_put put changes new adds = record { each = each }
+    where
+      each : (other : K) → AllByRecursion (λ held. IsPlaced cmp new held.0 other) (items_at cmp other put)
+      each other =
+          let rest : AllByRecursion (λ held. IsPlaced cmp new held.0 other) (items_at cmp other items) =
+          each-weaker (λ held. IsPlaced cmp old held.0 other) (λ held. IsPlaced cmp new held.0 other) (λ held was. adds (held.0, other) ∙ cond_true _ _ was) (items_at cmp other items) (placed.each other) in
+          elim (cases_Bool (is_at (cmp key) other)) [
+            | inl same ↦
+                let one : IsPlaced cmp new place other = adds (place, other) ∙ rw (here cmp place key other, same) refl in
+                rw (changes other, same) (each-with_item place (λ held. IsPlaced cmp new held.0 other) item (items_at cmp other items) one rest)
+            | inr apart ↦ rw (changes other, apart) rest
+          ]
 
 -- ---- what is taken out from the end
 
@@ -68,32 +67,40 @@ not_later cmp place at key other least = elim (cases_lt place at) [
   | inr le ↦ le
 ]
 
-module _ {K : Type 0} (cmp : K → K → Ordering) (place : ℕ) where
-  -- on the way: what was placed is so still, or was taken, and then it stands at the place or later
-  abbrev pub IsTakenApart : List (ℕ × K) → List (ℕ × K) → List K → Type 0
-  IsTakenApart old now late =
-      (at : ℕ) (key : K) → IsPlaced cmp old at key
+-- on the way: what was placed is so still, or was taken, and then it stands at the place or later
+pub record IsTakenApart {K : Type 0} (cmp : K → K → Ordering) (place : ℕ) (old now : List (ℕ × K)) (late : List K) : Type 0 where
+  pub each : (at : ℕ) (key : K) → IsPlaced cmp old at key
       → IsPlaced cmp now at key ⊎ ((place ≤ at) × (list_any (λ taken. is_at (cmp taken) key) late ≡ true))
 
-  pub taken_more : (old now new : List (ℕ × K)) (late : List K) (at : ℕ) (key : K) → place ≤ at
+module _ {K : Type 0} {cmp : K → K → Ordering} {place : ℕ} {old now : List (ℕ × K)} {late : List K} (apart : IsTakenApart cmp place old now late) where
+  -- the last is taken
+  pub taken_more : (new : List (ℕ × K)) (at : ℕ) (key : K) → place ≤ at
       → ((x : ℕ × K) → list_any (is_at (placed_cmp cmp x)) new ≡ cond (is_at (placed_cmp cmp (at, key)) x) false (list_any (is_at (placed_cmp cmp x)) now))
-      → IsTakenApart old now late → IsTakenApart old new (late ++ key ∷ [])
-  taken_more old now new late at key le takes apart spot other was = elim (apart spot other was) [
-    | inr taken ↦ inr (taken.0, any_before (λ taken. is_at (cmp taken) other) late key taken.1)
-    | inl still ↦ elim (cases_Bool (is_at (placed_cmp cmp (at, key)) (spot, other))) [
-      | inl same ↦
-          let parts = placed_same cmp at spot key other same in
-          let here : place ≤ spot = omega arith in
-          inr (here, any_last (λ taken. is_at (cmp taken) other) late key parts.1)
-      | inr other_one ↦ inl (takes (spot, other) ∙ rw other_one still)
-    ]
+      → IsTakenApart cmp place old new (late ++ key ∷ [])
+  taken_more new at key le takes = record {
+    each = λ spot other was. elim (apart.each spot other was) [
+      | inr taken ↦ inr (taken.0, any_before (λ taken. is_at (cmp taken) other) late key taken.1)
+      | inl still ↦ elim (cases_Bool (is_at (placed_cmp cmp (at, key)) (spot, other))) [
+        | inl same ↦
+            let parts = placed_same cmp at spot key other same in
+            let here : place ≤ spot = omega arith in
+            inr (here, any_last (λ taken. is_at (cmp taken) other) late key parts.1)
+        | inr other_one ↦ inl (takes (spot, other) ∙ rw other_one still)
+      ]
+    ];
+  }
+
+  -- what stands before the place is not taken
+  pub taken_rest : (at : ℕ) (key : K) → at < place → IsPlaced cmp old at key → IsPlaced cmp now at key
+  taken_rest at key early was = elim (apart.each at key was) [
+    | inl still ↦ still
+    | inr taken ↦ absurd (below early taken.0)
   ]
 
-  -- where all that is left stands before the place
-  module _ (old now : List (ℕ × K)) (late : List K) (apart : IsTakenApart old now late)
-      (early : (at : ℕ) (key : K) → IsPlaced cmp now at key → at < place) where
-    pub taken_late : (at : ℕ) (key : K) → place ≤ at → IsPlaced cmp old at key → list_any (λ taken. is_at (cmp taken) key) late ≡ true
-    taken_late at key le was = elim (apart at key was) [
-      | inl still ↦ absurd (below (early at key still) le)
-      | inr taken ↦ taken.1
-    ]
+  -- where all that is left stands before the place, the others are taken
+  pub taken_late : ((at : ℕ) (key : K) → IsPlaced cmp now at key → at < place)
+      → (at : ℕ) (key : K) → place ≤ at → IsPlaced cmp old at key → list_any (λ taken. is_at (cmp taken) key) late ≡ true
+  taken_late early at key le was = elim (apart.each at key was) [
+    | inl still ↦ absurd (below (early at key still) le)
+    | inr taken ↦ taken.1
+  ]

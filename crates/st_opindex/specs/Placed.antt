@@ -16,5 +16,5 @@ module _ {K : Type 0} (cmp : K → K → Ordering) where
   IsPlaced placed place key = IsTrue (list_any (is_at (placed_cmp (place, key))) placed)
 
 -- each item of each key is among what is placed
-abbrev pub AllPlaced : {K Item : Type 0} → (K → K → Ordering) → List (ℕ × K) → ByKey K Item → Type 0
-AllPlaced {K} cmp placed items = (key : K) → AllByRecursion (λ held. IsPlaced cmp placed held.0 key) (items_at cmp key items)
+pub record AllPlaced {K Item : Type 0} (cmp : K → K → Ordering) (placed : List (ℕ × K)) (items : ByKey K Item) : Type 0 where
+  pub each : (key : K) → AllByRecursion (λ held. IsPlaced cmp placed held.0 key) (items_at cmp key items)

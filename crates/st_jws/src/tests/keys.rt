@@ -1,34 +1,33 @@
-use crate::{BadJwk, Jwk, commitment, meets, reveal};
+ghost use Rattle.st_hash.specs.Hash.{IsCode};
+
+use crate::{BadJwk, Jwk, commitment, commitment_with, meets, reveal, reveal_with};
 use st_canon::{Json, read, write};
-use st_hash::hash_text;
+use st_hash::{SHA_256, SHA_512, hash_text};
 use std::test::Fail;
 
-// The JSON of a key, its reveal value and its commitment, by a signer in Python.
-const KEYS: [(&str, &str, &str); 2] = [
-    (
-        "{\"alg\":\"LMS\",\"kty\":\"LMS\",\"pub\":\"AAAABQAAAAQAAQIDBAUGBwgJCgsMDQ4P99GZhaxRFDHM-2Y073OyPKnZ1M\
-        f6yB1qQoylqzRU-Ds\"}",
-        "EiD4WU1DzIRr7sRi3ioP0jkOU_wJOjtimmJaBlhmWsktPg",
-        "EiDK-vU4QMf7kD0L0ZfapZ4Ekg7vJBN5E1P6BlFKe51Kmg",
-    ),
-    (
-        "{\"alg\":\"LMS\",\"kty\":\"LMS\",\"nonce\":\"ZGVmZ2hpamtsbW5vcHFycw\",\"pub\":\"AAAABQAAAAQAAQIDBAUGBwgJC\
-        gsMDQ4P99GZhaxRFDHM-2Y073OyPKnZ1Mf6yB1qQoylqzRU-Ds\"}",
-        "EiCsuxMWSibqRaFvAGum6cbJbLinsANWE75dhTadYKhNXw",
-        "EiA970zHxUSndFiM9YXRbyNronsjhwn6hrPs3vVwmDHNkQ",
-    ),
-];
+// What stands for `PUB` in the tables: the key of a signer in Python.
+const PUBLIC: &str = "AAAABQAAAAQAAQIDBAUGBwgJCgsMDQ4P99GZhaxRFDHM-2Y073OyPKnZ1Mf6yB1qQoylqzRU-Ds";
 
-// The JSON value of a text.
-fn json_of(rt: &HostRuntime, text: &str) -> Result<Json, Fail> {
+// The JSON of keys, their reveal values and commitments, by SHA-256 and by SHA-512, from Python.
+const BY_SHA_256: &str =
+    r#"{"alg":"LMS","kty":"LMS","pub":"PUB"} EiD4WU1DzIRr7sRi3ioP0jkOU_wJOjtimmJaBlhmWsktPg EiDK-vU4QMf7kD0L0ZfapZ4Ekg7vJBN5E1P6BlFKe51Kmg
+{"alg":"LMS","kty":"LMS","nonce":"ZGVmZ2hpamtsbW5vcHFycw","pub":"PUB"} EiCsuxMWSibqRaFvAGum6cbJbLinsANWE75dhTadYKhNXw EiA970zHxUSndFiM9YXRbyNronsjhwn6hrPs3vVwmDHNkQ"#;
+
+const BY_SHA_512: &str =
+    r#"{"alg":"LMS","kty":"LMS","pub":"PUB"} E0BUnuUvbC42BVmgAzvcYQoxTrL4piJuLm8AJboX27YFziwyAbPYB3hBuuKjRgproUP85WSZJerS47JWK33C-73f E0DlcPOZ301o2QniNOs2P7JNISXGUDwYLvRSnDQclli30FmHyRL5_65DyOr3V_uJxVfjWbMPsc_u59YqMMPMahXc
+{"alg":"LMS","kty":"LMS","nonce":"ZGVmZ2hpamtsbW5vcHFycw","pub":"PUB"} E0AaEPdZyzCDJLjc2_h8jWOcc85d7h5pFSpgtNr_czt3c0elL-ozyWxo_q2tgWd-M9UIoUzFkk0MVSa5qFrWWsK9 E0B5EkodZe1td1BQ4xe8GbZbEZmzuS6rgocM9gwswsceCaDl8pH6DdOv0cHuDqHnHYg1EiprwH11_ShtX13XtB8n"#;
+
+// The JSON value of a line of a table.
+fn json_of(rt: &HostRuntime, line: &str) -> Result<Json, Fail> {
+    let text = line.replace(rt.alloc(), "PUB", PUBLIC)?;
     match read(rt.alloc(), text.as_bytes()) {
         Ok(json) => Ok(json),
         Err(_) => Err(Fail::from("not JSON")),
     }
 }
 
-fn key_of(rt: &HostRuntime, text: &str) -> Result<Jwk, Fail> {
-    match Jwk::read(&json_of(rt, text)?) {
+fn key_of(rt: &HostRuntime, line: &str) -> Result<Jwk, Fail> {
+    match Jwk::read(&json_of(rt, line)?) {
         Ok(key) => Ok(key),
         Err(_) => Err(Fail::from("not a key")),
     }
@@ -36,85 +35,84 @@ fn key_of(rt: &HostRuntime, text: &str) -> Result<Jwk, Fail> {
 
 #[test]
 fn a_key_is_read_and_written_and_read_again(rt: HostRuntime) -> Result<(), Fail> {
-    for (text, _, _) in KEYS {
+    for line in BY_SHA_256.lines() {
+        let (text, _) = line.split_once(' ').ok_or("no hashes")?;
         let key = key_of(&rt, text)?;
         let json = key.json(rt.alloc())?;
-        assert_eq!(rt; write(rt.alloc(), &json)?.as_slice(), text.as_bytes());
+        let written = text.replace(rt.alloc(), "PUB", PUBLIC)?;
+        assert_eq!(rt; write(rt.alloc(), &json)?.as_slice(), written.as_bytes());
         assert_eq!(rt; Jwk::read(&json), Ok(key));
     }
     Ok(())
 }
 
+// Whether the key of the line has the reveal value and the commitment beside it.
+fn has_hashes(rt: &HostRuntime, line: &str, code: u8) -> Result<bool, Fail>
+    requires { IsCode code }
+{
+    let (text, hashes) = line.split_once(' ').ok_or("no hashes")?;
+    let (revealed, committed) = hashes.split_once(' ').ok_or("no commitment")?;
+    let key = key_of(rt, text)?;
+    let reveal = reveal_with(rt.alloc(), &key, code)?;
+    let commitment = commitment_with(rt.alloc(), &key, code)?;
+    let are_these = hash_text(rt.alloc(), &reveal)?.as_str() == revealed
+        && hash_text(rt.alloc(), &commitment)?.as_str() == committed;
+    Ok(are_these && meets(&reveal, &commitment) && !meets(&commitment, &reveal))
+}
+
 #[test]
-fn a_reveal_value_meets_its_commitment_alone(rt: HostRuntime) -> Result<(), Fail> {
-    for (text, revealed, committed) in KEYS {
-        let key = key_of(&rt, text)?;
-        let reveal = reveal(rt.alloc(), &key)?;
-        let commitment = commitment(rt.alloc(), &key)?;
-        assert_eq!(rt; hash_text(rt.alloc(), &reveal)?.as_str(), revealed);
-        assert_eq!(rt; hash_text(rt.alloc(), &commitment)?.as_str(), committed);
-        assert!(rt; meets(&reveal, &commitment));
-        assert!(rt; !meets(&commitment, &reveal));
-        assert!(rt; !meets(&reveal, &reveal));
+fn a_reveal_value_meets_its_commitment(rt: HostRuntime) -> Result<(), Fail> {
+    for line in BY_SHA_256.lines() {
+        assert!(rt; has_hashes(&rt, line, SHA_256)?, "{line}");
+    }
+    for line in BY_SHA_512.lines() {
+        assert!(rt; has_hashes(&rt, line, SHA_512)?, "{line}");
     }
     Ok(())
 }
 
 #[test]
+fn a_reveal_value_meets_no_commitment_by_another_algorithm(rt: HostRuntime) -> Result<(), Fail> {
+    let key = key_of(&rt, r#"{"alg":"LMS","kty":"LMS","pub":"PUB"}"#)?;
+    let reveal = reveal(rt.alloc(), &key)?;
+    assert!(rt; meets(&reveal, &commitment(rt.alloc(), &key)?));
+    assert!(rt; !meets(&reveal, &commitment_with(rt.alloc(), &key, SHA_512)?));
+    Ok(())
+}
+
+const NO_KEYS: &str = r#"{"kty":"LMS","pub":"PUB"}
+{"alg":"LMS","pub":"PUB"}
+{"alg":"LMS","kty":"LMS"}
+{"alg":"lms","kty":"LMS","pub":"PUB"}
+{"alg":null,"kty":"LMS","pub":"PUB"}
+{"alg":["LMS"],"kty":"LMS","pub":"PUB"}
+{"alg":"LMS","kty":"lms","pub":"PUB"}
+{"alg":"LMS","kty":null,"pub":"PUB"}
+{"alg":"LMS","kty":["LMS"],"pub":"PUB"}
+{"alg":"LMS","kty":"LMS","pub":1}
+{"alg":"LMS","kty":"LMS","pub":null}
+{"alg":"LMS","kty":"LMS","pub":""}
+{"alg":"LMS","kty":"LMS","pub":"AAAABQAAAAQAAQIDBAUGBwgJCgsMDQ4P99GZhaxRFDHM-2Y073OyPKnZ1Mf6yB1qQoylqzRU-A"}
+{"alg":"LMS","kty":"LMS","pub":"PUBA"}
+{"alg":"LMS","kty":"LMS","pub":"PUB="}
+{"alg":"LMS","kty":"LMS","pub":"AAAABQAAAAQAAQIDBAUGBwgJCgsMDQ4P99GZhaxRFDHM-2Y073OyPKnZ1Mf6yB1qQoylqzRU-Dt"}
+{"alg":"LMS","kty":"LMS","pub":"AAAABwAAAAQAAQIDBAUGBwgJCgsMDQ4P99GZhaxRFDHM-2Y073OyPKnZ1Mf6yB1qQoylqzRU-Ds"}
+{"alg":"LMS","kty":"LMS","pub":"AAAABQAAAAAAAQIDBAUGBwgJCgsMDQ4P99GZhaxRFDHM-2Y073OyPKnZ1Mf6yB1qQoylqzRU-Ds"}
+{"alg":"LMS","kty":"LMS","pub":"PUB","nonce":"AAAAAAAAAAAAAAAAAAAA"}
+{"alg":"LMS","kty":"LMS","pub":"PUB","nonce":"AAAAAAAAAAAAAAAAAAAAAAA"}
+{"alg":"LMS","kty":"LMS","pub":"PUB","nonce":""}
+{"alg":"LMS","kty":"LMS","pub":"PUB","nonce":null}
+{"alg":"LMS","kty":"LMS","pub":"PUB","nonce":0}
+{"alg":"LMS","kty":"LMS","pub":"PUB","nonce":"AAAAAAAAAAAAAAAAAAAAAB"}
+{"alg":"LMS","kty":"LMS","pub":"PUB","kid":"k1"}
+[]
+"LMS"
+{}"#;
+
+#[test]
 fn what_differs_in_a_member_is_no_key(rt: HostRuntime) -> Result<(), Fail> {
-    let refused = [
-        "{\"kty\":\"LMS\",\"pub\":\"AAAABQAAAAQAAQIDBAUGBwgJCgsMDQ4P99GZhaxRFDHM-2Y073OyPKnZ1Mf6yB1qQoylqz\
-        RU-Ds\"}",
-        "{\"alg\":\"LMS\",\"pub\":\"AAAABQAAAAQAAQIDBAUGBwgJCgsMDQ4P99GZhaxRFDHM-2Y073OyPKnZ1Mf6yB1qQoylqz\
-        RU-Ds\"}",
-        "{\"alg\":\"LMS\",\"kty\":\"LMS\"}",
-        "{\"alg\":\"lms\",\"kty\":\"LMS\",\"pub\":\"AAAABQAAAAQAAQIDBAUGBwgJCgsMDQ4P99GZhaxRFDHM-2Y073OyPKnZ1M\
-        f6yB1qQoylqzRU-Ds\"}",
-        "{\"alg\":null,\"kty\":\"LMS\",\"pub\":\"AAAABQAAAAQAAQIDBAUGBwgJCgsMDQ4P99GZhaxRFDHM-2Y073OyPKnZ1Mf\
-        6yB1qQoylqzRU-Ds\"}",
-        "{\"alg\":[\"LMS\"],\"kty\":\"LMS\",\"pub\":\"AAAABQAAAAQAAQIDBAUGBwgJCgsMDQ4P99GZhaxRFDHM-2Y073OyPKnZ\
-        1Mf6yB1qQoylqzRU-Ds\"}",
-        "{\"alg\":\"LMS\",\"kty\":\"lms\",\"pub\":\"AAAABQAAAAQAAQIDBAUGBwgJCgsMDQ4P99GZhaxRFDHM-2Y073OyPKnZ1M\
-        f6yB1qQoylqzRU-Ds\"}",
-        "{\"alg\":\"LMS\",\"kty\":null,\"pub\":\"AAAABQAAAAQAAQIDBAUGBwgJCgsMDQ4P99GZhaxRFDHM-2Y073OyPKnZ1Mf\
-        6yB1qQoylqzRU-Ds\"}",
-        "{\"alg\":\"LMS\",\"kty\":[\"LMS\"],\"pub\":\"AAAABQAAAAQAAQIDBAUGBwgJCgsMDQ4P99GZhaxRFDHM-2Y073OyPKnZ\
-        1Mf6yB1qQoylqzRU-Ds\"}",
-        "{\"alg\":\"LMS\",\"kty\":\"LMS\",\"pub\":1}",
-        "{\"alg\":\"LMS\",\"kty\":\"LMS\",\"pub\":null}",
-        "{\"alg\":\"LMS\",\"kty\":\"LMS\",\"pub\":\"\"}",
-        "{\"alg\":\"LMS\",\"kty\":\"LMS\",\"pub\":\"AAAABQAAAAQAAQIDBAUGBwgJCgsMDQ4P99GZhaxRFDHM-2Y073OyPKnZ1M\
-        f6yB1qQoylqzRU-A\"}",
-        "{\"alg\":\"LMS\",\"kty\":\"LMS\",\"pub\":\"AAAABQAAAAQAAQIDBAUGBwgJCgsMDQ4P99GZhaxRFDHM-2Y073OyPKnZ1M\
-        f6yB1qQoylqzRU-DsA\"}",
-        "{\"alg\":\"LMS\",\"kty\":\"LMS\",\"pub\":\"AAAABQAAAAQAAQIDBAUGBwgJCgsMDQ4P99GZhaxRFDHM-2Y073OyPKnZ1M\
-        f6yB1qQoylqzRU-Ds=\"}",
-        "{\"alg\":\"LMS\",\"kty\":\"LMS\",\"pub\":\"AAAABQAAAAQAAQIDBAUGBwgJCgsMDQ4P99GZhaxRFDHM-2Y073OyPKnZ1M\
-        f6yB1qQoylqzRU-Dt\"}",
-        "{\"alg\":\"LMS\",\"kty\":\"LMS\",\"pub\":\"AAAABwAAAAQAAQIDBAUGBwgJCgsMDQ4P99GZhaxRFDHM-2Y073OyPKnZ1M\
-        f6yB1qQoylqzRU-Ds\"}",
-        "{\"alg\":\"LMS\",\"kty\":\"LMS\",\"pub\":\"AAAABQAAAAAAAQIDBAUGBwgJCgsMDQ4P99GZhaxRFDHM-2Y073OyPKnZ1M\
-        f6yB1qQoylqzRU-Ds\"}",
-        "{\"alg\":\"LMS\",\"kty\":\"LMS\",\"pub\":\"AAAABQAAAAQAAQIDBAUGBwgJCgsMDQ4P99GZhaxRFDHM-2Y073OyPKnZ1M\
-        f6yB1qQoylqzRU-Ds\",\"nonce\":\"AAAAAAAAAAAAAAAAAAAA\"}",
-        "{\"alg\":\"LMS\",\"kty\":\"LMS\",\"pub\":\"AAAABQAAAAQAAQIDBAUGBwgJCgsMDQ4P99GZhaxRFDHM-2Y073OyPKnZ1M\
-        f6yB1qQoylqzRU-Ds\",\"nonce\":\"AAAAAAAAAAAAAAAAAAAAAAA\"}",
-        "{\"alg\":\"LMS\",\"kty\":\"LMS\",\"pub\":\"AAAABQAAAAQAAQIDBAUGBwgJCgsMDQ4P99GZhaxRFDHM-2Y073OyPKnZ1M\
-        f6yB1qQoylqzRU-Ds\",\"nonce\":\"\"}",
-        "{\"alg\":\"LMS\",\"kty\":\"LMS\",\"pub\":\"AAAABQAAAAQAAQIDBAUGBwgJCgsMDQ4P99GZhaxRFDHM-2Y073OyPKnZ1M\
-        f6yB1qQoylqzRU-Ds\",\"nonce\":null}",
-        "{\"alg\":\"LMS\",\"kty\":\"LMS\",\"pub\":\"AAAABQAAAAQAAQIDBAUGBwgJCgsMDQ4P99GZhaxRFDHM-2Y073OyPKnZ1M\
-        f6yB1qQoylqzRU-Ds\",\"nonce\":0}",
-        "{\"alg\":\"LMS\",\"kty\":\"LMS\",\"pub\":\"AAAABQAAAAQAAQIDBAUGBwgJCgsMDQ4P99GZhaxRFDHM-2Y073OyPKnZ1M\
-        f6yB1qQoylqzRU-Ds\",\"nonce\":\"AAAAAAAAAAAAAAAAAAAAAB\"}",
-        "{\"alg\":\"LMS\",\"kty\":\"LMS\",\"pub\":\"AAAABQAAAAQAAQIDBAUGBwgJCgsMDQ4P99GZhaxRFDHM-2Y073OyPKnZ1M\
-        f6yB1qQoylqzRU-Ds\",\"kid\":\"k1\"}",
-        "[]",
-        "\"LMS\"",
-        "{}",
-    ];
-    for text in refused {
-        assert_eq!(rt; Jwk::read(&json_of(&rt, text)?), Err(BadJwk), "{text}");
+    for line in NO_KEYS.lines() {
+        assert_eq!(rt; Jwk::read(&json_of(&rt, line)?), Err(BadJwk), "{line}");
     }
     Ok(())
 }

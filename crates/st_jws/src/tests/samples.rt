@@ -63,16 +63,34 @@ pub(crate) const SPACED_PAYLOAD: &str =
     "{\"anything\":[1,null],\"recoveryKey\":{\"alg\":\"LMS\",\"kty\":\"LMS\",\"pub\":\"AAAABQAAAAQAAQIDBAUGBwg\
     JCgsMDQ4P99GZhaxRFDHM-2Y073OyPKnZ1Mf6yB1qQoylqzRU-Ds\"}}";
 
-/// A member `typ` in the header, and no signature.
-pub(crate) const WITH_TYPE: &str =
-    "eyJhbGciOiJMTVMiLCJ0eXAiOiJKT1NFIn0.eyJkZWx0YUhhc2giOiJFaUJQU3BRUV84MzRsY1N0dUlCbG5wdGNEZE\
-    h5T2pCNUJvUTBDejZxeXdSVG1BIiwidXBkYXRlS2V5Ijp7ImFsZyI6IkxNUyIsImt0eSI6IkxNUyIsIm5vbmNlIjoi\
-    WkdWbVoyaHBhbXRzYlc1dmNIRnljdyIsInB1YiI6IkFBQUFCUUFBQUFRQUFRSURCQVVHQndnSkNnc01EUTRQOTlHWm\
-    hheFJGREhNLTJZMDczT3lQS25aMU1mNnlCMXFRb3lscXpSVS1EcyJ9fQ.";
+/// More or fewer than three texts, or another than base64url.
+pub(crate) const BAD_FORMS: &str = r#"
+a.b.c
+e30.e30
+e30.e30..
+e30.e30.=
+eyJhbGciOiJMTVMifQ.eyJ1cGRhdGVLZXkiOnsiYWxnIjoiTE1TIiwia3R5IjoiTE1TIiwicHViIjoiQUFBQUJRQUFBQVFBQVFJREJBVUdCd2dKQ2dzTURRNFA5OUdaaGF4UkZESE0tMlkwNzNPeVBLbloxTWY2eUIxcVFveWxxelJVLURzIn19"#;
 
-/// Both keys in the payload, and no signature.
-pub(crate) const WITH_BOTH_KEYS: &str =
-    "eyJhbGciOiJMTVMifQ.eyJyZWNvdmVyeUtleSI6eyJhbGciOiJMTVMiLCJrdHkiOiJMTVMiLCJwdWIiOiJBQUFBQlF\
-    BQUFBUUFBUUlEQkFVR0J3Z0pDZ3NNRFE0UDk5R1poYXhSRkRITS0yWTA3M095UEtuWjFNZjZ5QjFxUW95bHF6UlUtR\
-    HMifSwidXBkYXRlS2V5Ijp7ImFsZyI6IkxNUyIsImt0eSI6IkxNUyIsInB1YiI6IkFBQUFCUUFBQUFRQUFRSURCQVV\
-    HQndnSkNnc01EUTRQOTlHWmhheFJGREhNLTJZMDczT3lQS25aMU1mNnlCMXFRb3lscXpSVS1EcyJ9fQ.";
+/// The headers `{}`, and others without `alg` = `LMS`, with another `kid` than a text, or with
+/// another member.
+pub(crate) const BAD_HEADERS: &str = r#"..
+e30.e30.
+eyJhbGciOiJsbXMifQ.e30.
+eyJhbGciOiJMTVMiLCJraWQiOjF9.e30.
+eyJhbGciOiJMTVMiLCJraWQiOjEuNX0.e30.
+WyJMTVMiXQ.e30.
+eyJhbGciOiJMTVMiLCJ0eXAiOiJKV1QifQ.e30."#;
+
+/// The payloads `{}`, `[]`, an `updateKey` that is none, a number that is not whole or is too great
+/// beside a key, and two keys.
+pub(crate) const BAD_PAYLOADS: &str = r#"eyJhbGciOiJMTVMifQ.e30.
+eyJhbGciOiJMTVMifQ.W10.
+eyJhbGciOiJMTVMifQ.eyJ1cGRhdGVLZXkiOjF9.
+eyJhbGciOiJMTVMifQ.eyJuIjoxLjUsInVwZGF0ZUtleSI6eyJhbGciOiJMTVMiLCJrdHkiOiJMTVMiLCJwdWIiOiJBQUFBQlFBQUFBUUFBUUlEQkFVR0J3Z0pDZ3NNRFE0UDk5R1poYXhSRkRITS0yWTA3M095UEtuWjFNZjZ5QjFxUW95bHF6UlUtRHMifX0.
+eyJhbGciOiJMTVMifQ.eyJuIjo5MDA3MTk5MjU0NzQwOTkyLCJ1cGRhdGVLZXkiOnsiYWxnIjoiTE1TIiwia3R5IjoiTE1TIiwicHViIjoiQUFBQUJRQUFBQVFBQVFJREJBVUdCd2dKQ2dzTURRNFA5OUdaaGF4UkZESE0tMlkwNzNPeVBLbloxTWY2eUIxcVFveWxxelJVLURzIn19.
+eyJhbGciOiJMTVMifQ.eyJyZWNvdmVyeUtleSI6eyJhbGciOiJMTVMiLCJrdHkiOiJMTVMiLCJwdWIiOiJBQUFBQlFBQUFBUUFBUUlEQkFVR0J3Z0pDZ3NNRFE0UDk5R1poYXhSRkRITS0yWTA3M095UEtuWjFNZjZ5QjFxUW95bHF6UlUtRHMifSwidXBkYXRlS2V5Ijp7ImFsZyI6IkxNUyIsImt0eSI6IkxNUyIsInB1YiI6IkFBQUFCUUFBQUFRQUFRSURCQVVHQndnSkNnc01EUTRQOTlHWmhheFJGREhNLTJZMDczT3lQS25aMU1mNnlCMXFRb3lscXpSVS1EcyJ9fQ."#;
+
+/// A whole number beside the key, a `kid` and a `recoveryKey`, with no signature.
+pub(crate) const BAD_SIGNATURES: &str =
+    r#"eyJhbGciOiJMTVMifQ.eyJuIjoxLCJ1cGRhdGVLZXkiOnsiYWxnIjoiTE1TIiwia3R5IjoiTE1TIiwicHViIjoiQUFBQUJRQUFBQVFBQVFJREJBVUdCd2dKQ2dzTURRNFA5OUdaaGF4UkZESE0tMlkwNzNPeVBLbloxTWY2eUIxcVFveWxxelJVLURzIn19.
+eyJhbGciOiJMTVMiLCJraWQiOiJrMSJ9.eyJyZWNvdmVyeUtleSI6eyJhbGciOiJMTVMiLCJrdHkiOiJMTVMiLCJwdWIiOiJBQUFBQlFBQUFBUUFBUUlEQkFVR0J3Z0pDZ3NNRFE0UDk5R1poYXhSRkRITS0yWTA3M095UEtuWjFNZjZ5QjFxUW95bHF6UlUtRHMifX0."#;

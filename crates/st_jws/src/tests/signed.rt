@@ -1,4 +1,6 @@
-use crate::tests::samples::{PAYLOAD, SIGNED, SPACED, SPACED_PAYLOAD, WITH_BOTH_KEYS, WITH_TYPE};
+use crate::tests::samples::{
+    BAD_FORMS, BAD_HEADERS, BAD_PAYLOADS, BAD_SIGNATURES, PAYLOAD, SIGNED, SPACED, SPACED_PAYLOAD,
+};
 use crate::{SignedRefused, join_signed, open_signed, signing_input};
 use st_base::{Copied, Text, Work};
 use st_canon::{read, write};
@@ -36,23 +38,25 @@ fn changed(alloc: Global, text: &str, at: usize, byte: u8) -> Result<String, Fai
 
 #[test]
 fn the_first_rule_that_fails_is_told(rt: HostRuntime) -> Result<(), Fail> {
-    let cases = [
-        ("a.b.c", LIMIT, SignedRefused::BadForm),
-        ("e30.e30", LIMIT, SignedRefused::BadForm),
-        ("e30.e30.", LIMIT, SignedRefused::BadHeader),
-        ("eyJhbGciOiJMTVMifQ.e30.", LIMIT, SignedRefused::BadPayload),
-        ("e30.e30.", 5, SignedRefused::BadForm),
-        ("", LIMIT, SignedRefused::BadForm),
-        ("..", LIMIT, SignedRefused::BadHeader),
-        ("e30.e30..", LIMIT, SignedRefused::BadForm),
-        ("e30.e30.=", LIMIT, SignedRefused::BadForm),
-        (WITH_TYPE, LIMIT, SignedRefused::BadHeader),
-        (WITH_BOTH_KEYS, LIMIT, SignedRefused::BadPayload),
-        (SIGNED, SIGNED.len() - 1, SignedRefused::BadForm),
+    let tables = [
+        (BAD_FORMS, SignedRefused::BadForm),
+        (BAD_HEADERS, SignedRefused::BadHeader),
+        (BAD_PAYLOADS, SignedRefused::BadPayload),
+        (BAD_SIGNATURES, SignedRefused::BadSignature),
     ];
-    for (text, limit, refused) in cases {
-        assert_eq!(rt; refusal_of(&rt, text, limit)?, (Some(refused), 1), "{text}");
+    for (table, refused) in tables {
+        for line in table.lines() {
+            assert_eq!(rt; refusal_of(&rt, line, LIMIT)?, (Some(refused), 1), "{line}");
+        }
     }
+    assert_eq!(rt;
+        refusal_of(&rt, "e30.e30.", 8)?,
+        (Some(SignedRefused::BadHeader), 1)
+    );
+    assert_eq!(rt;
+        refusal_of(&rt, "e30.e30.", 5)?,
+        (Some(SignedRefused::BadForm), 1)
+    );
     Ok(())
 }
 

@@ -1,4 +1,4 @@
-use Rattle.std.proofs.Common.{rules, ap, ◌∙◌, arith}
+use Rattle.std.proofs.Common.{rules, arith}
 use Rattle.st_hash.proofs.HashTexts.{hash_of_text_with-spelled, hash_of_text_with-none}
 use Rattle.st_hash.proofs.text.read_hash.Goals as goal
 

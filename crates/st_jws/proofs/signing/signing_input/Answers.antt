@@ -9,9 +9,9 @@ use Rattle.st_jws.proofs.signing.signing_input.Goals as goal
 
 pub returns-clause-value : goal.returns-clause-value
 returns-clause-value c =
-    let first : c.as_bytes.result.now ≡ base64url header_text = c.as_bytes.ensures.value ∙ c.as_str.ensures ∙ c.in_ok-header.ensures in
+    let first : c.as_bytes.result.now ≡ base64url header_text = c.as_bytes.ensures.value ∙ c.as_str.ensures ∙ c.in_ok-header.ensures.value in
     let second : c.as_bytes-2.result.now ≡ base64url (canonical (plain c.args.payload.now)) =
-    c.as_bytes-2.ensures.value ∙ c.as_str-2.ensures ∙ c.in_ok-payload.ensures ∙ ap base64url (c.as_slice.ensures ∙ c.in_ok-canonical.ensures.text) in
+    c.as_bytes-2.ensures.value ∙ c.as_str-2.ensures ∙ c.in_ok-payload.ensures.value ∙ ap base64url (c.as_slice.ensures ∙ c.in_ok-canonical.ensures.text) in
     c.in_ok-input.ensures ∙ rw (first, second) refl
 
 pub returns-clause-ascii : goal.returns-clause-ascii

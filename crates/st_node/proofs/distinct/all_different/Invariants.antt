@@ -1,5 +1,5 @@
 use Rattle.std.proofs.Common.{◌≡◌, length}
-use Rattle.st_node.specs.Distinct.{all_different}
+use Rattle.st_node.specs.Creates.{all_different}
 use Rattle.st_node.proofs.distinct.all_different.Given as goal
 
 abbrev pub decreases-hashes : goal.decreases-hashes

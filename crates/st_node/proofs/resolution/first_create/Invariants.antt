@@ -4,4 +4,5 @@ use Rattle.st_node.proofs.resolution.first_create.Given as goal
 
 abbrev pub invariant-loop-entry : goal.invariant-loop-entry
 invariant-loop-entry l =
-    first_create l.suffix l.content l.entries ≡ first_create l.suffix l.content (drop l.entry-index l.entries)
+    first_create l.schedule l.suffix l.content l.entries
+    ≡ first_create l.schedule l.suffix l.content (drop l.entry-index l.entries)

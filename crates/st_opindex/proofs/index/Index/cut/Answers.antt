@@ -9,14 +9,14 @@ invariant_of-result g c =
     record {
       none = c.self.invariant.none;
       rows = c.in_ok-cut_keys.ensures.rows;
-      placed = placed_cut g.K.Ord.cmp c.args.place c.self.inside.placed.keys c.take_late.new.placed.keys c.self.invariant.placed c.in_ok-late.ensures.late cut c.in_ok-late.ensures.rest;
+      placed = placed_cut c.self.invariant.placed c.in_ok-late.ensures.late cut c.take_late.new.placed.keys c.in_ok-late.ensures.rest;
     }
 
 pub returns-clause-items : goal.returns-clause-items
 returns-clause-items g c =
     let cut = rw c.as_slice.ensures.value at c.in_ok-cut_keys.ensures.items in
     rw (← c.self.view_is)
-    (all_cut g.K.Ord.cmp c.args.place c.self.inside.placed.keys c.take_late.new.placed.keys c.self.invariant.placed c.in_ok-late.ensures.late cut)
+    (all_cut c.self.invariant.placed c.in_ok-late.ensures.late cut)
 
 pub returns-in_err-cut_keys-clause-bound : goal.returns-in_err-cut_keys-clause-bound
 returns-in_err-cut_keys-clause-bound g c = rw (← c.self.view_is) (losing_bound g.K.Ord.cmp c.args.place (seen_items c.self.inside.rows.entries) c.cut_keys.ensures.bound)

@@ -1,0 +1,7 @@
+-- Items that were read, and those still to be read.
+use Rattle.std.proofs.Common.{List, ◌++◌, Option, option_map}
+use Rattle.st_base.specs.Each.{each_of}
+
+-- what was read, and behind it what the other items are read as, where each is
+abbrev pub after : {Item Read : Type 0} → (Item → Option Read) → List Read → List Item → Option (List Read)
+after read done others = option_map (λ more. done ++ more) (each_of read others)

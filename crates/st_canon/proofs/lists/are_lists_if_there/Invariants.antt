@@ -1,0 +1,10 @@
+use Rattle.std.proofs.Common.{◌≡◌, drop, map, Some}
+use Rattle.std.specs.List.{list_all}
+use Rattle.st_canon.specs.Shapes.{is_list_if_there, member_in}
+use Rattle.st_canon.specs.View.{plain}
+use Rattle.st_canon.proofs.lists.are_lists_if_there.Given as goal
+
+abbrev pub invariant-names : goal.invariant-names
+invariant-names l =
+    list_all (λ name. is_list_if_there (member_in name (Some (plain l.value)))) (map (λ n. n.now) l.names)
+    ≡ list_all (λ name. is_list_if_there (member_in name (Some (plain l.value)))) (map (λ n. n.now) (drop l.name-index l.names))

@@ -1,0 +1,43 @@
+-- Chunk files, which hold deltas: what their JSON says, the JSON that is written, and the rules by
+-- which they are accepted (DIF Sidetree v1.0.0, "Chunk Files"). `None` is a file that is no JSON.
+use Rattle.std.specs.Prelude.{ℕ, ◌==◌, Bool, not, nat_lt, List, [], ◌∷◌, codes, length, Option, is_none, is_some, option_and_then}
+use Rattle.st_base.specs.Rules.{Table, first_failing}
+use Rattle.st_canon.specs.Entries.{items_in}
+use Rattle.st_canon.specs.Objects.{object_of_some, some_list}
+use Rattle.st_canon.specs.Plain.{Plain}
+use Rattle.st_canon.specs.Shapes.{entries_in, json_in, member_in, only_member}
+use Rattle.st_datafiles.specs.declared.chunk_rule.ChunkRule.{ChunkRule}
+use Rattle.st_datafiles.specs.declared.chunk_rule.ChunkRule.TheVariants.{K1, K2, K3, K4}
+use Rattle.st_params.specs.Limits.{Limits}
+
+-- what the JSON of a chunk file says: the deltas, which are any values
+unfoldable pub deltas_of : Option Plain → List Plain
+deltas_of chunk = entries_in (member_in (codes "deltas") chunk)
+
+-- the JSON that is written of deltas, without an empty list
+abbrev pub chunk_json : List Plain → Plain
+chunk_json deltas = object_of_some ((codes "deltas", some_list deltas) ∷ [])
+
+-- ---- the rules
+
+-- it is an object with exactly `deltas`, a list
+unfoldable pub has_chunk_form : Option Plain → Bool
+has_chunk_form chunk = is_some (option_and_then items_in (only_member (codes "deltas") chunk))
+
+-- those that look at the JSON
+abbrev pub chunk_json_rules : ℕ → Option Plain → Table ChunkRule
+chunk_json_rules wanted chunk =
+    (K3, not (has_chunk_form chunk))
+    ∷ (K4, not (length (deltas_of chunk) == wanted))
+    ∷ []
+
+-- all rules, where creates, recovers and updates together are so many
+abbrev pub chunk_rules : Limits → ℕ → List ℕ → Table ChunkRule
+chunk_rules limits wanted file =
+    (K1, nat_lt limits.max_chunk (length file))
+    ∷ (K2, is_none (json_in file))
+    ∷ chunk_json_rules wanted (json_in file)
+
+-- the first rule that a chunk file fails
+abbrev pub first_failing_chunk_rule : Limits → ℕ → List ℕ → Option ChunkRule
+first_failing_chunk_rule limits wanted file = first_failing (chunk_rules limits wanted file)

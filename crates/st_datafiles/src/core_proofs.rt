@@ -1,0 +1,20 @@
+use st_base::{Copied, List, Text, WantOfMemory};
+use std::alloc::Global;
+
+/// What a core proof file says: the signed texts of the recovers and of the deactivates.
+#[derive(Debug, Drop)]
+pub struct CoreProofs {
+    pub recovers: List<Text>,
+    pub deactivates: List<Text>,
+}
+
+impl Copied for CoreProofs {
+    fn copy(&self, alloc: Global) -> Result<CoreProofs, WantOfMemory> {
+        let recovers = self.recovers.copy(alloc)?;
+        let deactivates = self.deactivates.copy(alloc)?;
+        Ok(CoreProofs {
+            recovers,
+            deactivates,
+        })
+    }
+}

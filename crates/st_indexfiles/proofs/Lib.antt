@@ -1,0 +1,4 @@
+pub mod CoreLemmas
+pub mod ProvisionalLemmas
+pub mod TwiceLemmas
+pub mod WrittenLemmas

@@ -1,0 +1,54 @@
+-- Provisional index files: what their JSON says, and the JSON that is written (DIF Sidetree v1.0.0,
+-- "Provisional Index File").
+use Rattle.std.specs.Prelude.{ℕ, List, [], ◌∷◌, codes, map, Option, option_map}
+use Rattle.std.specs.List.{filter_map}
+use Rattle.st_canon.specs.Objects.{object_of, object_of_some, some_list, some_listed, some_object}
+use Rattle.st_canon.specs.Plain.{Plain, Members}
+use Rattle.st_canon.specs.Shapes.{entries_in, member_in, only_member, only_of}
+use Rattle.st_hash.specs.Hash.{HashValue}
+use Rattle.st_indexfiles.specs.CoreIndex.{operations_of}
+use Rattle.st_indexfiles.specs.Hashes.{hash_json, uri_in}
+use Rattle.st_indexfiles.specs.Target.{target_json, target_of}
+use Rattle.st_indexfiles.specs.declared.provisional_index.ProvisionalIndex.{ProvisionalIndex}
+use Rattle.st_indexfiles.specs.declared.target.Target.{Target}
+
+-- ---- read
+
+-- the URI of the chunk file: the one member of the one entry of `chunks`
+unfoldable pub chunk_in : Option Plain → Option HashValue
+chunk_in index = uri_in (only_member (codes "chunkFileUri") (only_of (entries_in (member_in (codes "chunks") index))))
+
+-- the updates
+unfoldable pub updates_in : ℕ → Option Plain → List Target
+updates_in version index = filter_map (target_of version) (operations_of (codes "update") index)
+
+-- what the JSON says beside the URI of its chunk file
+unfoldable pub provisional_with : ℕ → Option Plain → HashValue → ProvisionalIndex
+provisional_with version index chunk = record {
+  proof = uri_in (member_in (codes "provisionalProofFileUri") index);
+  chunk = chunk;
+  updates = updates_in version index;
+}
+
+-- what the JSON of a provisional index file says, where it names its chunk file
+abbrev pub provisional_index_of : ℕ → Option Plain → Option ProvisionalIndex
+provisional_index_of version index = option_map (provisional_with version index) (chunk_in index)
+
+-- the suffixes of updates
+abbrev pub suffixes_in : List Target → List HashValue
+suffixes_in updates = map (λ update. update.suffix) updates
+
+-- ---- written
+
+abbrev pub chunk_json : HashValue → Plain
+chunk_json uri = object_of ((codes "chunkFileUri", hash_json uri) ∷ [])
+
+abbrev pub provisional_operations : ProvisionalIndex → Members
+provisional_operations index = some_listed ((codes "update", some_list (map target_json index.updates)) ∷ [])
+
+-- the JSON of an index, without an empty list and without an empty `operations`
+abbrev pub provisional_json : ProvisionalIndex → Plain
+provisional_json index = object_of_some
+    ((codes "provisionalProofFileUri", option_map hash_json index.proof)
+    ∷ (codes "chunks", some_list (chunk_json index.chunk ∷ []))
+    ∷ (codes "operations", some_object (provisional_operations index)) ∷ [])

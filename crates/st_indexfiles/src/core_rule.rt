@@ -1,0 +1,27 @@
+use st_base::FileRefused;
+
+/// The rules of a core index file, in their order.
+#[derive(Clone, Copy, Debug, PartialEq, Eq)]
+pub enum CoreRule {
+    /// The file has more than `max_index` bytes.
+    C1,
+    /// It isn't read as JSON with whole numbers.
+    C2,
+    /// It isn't an object, has a member of another name, `operations` is there and isn't an object,
+    /// has a member of another name, or one of its members isn't a list.
+    C3,
+    /// A URI member is there and isn't a hash text, or `writerLockId` is there and isn't a text of at
+    /// most `max_lock_id` bytes.
+    C4,
+    /// An entry isn't an object with exactly its members, or one of its hash texts isn't one.
+    C5,
+    /// There are more operations than the declared count.
+    C6,
+    /// Two operations have the same suffix, that of a create being computed.
+    C7,
+    /// `coreProofFileUri` is there and there is no recover or deactivate, or the reverse.
+    C8,
+}
+
+/// Why a core index file is not accepted.
+pub type CoreRefused = FileRefused<CoreRule>;

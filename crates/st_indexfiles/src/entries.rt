@@ -1,0 +1,59 @@
+ghost use Rattle.std.specs.Prelude.{◌≡◌, ◌≤◌, ℕ, Option, Some, IfOk, OnOk, map};
+ghost use Rattle.st_base.specs.Each.{each_of};
+ghost use Rattle.st_canon.specs.Plain.{Plain};
+ghost use Rattle.st_canon.specs.View.{plain};
+ghost use Rattle.st_indexfiles.specs.Written.{AreReadAgain, ReadsAs};
+
+use st_base::{List, WantOfMemory};
+use st_canon::Json;
+use std::alloc::Global;
+
+/// What an entry of a list of operations says.
+pub(crate) trait Entry: Drop {
+    ghost of: { ℕ → Plain → Option Self };
+
+    ghost json: { Self → Plain };
+
+    /// What the entry says, by the hash texts of the version.
+    fn read(entry: &Json, version: u8) -> Option<Self>
+        requires first { 1 ≤ version }
+        requires last { version ≤ 2 }
+        ensures { result ≡ of version (plain entry.now) };
+
+    /// The entry that says this. In whatever version it is read, it is read as this.
+    fn write(&self, alloc: Global) -> Result<Json, WantOfMemory>
+        ensures value { IfOk result (λ entry. plain entry ≡ json self.now) }
+        ensures read { OnOk result ((version : ℕ) → ReadsAs (of version (json self.now)) self.now) };
+}
+
+/// What all entries say, where each says something.
+pub(crate) fn read_entries<T: Entry>(
+    alloc: Global,
+    entries: &[Json],
+    version: u8,
+) -> Result<Option<List<T>>, WantOfMemory>
+    requires first { 1 ≤ version }
+    requires last { version ≤ 2 }
+    ensures { IfOk result (λ said. said ≡ each_of (T.of version) (map plain entries.now)) }
+{
+    let mut said = List::new(alloc);
+    for entry in entries {
+        let Some(one) = T::read(entry, version) else {
+            return Ok(None);
+        };
+        said.push(alloc, one)?;
+    }
+    Ok(Some(said))
+}
+
+/// The entries that say these.
+pub(crate) fn write_entries<T: Entry>(alloc: Global, said: &[T]) -> Result<List<Json>, WantOfMemory>
+    ensures value { IfOk result (λ entries. map plain entries ≡ map T.json said.now) }
+    ensures read { OnOk result (AreReadAgain T.of T.json said.now) }
+{
+    let mut entries = List::new(alloc);
+    for one in said {
+        entries.push(alloc, one.write(alloc)?)?;
+    }
+    Ok(entries)
+}

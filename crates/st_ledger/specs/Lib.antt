@@ -1,0 +1,2 @@
+pub mod Anchor
+pub mod Ledger

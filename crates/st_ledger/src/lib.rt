@@ -1,0 +1,15 @@
+//! The ledger: entries of a height and a text, whose heights never fall, and what the anchor string
+//! of an entry says.
+#![tactic(auto)]
+
+mod anchor;
+mod entry;
+mod ledger;
+mod refused;
+#[cfg(test)]
+mod tests;
+
+pub use anchor::{Anchor, AnchorRule, read_anchor};
+pub use entry::Entry;
+pub use ledger::Ledger;
+pub use refused::LedgerRefused;
