@@ -56,6 +56,9 @@ pub record Outlet : Type 0 where
   pub holds : Option (List ℕ)
   pub has : List ℕ
 
+abbrev pub outlet : Option (List ℕ) → List ℕ → Option (List ℕ) → List ℕ → Outlet
+outlet held had holds has = record { held = held; had = had; holds = holds; has = has }
+
 -- of what was gathered and then the reply, a part was written and the rest is gathered
 pub record Passes (outlet : Outlet) (reply : List ℕ) : Type 0 where
   pub part : List ℕ

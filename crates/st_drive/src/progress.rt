@@ -2,7 +2,7 @@ ghost use Rattle.std.specs.Prelude.{◌≡◌, ◌≤◌, [], ◌∷◌, ◌++�
 ghost use Rattle.st_io.specs.Sinks.{FinishesNothing};
 ghost use Rattle.st_base.specs.Words.{HasNo};
 ghost use Rattle.st_drive.specs.Lines.{capped};
-ghost use Rattle.st_drive.specs.Parts.{Wrote, WroteSome, Gathered, GatheredSome, Orderly};
+ghost use Rattle.st_drive.specs.Parts.{Wrote, WroteSome, Gathered, GatheredSome, Orderly, outlet};
 
 use crate::lines::{LINE_FEED, cut_front, keep_front};
 use crate::machine::{Machine, StepError};
@@ -25,20 +25,12 @@ fn answer_line<M: Machine, K: Sink>(
     ensures fits { IfOk result (λ next. M.fits next context.new) }
     ensures ok { IfOk result (λ next. Gathered M.meaning M.CAP
         machine context.old (line.now ∷ []) next context.new
-        (record {
-          held = K.written sink.old;
-          had = gathered.old.items;
-          holds = K.written sink.new;
-          has = gathered.new.items;
-        })) }
+        (outlet (K.written sink.old) gathered.old.items
+        (K.written sink.new) gathered.new.items)) }
     ensures err { OnErr result (GatheredSome M.meaning M.CAP
         machine context.old (line.now ∷ []) context.new
-        (record {
-          held = K.written sink.old;
-          had = gathered.old.items;
-          holds = K.written sink.new;
-          has = gathered.new.items;
-        })) }
+        (outlet (K.written sink.old) gathered.old.items
+        (K.written sink.new) gathered.new.items)) }
     ensures unfinished { FinishesNothing (K.is_finished sink.old) (K.is_finished sink.new) }
     ensures faults { Orderly (K.faults sink.old) (K.faults sink.new)
         (M.faults context.old) (M.faults context.new) result }
@@ -68,21 +60,13 @@ fn end_line<M: Machine, K: Sink>(
     ensures fits { IfOk result (λ next. M.fits next context.new) }
     ensures ok { IfOk result (λ next. Gathered M.meaning M.CAP
         machine context.old (take M.CAP (line.old.items ++ front.now) ∷ []) next context.new
-        (record {
-          held = K.written sink.old;
-          had = gathered.old.items;
-          holds = K.written sink.new;
-          has = gathered.new.items;
-        })) }
+        (outlet (K.written sink.old) gathered.old.items
+        (K.written sink.new) gathered.new.items)) }
     ensures emptied { OnOk result (line.new.items ≡ []) }
     ensures err { OnErr result (GatheredSome M.meaning M.CAP
         machine context.old (take M.CAP (line.old.items ++ front.now) ∷ []) context.new
-        (record {
-          held = K.written sink.old;
-          had = gathered.old.items;
-          holds = K.written sink.new;
-          has = gathered.new.items;
-        })) }
+        (outlet (K.written sink.old) gathered.old.items
+        (K.written sink.new) gathered.new.items)) }
     ensures unfinished { FinishesNothing (K.is_finished sink.old) (K.is_finished sink.new) }
     ensures faults { Orderly (K.faults sink.old) (K.faults sink.new)
         (M.faults context.old) (M.faults context.new) result }
@@ -124,23 +108,15 @@ impl<M: Machine> Progress<M> {
         ensures ok { IfOk result (λ next. Gathered M.meaning M.CAP
             self.machine context.old (capped M.CAP (self.line.items ++ piece.now)).0
             next.machine context.new
-            (record {
-              held = K.written sink.old;
-              had = gathered.old.items;
-              holds = K.written sink.new;
-              has = gathered.new.items;
-            })) }
+            (outlet (K.written sink.old) gathered.old.items
+            (K.written sink.new) gathered.new.items)) }
         ensures cap { IfOk result (λ next. vec_len next.line ≤ M.CAP) }
         ensures line { IfOk result (λ next. next.line.items
             ≡ (capped M.CAP (self.line.items ++ piece.now)).1) }
         ensures err { OnErr result (GatheredSome M.meaning M.CAP
             self.machine context.old (capped M.CAP (self.line.items ++ piece.now)).0 context.new
-            (record {
-              held = K.written sink.old;
-              had = gathered.old.items;
-              holds = K.written sink.new;
-              has = gathered.new.items;
-            })) }
+            (outlet (K.written sink.old) gathered.old.items
+            (K.written sink.new) gathered.new.items)) }
         ensures unfinished { FinishesNothing (K.is_finished sink.old) (K.is_finished sink.new) }
         ensures faults { Orderly (K.faults sink.old) (K.faults sink.new)
             (M.faults context.old) (M.faults context.new) result }

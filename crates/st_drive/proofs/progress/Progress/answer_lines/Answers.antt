@@ -1,6 +1,6 @@
 use Rattle.std.proofs.Common.{◌≡◌, ◌∙◌, ◌++◌, [], length, take, rules, ap, sym, subst, arith}
 use Rattle.st_base.specs.Words.{HasNo}
-use Rattle.st_drive.specs.Parts.{Gathered}
+use Rattle.st_drive.specs.Parts.{Gathered, outlet}
 use Rattle.st_drive.proofs.LineLemmas.{open_append}
 use Rattle.st_drive.proofs.Fed.{no_pieces, one_more, all_pieces, gathered_none, gathered_more, gathered_less, gathered_some, some_of_all}
 use Rattle.st_drive.proofs.RunLemmas.{on_err}
@@ -49,7 +49,7 @@ pub returns-clause-ok : goal.returns-clause-ok
 returns-clause-ok g c =
     let i = c.lines.invariant in
     let all = all_pieces i.answered.1 (open_append c.lines.line.items c.lines.rest.now i.partial c.in_default.ensures.none) in
-    subst (λ ls. Gathered g.M.Machine.meaning g.M.Machine.CAP c.args.self.machine c.args.context.now ls c.lines.machine c.lines.context (record { held = g.K.Sink.written c.args.sink.now; had = c.args.gathered.now.items; holds = g.K.Sink.written c.lines.sink; has = c.lines.gathered.items })) (sym (ap (λ p. p.0) all)) i.answered.2
+    subst (λ ls. Gathered g.M.Machine.meaning g.M.Machine.CAP c.args.self.machine c.args.context.now ls c.lines.machine c.lines.context (outlet (g.K.Sink.written c.args.sink.now) c.args.gathered.now.items (g.K.Sink.written c.lines.sink) c.lines.gathered.items)) (sym (ap (λ p. p.0) all)) i.answered.2
 
 pub returns-clause-line : goal.returns-clause-line
 returns-clause-line g c =

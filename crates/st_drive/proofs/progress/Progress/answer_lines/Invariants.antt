@@ -1,7 +1,7 @@
 use Rattle.std.proofs.Common.{◌≤◌, ◌++◌, List, ℕ, length, vec_len}
 use Rattle.st_io.specs.Sinks.{FinishesNothing}
 use Rattle.st_base.specs.Words.{HasNo}
-use Rattle.st_drive.specs.Parts.{Gathered}
+use Rattle.st_drive.specs.Parts.{Gathered, outlet}
 use Rattle.st_drive.proofs.Fed.{Pieces}
 use Rattle.st_drive.proofs.progress.Progress.answer_lines.Given as goal
 
@@ -16,7 +16,7 @@ invariant-lines g l = record {
   unfinished : FinishesNothing (g.K.Sink.is_finished l.fn.sink) (g.K.Sink.is_finished l.sink);
   answered : (lines : List (List ℕ))
       × Pieces g.M.Machine.CAP (l.fn.self.line.items ++ l.piece) lines (l.line.items ++ l.rest)
-      × Gathered g.M.Machine.meaning g.M.Machine.CAP l.fn.self.machine l.fn.context lines l.machine l.context (record { held = g.K.Sink.written l.fn.sink; had = l.fn.gathered.items; holds = g.K.Sink.written l.sink; has = l.gathered.items });
+      × Gathered g.M.Machine.meaning g.M.Machine.CAP l.fn.self.machine l.fn.context lines l.machine l.context (outlet (g.K.Sink.written l.fn.sink) l.fn.gathered.items (g.K.Sink.written l.sink) l.gathered.items);
 }
 
 abbrev pub decreases-lines : goal.decreases-lines
