@@ -8,9 +8,9 @@ use Rattle.st_cli.specs.declared.form.NodeOptions.{NodeOptions}
 abbrev pub max_input : ℕ
 max_input = 1073741824
 
--- what the words behind `node` say; there is no option yet
+-- what the words behind `node` say; there is no option yet, and version 1 of the limits stands at every height
 abbrev pub node_options : List (List ℕ) → Option NodeOptions
-node_options [] = Some (record { limit = max_input })
+node_options [] = Some (record { limit = max_input; schedule = None })
 node_options (word ∷ words) = None
 
 -- the first word names the command, and the others are its options; None where the words are of no form

@@ -2,13 +2,13 @@
 use Rattle.std.specs.Prelude.{◌≡◌, refl}
 use Rattle.std.proofs.Common.{◌∙◌}
 use Rattle.st_base.specs.Work.{Counts}
-use Rattle.st_node.specs.Machine.{State, replies}
+use Rattle.st_node.specs.Machine.{NodeValue, replies}
 use Rattle.st_drive.specs.Meaning.{Meaning, Laws}
 use Rattle.st_drive.specs.Uncut.{no_cap, uncut_laws}
 
-abbrev pub node_meaning : Meaning State Counts
+abbrev pub node_meaning : Meaning NodeValue Counts
 node_meaning = record {
-  answers = replies;
+  answers = λ node lines. replies node.schedule node.state lines;
   ran = λ node work lines next after. after ≡ work;
   gave_up = λ node work lines after. after ≡ work;
 }

@@ -1,3 +1,5 @@
+use st_params::Schedule;
+
 /// How many bytes of input a command takes at most.
 pub const MAX_INPUT: usize = 1_073_741_824;
 
@@ -13,4 +15,6 @@ pub enum Form {
 pub struct NodeOptions {
     /// How many bytes of input it takes.
     pub limit: usize,
+    /// Which limits stand at which height.
+    pub schedule: Schedule,
 }

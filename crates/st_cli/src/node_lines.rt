@@ -15,9 +15,9 @@ pub struct NodeLines {
 }
 
 impl Model for NodeLines {
-    ghost use Rattle.st_node.specs.Machine.{State};
+    ghost use Rattle.st_node.specs.Machine.{NodeValue};
 
-    ghost Value = { State };
+    ghost Value = { NodeValue };
 
     ghost view = { λ n. n.node };
 }

@@ -18,5 +18,10 @@ pub fn plain_replies(
 ) -> Result<Bytes, StepError>
     ensures { IfOk result (λ replies. replies ≡ replies_to options input.now) }
 {
-    answer_all(alloc, NodeLines::new(Node::new(alloc)), work, input)
+    answer_all(
+        alloc,
+        NodeLines::new(Node::new(alloc, options.schedule)),
+        work,
+        input,
+    )
 }

@@ -3,6 +3,7 @@ ghost use Rattle.st_cli.specs.Form.{form_of, node_options, max_input, IfNode};
 
 use crate::form::{Form, MAX_INPUT, NodeOptions};
 use st_base::Text;
+use st_params::Schedule;
 
 /// Reads the words behind the program's name: the first names the command, and the others are its
 /// options. `None` comes exactly where they are of no form.
@@ -34,7 +35,10 @@ fn read_node_options(words: &[Text]) -> Option<NodeOptions>
     ensures bound { IfSome result (λ options. options.limit ≤ max_input) }
 {
     match words {
-        [] => Some(NodeOptions { limit: MAX_INPUT }),
+        [] => Some(NodeOptions {
+            limit: MAX_INPUT,
+            schedule: Schedule::new(),
+        }),
         _ => None,
     }
 }

@@ -94,6 +94,6 @@ fn run_node<S: Source, K: Sink>(
     ensures statuses { IsTrue (is_end result) × (result ≢ 4) }
     ensures work { work.new ≡ work.old }
 {
-    let node = NodeLines::new(Node::new(alloc));
+    let node = NodeLines::new(Node::new(alloc, options.schedule));
     run_machine(alloc, options.limit, node, work, source, sink)
 }

@@ -4,6 +4,7 @@ use crate::run::run;
 use crate::tests::support::{OF_ABC, OF_BRACES, OF_NOTHING, node_replies, node_run, words_of};
 use st_base::{Bytes, List, Work};
 use st_io::{PlainSink, PlainSource};
+use st_params::Schedule;
 use std::test::Fail;
 
 // A core index file with one create, the URI of that file, and the suffix of the create. The URI
@@ -115,7 +116,10 @@ fn the_example_session_is_answered(rt: HostRuntime) -> Result<(), Fail> {
 #[test]
 fn the_plain_program_replies_alike(rt: HostRuntime) -> Result<(), Fail> {
     let alloc = rt.alloc();
-    let options = NodeOptions { limit: MAX_INPUT };
+    let options = NodeOptions {
+        limit: MAX_INPUT,
+        schedule: Schedule::new(),
+    };
     for input in [
         CREATE,
         ANCHOR,
