@@ -17,7 +17,8 @@ use Rattle.st_indexfiles.specs.declared.core_index.CoreIndex.{CoreIndex}
 abbrev pub operations_of : List ℕ → Option Plain → List Plain
 operations_of kind index = entries_in (member_in kind (member_in (codes "operations") index))
 
--- what the JSON of a core index file says
+-- What the JSON of a core index file says. An entry of another form says nothing: a rule refuses its
+-- file.
 unfoldable pub core_index_of : ℕ → Option Plain → CoreIndex
 core_index_of version index = record {
   core_proof = uri_in (member_in (codes "coreProofFileUri") index);
