@@ -1,5 +1,5 @@
 -- Look-ups of files, before and after one came.
-use Rattle.std.proofs.Common.{◌≡◌, ◌≢◌, ◌∙◌, ℕ, ◌==◌, ◌&&◌, Bool, true, false, cond, List, [], ◌∷◌, if◌then◌else◌, Option, Some, None, is_some, Bor, IfSome, refl, sym, ap, subst}
+use Rattle.std.proofs.Common.{◌≡◌, ◌≢◌, ◌∙◌, ℕ, ◌==◌, Bool, true, false, List, [], ◌∷◌, if◌then◌else◌, Option, Some, None, is_some, Bor, IfSome, refl, sym, ap, subst}
 use Rattle.std.specs.BTreeMap.{insert_entry, is_at}
 use Rattle.std.specs.Cmp.Lexicographic.{slice_cmp, texts_ties}
 use Rattle.std.specs.Map.{lookup}
@@ -10,7 +10,7 @@ use Rattle.std.specs.declared.cmp.Ordering.TheVariants.{Less, Equal, Greater}
 use Rattle.std.proofs.lemmas.Bool.{eqb-true, eqb-false, ne_eqb}
 use Rattle.std.proofs.lemmas.Option.{cond_some}
 use Rattle.st_hash.specs.Hash.{HashValue, hash_cmp, same_hash, sha256, sha256_digest, uri_of}
-use Rattle.st_hash.specs.Order.{same_hash-equivalence, same_hash-ties}
+use Rattle.st_hash.specs.Order.{same_hash-ties}
 use Rattle.st_hash.proofs.SameHash.{same_hash-is, same_hash-itself, same_hash-other}
 use Rattle.st_content.specs.Files.{AreNamed, Files, file_at, files_of, with_entry, with_file}
 

@@ -1,5 +1,5 @@
 -- The ledger as the list of its entries, which are numbered from 0.
-use Rattle.std.specs.Prelude.{◌≡◌, ℕ, ◌≤◌, ◌<◌, ◌-◌, ◌==◌, nat_lt, List, length, slice_get, if◌then◌else◌, option_map, unwrap_or, Result, Ok, Err}
+use Rattle.std.specs.Prelude.{ℕ, ◌≤◌, ◌<◌, ◌-◌, ◌==◌, nat_lt, List, length, slice_get, if◌then◌else◌, option_map, unwrap_or, Result, Ok, Err}
 use Rattle.st_ledger.specs.declared.entry.Entry.{Entry}
 use Rattle.st_ledger.specs.declared.refused.LedgerRefused.{LedgerRefused}
 use Rattle.st_ledger.specs.declared.refused.LedgerRefused.TheVariants.{HeightFalls, LedgerFull}

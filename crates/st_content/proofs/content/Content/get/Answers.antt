@@ -1,7 +1,6 @@
-use Rattle.std.proofs.Common.{◌≡◌, ◌∙◌, ap, sym, subst, Some}
+use Rattle.std.proofs.Common.{◌≡◌, ◌∙◌, ap, sym, subst}
 use Rattle.std.specs.Option.{option_copied}
-use Rattle.st_hash.specs.Hash.{uri_of, sha256_digest}
-use Rattle.st_content.specs.Files.{AreNamed, file_at, files_of}
+use Rattle.st_content.specs.Files.{AreNamed, file_at}
 use Rattle.st_content.proofs.FileLemmas.{found, named_found, no_uri}
 use Rattle.st_content.proofs.content.Content.get.Goals as goal
 

@@ -1,4 +1,4 @@
-use Rattle.std.proofs.Common.{◌≡◌, ◌∙◌, ap, sym, subst, Some, IsSome}
+use Rattle.std.proofs.Common.{◌≡◌, ◌∙◌, ap, sym, subst, IsSome}
 use Rattle.st_hash.specs.Hash.{sha256, uri_of}
 use Rattle.st_content.specs.Files.{AreNamed, file_at, files_of, with_file}
 use Rattle.st_content.proofs.FileLemmas.{AreNamed-with_file, IsPut, after, before, file_at-with_file, file_at-with_file-other}
