@@ -2,4 +2,5 @@ pub mod DepthLemmas
 pub mod EffectLemmas
 pub mod PatchLists
 pub mod StepLists
+pub mod TakenLemmas
 pub mod TwiceLemmas

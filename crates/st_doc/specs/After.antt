@@ -1,19 +1,13 @@
 -- What one patch makes of a document.
-use Rattle.std.specs.Prelude.{List, Option, Some}
+use Rattle.std.specs.Prelude.{List, Option}
 use Rattle.std.specs.Result.{result_ok}
-use Rattle.st_base.specs.Options.{◌>>=◌, ◌>>◌}
+use Rattle.st_base.specs.Options.{◌>>=◌}
 use Rattle.st_jsonpatch.specs.AllStepped.{all_stepped}
 use Rattle.st_jsonpatch.specs.Step.{PlainStep}
 use Rattle.st_params.specs.Limits.{Limits}
-use Rattle.st_doc.specs.Document.{PlainDocument, document_json, document_of, is_document}
+use Rattle.st_doc.specs.Document.{PlainDocument, document_json, document_of, if_document}
 use Rattle.st_doc.specs.Effects.{added, added_names, removed, removed_names}
 use Rattle.st_doc.specs.Patch.{PlainPatch, add_keys, remove_keys, add_services, remove_services, replace, steps, add_names, remove_names}
-
--- the document, where it is one of the version
-abbrev pub if_document : Limits → PlainDocument → Option PlainDocument
-if_document limits document = do
-  is_document limits document
-  Some document
 
 -- the steps applied to the document's JSON, where none fails and the result is a document
 abbrev pub after_steps : Limits → List PlainStep → PlainDocument → Option PlainDocument

@@ -49,21 +49,29 @@ may_have_names version = version == 2
 abbrev pub has_no_names : PlainDocument → Bool
 has_no_names document = length document.names == 0
 
--- what must hold of the keys, services and names of a document
-abbrev pub document_rules : Limits → PlainDocument → List Bool
-document_rules limits document =
-    (may_have_names limits.version || has_no_names document)
+-- what must hold of the keys, services and names of a document of a version
+abbrev pub document_rules : ℕ → PlainDocument → List Bool
+document_rules version document =
+    (may_have_names version || has_no_names document)
     ∷ list_all is_key document.keys
     ∷ list_all is_service document.services
     ∷ list_all is_name document.names
     ∷ none_twice (map id_of document.keys)
     ∷ none_twice (map id_of document.services)
     ∷ none_twice document.names
-    ∷ fits limits.max_depth limits.max_document (document_json document)
     ∷ []
 
-unfoldable pub is_document : Limits → PlainDocument → Bool
-is_document limits document = all_hold (document_rules limits document)
+unfoldable pub keeps_rules : ℕ → PlainDocument → Bool
+keeps_rules version document = all_hold (document_rules version document)
+
+-- the rules hold, and its JSON keeps the bounds on depth and size
+abbrev pub is_document : Limits → PlainDocument → Bool
+is_document limits document =
+    keeps_rules limits.version document && fits limits.max_depth limits.max_document (document_json document)
+
+-- the document, where it is one of the version
+abbrev pub if_document : Limits → PlainDocument → Option PlainDocument
+if_document limits document = if is_document limits document then Some document else None
 
 -- ---- the values that are a document
 

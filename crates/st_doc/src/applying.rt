@@ -1,23 +1,21 @@
 ghost use Rattle.std.specs.Prelude.{◌≡◌, map, option_map, IfOk};
-ghost use Rattle.std.specs.Result.{result_ok};
 ghost use Rattle.st_base.specs.Answers.{GivesAs};
-ghost use Rattle.st_canon.specs.View.{plain};
 ghost use Rattle.st_jsonpatch.specs.Step.{plain_step};
-ghost use Rattle.st_doc.specs.After.{after_patch, after_steps, if_document};
-ghost use Rattle.st_doc.specs.Document.{document_of, plain_document};
+ghost use Rattle.st_doc.specs.After.{after_patch, after_steps};
+ghost use Rattle.st_doc.specs.Document.{plain_document};
 ghost use Rattle.st_doc.specs.Patch.{plain_patch};
 ghost use Rattle.st_doc.specs.Patched.{blamed, patched};
 
 use crate::changes::{
     with_keys, with_names, with_services, without_keys, without_names, without_services,
 };
-use crate::check::is_document;
+use crate::check::if_document;
 use crate::delta::Delta;
 use crate::document::Document;
 use crate::patch::Patch;
-use crate::refused::{DocumentRefused, PatchRefused};
+use crate::reading::take_document;
+use crate::refused::PatchRefused;
 use st_base::{Copied, WantOfMemory};
-use st_canon::Json;
 use st_jsonpatch::{Step, StepsRefused, apply_steps};
 use st_params::Params;
 use std::alloc::Global;
@@ -75,7 +73,7 @@ fn apply(
             let next = new.copy(alloc)?;
             if_document(alloc, next, params)
         }
-        Patch::Steps(steps) => after_steps(alloc, &document, steps.as_slice(), params),
+        Patch::Steps(steps) => after_steps(alloc, document, steps.as_slice(), params),
         Patch::AddNames(names) => {
             let next = with_names(alloc, document, names.as_slice())?;
             if_document(alloc, next, params)
@@ -86,30 +84,16 @@ fn apply(
     }
 }
 
-fn if_document(
-    alloc: Global,
-    document: Document,
-    params: &Params,
-) -> Result<Option<Document>, WantOfMemory>
-    ensures { IfOk result (λ next. option_map plain_document next ≡ if_document params.now (plain_document document)) }
-{
-    if is_document(alloc, &document, params)? {
-        Ok(Some(document))
-    } else {
-        Ok(None)
-    }
-}
-
 // The steps applied to the document's JSON, where none fails and the result is a document.
 fn after_steps(
     alloc: Global,
-    document: &Document,
+    document: Document,
     steps: &[Step],
     params: &Params,
 ) -> Result<Option<Document>, WantOfMemory>
-    ensures { IfOk result (λ next. option_map plain_document next ≡ after_steps params.now (map plain_step steps.now) (plain_document document.now)) }
+    ensures { IfOk result (λ next. option_map plain_document next ≡ after_steps params.now (map plain_step steps.now) (plain_document document)) }
 {
-    let json = document.json(alloc)?;
+    let json = document.into_json(alloc)?;
     match apply_steps(
         alloc,
         &json,
@@ -117,22 +101,8 @@ fn after_steps(
         params.max_depth(),
         params.max_document(),
     ) {
-        Ok(value) => read_document(alloc, &value, params),
+        Ok(value) => take_document(alloc, value, params),
         Err(StepsRefused::Failed(_)) => Ok(None),
         Err(StepsRefused::WantOfMemory) => Err(WantOfMemory),
-    }
-}
-
-fn read_document(
-    alloc: Global,
-    value: &Json,
-    params: &Params,
-) -> Result<Option<Document>, WantOfMemory>
-    ensures { IfOk result (λ next. option_map plain_document next ≡ result_ok (document_of params.now (plain value.now))) }
-{
-    match Document::read(alloc, value, params) {
-        Ok(document) => Ok(Some(document)),
-        Err(DocumentRefused::NotDocument) => Ok(None),
-        Err(DocumentRefused::WantOfMemory) => Err(WantOfMemory),
     }
 }

@@ -1,7 +1,6 @@
-ghost use Rattle.std.specs.Prelude.{◌≡◌, IfOk};
+ghost use Rattle.std.specs.Prelude.{◌≡◌, option_map, IfOk};
 ghost use Rattle.std.specs.List.{list_all};
-ghost use Rattle.st_canon.specs.Measure.{fits};
-ghost use Rattle.st_doc.specs.Document.{document_json, is_document, may_have_names, plain_document};
+ghost use Rattle.st_doc.specs.Document.{if_document, keeps_rules, may_have_names, plain_document};
 ghost use Rattle.st_doc.specs.Entries.{is_name};
 
 use crate::document::Document;
@@ -9,6 +8,7 @@ use crate::forms::is_name;
 use crate::ids::{ids_stand_once, texts_stand_once};
 use crate::key::are_keys;
 use crate::service::are_services;
+use crate::taking::taken_from;
 use st_base::{Text, WantOfMemory};
 use st_canon::fits;
 use st_params::Params;
@@ -21,16 +21,30 @@ pub(crate) fn may_have_names(version: u8) -> bool
     version == 2
 }
 
-/// Whether this is a document at these parameters.
-#[tactic(auto, unfolding(crate::specs::Document::is_document))]
-pub(crate) fn is_document(
+/// The document, where it is one at these parameters.
+pub(crate) fn if_document(
     alloc: Global,
-    document: &Document,
+    document: Document,
     params: &Params,
-) -> Result<bool, WantOfMemory>
-    ensures { IfOk result (λ holds. holds ≡ is_document params.now (plain_document document.now)) }
+) -> Result<Option<Document>, WantOfMemory>
+    ensures { IfOk result (λ next. option_map plain_document next ≡ if_document params.now (plain_document document)) }
 {
-    if !(may_have_names(params.version()) || document.names().is_empty()) {
+    if !keeps_rules(alloc, &document, params.version())? {
+        return Ok(None);
+    }
+    let json = document.into_json(alloc)?;
+    if !fits(&json, params.max_depth(), params.max_document()) {
+        return Ok(None);
+    }
+    Ok(Some(taken_from(alloc, json)?))
+}
+
+// What must hold of the keys, services and names.
+#[tactic(auto, unfolding(crate::specs::Document::keeps_rules))]
+fn keeps_rules(alloc: Global, document: &Document, version: u8) -> Result<bool, WantOfMemory>
+    ensures { IfOk result (λ holds. holds ≡ keeps_rules version (plain_document document.now)) }
+{
+    if !(may_have_names(version) || document.names().is_empty()) {
         return Ok(false);
     }
     if !are_keys(document.keys()) {
@@ -48,10 +62,7 @@ pub(crate) fn is_document(
     if !ids_stand_once(alloc, document.services())? {
         return Ok(false);
     }
-    if !texts_stand_once(alloc, document.names())? {
-        return Ok(false);
-    }
-    is_within(alloc, document, params)
+    texts_stand_once(alloc, document.names())
 }
 
 pub(crate) fn are_names(names: &[Text]) -> bool
@@ -63,12 +74,4 @@ pub(crate) fn are_names(names: &[Text]) -> bool
         }
     }
     true
-}
-
-// Whether the document's JSON keeps the bounds on depth and size.
-fn is_within(alloc: Global, document: &Document, params: &Params) -> Result<bool, WantOfMemory>
-    ensures { IfOk result (λ holds. holds ≡ fits params.now.max_depth params.now.max_document (document_json (plain_document document.now))) }
-{
-    let json = document.json(alloc)?;
-    Ok(fits(&json, params.max_depth(), params.max_document()))
 }

@@ -13,19 +13,30 @@ impl Document {
     pub fn json(&self, alloc: Global) -> Result<Json, WantOfMemory>
         ensures { IfOk result (λ json. plain json ≡ document_json (plain_document self.now)) }
     {
-        Ok(Json::Object(self.members(alloc)?))
+        let copy = self.copy(alloc)?;
+        copy.into_json(alloc)
+    }
+
+    /// The same, which takes keys and services over without a copy.
+    pub(crate) fn into_json(self, alloc: Global) -> Result<Json, WantOfMemory>
+        ensures { IfOk result (λ json. plain json ≡ document_json (plain_document self)) }
+    {
+        Ok(Json::Object(self.into_members(alloc)?))
     }
 
     #[tactic(auto, unfolding(st_canon::specs::Objects::put_some))]
-    fn members(&self, alloc: Global) -> Result<Object, WantOfMemory>
-        ensures { IfOk result (λ members. plain_members members ≡ document_members (plain_document self.now)) }
+    fn into_members(self, alloc: Global) -> Result<Object, WantOfMemory>
+        ensures { IfOk result (λ members. plain_members members ≡ document_members (plain_document self)) }
     {
+        let Document {
+            keys,
+            services,
+            names,
+        } = self;
+        let names = text_list(alloc, names.as_slice())?;
         let mut members = Object::new(alloc);
-        let keys = self.keys.copy(alloc)?;
         members.set(alloc, "publicKeys", Json::List(keys))?;
-        let services = self.services.copy(alloc)?;
         members.set(alloc, "services", Json::List(services))?;
-        let names = text_list(alloc, self.names())?;
         members.set_some(alloc, "alsoKnownAs", some_list(names))?;
         Ok(members)
     }

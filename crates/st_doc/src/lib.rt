@@ -17,6 +17,7 @@ mod patch_reading;
 mod reading;
 mod refused;
 mod service;
+mod taking;
 #[cfg(test)]
 mod tests;
 

@@ -1,16 +1,17 @@
-ghost use Rattle.std.specs.Prelude.{◌≡◌, map, IfOk, Some};
+ghost use Rattle.std.specs.Prelude.{◌≡◌, map, option_map, IfOk, Some};
+ghost use Rattle.std.specs.Result.{result_ok};
 ghost use Rattle.st_base.specs.Answers.{GivesAs};
 ghost use Rattle.st_base.specs.Each.{each_is};
 ghost use Rattle.st_canon.specs.Entries.{text_in};
 ghost use Rattle.st_canon.specs.Shapes.{is_object_of};
 ghost use Rattle.st_canon.specs.View.{plain};
-ghost use Rattle.st_doc.specs.Document.{document_in, document_names, document_of, has_document_form, plain_document, refusal_of};
-ghost use Rattle.st_doc.specs.Entries.{texts_of};
+ghost use Rattle.st_doc.specs.Document.{document_names, document_of, has_document_form, plain_document, refusal_of};
 
-use crate::check::{is_document, may_have_names};
+use crate::check::{if_document, may_have_names};
 use crate::document::Document;
 use crate::refused::DocumentRefused;
-use st_base::{Copied, List, Text, WantOfMemory};
+use crate::taking::taken_from;
+use st_base::{Copied, List, WantOfMemory};
 use st_canon::{Json, entries_in, is_list_if_there};
 use st_params::Params;
 use std::alloc::Global;
@@ -22,16 +23,41 @@ impl Document {
     pub fn read(alloc: Global, value: &Json, params: &Params) -> Result<Document, DocumentRefused>
         ensures { GivesAs plain_document refusal_of (document_of params.now (plain value.now)) result }
     {
-        if !has_document_form(value, params.version()) {
-            return Err(DocumentRefused::NotDocument);
-        }
-        let document = document_in(alloc, value)?;
-        if is_document(alloc, &document, params)? {
-            Ok(document)
-        } else {
-            Err(DocumentRefused::NotDocument)
+        match read_document(alloc, value, params)? {
+            Some(document) => Ok(document),
+            None => Err(DocumentRefused::NotDocument),
         }
     }
+}
+
+fn read_document(
+    alloc: Global,
+    value: &Json,
+    params: &Params,
+) -> Result<Option<Document>, WantOfMemory>
+    ensures { IfOk result (λ document. option_map plain_document document ≡ result_ok (document_of params.now (plain value.now))) }
+{
+    if !has_document_form(value, params.version()) {
+        return Ok(None);
+    }
+    let value = value.copy(alloc)?;
+    let document = taken_from(alloc, value)?;
+    if_document(alloc, document, params)
+}
+
+/// The document at these parameters that this value is, which it takes over.
+pub(crate) fn take_document(
+    alloc: Global,
+    value: Json,
+    params: &Params,
+) -> Result<Option<Document>, WantOfMemory>
+    ensures { IfOk result (λ document. option_map plain_document document ≡ result_ok (document_of params.now (plain value))) }
+{
+    if !has_document_form(&value, params.version()) {
+        return Ok(None);
+    }
+    let document = taken_from(alloc, value)?;
+    if_document(alloc, document, params)
 }
 
 // Whether the value is an object of lists, that of the names a list of texts.
@@ -75,20 +101,6 @@ pub(crate) fn are_texts(values: &[Json]) -> bool
     true
 }
 
-// What the lists hold.
-fn document_in(alloc: Global, value: &Json) -> Result<Document, WantOfMemory>
-    ensures { IfOk result (λ document. plain_document document ≡ document_in (plain value.now)) }
-{
-    let keys = copies(alloc, entries_in(value.member("publicKeys")))?;
-    let services = copies(alloc, entries_in(value.member("services")))?;
-    let names = texts_of(alloc, entries_in(value.member("alsoKnownAs")))?;
-    Ok(Document {
-        keys,
-        services,
-        names,
-    })
-}
-
 pub(crate) fn copies(alloc: Global, values: &[Json]) -> Result<List<Json>, WantOfMemory>
     ensures { IfOk result (λ copies. copies ≡ values.now) }
 {
@@ -97,17 +109,4 @@ pub(crate) fn copies(alloc: Global, values: &[Json]) -> Result<List<Json>, WantO
         copies.push(alloc, value.copy(alloc)?)?;
     }
     Ok(copies)
-}
-
-/// Copies of the texts among these values.
-pub(crate) fn texts_of(alloc: Global, values: &[Json]) -> Result<List<Text>, WantOfMemory>
-    ensures { IfOk result (λ texts. texts ≡ texts_of (map plain values.now)) }
-{
-    let mut texts = List::new(alloc);
-    for value in values {
-        if let Json::Text(text) = value {
-            texts.push(alloc, text.copy(alloc)?)?;
-        }
-    }
-    Ok(texts)
 }
