@@ -139,12 +139,7 @@ impl Node {
     }
 
     // `resolve`
-    fn resolve(
-        &self,
-        alloc: Global,
-        did: &[u8],
-        work: &mut Work,
-    ) -> Result<Bytes, WantOfMemory>
+    fn resolve(&self, alloc: Global, did: &[u8], work: &mut Work) -> Result<Bytes, WantOfMemory>
         ensures reply { IfOk result (λ text. text
             ≡ resolve_reply (resolved self.now.schedule self.now.state.files self.now.state.ledger did.now)) }
         ensures work { FilesAtMost (length self.now.state.ledger) work.old work.new }

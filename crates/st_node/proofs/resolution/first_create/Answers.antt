@@ -20,8 +20,9 @@ returns-in-Some-clause-work c =
 pub loop-entry-preserved : goal.loop-entry-preserved
 loop-entry-preserved c =
     let at = c.loop-entry.entry-index in
-    let none = sym c.in_default.is ∙ c.in_ok-create.ensures.create in
-    (c.loop-entry.invariant.0
-    ∙ first_create-later c.args.schedule.now c.args.suffix.now c.args.content.now c.args.entries.now at c.entry-item.result
-    c.loop-entry-test.true c.entry-item.is none,
-    files_then at 1 c.args.work.now c.loop-entry.work c.create_of_entry.new.work c.loop-entry.invariant.1 c.create_of_entry.ensures.work)
+    let none = sym c.in_default.is ∙ c.in_ok-create.ensures.create in (
+      c.loop-entry.invariant.0
+          ∙ first_create-later c.args.schedule.now c.args.suffix.now c.args.content.now c.args.entries.now at c.entry-item.result
+          c.loop-entry-test.true c.entry-item.is none,
+      files_then at 1 c.args.work.now c.loop-entry.work c.create_of_entry.new.work c.loop-entry.invariant.1 c.create_of_entry.ensures.work,
+    )
