@@ -4,6 +4,7 @@ ghost use Rattle.st_io.specs.Causes.{Rose};
 ghost use Rattle.st_io.specs.Sinks.{FinishesNothing};
 ghost use Rattle.st_cli.specs.Form.{form_of, max_input, IfNode};
 ghost use Rattle.st_cli.specs.Node.{NodeTable, replies_to};
+ghost use Rattle.st_cli.specs.NodeLines.{CountsFilesAlone};
 ghost use Rattle.st_cli.specs.Status.{is_end, is_status};
 
 use crate::driven::run_machine;
@@ -29,7 +30,7 @@ use std::alloc::Global;
 /// - 6: memory could not be had. A prefix of the replies is written.
 ///
 /// Under every status but 0 the sink is finished only where it was before. The counters of `work`
-/// stay as they were.
+/// for signed texts and operations stay as they were; files that are read are counted.
 pub fn run<S: Source, K: Sink>(
     alloc: Global,
     words: &[Text],
@@ -67,7 +68,7 @@ pub fn run<S: Source, K: Sink>(
         → ¬ Rose (K.faults sink.old) (K.faults sink.new)
         → (result ≡ 0) ⊎ (result ≡ 6)) }
 
-    ensures work { work.new ≡ work.old }
+    ensures work { CountsFilesAlone work.old work.new }
 {
     match read_form(words) {
         Some(Form::Node(options)) => run_node(alloc, options, source, sink, work),
@@ -92,7 +93,7 @@ fn run_node<S: Source, K: Sink>(
     ensures read_fault { result ≡ 2 → Rose (S.faults source.old) (S.faults source.new) }
     ensures write_fault { result ≡ 3 → Rose (K.faults sink.old) (K.faults sink.new) }
     ensures statuses { IsTrue (is_end result) × (result ≢ 4) }
-    ensures work { work.new ≡ work.old }
+    ensures work { CountsFilesAlone work.old work.new }
 {
     let node = NodeLines::new(Node::new(alloc, options.schedule));
     run_machine(alloc, options.limit, node, work, source, sink)

@@ -1,51 +1,14 @@
--- Creates that were read, and those still to be read.
-use Rattle.std.proofs.Common.{◌≡◌, ◌∙◌, ℕ, ◌+◌, ◌<◌, List, [], ◌∷◌, ◌++◌, Option, Some, None, map, length, drop, get_or, refl, sym, ap, append_assoc}
+-- The first create of a suffix, entry by entry.
+use Rattle.std.proofs.Common.{◌≡◌, ◌∙◌, ℕ, ◌+◌, ◌<◌, List, Option, Some, None, length, drop, get_or, sym, ap}
 use Rattle.std.proofs.lemmas.List.Folds.{find-append}
 use Rattle.std.specs.Option.{option_or}
-use Rattle.std.specs.Prelude.{Result, Ok, Err}
 use Rattle.st_base.proofs.Lists.{next_item}
-use Rattle.st_base.specs.Answers.{◌>>=◌}
-use Rattle.st_canon.specs.View.{plain}
-use Rattle.st_canon.specs.declared.value.Json.{Json}
 use Rattle.st_content.specs.Files.{Files}
 use Rattle.st_hash.specs.Hash.{HashValue, same_hash}
+use Rattle.st_indexfiles.specs.SuffixData.{suffix_of}
+use Rattle.st_indexfiles.specs.declared.suffix_data.SuffixData.{SuffixData}
 use Rattle.st_ledger.specs.declared.entry.Entry.{Entry}
-use Rattle.st_node.specs.Creates.{create_in, creates_in}
 use Rattle.st_node.specs.Resolution.{find_of, first_create, gives}
-use Rattle.st_node.specs.SuffixData.{suffix_of}
-use Rattle.st_node.specs.declared.creates.CreatesRefused.{CreatesRefused}
-use Rattle.st_node.specs.declared.suffix_data.SuffixData.{SuffixData}
-
--- the creates that were read, and behind them the others, where these are creates
-abbrev pub after : List SuffixData → Result (List SuffixData) CreatesRefused → Result (List SuffixData) CreatesRefused
-after read others = others >>= λ more. Ok (read ++ more)
-
-after-one : (read : List SuffixData) (create : SuffixData) (others : Result (List SuffixData) CreatesRefused)
-    → after read (others >>= λ creates. Ok (create ∷ creates)) ≡ after (read ++ create ∷ []) others
-after-one read create (Err refused) = refl
-after-one read create (Ok more) = ap Ok (sym (append_assoc read (create ∷ []) more))
-
--- the creates of the entries from this place on
-abbrev pub creates_from : ℕ → List Json → Result (List SuffixData) CreatesRefused
-creates_from at entries = creates_in (map plain (drop at entries))
-
--- one more entry was read
-pub after-entry : (entries : List Json) (at : ℕ) (entry : Json) (read : List SuffixData) (create : SuffixData)
-    → at < length entries → entry ≡ get_or entries at entry → create_in (plain entry) ≡ Ok create
-    → after read (creates_from at entries) ≡ after (read ++ create ∷ []) (creates_from (at + 1) entries)
-after-entry entries at entry read create inside is found =
-    let others = creates_from (at + 1) entries in
-    let read_one = λ (here : Result SuffixData CreatesRefused). after read (here >>= λ one. others >>= λ creates. Ok (one ∷ creates)) in
-    ap (λ left. after read (creates_in (map plain left))) (next_item entries at entry inside is) ∙ ap read_one found ∙ after-one read create others
-
--- an entry that is none refuses all
-pub after-refused : (entries : List Json) (at : ℕ) (entry : Json) (read : List SuffixData) (refused : CreatesRefused)
-    → at < length entries → entry ≡ get_or entries at entry → create_in (plain entry) ≡ Err refused
-    → after read (creates_from at entries) ≡ Err refused
-after-refused entries at entry read refused inside is found =
-    let others = creates_from (at + 1) entries in
-    let read_one = λ (here : Result SuffixData CreatesRefused). after read (here >>= λ one. others >>= λ creates. Ok (one ∷ creates)) in
-    ap (λ left. after read (creates_in (map plain left))) (next_item entries at entry inside is) ∙ ap read_one found
 
 -- the first create of one entry, or of those behind it
 or_later : (found : Option SuffixData) (create : SuffixData) (later : Option SuffixData) → Some create ≡ found

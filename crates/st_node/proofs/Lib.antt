@@ -1,3 +1,4 @@
 mod AnchorLemmas
 mod CreateLemmas
 mod IdentifierLemmas
+mod WorkLemmas

@@ -1,7 +1,5 @@
 pub mod Command
-pub mod Creates
 pub mod Identifier
 pub mod Machine
 pub mod Resolution
-pub mod SuffixData
 pub mod Words

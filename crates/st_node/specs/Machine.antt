@@ -1,5 +1,5 @@
 -- The reference machine: what a node answers to a line, and what it is then.
-use Rattle.std.specs.Prelude.{◌≡◌, ℕ, List, [], ◌∷◌, ◌++◌, codes, length, is_some, if◌then◌else◌, Option, Some, None, Result, Ok, Err}
+use Rattle.std.specs.Prelude.{◌≡◌, ℕ, List, [], ◌∷◌, ◌++◌, codes, length, is_some, if◌then◌else◌, Option, Result, Ok, Err}
 use Rattle.std.specs.Fmt.{decimal}
 use Rattle.st_content.specs.Files.{Files, file_at, with_file}
 use Rattle.st_hash.specs.Hash.{hash_text, uri_of}

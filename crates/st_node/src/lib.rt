@@ -2,14 +2,12 @@
 #![tactic(auto)]
 
 mod command;
-mod creates;
-mod distinct;
+mod giving;
 mod identifier;
 mod node;
 mod rendering;
 mod reply;
 mod resolution;
-mod suffix_data;
 #[cfg(test)]
 mod tests;
 mod unresolved;

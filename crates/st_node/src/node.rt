@@ -1,4 +1,5 @@
-ghost use Rattle.std.specs.Prelude.{◌≡◌, IfOk};
+ghost use Rattle.std.specs.Prelude.{◌≡◌, IfOk, length};
+ghost use Rattle.st_base.specs.Work.{FilesAtMost};
 ghost use Rattle.st_node.specs.Machine.{AnswersWith, answered, answered_anchor, answered_command, answered_content, cause_word, empty, refusal_word, resolve_reply, unresolved_word};
 ghost use Rattle.st_node.specs.Resolution.{resolved};
 
@@ -48,7 +49,7 @@ impl Node {
 
     /// Answers a line, which comes without its line feed. The reply has its line end.
     ///
-    /// No file is read by a counted reader yet, so `work` stays as it was.
+    /// At most one file an entry of the ledger is read, and nothing else is counted.
     pub fn answer(
         self,
         alloc: Global,
@@ -56,7 +57,7 @@ impl Node {
         work: &mut Work,
     ) -> Result<(Node, Bytes), WantOfMemory>
         ensures answer { IfOk result (AnswersWith self (answered self.schedule self.state line.now)) }
-        ensures work { work.new ≡ work.old }
+        ensures work { FilesAtMost (length self.state.ledger) work.old work.new }
     {
         match read_command(alloc, line) {
             Ok(command) => self.step(alloc, command, work),
@@ -68,7 +69,9 @@ impl Node {
         }
     }
 
-    /// Carries a command out, and gives the reply with its line end. `work` stays as it was.
+    /// Carries a command out, and gives the reply with its line end.
+    ///
+    /// At most one file an entry of the ledger is read, and nothing else is counted.
     pub fn step(
         self,
         alloc: Global,
@@ -76,13 +79,13 @@ impl Node {
         work: &mut Work,
     ) -> Result<(Node, Bytes), WantOfMemory>
         ensures answer { IfOk result (AnswersWith self (answered_command self.schedule self.state command)) }
-        ensures work { work.new ≡ work.old }
+        ensures work { FilesAtMost (length self.state.ledger) work.old work.new }
     {
         match command {
             Command::Content(bytes) => self.take(alloc, bytes),
             Command::Anchor { height, text } => self.append(alloc, height, text),
             Command::Resolve(did) => {
-                let text = self.resolve(alloc, did.as_slice())?;
+                let text = self.resolve(alloc, did.as_slice(), work)?;
                 Ok((self, text))
             }
         }
@@ -136,12 +139,13 @@ impl Node {
     }
 
     // `resolve`
-    fn resolve(&self, alloc: Global, did: &[u8]) -> Result<Bytes, WantOfMemory>
-        ensures { IfOk result (λ text. text
+    fn resolve(&self, alloc: Global, did: &[u8], work: &mut Work) -> Result<Bytes, WantOfMemory>
+        ensures reply { IfOk result (λ text. text
             ≡ resolve_reply (resolved self.now.schedule self.now.state.files self.now.state.ledger did.now)) }
+        ensures work { FilesAtMost (length self.now.state.ledger) work.old work.new }
     {
         let entries = self.ledger.entries();
-        match resolve(alloc, &self.schedule, &self.content, entries, did) {
+        match resolve(alloc, &self.schedule, &self.content, entries, did, work) {
             Ok(text) => reply(alloc, "resolved ", text.as_slice()),
             Err(ResolveRefused::Unresolved(cause)) => {
                 reply(alloc, "unresolved ", unresolved_word(cause).as_bytes())

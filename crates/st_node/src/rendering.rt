@@ -1,14 +1,16 @@
 ghost use Rattle.std.specs.Prelude.{◌≡◌, IfOk};
 ghost use Rattle.st_canon.specs.Canonical.{canonical};
+ghost use Rattle.st_canon.specs.Plain.{text};
 ghost use Rattle.st_canon.specs.View.{plain};
+ghost use Rattle.st_hash.specs.Hash.{hash_text};
 ghost use Rattle.st_node.specs.Identifier.{did_of};
 ghost use Rattle.st_node.specs.Resolution.{document_of, metadata_of, method_of, resolution_of};
 
 use crate::identifier::short_form;
-use crate::suffix_data::{SuffixData, hash_json};
 use st_base::{Bytes, WantOfMemory};
 use st_canon::{Json, Object, write};
-use st_hash::Hash;
+use st_hash::{Hash, hash_text};
+use st_indexfiles::SuffixData;
 use std::alloc::Global;
 
 // The result of resolving an identifier of this suffix, which this create made, as canonical text.
@@ -62,4 +64,12 @@ fn method(alloc: Global, create: &SuffixData) -> Result<Json, WantOfMemory>
     let recovery_commitment = hash_json(alloc, &create.recovery_commitment)?;
     method.set(alloc, "recoveryCommitment", recovery_commitment)?;
     Ok(Json::Object(method))
+}
+
+// The hash text as JSON.
+fn hash_json(alloc: Global, hash: &Hash) -> Result<Json, WantOfMemory>
+    ensures { IfOk result (λ json. plain json ≡ text (hash_text hash.now)) }
+{
+    let text = hash_text(alloc, hash)?;
+    Ok(Json::Text(text))
 }

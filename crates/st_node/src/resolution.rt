@@ -1,33 +1,34 @@
-ghost use Rattle.std.specs.Prelude.{◌≡◌, IfOk};
+ghost use Rattle.std.specs.Prelude.{◌≡◌, IfOk, length};
 ghost use Rattle.st_base.specs.Answers.{Gives};
-ghost use Rattle.st_ledger.specs.Anchor.{anchor_of};
+ghost use Rattle.st_base.specs.Work.{FilesAtMost};
 ghost use Rattle.st_node.specs.Resolution.{cause_of, find_of, first_create, gives, resolved};
-ghost use Rattle.st_params.specs.Schedule.{params_at};
 
-use crate::creates::{CreatesRefused, read_creates};
+use crate::giving::creates_of_entry;
 use crate::identifier::read_did;
 use crate::rendering::rendered;
-use crate::suffix_data::SuffixData;
 use crate::unresolved::{ResolveRefused, Unresolved};
-use st_base::{Bytes, List, WantOfMemory};
+use st_base::{Bytes, WantOfMemory, Work};
 use st_content::Content;
 use st_hash::Hash;
-use st_ledger::{Anchor, Entry, read_anchor};
+use st_indexfiles::{SuffixData, suffix_of};
+use st_ledger::Entry;
 use st_params::Schedule;
 use std::alloc::Global;
 
-// What an identifier resolves to, as canonical text.
+// What an identifier resolves to, as canonical text. At most one file an entry is read.
 pub fn resolve(
     alloc: Global,
     schedule: &Schedule,
     content: &Content,
     entries: &[Entry],
     did: &[u8],
+    work: &mut Work,
 ) -> Result<Bytes, ResolveRefused>
-    ensures { Gives cause_of (resolved schedule.now content.now entries.now did.now) result }
+    ensures result { Gives cause_of (resolved schedule.now content.now entries.now did.now) result }
+    ensures work { FilesAtMost (length entries.now) work.old work.new }
 {
-    let suffix = read_did(did)?;
-    match first_create(alloc, schedule, &suffix, content, entries)? {
+    let suffix = read_did(did, schedule.newest().version())?;
+    match first_create(alloc, schedule, &suffix, content, entries, work)? {
         Some(create) => Ok(rendered(alloc, &suffix, &create)?),
         None => Err(ResolveRefused::Unresolved(Unresolved::NotFound)),
     }
@@ -40,11 +41,13 @@ fn first_create(
     suffix: &Hash,
     content: &Content,
     entries: &[Entry],
+    work: &mut Work,
 ) -> Result<Option<SuffixData>, WantOfMemory>
-    ensures { IfOk result (λ create. create ≡ first_create schedule.now suffix.now content.now entries.now) }
+    ensures create { IfOk result (λ create. create ≡ first_create schedule.now suffix.now content.now entries.now) }
+    ensures work { FilesAtMost (length entries.now) work.old work.new }
 {
     for entry in entries {
-        if let Some(create) = create_of_entry(alloc, schedule, suffix, content, entry)? {
+        if let Some(create) = create_of_entry(alloc, schedule, suffix, content, entry, work)? {
             return Ok(Some(create));
         }
     }
@@ -58,44 +61,13 @@ fn create_of_entry(
     suffix: &Hash,
     content: &Content,
     entry: &Entry,
+    work: &mut Work,
 ) -> Result<Option<SuffixData>, WantOfMemory>
-    ensures { IfOk result (λ create. create ≡ find_of suffix.now (gives schedule.now content.now entry.now)) }
+    ensures create { IfOk result (λ create. create ≡ find_of suffix.now (gives schedule.now content.now entry.now)) }
+    ensures work { FilesAtMost 1 work.old work.new }
 {
-    let creates = creates_of_entry(alloc, schedule, content, entry)?;
+    let creates = creates_of_entry(alloc, schedule, content, entry, work)?;
     find_create(alloc, suffix, creates.as_slice())
-}
-
-// The creates that an entry gives, in the order of its file.
-fn creates_of_entry(
-    alloc: Global,
-    schedule: &Schedule,
-    content: &Content,
-    entry: &Entry,
-) -> Result<List<SuffixData>, WantOfMemory>
-    ensures { IfOk result (λ creates. creates ≡ gives schedule.now content.now entry.now) }
-{
-    let Some(anchor) = anchor_at(schedule, entry) else {
-        return Ok(List::new(alloc));
-    };
-    let Some(file) = content.get(&anchor.core) else {
-        return Ok(List::new(alloc));
-    };
-    match read_creates(alloc, file.as_slice(), anchor.count) {
-        Ok(creates) => Ok(creates),
-        Err(CreatesRefused::Unbuilt) => Ok(List::new(alloc)),
-        Err(CreatesRefused::WantOfMemory) => Err(WantOfMemory),
-    }
-}
-
-// What the anchor string of an entry says, at the limits of its height.
-#[tactic(auto, using(crate::proofs::AnchorLemmas::anchor_of_rejected))]
-fn anchor_at(schedule: &Schedule, entry: &Entry) -> Option<Anchor>
-    ensures { result ≡ anchor_of (params_at schedule.now entry.now.height) entry.now.text }
-{
-    match read_anchor(entry.text.as_slice(), &schedule.at(entry.height)) {
-        Ok(anchor) => Some(anchor),
-        Err(_) => None,
-    }
 }
 
 // The first create of the suffix among these.
@@ -107,7 +79,7 @@ fn find_create(
     ensures { IfOk result (λ create. create ≡ find_of suffix.now creates.now) }
 {
     for create in creates {
-        if create.suffix(alloc)? == *suffix {
+        if suffix_of(alloc, create)? == *suffix {
             return Ok(Some(*create));
         }
     }

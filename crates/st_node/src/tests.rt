@@ -3,27 +3,28 @@ use st_base::{Bytes, Copied, Work};
 use st_params::Schedule;
 use std::test::Fail;
 
-// A core index file with one create, its URI and the suffix of that create, each computed by Python's
-// hashlib and base64. Version 2, in which a batch may declare more than 1,000 operations, begins at
-// height 10. Each line stands before its reply.
+// A core index file with one create whose delta hash is of SHA-512, its URI and the suffix of that
+// create, each computed by Python's hashlib and base64. Version 2, which alone has such hashes and in
+// which a batch may declare more than 1,000 operations, begins at height 10. Each line stands before
+// its reply.
 const SESSION: &str = "\
 content YWJj
 have EiC6eBa_jwHP6kFBQN5driIjsANho5YXepy0EP9h8gAVrQ
 content YWJj
 had EiC6eBa_jwHP6kFBQN5driIjsANho5YXepy0EP9h8gAVrQ
-content eyJvcGVyYXRpb25zIjp7ImNyZWF0ZSI6W3sic3VmZml4RGF0YSI6eyJkZWx0YUhhc2giOiJFaUM2ZUJhX2p3SFA2a0ZCUU41ZHJpSWpzQU5obzVZWGVweTBFUDloOGdBVnJRIiwicmVjb3ZlcnlDb21taXRtZW50IjoiRWlEanNNUkNtUHdjRkpyNzlNaVpiN2trSjY1QjVHU2JrMHlrbFprYmVGSzRWUSJ9fV19fQ
-have EiA10dvb-_d3kAW7ki4Rzo6ZaD84v2bZZ4O2fJ21bh1ChA
-anchor 9 1001.EiA10dvb-_d3kAW7ki4Rzo6ZaD84v2bZZ4O2fJ21bh1ChA
+content eyJvcGVyYXRpb25zIjp7ImNyZWF0ZSI6W3sic3VmZml4RGF0YSI6eyJkZWx0YUhhc2giOiJFMERkcnpXaGsyRjZ1c3hCYzBtdUlFRXhFdWI2VG9tcGZxSUtudTdtUzFYVG1pR1NtU29uVDhHb05ybzhJNlAtNjcxRlRVUWpaRHpvRGlxYXlVLWxUS1NmIiwicmVjb3ZlcnlDb21taXRtZW50IjoiRWlEanNNUkNtUHdjRkpyNzlNaVpiN2trSjY1QjVHU2JrMHlrbFprYmVGSzRWUSJ9fV19fQ
+have EiDQzs77ehI6ePwHWBtjZnnd8aYzsvOhv0r5ioaD0Lmhaw
+anchor 9 1.EiDQzs77ehI6ePwHWBtjZnnd8aYzsvOhv0r5ioaD0Lmhaw
 anchored 0
 anchor 8 x
 refused height
-resolve did:sidetree:EiATdX8Q5MV_plJJmuNAF_0nOfwoAX70r-tP5eSOPf86vA
+resolve did:sidetree:E0AmwPrThr-UCJj8CIlEm1c8x3AZhnnWXtvJT3obZtMdfcZGLTWm3PTqh86gOMSQteVqJZjZtG4ps1qCFbmpiDm_
 unresolved notFound
-anchor 10 1001.EiA10dvb-_d3kAW7ki4Rzo6ZaD84v2bZZ4O2fJ21bh1ChA
+anchor 10 1001.EiDQzs77ehI6ePwHWBtjZnnd8aYzsvOhv0r5ioaD0Lmhaw
 anchored 1
-resolve did:sidetree:EiATdX8Q5MV_plJJmuNAF_0nOfwoAX70r-tP5eSOPf86vA
-resolved {\"didDocument\":{\"id\":\"did:sidetree:EiATdX8Q5MV_plJJmuNAF_0nOfwoAX70r-tP5eSOPf86vA\"},\"didDocumentMetadata\":{\"canonicalId\":\"did:sidetree:EiATdX8Q5MV_plJJmuNAF_0nOfwoAX70r-tP5eSOPf86vA\",\"method\":{\"published\":true,\"recoveryCommitment\":\"EiDjsMRCmPwcFJr79MiZb7kkJ65B5GSbk0yklZkbeFK4VQ\"}}}
-resolve did:sidetree:EiATdX8Q5MV_plJJmuNAF_0nOfwoAX70r-tP5eSOPf86vA:e30
+resolve did:sidetree:E0AmwPrThr-UCJj8CIlEm1c8x3AZhnnWXtvJT3obZtMdfcZGLTWm3PTqh86gOMSQteVqJZjZtG4ps1qCFbmpiDm_
+resolved {\"didDocument\":{\"id\":\"did:sidetree:E0AmwPrThr-UCJj8CIlEm1c8x3AZhnnWXtvJT3obZtMdfcZGLTWm3PTqh86gOMSQteVqJZjZtG4ps1qCFbmpiDm_\"},\"didDocumentMetadata\":{\"canonicalId\":\"did:sidetree:E0AmwPrThr-UCJj8CIlEm1c8x3AZhnnWXtvJT3obZtMdfcZGLTWm3PTqh86gOMSQteVqJZjZtG4ps1qCFbmpiDm_\",\"method\":{\"published\":true,\"recoveryCommitment\":\"EiDjsMRCmPwcFJr79MiZb7kkJ65B5GSbk0yklZkbeFK4VQ\"}}}
+resolve did:sidetree:E0AmwPrThr-UCJj8CIlEm1c8x3AZhnnWXtvJT3obZtMdfcZGLTWm3PTqh86gOMSQteVqJZjZtG4ps1qCFbmpiDm_:e30
 unresolved unbuilt
 resolve did:other:x
 unresolved badDid
@@ -43,6 +44,8 @@ fn each_line_has_its_reply(rt: HostRuntime) -> Result<(), Fail> {
         let reply = str::from_utf8(reply.as_slice()).unwrap_or("");
         assert_eq!(rt; reply.strip_suffix('\n'), Some(expected), "{line}");
     }
+    // The first resolve reads the file for one entry, and the second for both.
+    assert_eq!(rt; work.files(), 3);
     Ok(())
 }
 
