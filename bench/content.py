@@ -7,6 +7,7 @@ looks no URI up.
 import base64
 import os
 import random
+import re
 import resource
 import subprocess
 
@@ -41,11 +42,23 @@ def best_times(commands, given):
     return [min(times) for times in zip(*rounds)]
 
 
-def measure(node, bare, given, peak):
-    """Prints a line for each load, whose lines it writes to the file `given`."""
+def instructions(command, given):
+    """How many instructions one run takes, as valgrind counts them: the same on a busy machine, and
+    blind to what memory costs."""
+    with open(given, "rb") as source:
+        done = subprocess.run(["valgrind", "--tool=callgrind", "--callgrind-out-file=/dev/null", *command],
+                              stdin=source, stdout=subprocess.DEVNULL, stderr=subprocess.PIPE, check=True)
+    return int(re.search(rb"refs: *([\d,]+)", done.stderr).group(1).replace(b",", b""))
+
+
+def measure(node, bare, given, peak, counted):
+    """Prints a line for each load, whose lines it writes to the file `given`, and where `counted` one
+    more on instructions."""
     for count, least, most in LOADS:
         write_lines(given, count, least, most)
         ours, base = best_times([node, bare], given)
         sizes = "%d" % least if least == most else "%d to %d" % (least, most)
         print("%d content lines of files of %s bytes: %.2f s of processor time, %.2f times the bare cost (%.2f s); %d MiB for %d MiB of input"
               % (count, sizes, ours, ours / base, base, peak(node, given), os.path.getsize(given) >> 20), flush=True)
+        if counted:
+            print("  %.2f times its instructions" % (instructions(node, given) / instructions(bare, given)), flush=True)

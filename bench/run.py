@@ -1,14 +1,14 @@
 #!/usr/bin/env python3
 """Measures the built program and prints ratios, each of two times of this one run.
 
-usage: bench/run.py
+usage: bench/run.py [--instructions]
 
 It builds small programs beside a copy of the repository's crates: one that only decodes and
 hashes, with the same kit crates (content.py), one that only reads and writes JSON, one that only
 verifies, makes keys and signs, one that only puts into an index and cuts it, and one that only applies
 deltas to a document. The times are the best of three or five of whole processes; the last three
-programs take their own. Nothing here is part of the
-gate.
+programs take their own. With --instructions it also counts the instructions for content lines, which
+takes valgrind and some minutes. Nothing here is part of the gate.
 """
 import hashlib
 import os
@@ -164,7 +164,7 @@ def main():
     with tempfile.TemporaryDirectory() as folder:
         paths = build(folder)
         given = os.path.join(folder, "given")
-        content.measure(node, [paths["bare_cost"]], given, peak)
+        content.measure(node, [paths["bare_cost"]], given, peak, "--instructions" in sys.argv[1:])
         for what, make in (("an object of %d names, the worst order", names),
                            ("a list of %d numbers", lambda path, n: open(path, "w").write("[" + ",".join("7" for _ in range(n)) + "]"))):
             most = 800_000 if "names" in what else 5_000_000
