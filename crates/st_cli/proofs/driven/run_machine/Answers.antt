@@ -1,4 +1,4 @@
-use Rattle.std.proofs.Common.{[], arith, rules}
+use Rattle.std.proofs.Common.{[], arith}
 use Rattle.std.proofs.KnownBytes.{Appends-nil, Consumes-nil}
 use Rattle.st_drive.proofs.Ends.{nothing_yet}
 use Rattle.st_cli.proofs.driven.run_machine.Goals as goal
