@@ -6,7 +6,9 @@ use std::alloc::{AllocError, Global};
 
 // The hash texts of `abc` and of no bytes, and that of `abc` by SHA-512 (FIPS 180-4).
 const OF_ABC: &str = "EiC6eBa_jwHP6kFBQN5driIjsANho5YXepy0EP9h8gAVrQ";
+
 const OF_NOTHING: &str = "EiDjsMRCmPwcFJr79MiZb7kkJ65B5GSbk0yklZkbeFK4VQ";
+
 const SHA_512: &str =
     "E0DdrzWhk2F6usxBc0muIEExEub6TompfqIKnu7mS1XTmiGSmSonT8GoNro8I6P-671FTUQjZDzoDiqayU-lTKSf";
 
@@ -17,7 +19,11 @@ const SUFFIX: &str = "EiATdX8Q5MV_plJJmuNAF_0nOfwoAX70r-tP5eSOPf86vA";
 // create's, ~ is a chunk; * and ^ are the hash texts of SHA-256 and # that of SHA-512.
 fn spelled(alloc: Global, short: &str) -> Result<String, AllocError> {
     short
-        .replace(alloc, "+", "{\"suffixData\":{\"deltaHash\":\"*\",\"recoveryCommitment\":\"^\"}}")?
+        .replace(
+            alloc,
+            "+",
+            "{\"suffixData\":{\"deltaHash\":\"*\",\"recoveryCommitment\":\"^\"}}",
+        )?
         .replace(alloc, "!", "{\"didSuffix\":\"*\",\"revealValue\":\"^\"}")?
         .replace(alloc, "?", "{\"didSuffix\":\"^\",\"revealValue\":\"^\"}")?
         .replace(alloc, "@", "{\"didSuffix\":\"$\",\"revealValue\":\"^\"}")?

@@ -112,7 +112,10 @@ fn signed_texts_are_written_and_read_again(rt: HostRuntime) -> Result<(), Fail> 
         return Err(Fail::from("no text"));
     };
     assert_eq!(rt; second.as_str(), "\"");
-    assert_eq!(rt; write_provisional_proof(alloc, &[])?.as_slice(), b"{}".as_slice());
+    assert_eq!(rt;
+        write_provisional_proof(alloc, &[])?.as_slice(),
+        b"{}".as_slice()
+    );
     assert_eq!(rt; work.files(), 2);
     Ok(())
 }

@@ -7,12 +7,7 @@ use std::alloc::Global;
 use std::test::Fail;
 
 // How a core index file is answered: `read`, or the rule that rejects it.
-fn answer(
-    rt: &HostRuntime,
-    file: &[u8],
-    version: u32,
-    count: u32,
-) -> Result<String, Fail> {
+fn answer(rt: &HostRuntime, file: &[u8], version: u32, count: u32) -> Result<String, Fail> {
     let alloc = rt.alloc();
     let mut work = Work::new(rt);
     let params = Schedule::with_second(2).at(version);
@@ -121,15 +116,21 @@ fn a_thousand_and_one_creates_are_read_where_so_many_are_declared(
 fn a_core_index_of_every_kind_is_written_and_read_again(rt: HostRuntime) -> Result<(), Fail> {
     let alloc = rt.alloc();
     let mut recovers = List::new(alloc);
-    recovers.push(alloc, Target {
-        suffix: hash256(b"one"),
-        reveal: hash_with(b"key", SHA_512),
-    })?;
+    recovers.push(
+        alloc,
+        Target {
+            suffix: hash256(b"one"),
+            reveal: hash_with(b"key", SHA_512),
+        },
+    )?;
     let mut deactivates = List::new(alloc);
-    deactivates.push(alloc, Target {
-        suffix: hash256(b"two"),
-        reveal: hash256(b"key"),
-    })?;
+    deactivates.push(
+        alloc,
+        Target {
+            suffix: hash256(b"two"),
+            reveal: hash256(b"key"),
+        },
+    )?;
     let index = CoreIndex {
         core_proof: Some(hash256(b"proofs")),
         provisional: None,
@@ -158,7 +159,11 @@ fn a_suffix_has_the_algorithm_of_its_delta_hash(rt: HostRuntime) -> Result<(), F
     let long = hash_with(b"abc", SHA_512);
     let cases = [
         (short, hash256(b""), SUFFIX),
-        (short, long, "EiAa33qKusQKI4OBuGyqKfht5V-cTt76PmOZJ7y3ec9AqA"),
+        (
+            short,
+            long,
+            "EiAa33qKusQKI4OBuGyqKfht5V-cTt76PmOZJ7y3ec9AqA",
+        ),
         (
             long,
             hash256(b""),

@@ -70,7 +70,10 @@ fn a_provisional_index_file_fails_its_first_rule(rt: HostRuntime) -> Result<(), 
     }
     for (size, wanted) in [(1_000_000, "P2"), (1_000_001, "P1")] {
         let spaces = times(alloc, b' ', size)?;
-        assert_eq!(rt; answer(&rt, spaces.as_slice(), &core, 1, 1)?.as_str(), wanted);
+        assert_eq!(rt;
+            answer(&rt, spaces.as_slice(), &core, 1, 1)?.as_str(),
+            wanted
+        );
     }
     Ok(())
 }
@@ -81,7 +84,8 @@ fn an_update_of_a_suffix_that_the_core_index_creates_is_rejected(
     rt: HostRuntime,
 ) -> Result<(), Fail> {
     let alloc = rt.alloc();
-    let short = "{\"chunks\":[~],\"provisionalProofFileUri\":\"*\",\"operations\":{\"update\":[@]}}";
+    let short =
+        "{\"chunks\":[~],\"provisionalProofFileUri\":\"*\",\"operations\":{\"update\":[@]}}";
     let file = spelled(alloc, short)?;
     let mut core = no_operations(alloc);
     assert_eq!(rt; answer(&rt, file.as_bytes(), &core, 1, 1)?.as_str(), "read");
@@ -99,10 +103,13 @@ fn a_provisional_index_is_written_and_read_again(rt: HostRuntime) -> Result<(), 
     let alloc = rt.alloc();
     let core = no_operations(alloc);
     let mut updates = List::new(alloc);
-    updates.push(alloc, Target {
-        suffix: hash256(b"one"),
-        reveal: hash_with(b"key", SHA_512),
-    })?;
+    updates.push(
+        alloc,
+        Target {
+            suffix: hash256(b"one"),
+            reveal: hash_with(b"key", SHA_512),
+        },
+    )?;
     let index = ProvisionalIndex {
         proof: Some(hash256(b"proofs")),
         chunk: hash256(b"chunk"),
