@@ -116,10 +116,6 @@ fn the_example_session_is_answered(rt: HostRuntime) -> Result<(), Fail> {
 #[test]
 fn the_plain_program_replies_alike(rt: HostRuntime) -> Result<(), Fail> {
     let alloc = rt.alloc();
-    let options = NodeOptions {
-        limit: MAX_INPUT,
-        schedule: Schedule::new(),
-    };
     for input in [
         CREATE,
         ANCHOR,
@@ -130,6 +126,10 @@ fn the_plain_program_replies_alike(rt: HostRuntime) -> Result<(), Fail> {
         let session = format!(in alloc; "{ANCHOR}{RESOLVE}{input}{CREATE}{RESOLVE}{input}")?;
         let (_, written) = node_run(&rt, session.as_bytes())?;
         let mut work = Work::new(&rt);
+        let options = NodeOptions {
+            limit: MAX_INPUT,
+            schedule: Schedule::new(),
+        };
         let plain = plain_replies(alloc, options, session.as_bytes(), &mut work)?;
         assert_eq!(rt; plain.as_slice(), written.as_slice());
     }
