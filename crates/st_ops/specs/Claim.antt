@@ -1,0 +1,60 @@
+-- What operations claim (DIF Sidetree v1.0.0, "Update", "Recover" and "Deactivate", where the data that
+-- each signs is described).
+use Rattle.std.specs.Prelude.{ℕ, Bool, ◌&&◌, List, [], ◌∷◌, codes, is_some, Option, Some, None}
+use Rattle.st_base.specs.Options.{◌>>=◌, ◌>>◌}
+use Rattle.st_canon.specs.Plain.{Plain}
+use Rattle.st_canon.specs.Shapes.{is_object_of, member_in}
+use Rattle.st_hash.specs.Hash.{HashValue, same_hash}
+use Rattle.st_indexfiles.specs.Hashes.{hash_in}
+use Rattle.st_indexfiles.specs.declared.target.Target.{Target}
+use Rattle.st_jws.specs.Commitment.{reveal_of_with}
+use Rattle.st_jws.specs.declared.jwk.Jwk.{Jwk}
+use Rattle.st_ops.specs.Operation.{Proof, PlainOperation, creating, updating, recovering, deactivating}
+use Rattle.st_ops.specs.declared.claim.Claim.{Claim}
+use Rattle.st_ops.specs.declared.claim.Claim.TheVariants.{Update, Recover, Deactivate}
+use Rattle.st_params.specs.Limits.{Limits}
+
+-- the key's reveal value by the algorithm of this one is this one
+abbrev pub is_revealed : HashValue → Jwk → Bool
+is_revealed reveal key = same_hash (reveal_of_with reveal.code key) reveal
+
+-- an object with the key of this name, and no members but that and these
+abbrev pub is_payload_of : List ℕ → List (List ℕ) → Plain → Bool
+is_payload_of key others payload = is_object_of (key ∷ others) (Some payload) && is_some (member_in key (Some payload))
+
+-- exactly `updateKey` and `deltaHash`, a hash text of the version
+abbrev pub update_claim : ℕ → Plain → Option Claim
+update_claim version payload = do
+  is_payload_of (codes "updateKey") (codes "deltaHash" ∷ []) payload
+  delta_hash ← hash_in version (member_in (codes "deltaHash") (Some payload))
+  Some (Update delta_hash)
+
+-- exactly `recoveryKey`, `recoveryCommitment` and `deltaHash`, hash texts of the version
+abbrev pub recover_claim : ℕ → Plain → Option Claim
+recover_claim version payload = do
+  is_payload_of (codes "recoveryKey") (codes "recoveryCommitment" ∷ codes "deltaHash" ∷ []) payload
+  recovery_commitment ← hash_in version (member_in (codes "recoveryCommitment") (Some payload))
+  delta_hash ← hash_in version (member_in (codes "deltaHash") (Some payload))
+  Some (Recover recovery_commitment delta_hash)
+
+-- exactly `recoveryKey` and `didSuffix`, the hash text of this suffix
+abbrev pub deactivate_claim : ℕ → HashValue → Plain → Option Claim
+deactivate_claim version suffix payload = do
+  is_payload_of (codes "recoveryKey") (codes "didSuffix" ∷ []) payload
+  named ← hash_in version (member_in (codes "didSuffix") (Some payload))
+  same_hash named suffix
+  Some Deactivate
+
+-- what the payload claims, where there is a proof whose key has the reveal value of the target
+abbrev pub claim_under : Target → Option Proof → (Plain → Option Claim) → Option Claim
+claim_under target proof claimed = do
+  found ← proof
+  is_revealed target.reveal found.key
+  claimed found.payload
+
+-- The claim of an operation at these limits. A create has none.
+abbrev pub claim_of : Limits → PlainOperation → Option Claim
+claim_of limits (creating suffix_data delta) = None
+claim_of limits (updating target proof delta) = claim_under target proof (update_claim limits.version)
+claim_of limits (recovering target proof delta) = claim_under target proof (recover_claim limits.version)
+claim_of limits (deactivating target proof) = claim_under target proof (deactivate_claim limits.version target.suffix)
