@@ -1,7 +1,9 @@
-//! Sources and sinks of bytes: traits that say what is left to read and what was written, with a
-//! count of faults; in memory, in memory with scripted faults, and over the standard streams.
+//! Sources and sinks of bytes, and disks: traits that say what is left to read, what was written and
+//! what a stop may leave, with a count of faults; in memory, in memory with scripted faults, and over
+//! the runtime.
 #![tactic(auto)]
 
+mod disk;
 mod failed;
 mod front;
 mod plain_sink;
@@ -15,6 +17,7 @@ mod std_source;
 #[cfg(test)]
 mod tests;
 
+pub use disk::Disk;
 pub use failed::Failed;
 pub use plain_sink::PlainSink;
 pub use plain_source::PlainSource;
