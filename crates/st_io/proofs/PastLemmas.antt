@@ -48,17 +48,17 @@ adds_none a b c ab none_first bc none_then x left = ⊎_elim
   (λ new. none_first x (b.earlier a.now b.now x ab.later (none_then x new)))
   (bc.splits a.now x ab.later left)
 
+pub le_or_lt : (s n : ℕ) → (s ≤ n) ⊎ (n < s)
+le_or_lt zero n = inl (omega arith)
+le_or_lt (suc s) zero = inr (omega arith)
+le_or_lt (suc s) (suc n) = ⊎_elim (λ le. inl (omega (arith, le))) (λ lt. inr (omega (arith, lt))) (le_or_lt s n)
+
 -- two runs without a good sync
 pub no_syncs : (a b c : Past) → NoSync a b → GoesOn b c → NoSync b c → NoSync a c
 no_syncs a b c none_first bc none_then s lt synced = ⊎_elim
   (λ le. none_first s lt ((bc.syncs s le).0 synced))
   (λ more. none_then s more synced)
   (le_or_lt s b.now)
-
-pub le_or_lt : (s n : ℕ) → (s ≤ n) ⊎ (n < s)
-le_or_lt zero n = inl (omega arith)
-le_or_lt (suc s) zero = inr (omega arith)
-le_or_lt (suc s) (suc n) = ⊎_elim (λ le. inl (omega (arith, le))) (λ lt. inr (omega (arith, lt))) (le_or_lt s n)
 
 -- where one good sync has come since a time, the images from the first one on are those since it
 pub since_sync : (a b c : Past) → OneSync a b → GoesOn b c → (x : List ℕ) → LeftSinceSync c a.now x → c.left_since b.now x
@@ -82,5 +82,8 @@ splits_since_sync b c goes t x left =
 -- and both parts are among them, where a good sync has come by then
 pub keeps_since_sync : (b c : Past) → GoesOn b c → (t s : ℕ) → t < s → s ≤ b.now → b.synced s → (x : List ℕ) → LeftSinceSync b t x ⊎ c.left_since b.now x → LeftSinceSync c t x
 keeps_since_sync b c goes t s lt le synced x = ⊎_elim
-  (λ was. ?)
+  (λ was. ⊎_elim
+    (λ w_le. (was.0, was.1, (goes.syncs was.0 w_le).1 was.2, goes.keeps was.0 x w_le was.3))
+    (λ w_lt. (s, lt, (goes.syncs s le).1 synced, c.earlier s b.now x le (goes.keeps b.now x (omega arith) (b.earlier b.now was.0 x (omega (arith, w_lt)) was.3))))
+    (le_or_lt was.0 b.now))
   (λ new. (s, lt, (goes.syncs s le).1 synced, c.earlier s b.now x le new))
