@@ -1,15 +1,17 @@
 -- What a pick leaves is an image.
-use Rattle.std.proofs.Common.{◌≡◌, inl, inr, ℕ, ◌+◌, ◌<◌, ◌≤◌, max, List, [], ◌∷◌, ◌++◌, length, get_or, take, drop, replicate, refl, sym, ◌∙◌, ap, subst, arith}
+use Rattle.std.proofs.Common.{◌≡◌, inr, ℕ, ◌+◌, ◌<◌, ◌≤◌, max, List, [], ◌∷◌, ◌++◌, length, get_or, take, drop, replicate, refl, sym, ◌∙◌, ap, subst, arith}
 use Rattle.std.proofs.lemmas.List.{length-replicate, reverse-append, take_more, take-append-drop}
 use Rattle.std.specs.Prelude.{reverse}
 use Rattle.st_io.specs.Crashes.{torn_by, crash_step, crashed, BeginsWithin}
-use Rattle.st_io.specs.Histories.{IsImage, after_step, reads_after, AllBeganWithin}
+use Rattle.st_io.specs.Histories.{DiskHistory, IsImage, after_step, reads_after, past_of, AllBeganWithin}
+use Rattle.st_io.specs.Past.{Images}
 use Rattle.st_io.specs.Tears.{overwritten, Torn}
 use Rattle.st_io.specs.declared.history.Step.{Step}
 use Rattle.st_io.specs.declared.history.Step.TheVariants.{Wrote, Synced}
 use Rattle.st_io.specs.declared.history.Written.{Written}
 use Rattle.st_io.specs.declared.pick.Pick.{Pick}
 use Rattle.st_io.specs.declared.pick.Pick.TheVariants.{Old, New, Fill}
+use Rattle.st_io.proofs.HistoryLemmas.{left_image}
 use Rattle.st_io.proofs.TearLemmas.{length_overwritten, overwritten_is_torn, length_lengthened, lengthened_is_torn}
 
 length_torn : (pick : Pick) (written : Written) (image : List ℕ) → written.at ≤ length image
@@ -39,13 +41,17 @@ length_crashed pick first (Wrote written ∷ earlier) within =
     ∙ sym (length_overwritten written.at written.bytes (reads_after first earlier) within.0)
 length_crashed pick first (Synced ∷ earlier) within = refl
 
-pub crash_is_image : (pick : Pick) (first : List ℕ) (steps : List Step) → AllBeganWithin first steps
+crash_is_image : (pick : Pick) (first : List ℕ) (steps : List Step) → AllBeganWithin first steps
     → IsImage first steps (crashed pick first steps)
 crash_is_image pick first [] within = refl
 crash_is_image pick first (Wrote written ∷ earlier) within =
     let same = length_crashed pick first earlier within.1 in
     inr (crashed pick first earlier, crash_is_image pick first earlier within.1, is_torn pick written (crashed pick first earlier) (omega (arith, same, within.0)))
 crash_is_image pick first (Synced ∷ earlier) within = refl
+
+pub is_image_of : (pick : Pick) (h : DiskHistory) → AllBeganWithin h.first h.steps → (image : List ℕ) → image ≡ crashed pick h.first h.steps → Images (past_of h) image
+is_image_of pick h within image is =
+    subst (Images (past_of h)) (sym is) (left_image h.first h.steps (length h.steps) (crashed pick h.first h.steps) (crash_is_image pick h.first h.steps within))
 
 -- with the new bytes it is what the bytes read as
 pub newest_crash : (first : List ℕ) (steps : List Step) → crashed New first steps ≡ reads_after first steps

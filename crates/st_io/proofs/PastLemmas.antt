@@ -1,5 +1,5 @@
 -- How a run of calls of a disk goes on. For crates that speak of stops inside a call.
-use Rattle.std.proofs.Common.{◌≡◌, ◌⊎◌, inl, inr, ⊎_elim, ℕ, zero, suc, ◌<◌, ◌≤◌, List, subst, arith}
+use Rattle.std.proofs.Common.{◌⊎◌, inl, inr, ⊎_elim, ℕ, zero, suc, ◌<◌, ◌≤◌, List, subst, arith}
 use Rattle.st_io.specs.Past.{Past, Images, GoesOn, NoSync, OneSync, AddsNone, Follow, LeftSinceSync, Leaves}
 
 -- no call

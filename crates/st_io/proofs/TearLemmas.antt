@@ -30,7 +30,7 @@ module _ (at : ℕ) (bytes old : List ℕ) (within : at ≤ length old) where
 -- one that only lengthens the bytes, with zeros
 module _ (at n : ℕ) (old : List ℕ) (within : at ≤ length old) where
   pub length_lengthened : length (old ++ replicate (at + n - length old) 0) ≡ max (length old) (at + n)
-  length_lengthened = omega (arith, length-append old (replicate (at + n - length old) 0), length-replicate (at + n - length old) 0)
+  length_lengthened = omega (arith, length-append old (replicate (at + n - length old) 0), length-replicate {A = ℕ} (at + n - length old) 0)
 
   behind : drop (at + n) (old ++ replicate (at + n - length old) 0) ≡ drop (at + n) old
   behind = ⊎_elim

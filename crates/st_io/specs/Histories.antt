@@ -1,10 +1,9 @@
 -- Bytes in memory as a disk: what was done to them, and what a stop may leave of them.
 use Rattle.std.specs.Prelude.{◌≡◌, ◌⊎◌, ℕ, suc, ◌≤◌, List, [], ◌∷◌, length, Some, None, Option, ⊤}
-use Rattle.std.proofs.Common.{inl, inr, arith, refl, sym, subst}
+use Rattle.std.proofs.Common.{inl, inr, arith, refl, subst}
 use Rattle.std.proofs.lemmas.Option.{same_Some}
 use Rattle.st_io.specs.Past.{Past, Images}
 use Rattle.st_io.specs.Tears.{IfTold, overwritten, Torn}
-use Rattle.st_io.specs.declared.history.Written.{Written}
 use Rattle.st_io.specs.declared.history.Step.{Step}
 use Rattle.st_io.specs.declared.history.Step.TheVariants.{Wrote, Synced}
 

@@ -31,7 +31,7 @@ pub enum Step {
 pub struct History {
     first: Option<Bytes>,
     steps: List<Step>,
-    now: Bytes,
+    bytes: Bytes,
 }
 
 impl Model for History {
@@ -40,28 +40,28 @@ impl Model for History {
 
     ghost Value = { DiskHistory };
 
-    ghost view = { λ h. record { first = first_of h.first h.now; steps = reverse h.steps } };
+    ghost view = { λ h. record { first = first_of h.first h.bytes; steps = reverse h.steps } };
 
-    ghost invariant = { λ h. IsKept (first_of h.first h.now) (reverse h.steps) h.now };
+    ghost invariant = { λ h. IsKept (first_of h.first h.bytes) (reverse h.steps) h.bytes };
 }
 
 impl History {
     /// These bytes, and no step yet. It takes no memory.
-    pub fn new(alloc: Global, now: Bytes) -> History
-        ensures { result ≡ record { first = now; steps = [] } }
+    pub fn new(alloc: Global, bytes: Bytes) -> History
+        ensures { result ≡ record { first = bytes; steps = [] } }
     {
         History {
             first: None,
             steps: List::new(alloc),
-            now,
+            bytes,
         }
     }
 
     /// What the bytes are now.
-    pub fn now(&self) -> &Bytes
+    pub fn bytes(&self) -> &Bytes
         ensures { result.now ≡ reads_of self.now }
     {
-        &self.now
+        &self.bytes
     }
 
     /// Writes `from` over what stands from `at` on, and past the end where it is longer.
@@ -70,8 +70,8 @@ impl History {
         ensures ok { OnOk result (self.new ≡ with_write at from.now self.old) }
         ensures err { OnErr result (self.new ≡ self.old) }
     {
-        keep_first(alloc, &mut self.first, &self.now)?;
-        put(alloc, &mut self.now, &mut self.steps, at, from)
+        keep_first(alloc, &mut self.first, &self.bytes)?;
+        put(alloc, &mut self.bytes, &mut self.steps, at, from)
     }
 
     /// Makes what was written last.
@@ -88,7 +88,7 @@ impl History {
         ensures image { IfOk result (Images (past_of self.now)) }
         ensures newest { pick ≡ Pick.New → IfOk result (λ image. image ≡ reads_of self.now) }
     {
-        let first = first_bytes(&self.first, &self.now);
-        crash_of(alloc, first, self.steps.as_slice(), pick)
+        let first = first_bytes(&self.first, &self.bytes);
+        Ok(crash_of(alloc, first, self.steps.as_slice(), pick)?)
     }
 }

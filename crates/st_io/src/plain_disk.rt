@@ -40,7 +40,7 @@ impl PlainDisk {
     pub fn image(&self) -> &Bytes
         ensures { ⟦<PlainDisk as Disk>⟧.reads self.now ≡ Some result.now }
     {
-        self.history.now()
+        self.history.bytes()
     }
 }
 
@@ -54,17 +54,18 @@ impl Disk for PlainDisk {
     ghost is_image = { λ d. reads_is_image d.history };
 
     fn length(&mut self) -> Result<u64, Failed> {
-        Ok(self.history.now().as_slice().len() as u64)
+        Ok(self.history.bytes().as_slice().len() as u64)
     }
 
     fn read_at(&mut self, at: u64, into: &mut [u8]) -> Result<(), Failed> {
         let at = at as usize;
-        let bytes = self.history.now().as_slice();
+        let bytes = self.history.bytes().as_slice();
         into.copy_from_slice(&bytes[at..at + into.len()]);
         Ok(())
     }
 
     fn write_at(&mut self, at: u64, from: &[u8]) -> Result<(), Failed>
+        requires { IfTold (Some (reads_of self.old.history)) (λ xs. at ≤ length xs) }
         ensures written { OnOk result (Turns (Some (reads_of self.old.history)) (Some (reads_of self.new.history)) (Holds at from.now)) }
         ensures torn { OnErr result (Turns (Some (reads_of self.old.history)) (Some (reads_of self.new.history)) (Torn at (length from.now))) }
         ensures images { Follow (Torn at (length from.now)) (past_of self.old.history) (past_of self.new.history) }

@@ -5,6 +5,7 @@ ghost use Rattle.st_io.specs.Histories.{reads_of, past_of, reads_is_image, with_
 ghost use Rattle.st_io.specs.Past.{Images, GoesOn, NoSync, OneSync, AddsNone, Follow, Only};
 ghost use Rattle.st_io.specs.Scripts.{Fails, FailsNext, CountsCall};
 ghost use Rattle.st_io.specs.Tears.{IfTold, Turns, Holds, Torn};
+ghost use Rattle.st_io.specs.declared.history.Step.TheVariants.{Synced};
 
 use crate::disk::Disk;
 use crate::failed::Failed;
@@ -93,10 +94,11 @@ impl Disk for ScriptDisk {
             self.faults = self.faults.saturating_add(1);
             return Err(Failed);
         }
-        Ok(self.history.now().as_slice().len() as u64)
+        Ok(self.history.bytes().as_slice().len() as u64)
     }
 
     fn read_at(&mut self, at: u64, into: &mut [u8]) -> Result<(), Failed>
+        requires { IfTold (Some (reads_of self.old.history)) (λ xs. at + length into.old ≤ length xs) }
         ensures bytes { OnOk result (IfTold (Some (reads_of self.old.history)) (λ xs. into.new ≡ take (length into.old) (drop at xs))) }
         ensures room { length into.new ≡ length into.old }
         ensures reads { Some (reads_of self.new.history) ≡ Some (reads_of self.old.history) }
@@ -114,12 +116,13 @@ impl Disk for ScriptDisk {
             return Err(Failed);
         }
         let at = at as usize;
-        let bytes = self.history.now().as_slice();
+        let bytes = self.history.bytes().as_slice();
         into.copy_from_slice(&bytes[at..at + into.len()]);
         Ok(())
     }
 
     fn write_at(&mut self, at: u64, from: &[u8]) -> Result<(), Failed>
+        requires { IfTold (Some (reads_of self.old.history)) (λ xs. at ≤ length xs) }
         ensures written { OnOk result (Turns (Some (reads_of self.old.history)) (Some (reads_of self.new.history)) (Holds at from.now)) }
         ensures torn { OnErr result (Turns (Some (reads_of self.old.history)) (Some (reads_of self.new.history)) (Torn at (length from.now))) }
         ensures images { Follow (Torn at (length from.now)) (past_of self.old.history) (past_of self.new.history) }
@@ -154,7 +157,7 @@ impl Disk for ScriptDisk {
         ensures none { OnErr result (NoSync (past_of self.old.history) (past_of self.new.history)) }
         ensures cause { HasCause self.old.faults self.new.faults result }
         ensures unchanged { OnErr result (self.new.history ≡ self.old.history) }
-        ensures more { OnOk result (self.new.history ≡ with_step Step.Synced self.old.history) }
+        ensures more { OnOk result (self.new.history ≡ with_step Synced self.old.history) }
         ensures listed { FailsNext self.old → IsErr result }
         ensures script { CountsCall self.old self.new }
     {
