@@ -1,18 +1,20 @@
--- What a call leaves of a past: one that changes nothing, a write, a good sync.
+-- What one step more leaves of a past.
 use Rattle.std.proofs.Common.{◌≡◌, inl, inr, ⊎_elim, ℕ, suc, ◌<◌, ◌≤◌, List, [], ◌∷◌, length, refl, sym, subst, arith}
 use Rattle.st_io.specs.declared.history.Step.{Step}
 use Rattle.st_io.specs.declared.history.Step.TheVariants.{Wrote, Synced}
 use Rattle.st_io.specs.Histories.{DiskHistory, IsImage, WasLeft, WasSynced, past_of, reads_of, left_now, with_step, with_write}
-use Rattle.st_io.specs.Past.{Images, NoSync, OneSync, AddsNone, Follow}
+use Rattle.st_io.specs.Past.{Images, OneSync, AddsNone, Follow}
 use Rattle.st_io.specs.Tears.{Torn}
 use Rattle.st_io.proofs.TearLemmas.{torn_same, overwritten_is_torn}
 
-synced_by_now : (steps : List Step) (s : ℕ) → WasSynced steps s → s ≤ length steps
+-- no good sync came later than now
+pub synced_by_now : (steps : List Step) (s : ℕ) → WasSynced steps s → s ≤ length steps
 synced_by_now [] s never = absurd never
 synced_by_now (Wrote written ∷ earlier) s was = omega (arith, synced_by_now earlier s was)
 synced_by_now (Synced ∷ earlier) s (inl just) = omega (arith, just)
 synced_by_now (Synced ∷ earlier) s (inr was) = omega (arith, synced_by_now earlier s was)
 
+-- an image of now is one since any moment
 pub left_image : (first : List ℕ) (steps : List Step) (t : ℕ) (c : List ℕ) → IsImage first steps c → WasLeft first steps t c
 left_image first [] t c image = image
 left_image first (step ∷ earlier) t c image = inl image
@@ -20,14 +22,7 @@ left_image first (step ∷ earlier) t c image = inl image
 none_since : (h : DiskHistory) (s : ℕ) → length h.steps < s → WasSynced h.steps s → ⊥
 none_since h s lt was = omega (arith, lt, synced_by_now h.steps s was)
 
--- nothing has changed
-pub no_sync : (h new : DiskHistory) → new ≡ h → NoSync (past_of h) (past_of new)
-no_sync h new same = subst (λ n. NoSync (past_of h) (past_of n)) (sym same) (none_since h)
-
 -- a write more
-pub no_sync_by_write : (at : ℕ) (bytes : List ℕ) (h new : DiskHistory) → new ≡ with_write at bytes h → NoSync (past_of h) (past_of new)
-no_sync_by_write at bytes h new is = subst (λ n. NoSync (past_of h) (past_of n)) (sym is) (none_since h)
-
 module _ (at : ℕ) (bytes : List ℕ) (h : DiskHistory) (within : at ≤ length (reads_of h)) where
   torn_from : (c : List ℕ) → IsImage h.first (Wrote (record { at = at; bytes = bytes }) ∷ h.steps) c → (d : List ℕ) × Images (past_of h) d × Torn at (length bytes) d c
   torn_from c (inl is) = (reads_of h, left_now h.first h.steps (length h.steps), subst (Torn at (length bytes) (reads_of h)) (sym is) (overwritten_is_torn at bytes (reads_of h) within))

@@ -1,4 +1,4 @@
-use Rattle.st_io.proofs.HistoryLemmas.{no_sync, adds_none_by_sync, one_sync}
+use Rattle.st_io.proofs.HistoryLemmas.{adds_none_by_sync, one_sync}
 use Rattle.st_io.proofs.plain_disk.PlainDiskDisk.sync.Goals as goal
 
 pub returns-in-Ok-clause-images : goal.returns-in-Ok-clause-images
@@ -6,6 +6,3 @@ returns-in-Ok-clause-images c = adds_none_by_sync c.args.self.now.history c.sync
 
 pub returns-in-Ok-clause-synced : goal.returns-in-Ok-clause-synced
 returns-in-Ok-clause-synced c xs told = one_sync c.args.self.now.history c.sync.new.self c.in-Ok.ensures.ok
-
-pub returns-in-Err-clause-none : goal.returns-in-Err-clause-none
-returns-in-Err-clause-none c = no_sync c.args.self.now.history c.sync.new.self c.in-Err.ensures.err
