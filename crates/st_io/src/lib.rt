@@ -1,11 +1,20 @@
-//! Sources and sinks of bytes: traits that say what is left to read and what was written, with a
-//! count of faults; in memory, in memory with scripted faults, and over the standard streams.
+//! Sources and sinks of bytes, and disks: traits that say what is left to read, what was written and
+//! what a stop may leave, with a count of faults; in memory, in memory with scripted faults, and over
+//! the runtime.
 #![tactic(auto)]
 
+mod crash;
+mod disk;
 mod failed;
+mod file_disk;
 mod front;
+mod history;
+mod overwrite;
+mod pick;
+mod plain_disk;
 mod plain_sink;
 mod plain_source;
+mod script_disk;
 mod script_sink;
 mod script_source;
 mod sink;
@@ -15,9 +24,14 @@ mod std_source;
 #[cfg(test)]
 mod tests;
 
+pub use disk::Disk;
 pub use failed::Failed;
+pub use file_disk::FileDisk;
+pub use pick::Pick;
+pub use plain_disk::PlainDisk;
 pub use plain_sink::PlainSink;
 pub use plain_source::PlainSource;
+pub use script_disk::ScriptDisk;
 pub use script_sink::ScriptSink;
 pub use script_source::ScriptSource;
 pub use sink::Sink;

@@ -1,0 +1,82 @@
+ghost use Rattle.std.specs.Prelude.{◌≡◌, ◌+◌, ◌≤◌, ℕ, List, length, take, drop, IfOk, OnOk, OnErr};
+ghost use Rattle.std.specs.declared.option.Option.{Option};
+ghost use Rattle.st_io.specs.Causes.{HasCause};
+ghost use Rattle.st_io.specs.Past.{Past, Images, GoesOn, NoSync, OneSync, AddsNone, Follow, Only};
+ghost use Rattle.st_io.specs.Tears.{IfTold, Turns, Holds, Torn};
+
+use crate::failed::Failed;
+
+/// A list of bytes that outlives a stop.
+///
+/// At each moment it has images, the lists of bytes that a stop at that moment may leave. What it
+/// reads as is one of them. Between two good syncs each range that was written, and the part past
+/// the old end, may hold any bytes in an image; bytes outside stay. After a good sync what it reads
+/// as is its only image. A good sync is one that answers Ok.
+///
+/// An implementation need not tell what it reads as. What is said of that stands where it does.
+pub trait Disk {
+    /// What it reads as, where the implementation tells it.
+    ghost reads: { Self → Option (List ℕ) };
+
+    /// The images at each moment so far, and when a good sync came.
+    ghost past: { Self → Past };
+
+    /// How often the disk has failed. It never falls, and stays at `u64::MAX` once it is there.
+    ghost faults: { Self → ℕ };
+
+    /// How many bytes it reads as.
+    ///
+    /// `Failed` comes only where the count of faults rose in this call. What the disk reads as stays
+    /// in any case, and no image is added.
+    fn length(&mut self) -> Result<u64, Failed>
+        ensures length { IfOk result (λ n. IfTold (reads self.old) (λ xs. n ≡ length xs)) }
+        ensures reads { reads self.new ≡ reads self.old }
+        ensures images { AddsNone (past self.old) (past self.new) }
+        ensures time { GoesOn (past self.old) (past self.new) }
+        ensures syncs { NoSync (past self.old) (past self.new) }
+        ensures cause { HasCause (faults self.old) (faults self.new) result };
+
+    /// Fills `into` with the bytes from `at` on. The range lies within the length.
+    ///
+    /// `Failed` comes only where the count of faults rose in this call. What the disk reads as stays
+    /// in any case, and no image is added.
+    fn read_at(&mut self, at: u64, into: &mut [u8]) -> Result<(), Failed>
+        requires { IfTold (reads self.old) (λ xs. at + length into.old ≤ length xs) }
+        ensures bytes { OnOk result (IfTold (reads self.old) (λ xs. into.new ≡ take (length into.old) (drop at xs))) }
+        ensures reads { reads self.new ≡ reads self.old }
+        ensures images { AddsNone (past self.old) (past self.new) }
+        ensures time { GoesOn (past self.old) (past self.new) }
+        ensures syncs { NoSync (past self.old) (past self.new) }
+        ensures cause { HasCause (faults self.old) (faults self.new) result };
+
+    /// Writes `from` over what stands from `at` on, and past the end where it is longer. `at` is at
+    /// most the length.
+    ///
+    /// `Failed` comes only where the count of faults rose in this call; the range may then hold any
+    /// bytes, and the disk may be longer, up to the range's end. In any case an image may have any
+    /// bytes in the range until the next good sync.
+    fn write_at(&mut self, at: u64, from: &[u8]) -> Result<(), Failed>
+        requires { IfTold (reads self.old) (λ xs. at ≤ length xs) }
+        ensures written { OnOk result (Turns (reads self.old) (reads self.new) (Holds at from.now)) }
+        ensures torn { OnErr result (Turns (reads self.old) (reads self.new) (Torn at (length from.now))) }
+        ensures images { Follow (Torn at (length from.now)) (past self.old) (past self.new) }
+        ensures time { GoesOn (past self.old) (past self.new) }
+        ensures syncs { NoSync (past self.old) (past self.new) }
+        ensures cause { HasCause (faults self.old) (faults self.new) result };
+
+    /// Makes what was written last. After Ok, what the disk reads as is its only image.
+    ///
+    /// `Failed` comes only where the count of faults rose in this call. What the disk reads as stays
+    /// in any case, and no image is added.
+    fn sync(&mut self) -> Result<(), Failed>
+        ensures durable { OnOk result (IfTold (reads self.old) (Only (past self.new))) }
+        ensures reads { reads self.new ≡ reads self.old }
+        ensures images { AddsNone (past self.old) (past self.new) }
+        ensures time { GoesOn (past self.old) (past self.new) }
+        ensures synced { OnOk result (IfTold (reads self.old) (λ xs. OneSync (past self.old) (past self.new))) }
+        ensures none { OnErr result (NoSync (past self.old) (past self.new)) }
+        ensures cause { HasCause (faults self.old) (faults self.new) result };
+
+    /// What it reads as is one of its images.
+    ghost is_image: { (disk : Self) → IfTold (reads disk) (Images (past disk)) };
+}
