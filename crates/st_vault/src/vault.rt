@@ -98,8 +98,15 @@ impl Vault {
         if self.left() == 0 {
             return Err(ReserveRefused::Exhausted(self));
         }
-        put(disk, MAP_AT + u64::from(self.next), &[SPENT])?;
+        let place = MAP_AT + u64::from(self.next());
+        put(disk, place, &[SPENT])?;
         Ok(self.spend())
+    }
+
+    fn next(&self) -> u32
+        ensures { result ≡ self.now.next }
+    {
+        self.next
     }
 
     /// The vault after its next counter, and that counter, which the caller has spent.
