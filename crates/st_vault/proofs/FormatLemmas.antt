@@ -1,22 +1,25 @@
 -- What the parts of formatting leave.
-use Rattle.std.proofs.Common.{◌≡◌, ◌≢◌, ◌⊎◌, inl, inr, ⊎_elim, ◌∙◌, ℕ, ◌+◌, ◌<◌, ◌≤◌, ◌^◌, true, false, List, [], ◌∷◌, ◌++◌, length, get_or, take, drop, replicate, Ok, ap, sym, subst, refl, arith, append_assoc, length-append}
+use Rattle.std.proofs.Common.{◌≡◌, ◌≢◌, ◌⊎◌, inl, inr, ⊎_elim, ◌∙◌, ℕ, ◌+◌, ◌<◌, ◌≤◌, ◌^◌, Bool, true, false, List, [], ◌∷◌, ◌++◌, length, get_or, take, drop, replicate, not, Ok, Err, ap, sym, subst, refl, arith, append_assoc, length-append}
 use Rattle.std.proofs.Math.Seq.{take-append-add}
 use Rattle.std.proofs.lemmas.Bool.{cases_eq}
 use Rattle.std.proofs.lemmas.List.{drop-append-le, drop-drop, drop-replicate, drop_at, get_or-take, length-drop, length-replicate, length-take-le, replicate-append-replicate, take-append-le, take-replicate, take_at}
+use Rattle.st_base.specs.Answers.{holds_or}
 use Rattle.st_io.proofs.PastLemmas.{goes_on}
-use Rattle.st_io.specs.Past.{Past, Images, GoesOn, AddsNone, Only, Leaves}
+use Rattle.st_io.specs.Past.{Past, Images, GoesOn, AddsNone, Follow, Only, Leaves}
 use Rattle.st_io.specs.Tears.{Torn, Holds}
 use Rattle.st_lms.specs.Keys.{SecretKey, IsSecretKey}
 use Rattle.st_vault.proofs.HeaderLemmas.{key_of_header-header_of, length-header_of}
 use Rattle.st_vault.proofs.ImageLemmas.{IsOpen, IsVault, Parts, blank-unformatted, kind-blank, not_blank, unformatted-short, unformatted-shut}
 use Rattle.st_vault.proofs.MapLemmas.{nonzero-zeros}
-use Rattle.st_vault.proofs.OpeningLemmas.{opened-parts, next_counter-whole}
+use Rattle.st_vault.proofs.MomentLemmas.{after, only_after, over, stays_only, weaker}
+use Rattle.st_vault.proofs.OpeningLemmas.{opened-parts}
 use Rattle.st_vault.proofs.SpentLemmas.{spent-whole, spent-none}
-use Rattle.st_vault.specs.Formatting.{IsFilled, IsFresh, IsNew, IsOldOrBlank, IsOldOrFresh, IsShut, zeros}
+use Rattle.st_vault.specs.Formatting.{IsFilled, IsFresh, IsNew, IsOldOrBlank, IsOldOrFresh, IsShut, unformatted, zeros}
 use Rattle.st_vault.specs.Image.{IsSpent, header_of, is_formatted, key_in, key_of_header, kind_of, map_in, next_counter, nonzero_from, one_past, open_gate, spent}
 use Rattle.st_vault.specs.Image.Kind.{Blank}
 use Rattle.st_vault.specs.Spent.{AddsNoImage, KeepsSpent, SpentInAll}
 use Rattle.st_vault.specs.Values.{count_of, new_vault}
+use Rattle.st_vault.specs.declared.refused.FormatRefused.TheVariants.{Formatted}
 
 -- ---- the gate is shut over a disk of too few bytes
 
@@ -61,6 +64,8 @@ filled key old image known is holds =
     let count = count_of key in
     let seven : List ℕ = replicate 7 0 in
     let map : List ℕ = replicate count 0 in
+    let map_long : length map ≡ count = length-replicate {A = ℕ} count 0 in
+    let seven_long : length seven ≡ 7 = length-replicate {A = ℕ} 7 0 in
     let bytes = header ++ replicate (7 + count) 0 in
     let rest = drop (1 + length bytes) old in
     let one : length (take 1 old) ≡ 1 = length-take-le 1 old is.there in
@@ -70,12 +75,12 @@ filled key old image known is holds =
         ∙ ap (λ l. take 1 old ++ l) (append_assoc header (seven ++ map) rest) ∙ ap (λ l. take 1 old ++ (header ++ l)) (append_assoc seven map rest) in
     let behind : drop 1 image ≡ header ++ (seven ++ (map ++ rest)) = ap (drop 1) whole ∙ drop_at (take 1 old) _ 1 one in
     let after : drop 64 image ≡ map ++ rest
-        = sym (drop-drop 63 1 image) ∙ ap (drop 63) behind ∙ sym (drop-drop 7 56 (header ++ (seven ++ (map ++ rest)))) ∙ ap (drop 7) (drop_at header _ 56 (length-header_of key known)) ∙ drop_at seven (map ++ rest) 7 (length-replicate 7 0) in
+        = sym (drop-drop 63 1 image) ∙ ap (drop 63) behind ∙ sym (drop-drop 7 56 (header ++ (seven ++ (map ++ rest)))) ∙ ap (drop 7) (drop_at header _ 56 (length-header_of key known)) ∙ drop_at seven (map ++ rest) 7 seven_long in
     record {
       known = known;
-      long = omega (arith, ap length after, length-drop 64 image, length-append map rest, length-replicate count 0, ap length behind, length-drop 1 image, length-append header (seven ++ (map ++ rest)), length-header_of key known);
+      long = omega (arith, ap length after, length-drop 64 image, length-append map rest, map_long, ap length behind, length-drop 1 image, length-append header (seven ++ (map ++ rest)), length-header_of key known);
       key_is = ap key_of_header behind ∙ key_of_header-header_of key (seven ++ (map ++ rest)) known;
-      map_is = ap (take count) after ∙ take_at map rest count (length-replicate count 0);
+      map_is = ap (take count) after ∙ take_at map rest count map_long;
     }
 
 -- ---- the gate is opened
@@ -140,3 +145,40 @@ formatting_keeps key old a b c image goes none leaves = record {
     (λ since. spent_on key old x q (all old image) (leaves.each x since))
     (leaves.goes.splits a.now x goes.later left);
 }
+
+-- ---- the gate, shut in steps
+
+pub unformatted-not : (image : List ℕ) → is_formatted image ≡ true → unformatted image ≡ Err Formatted
+unformatted-not image is = ap (λ test. holds_or (not test) Formatted) is
+
+pub unformatted-ok : (image : List ℕ) → is_formatted image ≡ false → unformatted image ≡ Ok tt
+unformatted-ok image isnt = ap (λ test. holds_or (not test) Formatted) isnt
+
+pub short-ok : (image : List ℕ) → length image < 64 → unformatted image ≡ Ok tt
+short-ok image short = unformatted-ok image (unformatted-short image short)
+
+pub shut-ok : (image : List ℕ) → IsShut image → unformatted image ≡ Ok tt
+shut-ok image is = unformatted-ok image (unformatted-shut image is.gate)
+
+-- the look at a short disk, and the write over it
+pub shut_moments : (a b c : Past) (old : List ℕ) → Only a old → AddsNoImage a b → length old < 64 → GoesOn b c → Follow (Torn 0 1) b c
+    → Leaves (IsOldOrBlank old) a c
+shut_moments a b c old only looked short goes follow =
+    after (IsOldOrBlank old) a b c (stays_only (IsOldOrBlank old) a b old only looked (λ x same. inl same))
+      (over (IsOldOrBlank old) (Torn 0 1) b c old (only_after a b old only looked) goes follow (λ x torn. shutting old x short torn))
+
+-- ---- shut, filled and opened
+
+ok_blank : (image : List ℕ) (done : Unit {0}) → unformatted image ≡ Ok done → kind_of image ≡ Blank
+ok_blank image done is = kind-blank image (by_test (is_formatted image) refl is)
+  where
+    by_test : (test : Bool) → is_formatted image ≡ test → holds_or (not test) Formatted ≡ Ok done → is_formatted image ≡ false
+    by_test true found same = absurd (cc)
+    by_test false found same = found
+
+pub made_moments : (key : SecretKey) (old : List ℕ) (done : Unit {0}) (a b c : Past) → unformatted old ≡ Ok done
+    → Leaves (IsOldOrBlank old) a b → Leaves (IsFresh key) b c → Leaves (IsOldOrFresh key old) a c
+made_moments key old done a b c is first second =
+    after (IsOldOrFresh key old) a b c
+      (weaker (IsOldOrBlank old) (IsOldOrFresh key old) a b first (blank_or_fresh key old))
+      (weaker (IsFresh key) (IsOldOrFresh key old) b c second (λ x fresh. inr (ok_blank old done is, fresh)))

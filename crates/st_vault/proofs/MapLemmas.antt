@@ -46,20 +46,19 @@ pub record IsMarked (place : ℕ) (map : List ℕ) (q : ℕ) : Type 0 where
 
 pub marked-nonzero : (place : ℕ) (map : List ℕ) (q : ℕ) → Contains (nonzero_from place map) q → IsMarked place map q
 marked-nonzero place [] q there = absurd (none_in q there)
-marked-nonzero place (byte ∷ map) q there = by_test (byte == 0) refl there
+marked-nonzero place (byte ∷ map) q there = by_test (marked-nonzero (place + 1) map q) (byte == 0) refl there
   where
     rest : List ℕ
     rest = nonzero_from (place + 1) map
-    behind : Contains rest q → IsMarked place (byte ∷ map) q
-    behind more =
-        let m = marked-nonzero (place + 1) map q more in
-        record { at = suc m.at; is = omega (arith, m.is); within = omega (arith, m.within); mark = m.mark }
-    by_test : (is_zero : Bool) → (byte == 0) ≡ is_zero → Contains (cond is_zero rest (place ∷ rest)) q → IsMarked place (byte ∷ map) q
-    by_test true zero_is more = behind more
-    by_test false isnt more = ⊎_elim
+    behind : IsMarked (place + 1) map q → IsMarked place (byte ∷ map) q
+    behind m = record { at = suc m.at; is = omega (arith, m.is); within = omega (arith, m.within); mark = m.mark }
+    by_test : (Contains rest q → IsMarked (place + 1) map q) → (is_zero : Bool) → (byte == 0) ≡ is_zero
+        → Contains (cond is_zero rest (place ∷ rest)) q → IsMarked place (byte ∷ map) q
+    by_test more true zero_is there = behind (more there)
+    by_test more false isnt there = ⊎_elim
       (λ here. record { at = 0; is = omega (arith, here); within = omega arith; mark = eqb-false byte 0 isnt })
-      (λ later. behind later)
-      (first_or_later place q rest more)
+      (λ later. behind (more later))
+      (first_or_later place q rest there)
 
 pub nonzero-zeros : (place n : ℕ) → nonzero_from place (replicate n 0) ≡ []
 nonzero-zeros place zero = refl
@@ -71,16 +70,16 @@ nonzero-push place [] byte = rw (place_is) refl
   where
     place_is : place + 0 ≡ place
     place_is = omega arith
-nonzero-push place (first ∷ map) byte = by_test (first == 0)
+nonzero-push place (first ∷ map) byte =
+    let next_is : place + 1 + length map ≡ place + suc (length map) = omega arith in
+    by_test (first == 0) (nonzero-push (place + 1) map byte ∙ ap (λ n. nonzero_from (place + 1) map ++ cond (byte == 0) [] (n ∷ [])) next_is)
   where
-    next_is : place + 1 + length map ≡ place + suc (length map)
-    next_is = omega arith
-    more : nonzero_from (place + 1) (map ++ byte ∷ []) ≡ nonzero_from (place + 1) map ++ cond (byte == 0) [] ((place + suc (length map)) ∷ [])
-    more = nonzero-push (place + 1) map byte ∙ ap (λ n. nonzero_from (place + 1) map ++ cond (byte == 0) [] (n ∷ [])) next_is
-    by_test : (is_zero : Bool) → cond is_zero (nonzero_from (place + 1) (map ++ byte ∷ [])) (place ∷ nonzero_from (place + 1) (map ++ byte ∷ []))
+    by_test : (is_zero : Bool)
+        → nonzero_from (place + 1) (map ++ byte ∷ []) ≡ nonzero_from (place + 1) map ++ cond (byte == 0) [] ((place + suc (length map)) ∷ [])
+        → cond is_zero (nonzero_from (place + 1) (map ++ byte ∷ [])) (place ∷ nonzero_from (place + 1) (map ++ byte ∷ []))
         ≡ cond is_zero (nonzero_from (place + 1) map) (place ∷ nonzero_from (place + 1) map) ++ cond (byte == 0) [] ((place + suc (length map)) ∷ [])
-    by_test true = more
-    by_test false = ap (λ l. place ∷ l) more
+    by_test true more = more
+    by_test false more = ap (λ l. place ∷ l) more
 
 -- ---- one past the greatest
 

@@ -1,5 +1,5 @@
 -- Runs of device calls, and what is spent over them.
-use Rattle.std.proofs.Common.{◌≡◌, ◌⊎◌, ⊎_elim, ℕ, List, Option, Some, subst}
+use Rattle.std.proofs.Common.{◌≡◌, ◌⊎◌, ⊎_elim, ◌∙◌, ℕ, List, Option, Some, sym, subst}
 use Rattle.st_io.proofs.PastLemmas.{adds_none, goes_on, more, more_none}
 use Rattle.st_io.specs.Past.{Past, Images, GoesOn, AddsNone, Follow, Only, Leaves}
 use Rattle.st_io.specs.Tears.{Turns}
@@ -35,6 +35,27 @@ after P a b c first second = more P a b c first second.goes second.each
 
 pub weaker : (P Q : List ℕ → Type 0) (a b : Past) → Leaves P a b → ((x : List ℕ) → P x → Q x) → Leaves Q a b
 weaker P Q a b leaves to = record { goes = leaves.goes; each = λ x left. to x (leaves.each x left) }
+
+-- what a disk reads as stays the same
+pub turns_same : (old new : Option (List ℕ)) (R : List ℕ → List ℕ → Type 0) → new ≡ old → ((x : List ℕ) → old ≡ Some x → R x x) → Turns old new R
+turns_same old new R same to = record {
+  forward = λ x told. (x, same ∙ told, to x told);
+  back = λ y told. let was = sym same ∙ told in (y, was, to y was);
+}
+
+-- over one run and the next
+pub turns_on : (a b c : Option (List ℕ)) (R S T : List ℕ → List ℕ → Type 0) → ((x y z : List ℕ) → R x y → S y z → T x z)
+    → Turns a b R → Turns b c S → Turns a c T
+turns_on a b c R S T to first second = record {
+  forward = λ x told.
+    let at = first.forward x told in
+    let end = second.forward at.0 at.1 in
+    (end.0, end.1, to x at.0 end.0 at.2 end.2);
+  back = λ z told.
+    let at = second.back z told in
+    let start = first.back at.0 at.1 in
+    (start.0, start.1, to start.0 at.0 z start.2 at.2);
+}
 
 -- what a disk reads as, by a weaker relation
 pub turns_weaker : (old new : Option (List ℕ)) (R S : List ℕ → List ℕ → Type 0) → ((x y : List ℕ) → old ≡ Some x → R x y → S x y)

@@ -1,5 +1,5 @@
 -- What an image is opened as, by what it is.
-use Rattle.std.proofs.Common.{◌≡◌, ◌≢◌, ◌∙◌, ℕ, ◌+◌, ◌≤◌, ◌<◌, true, false, List, length, get_or, drop, take, Result, Ok, Err, ap, refl, sym, subst, arith}
+use Rattle.std.proofs.Common.{◌≡◌, ◌≢◌, ◌∙◌, ℕ, ◌+◌, ◌≤◌, ◌<◌, true, false, List, length, get_or, drop, take, IfSome, Result, Ok, Err, ap, refl, sym, subst, arith}
 use Rattle.std.proofs.lemmas.Bool.{false_from_ne_true}
 use Rattle.std.proofs.lemmas.List.{drop-take, get_or-take, take-take}
 use Rattle.st_base.specs.Answers.{◌>>=◌}
@@ -9,7 +9,7 @@ use Rattle.st_vault.proofs.ImageLemmas.{IsOpen, IsVault, IsWholeOf, Parts, forma
 use Rattle.st_vault.proofs.SpentLemmas.{spent-whole}
 use Rattle.st_vault.specs.Image.{Kind, is_whole, key_in, key_of_header, kind_of, map_in, next_counter, nonzero_from, one_past, open_gate}
 use Rattle.st_vault.specs.Image.Kind.{Blank, Damaged, Whole}
-use Rattle.st_vault.specs.Opening.{key_by_kind, key_of, opened}
+use Rattle.st_vault.specs.Opening.{key_by_kind, key_of, opened, refusal_of}
 use Rattle.st_vault.specs.Values.{VaultValue, count_of}
 use Rattle.st_vault.specs.declared.refused.OpenRefused.{OpenRefused}
 use Rattle.st_vault.specs.declared.refused.OpenRefused.TheVariants as refused
@@ -127,3 +127,10 @@ unfolding opened key_of
 opened-parts image vault is =
     let has : key_by_kind (kind_of image) ≡ Ok vault.key = ap key_by_kind (kind-whole image is.parts) ∙ ap Ok is.key_is in
     rw (has, is.next_is) refl
+
+-- the refusal of the key is that of the vault
+pub err-opened : (image : List ℕ) (error : OpenRefused) → IfSome (refusal_of error) (λ refusal. key_of image ≡ Err refusal)
+    → IfSome (refusal_of error) (λ refusal. opened image ≡ Err refusal)
+err-opened image refused.Blank none = opened-err image refused.Blank none
+err-opened image refused.Damaged none = opened-err image refused.Damaged none
+err-opened image refused.DiskFault none = tt

@@ -37,7 +37,7 @@ module _ (vault : VaultValue) (old : List ℕ) (opens : opened old ≡ Ok vault)
   fits left = omega (arith, long left)
 
   -- the image with that byte
-  marked_image : List ℕ
+  abbrev marked_image : List ℕ
   marked_image = set old (64 + vault.next) 1
 
   as_set : (new : List ℕ) → vault.next < count_of vault.key → Holds (64 + vault.next) (1 ∷ []) old new → new ≡ marked_image
@@ -80,10 +80,10 @@ module _ (vault : VaultValue) (old : List ℕ) (opens : opened old ≡ Ok vault)
     (cases_eq q vault.next)
 
   -- after the write the disk reads as the vault after its next counter, and that is spent
-  pub written : (new : List ℕ) → vault.next < count_of vault.key → Holds (64 + vault.next) (1 ∷ []) old new
+  pub written : (place : ℕ) (new : List ℕ) → place ≡ vault.next → vault.next < count_of vault.key → Holds (64 + place) (1 ∷ []) old new
       → (opened new ≡ Ok (vault_after vault)) × IsSpent new vault.next
-  written new left holds =
-      let is = sym (as_set new left holds) in
+  written place new here left holds =
+      let is = sym (as_set new left (subst (λ n. Holds (64 + n) (1 ∷ []) old new) here holds)) in
       let opens_after : opened marked_image ≡ Ok (vault_after vault) = opened-parts marked_image (vault_after vault) (record {
         parts = parts;
         key_is = key;
@@ -92,10 +92,10 @@ module _ (vault : VaultValue) (old : List ℕ) (opens : opened old ≡ Ok vault)
       (subst (λ l. opened l ≡ Ok (vault_after vault)) is opens_after, subst (λ l. IsSpent l vault.next) is (next_spent left))
 
   -- done or cut short, the write leaves spent what was spent in every image
-  pub after_write : (a b : Past) → Images a old → GoesOn a b → Follow (Torn (64 + vault.next) 1) a b → KeepsSpent a b
-  after_write a b image goes follow = record {
+  pub after_write : (place : ℕ) (a b : Past) → place ≡ vault.next → Images a old → GoesOn a b → Follow (Torn (64 + place) 1) a b → KeepsSpent a b
+  after_write place a b here image goes follow = record {
     goes = goes;
     stays = λ q all x left.
       let from = follow x left in
-      stays_spent vault.next q from.0 x (omega (arith, spent_below old q (all old image), is_open.next_is)) from.2 (all from.0 from.1);
+      stays_spent place q from.0 x (omega (arith, here, spent_below old q (all old image), is_open.next_is)) from.2 (all from.0 from.1);
   }

@@ -1,5 +1,5 @@
 -- What an image is opened as.
-use Rattle.std.specs.Prelude.{◌≡◌, List, Option, Some, None, Result, Ok, Err}
+use Rattle.std.specs.Prelude.{◌≡◌, ℕ, List, Option, Some, None, Result, Ok, Err}
 use Rattle.st_base.specs.Answers.{◌>>=◌}
 use Rattle.st_io.specs.Tears.{IfTold}
 use Rattle.st_lms.specs.Keys.{SecretKey}

@@ -1,4 +1,4 @@
-ghost use Rattle.std.specs.Prelude.{◌≡◌, ◌+◌, ◌≤◌, ◌++◌, List, ℕ, length, take, IsSome, IfOk, OnOk, IsErrOf};
+ghost use Rattle.std.specs.Prelude.{◌≡◌, ◌+◌, ◌≤◌, ◌++◌, List, ℕ, length, take, drop, IsSome, IfOk, OnOk, IsErrOf};
 ghost use Rattle.st_base.specs.Answers.{Gives};
 ghost use Rattle.st_io.specs.Causes.{HasCause, Rose};
 ghost use Rattle.st_io.specs.Past.{Only, Leaves, LeftSinceSync};
@@ -14,7 +14,7 @@ ghost use Rattle.st_vault.specs.Values.{count_of, new_vault};
 
 use crate::durable::put;
 use crate::header::write_header;
-use crate::layout::{HEADER_AT, HEADER_LEN, MAP_AT, MOST_COUNTERS, OPEN_GATE, SHUT_GATE};
+use crate::layout::{HEADER_AT, MAP_AT, MOST_COUNTERS, OPEN_GATE, SHUT_GATE};
 use crate::refused::FormatRefused;
 use crate::vault::Vault;
 use st_io::{Disk, Failed};
@@ -147,10 +147,19 @@ fn fill<D: Disk>(disk: &mut D, secret: &Secret) -> Result<(), Failed>
 /// Room for all behind the gate, with the largest map.
 const ROW_LEN: usize = 63 + MOST_COUNTERS;
 
+#[tactic(auto, unfolding(crate::specs::Formatting::zeros))]
 fn no_row() -> [u8; ROW_LEN]
     ensures { result ≡ zeros 1087 }
 {
     [0; ROW_LEN]
+}
+
+/// Writes these bytes over the first of a row.
+fn begin_with(row: &mut [u8], bytes: &[u8])
+    requires { length bytes.now ≤ length row.old }
+    ensures { row.new ≡ bytes.now ++ drop (length bytes.now) row.old }
+{
+    row[..bytes.len()].copy_from_slice(bytes);
 }
 
 /// Writes the header of a key into a row of zeros, and says how much of the row a vault has behind its
@@ -162,7 +171,7 @@ fn fill_row(row: &mut [u8], secret: &Secret) -> usize
     ensures len { result ≤ 1087 }
     ensures bytes { take result row.new ≡ header_of secret.now ++ zeros (7 + count_of secret.now) }
 {
-    row[..HEADER_LEN].copy_from_slice(&write_header(secret));
+    begin_with(row, &write_header(secret));
     63 + secret.leaf_count() as usize
 }
 

@@ -66,9 +66,7 @@ pub(crate) fn read_header(header: &[u8]) -> Result<Secret, BadType>
     ensures known { IsOk result ↔ (IsOneTimeType (key_of_header header.now).ots × IsTreeType (key_of_header header.now).tree) }
     ensures value { IfOk result (λ secret. secret ≡ key_of_header header.now) }
 {
-    let (ots, rest) = header.split_at(4);
-    let (tree, rest) = rest.split_at(4);
-    let (id, rest) = rest.split_at(16);
-    let (seed, _) = rest.split_at(32);
-    Secret::new(str_to_u32(ots), str_to_u32(tree), copied(id), copied(seed))
+    let ots = str_to_u32(&header[..4]);
+    let tree = str_to_u32(&header[4..8]);
+    Secret::new(ots, tree, copied(&header[8..24]), copied(&header[24..56]))
 }

@@ -64,6 +64,7 @@ impl Vault {
     pub fn left(&self) -> u32
         ensures value { result ≡ left_of self.now }
         ensures known { self.now.next ≤ count_of self.now.key }
+        ensures small { count_of self.now.key ≤ 1024 }
     {
         self.secret.leaf_count() - self.next
     }
@@ -111,7 +112,8 @@ impl Vault {
 
     /// The vault after its next counter, and that counter, which the caller has spent.
     fn spend(self) -> (Vault, Counter)
-        requires { self.next < count_of self.key }
+        requires left { self.next < count_of self.key }
+        requires small { self.next < 1024 }
         ensures { (result.0 ≡ vault_after self) × (result.1 ≡ counter_of self) }
     {
         let counter = Counter::new(self.secret, self.next);
