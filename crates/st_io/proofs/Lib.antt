@@ -1,1 +1,4 @@
+mod CrashLemmas
+mod HistoryLemmas
 pub mod PastLemmas
+pub mod TearLemmas

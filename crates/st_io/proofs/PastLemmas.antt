@@ -1,5 +1,5 @@
 -- How a run of calls of a disk goes on. For crates that speak of stops inside a call.
-use Rattle.std.proofs.Common.{◌≡◌, ◌⊎◌, inl, inr, ⊎_elim, ℕ, zero, suc, ◌<◌, ◌≤◌, List, subst, arith}
+use Rattle.std.proofs.Common.{◌⊎◌, inl, inr, ⊎_elim, ℕ, zero, suc, ◌<◌, ◌≤◌, List, subst, arith}
 use Rattle.st_io.specs.Past.{Past, Images, GoesOn, NoSync, OneSync, AddsNone, Follow, LeftSinceSync, Leaves}
 
 -- no call
@@ -11,14 +11,14 @@ pub goes_on : (a b c : Past) → GoesOn a b → GoesOn b c → GoesOn a c
 goes_on a b c ab bc = record {
   later = omega (arith, ab.later, bc.later);
   splits = λ t x le left. ⊎_elim
-    (λ was. ⊎_elim (λ w. inl w) (λ w. inr (bc.keeps a.now x ab.later w)) (ab.splits t x le was))
-    (λ new. inr (c.earlier a.now b.now x ab.later new))
-    (bc.splits t x (omega (arith, le, ab.later)) left);
+      (λ was. ⊎_elim (λ w. inl w) (λ w. inr (bc.keeps a.now x ab.later w)) (ab.splits t x le was))
+      (λ new. inr (c.earlier a.now b.now x ab.later new))
+      (bc.splits t x (omega (arith, le, ab.later)) left);
   keeps = λ t x le was. bc.keeps t x (omega (arith, le, ab.later)) (ab.keeps t x le was);
   syncs = λ s le.
-    let first = ab.syncs s le in
-    let second = bc.syncs s (omega (arith, le, ab.later)) in
-    (λ new. first.0 (second.0 new), λ was. second.1 (first.1 was));
+      let first = ab.syncs s le in
+      let second = bc.syncs s (omega (arith, le, ab.later)) in
+      (λ new. first.0 (second.0 new), λ was. second.1 (first.1 was));
 }
 
 -- the images of now are among those since an earlier moment
@@ -44,9 +44,9 @@ more_write P step a b c so_far goes follow to = more P a b c so_far goes (λ x l
 -- two runs that add no image
 pub adds_none : (a b c : Past) → GoesOn a b → AddsNone a b → GoesOn b c → AddsNone b c → AddsNone a c
 adds_none a b c ab none_first bc none_then x left = ⊎_elim
-  (λ was. none_first x was)
-  (λ new. none_first x (b.earlier a.now b.now x ab.later (none_then x new)))
-  (bc.splits a.now x ab.later left)
+    (λ was. none_first x was)
+    (λ new. none_first x (b.earlier a.now b.now x ab.later (none_then x new)))
+    (bc.splits a.now x ab.later left)
 
 pub le_or_lt : (s n : ℕ) → (s ≤ n) ⊎ (n < s)
 le_or_lt zero n = inl (omega arith)
@@ -56,34 +56,34 @@ le_or_lt (suc s) (suc n) = ⊎_elim (λ le. inl (omega (arith, le))) (λ lt. inr
 -- two runs without a good sync
 pub no_syncs : (a b c : Past) → NoSync a b → GoesOn b c → NoSync b c → NoSync a c
 no_syncs a b c none_first bc none_then s lt synced = ⊎_elim
-  (λ le. none_first s lt ((bc.syncs s le).0 synced))
-  (λ more. none_then s more synced)
-  (le_or_lt s b.now)
+    (λ le. none_first s lt ((bc.syncs s le).0 synced))
+    (λ more. none_then s more synced)
+    (le_or_lt s b.now)
 
 -- where one good sync has come since a time, the images from the first one on are those since it
 pub since_sync : (a b c : Past) → OneSync a b → GoesOn b c → (x : List ℕ) → LeftSinceSync c a.now x → c.left_since b.now x
 since_sync a b c one goes x left =
     ⊎_elim
-      (λ le. subst (λ s. c.left_since s x) (one.no_other left.0 left.1 ((goes.syncs left.0 le).0 left.2)) left.3)
-      (λ lt. c.earlier b.now left.0 x (omega (arith, lt)) left.3)
-      (le_or_lt left.0 b.now)
+    (λ le. subst (λ s. c.left_since s x) (one.no_other left.0 left.1 ((goes.syncs left.0 le).0 left.2)) left.3)
+    (λ lt. c.earlier b.now left.0 x (omega (arith, lt)) left.3)
+    (le_or_lt left.0 b.now)
 
 -- the images from the first good sync on split at a later moment
 pub splits_since_sync : (b c : Past) → GoesOn b c → (t : ℕ) (x : List ℕ) → LeftSinceSync c t x → LeftSinceSync b t x ⊎ c.left_since b.now x
 splits_since_sync b c goes t x left =
     ⊎_elim
-      (λ le. ⊎_elim
-        (λ was. inl (left.0, left.1, (goes.syncs left.0 le).0 left.2, was))
-        (λ new. inr new)
-        (goes.splits left.0 x le left.3))
-      (λ lt. inr (c.earlier b.now left.0 x (omega (arith, lt)) left.3))
-      (le_or_lt left.0 b.now)
+    (λ le. ⊎_elim
+    (λ was. inl (left.0, left.1, (goes.syncs left.0 le).0 left.2, was))
+    (λ new. inr new)
+    (goes.splits left.0 x le left.3))
+    (λ lt. inr (c.earlier b.now left.0 x (omega (arith, lt)) left.3))
+    (le_or_lt left.0 b.now)
 
 -- and both parts are among them, where a good sync has come by then
 pub keeps_since_sync : (b c : Past) → GoesOn b c → (t s : ℕ) → t < s → s ≤ b.now → b.synced s → (x : List ℕ) → LeftSinceSync b t x ⊎ c.left_since b.now x → LeftSinceSync c t x
 keeps_since_sync b c goes t s lt le synced x = ⊎_elim
-  (λ was. ⊎_elim
+    (λ was. ⊎_elim
     (λ w_le. (was.0, was.1, (goes.syncs was.0 w_le).1 was.2, goes.keeps was.0 x w_le was.3))
     (λ w_lt. (s, lt, (goes.syncs s le).1 synced, c.earlier s b.now x le (goes.keeps b.now x (omega arith) (b.earlier b.now was.0 x (omega (arith, w_lt)) was.3))))
     (le_or_lt was.0 b.now))
-  (λ new. (s, lt, (goes.syncs s le).1 synced, c.earlier s b.now x le new))
+    (λ new. (s, lt, (goes.syncs s le).1 synced, c.earlier s b.now x le new))

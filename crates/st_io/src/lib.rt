@@ -3,11 +3,18 @@
 //! the runtime.
 #![tactic(auto)]
 
+mod crash;
 mod disk;
 mod failed;
+mod file_disk;
 mod front;
+mod history;
+mod overwrite;
+mod pick;
+mod plain_disk;
 mod plain_sink;
 mod plain_source;
+mod script_disk;
 mod script_sink;
 mod script_source;
 mod sink;
@@ -19,8 +26,12 @@ mod tests;
 
 pub use disk::Disk;
 pub use failed::Failed;
+pub use file_disk::FileDisk;
+pub use pick::Pick;
+pub use plain_disk::PlainDisk;
 pub use plain_sink::PlainSink;
 pub use plain_source::PlainSource;
+pub use script_disk::ScriptDisk;
 pub use script_sink::ScriptSink;
 pub use script_source::ScriptSource;
 pub use sink::Sink;
