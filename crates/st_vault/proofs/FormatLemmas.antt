@@ -71,11 +71,11 @@ filled key old image known is holds =
     let one : length (take 1 old) ≡ 1 = length-take-le 1 old is.there in
     let split : replicate (7 + count) 0 ≡ seven ++ map = sym (replicate-append-replicate 7 count 0) in
     let whole : image ≡ take 1 old ++ (header ++ (seven ++ (map ++ rest)))
-        = holds ∙ append_assoc (take 1 old) bytes rest ∙ ap (λ l. take 1 old ++ (header ++ l ++ rest)) split
-        ∙ ap (λ l. take 1 old ++ l) (append_assoc header (seven ++ map) rest) ∙ ap (λ l. take 1 old ++ (header ++ l)) (append_assoc seven map rest) in
+    = holds ∙ append_assoc (take 1 old) bytes rest ∙ ap (λ l. take 1 old ++ (header ++ l ++ rest)) split
+    ∙ ap (λ l. take 1 old ++ l) (append_assoc header (seven ++ map) rest) ∙ ap (λ l. take 1 old ++ (header ++ l)) (append_assoc seven map rest) in
     let behind : drop 1 image ≡ header ++ (seven ++ (map ++ rest)) = ap (drop 1) whole ∙ drop_at (take 1 old) _ 1 one in
     let after : drop 64 image ≡ map ++ rest
-        = sym (drop-drop 63 1 image) ∙ ap (drop 63) behind ∙ sym (drop-drop 7 56 (header ++ (seven ++ (map ++ rest)))) ∙ ap (drop 7) (drop_at header _ 56 (length-header_of key known)) ∙ drop_at seven (map ++ rest) 7 seven_long in
+    = sym (drop-drop 63 1 image) ∙ ap (drop 63) behind ∙ sym (drop-drop 7 56 (header ++ (seven ++ (map ++ rest)))) ∙ ap (drop 7) (drop_at header _ 56 (length-header_of key known)) ∙ drop_at seven (map ++ rest) 7 seven_long in
     record {
       known = known;
       long = omega (arith, ap length after, length-drop 64 image, length-append map rest, map_long, ap length behind, length-drop 1 image, length-append header (seven ++ (map ++ rest)), length-header_of key known);
@@ -97,7 +97,7 @@ opened_over key old image is longer same gate =
     let key_is : key_in image ≡ key = ap key_of_header same ∙ is.key_is in
     let long : 64 + count_of key ≤ length image = omega (arith, is.long, longer) in
     let maps : map_in (count_of key) image ≡ replicate (count_of key) 0
-        = ap (take (count_of key)) (sym (drop-drop 63 1 image) ∙ ap (drop 63) same ∙ drop-drop 63 1 old) ∙ is.map_is in
+    = ap (take (count_of key)) (sym (drop-drop 63 1 image) ∙ ap (drop 63) same ∙ drop-drop 63 1 old) ∙ is.map_is in
     let parts : Parts image = record {
       opened = record { long = omega (arith, long); gate = gate };
       vault = subst (λ k. IsVault k (length image)) (sym key_is) (record { ots = is.known.ots; tree = is.known.tree; long = long });
@@ -111,9 +111,9 @@ opened_over key old image is longer same gate =
 -- a stop leaves it shut, or open over a new vault
 pub opening : (key : SecretKey) (old image : List ℕ) → IsFilled key old → Torn 0 1 old image → IsFresh key image
 opening key old image is torn = ⊎_elim
-  (λ gate. inr (opened_over key old image is torn.no_shorter torn.after gate))
-  (λ shut. inl (kind-blank image (unformatted-shut image shut)))
-  (cases_eq (get_or image 0 0) open_gate)
+    (λ gate. inr (opened_over key old image is torn.no_shorter torn.after gate))
+    (λ shut. inl (kind-blank image (unformatted-shut image shut)))
+    (cases_eq (get_or image 0 0) open_gate)
 
 pub opened_by : (key : SecretKey) (old image : List ℕ) → IsFilled key old → Holds 0 (open_gate ∷ []) old image → IsNew key image
 opened_by key old image is holds =
@@ -133,17 +133,17 @@ fresh_on_blank key old image blank = ⊎_elim (λ same. inl (ap kind_of same ∙
 -- and what was spent stays spent: on a blank disk nothing was, and another stays the same
 pub spent_on : (key : SecretKey) (old image : List ℕ) (q : ℕ) → IsSpent old q → IsOldOrFresh key old image → IsSpent image q
 spent_on key old image q there = ⊎_elim
-  (λ same. subst (λ l. IsSpent l q) (sym same) there)
-  (λ fresh. absurd (spent-none old q fresh.0 there))
+    (λ same. subst (λ l. IsSpent l q) (sym same) there)
+    (λ fresh. absurd (spent-none old q fresh.0 there))
 
 -- over the first sync and the steps
 pub formatting_keeps : (key : SecretKey) (old : List ℕ) (a b c : Past) → Images a old → GoesOn a b → AddsNone a b → Leaves (IsOldOrFresh key old) b c → KeepsSpent a c
 formatting_keeps key old a b c image goes none leaves = record {
   goes = goes_on a b c goes leaves.goes;
   stays = λ q all x left. ⊎_elim
-    (λ before. all x (none x before))
-    (λ since. spent_on key old x q (all old image) (leaves.each x since))
-    (leaves.goes.splits a.now x goes.later left);
+      (λ before. all x (none x before))
+      (λ since. spent_on key old x q (all old image) (leaves.each x since))
+      (leaves.goes.splits a.now x goes.later left);
 }
 
 -- ---- the gate, shut in steps
@@ -165,7 +165,7 @@ pub shut_moments : (a b c : Past) (old : List ℕ) → Only a old → AddsNoImag
     → Leaves (IsOldOrBlank old) a c
 shut_moments a b c old only looked short goes follow =
     after (IsOldOrBlank old) a b c (stays_only (IsOldOrBlank old) a b old only looked (λ x same. inl same))
-      (over (IsOldOrBlank old) (Torn 0 1) b c old (only_after a b old only looked) goes follow (λ x torn. shutting old x short torn))
+    (over (IsOldOrBlank old) (Torn 0 1) b c old (only_after a b old only looked) goes follow (λ x torn. shutting old x short torn))
 
 -- ---- shut, filled and opened
 
@@ -180,5 +180,5 @@ pub made_moments : (key : SecretKey) (old : List ℕ) (done : Unit {0}) (a b c :
     → Leaves (IsOldOrBlank old) a b → Leaves (IsFresh key) b c → Leaves (IsOldOrFresh key old) a c
 made_moments key old done a b c is first second =
     after (IsOldOrFresh key old) a b c
-      (weaker (IsOldOrBlank old) (IsOldOrFresh key old) a b first (blank_or_fresh key old))
-      (weaker (IsFresh key) (IsOldOrFresh key old) b c second (λ x fresh. inr (ok_blank old done is, fresh)))
+    (weaker (IsOldOrBlank old) (IsOldOrFresh key old) a b first (blank_or_fresh key old))
+    (weaker (IsFresh key) (IsOldOrFresh key old) b c second (λ x fresh. inr (ok_blank old done is, fresh)))

@@ -40,10 +40,10 @@ pub record IsVault (key : SecretKey) (len : ℕ) : Type 0 where
 pub whole-vault : (key : SecretKey) (len : ℕ) → IsVault key len → is_whole key len ≡ true
 whole-vault key len is =
     and_from (is_one_time_type key.ots && is_tree_type key.tree) (nat_le (64 + count_of key) len)
-      (and_from (is_one_time_type key.ots) (is_tree_type key.tree)
-        (and_from (nat_le 1 key.ots) (nat_le key.ots 4) (le-leb _ _ is.ots.0) (le-leb _ _ is.ots.1))
-        (and_from (nat_le 5 key.tree) (nat_le key.tree 6) (le-leb _ _ is.tree.0) (le-leb _ _ is.tree.1)))
-      (le-leb _ _ is.long)
+    (and_from (is_one_time_type key.ots) (is_tree_type key.tree)
+    (and_from (nat_le 1 key.ots) (nat_le key.ots 4) (le-leb _ _ is.ots.0) (le-leb _ _ is.ots.1))
+    (and_from (nat_le 5 key.tree) (nat_le key.tree 6) (le-leb _ _ is.tree.0) (le-leb _ _ is.tree.1)))
+    (le-leb _ _ is.long)
 
 pub vault-whole : (key : SecretKey) (len : ℕ) → is_whole key len ≡ true → IsVault key len
 vault-whole key len is =

@@ -50,15 +50,17 @@ marked-nonzero place (byte ∷ map) q there = by_test (marked-nonzero (place + 1
   where
     rest : List ℕ
     rest = nonzero_from (place + 1) map
+
     behind : IsMarked (place + 1) map q → IsMarked place (byte ∷ map) q
     behind m = record { at = suc m.at; is = omega (arith, m.is); within = omega (arith, m.within); mark = m.mark }
+
     by_test : (Contains rest q → IsMarked (place + 1) map q) → (is_zero : Bool) → (byte == 0) ≡ is_zero
         → Contains (cond is_zero rest (place ∷ rest)) q → IsMarked place (byte ∷ map) q
     by_test more true zero_is there = behind (more there)
     by_test more false isnt there = ⊎_elim
-      (λ here. record { at = 0; is = omega (arith, here); within = omega arith; mark = eqb-false byte 0 isnt })
-      (λ later. behind (more later))
-      (first_or_later place q rest there)
+        (λ here. record { at = 0; is = omega (arith, here); within = omega arith; mark = eqb-false byte 0 isnt })
+        (λ later. behind (more later))
+        (first_or_later place q rest there)
 
 pub nonzero-zeros : (place n : ℕ) → nonzero_from place (replicate n 0) ≡ []
 nonzero-zeros place zero = refl
@@ -109,7 +111,7 @@ next_more map at within small =
     let before = nonzero_from 0 (take at map) in
     let long : length (take at map) ≡ at = length-take-le at map (omega arith) in
     let all : nonzero_from 0 (take (at + 1) map) ≡ before ++ cond (byte == 0) [] ((0 + length (take at map)) ∷ [])
-        = ap (nonzero_from 0) (take_more map at 0 within) ∙ nonzero-push 0 (take at map) byte in
+    = ap (nonzero_from 0) (take_more map at 0 within) ∙ nonzero-push 0 (take at map) byte in
     ap one_past all ∙ by_test (byte == 0) (0 + length (take at map)) (omega (arith, long))
   where
     by_test : (is_zero : Bool) (n : ℕ) → n ≡ at

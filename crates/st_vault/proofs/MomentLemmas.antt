@@ -48,13 +48,13 @@ pub turns_on : (a b c : Option (List ℕ)) (R S T : List ℕ → List ℕ → Ty
     → Turns a b R → Turns b c S → Turns a c T
 turns_on a b c R S T to first second = record {
   forward = λ x told.
-    let at = first.forward x told in
-    let end = second.forward at.0 at.1 in
-    (end.0, end.1, to x at.0 end.0 at.2 end.2);
+      let at = first.forward x told in
+      let end = second.forward at.0 at.1 in
+      (end.0, end.1, to x at.0 end.0 at.2 end.2);
   back = λ z told.
-    let at = second.back z told in
-    let start = first.back at.0 at.1 in
-    (start.0, start.1, to start.0 at.0 z start.2 at.2);
+      let at = second.back z told in
+      let start = first.back at.0 at.1 in
+      (start.0, start.1, to start.0 at.0 z start.2 at.2);
 }
 
 -- what a disk reads as, by a weaker relation

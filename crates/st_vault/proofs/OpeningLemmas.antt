@@ -32,7 +32,7 @@ pub head_key : (head image : List ℕ) → IsHead head image → key_in image �
 head_key head image is =
     let header : take 63 (drop 1 image) ≡ drop 1 head = sym (drop-take 1 63 image) ∙ ap (drop 1) is.is in
     let more : key_of_header (take 63 (drop 1 image)) ≡ key_of_header (drop 1 image)
-        = sym (key_of_header-take (take 63 (drop 1 image))) ∙ ap key_of_header (take-take 56 63 (drop 1 image) (omega arith)) ∙ key_of_header-take (drop 1 image) in
+    = sym (key_of_header-take (take 63 (drop 1 image))) ∙ ap key_of_header (take-take 56 63 (drop 1 image) (omega arith)) ∙ key_of_header-take (drop 1 image) in
     sym more ∙ ap key_of_header header
 
 pub key-shut : (head image : List ℕ) → IsHead head image → get_or head 0 0 ≢ open_gate → key_of image ≡ Err refused.Blank
@@ -45,7 +45,7 @@ unfolding key_of
 key-damaged head image is gate wrong =
     let opened : IsOpen image = record { long = is.long; gate = head_gate head image is ∙ gate } in
     let isnt : is_whole (key_in image) (length image) ≡ false = false_from_ne_true (is_whole (key_in image) (length image))
-        (λ whole. wrong (subst (λ k. IsVault k (length image)) (head_key head image is) (vault-whole (key_in image) (length image) whole))) in
+    (λ whole. wrong (subst (λ k. IsVault k (length image)) (head_key head image is) (vault-whole (key_in image) (length image) whole))) in
     ap key_by_kind (kind-damaged image (formatted-open image opened) isnt)
 
 pub key-whole : (head image : List ℕ) → IsHead head image → get_or head 0 0 ≡ open_gate
@@ -93,7 +93,7 @@ unfolding opened
 opened-map image key next has is =
     let from = key-parts image key has in
     let counts : next_counter image ≡ next
-        = next_counter-whole image from.parts ∙ ap (λ k. one_past (nonzero_from 0 (map_in (count_of k) image))) from.key_is ∙ sym is in
+    = next_counter-whole image from.parts ∙ ap (λ k. one_past (nonzero_from 0 (map_in (count_of k) image))) from.key_is ∙ sym is in
     rw (has, counts) refl
 
 -- an image that is no vault's is not opened

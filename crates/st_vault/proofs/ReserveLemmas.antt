@@ -67,8 +67,8 @@ module _ (vault : VaultValue) (old : List ℕ) (opens : opened old ≡ Ok vault)
 
   below_next : (q : ℕ) → IsSpent marked_image q → q < vault.next + 1
   below_next q there = ⊎_elim
-    (λ same. omega (arith, same))
-    (λ other.
+      (λ same. omega (arith, same))
+      (λ other.
       let is = marked marked_image q there in
       let elsewhere : get_or marked_image (64 + q) 0 ≡ get_or old (64 + q) 0 = get_or-set_other old (64 + vault.next) (64 + q) 1 0 (λ same. other (omega (arith, same))) in
       let was : IsSpent old q = is_spent old q (record {
@@ -77,7 +77,7 @@ module _ (vault : VaultValue) (old : List ℕ) (opens : opened old ≡ Ok vault)
         mark = λ zero. is.mark (elsewhere ∙ zero);
       }) in
       omega (arith, spent_below old q was, is_open.next_is))
-    (cases_eq q vault.next)
+      (cases_eq q vault.next)
 
   -- after the write the disk reads as the vault after its next counter, and that is spent
   pub written : (place : ℕ) (new : List ℕ) → place ≡ vault.next → vault.next < count_of vault.key → Holds (64 + place) (1 ∷ []) old new
@@ -96,6 +96,6 @@ module _ (vault : VaultValue) (old : List ℕ) (opens : opened old ≡ Ok vault)
   after_write place a b here image goes follow = record {
     goes = goes;
     stays = λ q all x left.
-      let from = follow x left in
-      stays_spent place q from.0 x (omega (arith, here, spent_below old q (all old image), is_open.next_is)) from.2 (all from.0 from.1);
+        let from = follow x left in
+        stays_spent place q from.0 x (omega (arith, here, spent_below old q (all old image), is_open.next_is)) from.2 (all from.0 from.1);
   }

@@ -60,7 +60,7 @@ is_spent image q is =
     let nonzero : get_or (map_in count image) q 0 ≢ 0 = λ zero. is.mark (sym (map_in-at count image q is.below) ∙ zero) in
     let at : 0 + q ≡ q = omega arith in
     subst (λ l. Contains l q) (sym (spent-whole image is.parts))
-      (subst (Contains (nonzero_from 0 (map_in count image))) at (nonzero-marked 0 (map_in count image) q within nonzero))
+    (subst (Contains (nonzero_from 0 (map_in count image))) at (nonzero-marked 0 (map_in count image) q within nonzero))
 
 -- ---- a write into the map that is cut short
 

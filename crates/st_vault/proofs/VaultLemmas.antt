@@ -10,8 +10,8 @@ pub keeps_on : (a b c : Past) → KeepsSpent a b → KeepsSpent b c → KeepsSpe
 keeps_on a b c first second = record {
   goes = goes_on a b c first.goes second.goes;
   stays = λ q all x left.
-    let so_far : Leaves (λ image. IsSpent image q) a b = record { goes = first.goes; each = first.stays q all } in
-    ⊎_elim (first.stays q all x)
+      let so_far : Leaves (λ image. IsSpent image q) a b = record { goes = first.goes; each = first.stays q all } in
+      ⊎_elim (first.stays q all x)
       (λ new. second.stays q (now_too (λ image. IsSpent image q) a b so_far) x new)
       (second.goes.splits a.now x first.goes.later left);
 }

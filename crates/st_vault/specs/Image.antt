@@ -57,8 +57,8 @@ unfoldable pub kind_of : List ℕ → Kind
 kind_of image =
     if is_formatted image
     then (if is_whole (key_in image) (length image)
-      then Whole (key_in image) (map_in (count_of (key_in image)) image)
-      else Damaged)
+    then Whole (key_in image) (map_in (count_of (key_in image)) image)
+    else Damaged)
     else Blank
 
 -- ---- spent counters

@@ -4,11 +4,11 @@ ghost use Rattle.st_vault.specs.Opening.{ReadsAs};
 mod images;
 mod stops;
 
-use crate::{Counter, FormatRefused, OpenRefused, ReserveRefused, Vault, format_vault, open_vault};
+use crate::{ReserveRefused, Vault, open_vault};
 use st_base::{Bytes, List, WantOfMemory};
 use st_io::{Disk, Pick, ScriptDisk};
-use st_lms::{BadType, Secret, verify};
-use std::alloc::{AllocError, Global};
+use st_lms::{BadType, Secret};
+use std::alloc::Global;
 use std::test::Fail;
 
 /// A key with 32 counters, of the type whose public key takes the least time.

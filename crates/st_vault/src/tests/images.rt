@@ -66,7 +66,10 @@ fn counters_come_in_order_until_none_is_left(rt: HostRuntime) -> Result<(), Fail
     let alloc = rt.alloc();
     let mut disk = disk_of(alloc, b"", u64::MAX)?;
     let vault = format_vault(&mut disk, key()?)?;
-    assert_eq!(rt; format_vault(&mut disk, key()?).err(), Some(FormatRefused::Formatted));
+    assert_eq!(rt;
+        format_vault(&mut disk, key()?).err(),
+        Some(FormatRefused::Formatted)
+    );
     let public = vault.public();
     let (vault, counter) = vault.reserve(&mut disk)?;
     assert_eq!(rt; counter.number(), 0);

@@ -1,15 +1,15 @@
 use super::{disk_of, key, left_by_a_stop, opened, spend};
-use crate::{Vault, format_vault, open_vault};
+use crate::{format_vault, open_vault};
+use st_base::Bytes;
 use st_io::{Pick, ScriptDisk};
 use std::alloc::Global;
 use std::test::Fail;
 
-/// A disk on which a vault was made, with no counter spent, of whose calls those behind the `last` fail.
-fn vault_disk(alloc: Global, last: u64) -> Result<ScriptDisk, Fail> {
+/// The image of a vault of which no counter is spent.
+fn vault_image(alloc: Global) -> Result<Bytes, Fail> {
     let mut disk = disk_of(alloc, b"", u64::MAX)?;
     let _vault = format_vault(&mut disk, key()?)?;
-    let image = disk.crash(alloc, Pick::New)?;
-    Ok(disk_of(alloc, image.as_slice(), last)?)
+    Ok(disk.crash(alloc, Pick::New)?)
 }
 
 /// Formats a disk; says what came of it.
@@ -55,31 +55,35 @@ made 32 32 32 32";
     Ok(())
 }
 
+// Four calls open the vault, and two reserve a counter.
 #[test]
 fn a_stop_while_opening_or_reserving_keeps_the_vault(rt: HostRuntime) -> Result<(), Fail> {
     let alloc = rt.alloc();
-    let lines = "closed 32 32 32 32
-closed 32 32 32 32
-closed 32 32 32 32
-closed 32 32 32 32
-fault 32 32 32 32
+    let image = vault_image(alloc)?;
+    for last in 0..4 {
+        let mut disk = disk_of(alloc, image.as_slice(), last)?;
+        assert_eq!(rt; reserve_answer(&mut disk), "closed", "after {last} calls");
+        let left = disk.crash(alloc, Pick::New)?;
+        assert_eq!(rt; left.as_slice(), image.as_slice(), "after {last} calls");
+    }
+    let lines = "fault 32 32 32 32
 fault 32 31 32 31
 given 31 31 31 31";
-    for (last, line) in lines.lines().enumerate() {
-        let mut disk = vault_disk(alloc, last as u64)?;
+    for (more, line) in lines.lines().enumerate() {
+        let mut disk = disk_of(alloc, image.as_slice(), 4 + more as u64)?;
         let answer = reserve_answer(&mut disk);
         let left = left_by_a_stop(alloc, &disk)?;
         let found = format!(in alloc; "{answer} {left}")?;
-        assert_eq!(rt; found.as_str(), line, "after {last} calls");
+        assert_eq!(rt; found.as_str(), line, "after {more} calls");
     }
     Ok(())
 }
 
-// Four calls open the vault, and two reserve each counter.
 #[test]
 fn a_stop_before_the_sync_of_the_tenth_reservation(rt: HostRuntime) -> Result<(), Fail> {
     let alloc = rt.alloc();
-    let mut disk = vault_disk(alloc, 4 + 9 * 2 + 1)?;
+    let image = vault_image(alloc)?;
+    let mut disk = disk_of(alloc, image.as_slice(), 4 + 9 * 2 + 1)?;
     let vault = open_vault(&mut disk)?;
     let vault = spend(&mut disk, vault, 9)?;
     assert_eq!(rt; vault.left(), 23);

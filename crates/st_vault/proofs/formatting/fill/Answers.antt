@@ -13,9 +13,9 @@ pub returns-clause-filled : goal.returns-clause-filled
 returns-clause-filled g c =
     let key = c.args.secret.now in
     on_ok_weaker c.put.result
-      (turns_weaker _ _ (Holds 1 (take c.fill_row-len.result c.fill_row-len.new.row)) (λ old image. IsFilled key image)
-        (λ x y told holds. filled key x y c.fill_row-len.ensures.known (c.requires x told).0 (subst (λ bytes. Holds 1 bytes x y) c.fill_row-len.ensures.bytes holds)))
-      c.put.ensures.written
+    (turns_weaker _ _ (Holds 1 (take c.fill_row-len.result c.fill_row-len.new.row)) (λ old image. IsFilled key image)
+    (λ x y told holds. filled key x y c.fill_row-len.ensures.known (c.requires x told).0 (subst (λ bytes. Holds 1 bytes x y) c.fill_row-len.ensures.bytes holds)))
+    c.put.ensures.written
 
 pub returns-clause-moments : goal.returns-clause-moments
 returns-clause-moments g c old told =

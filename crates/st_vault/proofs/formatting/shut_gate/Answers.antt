@@ -30,4 +30,4 @@ returns-in-Shut-clause-gives g c old told =
 pub returns-in-Shut-clause-shut : goal.returns-in-Shut-clause-shut
 returns-in-Shut-clause-shut g c =
     turns_same _ _ (λ old image. IsShut image) c.look.ensures.reads
-      (λ old told. subst (λ start. Begins start old) c.in-Shut.is (c.in_ok-look.ensures.begins old told))
+    (λ old told. subst (λ start. Begins start old) c.in-Shut.is (c.in_ok-look.ensures.begins old told))

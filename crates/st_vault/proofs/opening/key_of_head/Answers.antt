@@ -19,8 +19,8 @@ returns-then-len-from-clause-gives c image is long =
     let at : IsHead head image = record { is = is; long = omega (arith, long, c.requires.long) } in
     let key : c.in-Ok.secret ≡ key_of_header (drop 1 head) = c.in-Ok.ensures.value ∙ ap key_of_header (take_rest head 1) in
     key-damaged head image at c.if-head.false (λ vault.
-      let fits : 64 + count_of c.in-Ok.secret ≤ length image = subst (λ k. 64 + count_of k ≤ length image) (sym key) vault.long in
-      omega (arith, fits, long, c.if-len-from.true, c.from.ensures, c.leaf_count.ensures.count))
+    let fits : 64 + count_of c.in-Ok.secret ≤ length image = subst (λ k. 64 + count_of k ≤ length image) (sym key) vault.long in
+    omega (arith, fits, long, c.if-len-from.true, c.from.ensures, c.leaf_count.ensures.count))
 
 pub returns-else-len-from-clause-gives : goal.returns-else-len-from-clause-gives
 returns-else-len-from-clause-gives c image is long =
@@ -40,5 +40,5 @@ returns-in-Err-clause-gives c image is long =
     let head = c.args.head.now in
     let at : IsHead head image = record { is = is; long = omega (arith, long, c.requires.long) } in
     key-damaged head image at c.if-head.false (λ vault.
-      let types = subst (λ header. IsOneTimeType (key_of_header header).ots × IsTreeType (key_of_header header).tree) (sym (take_rest head 1)) (vault.ots, vault.tree) in
-      false≢true (c.in-Err.ensures.known.1 types))
+    let types = subst (λ header. IsOneTimeType (key_of_header header).ots × IsTreeType (key_of_header header).tree) (sym (take_rest head 1)) (vault.ots, vault.tree) in
+    false≢true (c.in-Err.ensures.known.1 types))

@@ -21,7 +21,7 @@ returns-clause-gives g c image told =
     let key = c.in_ok-secret.secret in
     let synced = c.sync.ensures.reads ∙ told in
     let next : c.in_ok-next.next ≡ one_past (nonzero_from 0 (map_in (count_of key) image))
-        = c.in_ok-next.ensures.next image (c.read_key.ensures.reads ∙ synced) ∙ ap (λ n. one_past (nonzero_from 0 (map_in n image))) c.leaf_count.ensures.count in
+    = c.in_ok-next.ensures.next image (c.read_key.ensures.reads ∙ synced) ∙ ap (λ n. one_past (nonzero_from 0 (map_in n image))) c.leaf_count.ensures.count in
     opened-map image key c.in_ok-next.next (c.in_ok-secret.ensures.gives image synced) next ∙ ap Ok (sym c.new.ensures)
 
 pub returns-clause-reads_as : goal.returns-clause-reads_as
@@ -29,5 +29,5 @@ returns-clause-reads_as g c image told =
     let key = c.in_ok-secret.secret in
     let keyed = sym c.read_next.ensures.reads ∙ told in
     let next : c.in_ok-next.next ≡ one_past (nonzero_from 0 (map_in (count_of key) image))
-        = c.in_ok-next.ensures.next image keyed ∙ ap (λ n. one_past (nonzero_from 0 (map_in n image))) c.leaf_count.ensures.count in
+    = c.in_ok-next.ensures.next image keyed ∙ ap (λ n. one_past (nonzero_from 0 (map_in n image))) c.leaf_count.ensures.count in
     opened-map image key c.in_ok-next.next (c.in_ok-secret.ensures.gives image (sym c.read_key.ensures.reads ∙ keyed)) next ∙ ap Ok (sym c.new.ensures)
