@@ -1,15 +1,15 @@
 -- What the parts of formatting leave.
-use Rattle.std.proofs.Common.{◌≡◌, ◌≢◌, ◌⊎◌, inl, inr, ⊎_elim, ◌∙◌, ℕ, ◌+◌, ◌<◌, ◌≤◌, ◌^◌, Bool, true, false, List, [], ◌∷◌, ◌++◌, length, get_or, take, drop, replicate, not, Ok, Err, ap, sym, subst, refl, arith, append_assoc, length-append}
+use Rattle.std.proofs.Common.{◌≡◌, inl, inr, ⊎_elim, ◌∙◌, ℕ, ◌+◌, ◌<◌, ◌≤◌, Bool, true, false, List, [], ◌∷◌, ◌++◌, length, get_or, take, drop, replicate, not, Ok, Err, ap, sym, subst, refl, arith, append_assoc, length-append}
 use Rattle.std.proofs.Math.Seq.{take-append-add}
 use Rattle.std.proofs.lemmas.Bool.{cases_eq}
-use Rattle.std.proofs.lemmas.List.{drop-append-le, drop-drop, drop-replicate, drop_at, get_or-take, length-drop, length-replicate, length-take-le, replicate-append-replicate, take-append-le, take-replicate, take_at}
+use Rattle.std.proofs.lemmas.List.{drop-drop, drop-replicate, drop_at, get_or-take, length-drop, length-replicate, length-take-le, replicate-append-replicate, take-replicate, take_at}
 use Rattle.st_base.specs.Answers.{holds_or}
 use Rattle.st_io.proofs.PastLemmas.{goes_on}
 use Rattle.st_io.specs.Past.{Past, Images, GoesOn, AddsNone, Follow, Only, Leaves}
 use Rattle.st_io.specs.Tears.{Torn, Holds}
 use Rattle.st_lms.specs.Keys.{SecretKey, IsSecretKey}
 use Rattle.st_vault.proofs.HeaderLemmas.{key_of_header-header_of, length-header_of}
-use Rattle.st_vault.proofs.ImageLemmas.{IsOpen, IsVault, Parts, blank-unformatted, kind-blank, not_blank, unformatted-short, unformatted-shut}
+use Rattle.st_vault.proofs.ImageLemmas.{IsVault, Parts, kind-blank, unformatted-short, unformatted-shut}
 use Rattle.st_vault.proofs.MapLemmas.{nonzero-zeros}
 use Rattle.st_vault.proofs.MomentLemmas.{after, only_after, over, stays_only, weaker}
 use Rattle.st_vault.proofs.OpeningLemmas.{opened-parts}
@@ -17,7 +17,7 @@ use Rattle.st_vault.proofs.SpentLemmas.{spent-whole, spent-none}
 use Rattle.st_vault.specs.Formatting.{IsFilled, IsFresh, IsNew, IsOldOrBlank, IsOldOrFresh, IsShut, unformatted, zeros}
 use Rattle.st_vault.specs.Image.{IsSpent, header_of, is_formatted, key_in, key_of_header, kind_of, map_in, next_counter, nonzero_from, one_past, open_gate, spent}
 use Rattle.st_vault.specs.Image.Kind.{Blank}
-use Rattle.st_vault.specs.Spent.{AddsNoImage, KeepsSpent, SpentInAll}
+use Rattle.st_vault.specs.Spent.{AddsNoImage, KeepsSpent}
 use Rattle.st_vault.specs.Values.{count_of, new_vault}
 use Rattle.st_vault.specs.declared.refused.FormatRefused.TheVariants.{Formatted}
 

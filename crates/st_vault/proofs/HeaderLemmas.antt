@@ -1,5 +1,5 @@
 -- The header of a key, as it is written and read.
-use Rattle.std.proofs.Common.{◌≡◌, ◌∙◌, ℕ, ◌+◌, ◌<◌, ◌≤◌, ◌^◌, List, ◌++◌, length, take, drop, ap, sym, refl, arith, append_assoc, length-append}
+use Rattle.std.proofs.Common.{◌≡◌, ◌∙◌, ℕ, ◌<◌, ◌^◌, List, ◌++◌, length, take, drop, ap, sym, refl, arith, append_assoc, length-append}
 use Rattle.std.proofs.lemmas.List.{drop-drop, drop-take, drop_at, take-take, take_at}
 use Rattle.st_lms.proofs.StringLemmas.{length-u32str}
 use Rattle.st_lms.proofs.Texts.{str_to_u32-u32str}

@@ -1,10 +1,10 @@
 -- What an image is, by its bytes.
-use Rattle.std.proofs.Common.{◌≡◌, ◌≢◌, ◌∙◌, ℕ, ◌+◌, ◌<◌, ◌≤◌, Bool, true, false, ◌==◌, ◌&&◌, nat_le, cond, List, length, get_or, take, drop, ap, sym, refl, arith}
+use Rattle.std.proofs.Common.{◌≡◌, ◌≢◌, ◌∙◌, ℕ, ◌+◌, ◌<◌, ◌≤◌, Bool, true, false, ◌==◌, ◌&&◌, nat_le, cond, List, length, get_or, sym, refl}
 use Rattle.std.proofs.lemmas.Bool.{and_from, and_left, and_parts, and_right, cond-false, cond-true, eq-eqb, eqb-true, false_from_ne_true, le-leb, leb-true, lt-leb, ne_eqb}
 use Rattle.st_lms.specs.Decided.{is_one_time_type, is_tree_type}
 use Rattle.st_lms.specs.Keys.{SecretKey}
 use Rattle.st_lms.specs.Parameters.{IsOneTimeType, IsTreeType}
-use Rattle.st_vault.specs.Image.{Kind, is_formatted, is_whole, key_in, kind_of, map_in, open_gate}
+use Rattle.st_vault.specs.Image.{is_formatted, is_whole, key_in, kind_of, map_in, open_gate}
 use Rattle.st_vault.specs.Image.Kind.{Blank, Damaged, Whole}
 use Rattle.st_vault.specs.Values.{count_of}
 

@@ -1,9 +1,9 @@
 -- Runs of device calls, and what is spent over them.
-use Rattle.std.proofs.Common.{◌≡◌, ◌⊎◌, ⊎_elim, ◌∙◌, ℕ, List, Option, Some, sym, subst}
-use Rattle.st_io.proofs.PastLemmas.{adds_none, goes_on, more, more_none}
-use Rattle.st_io.specs.Past.{Past, Images, GoesOn, AddsNone, Follow, Only, Leaves}
+use Rattle.std.proofs.Common.{◌≡◌, ◌∙◌, ℕ, List, Option, Some, sym, subst}
+use Rattle.st_io.proofs.PastLemmas.{adds_none, goes_on, more}
+use Rattle.st_io.specs.Past.{Past, GoesOn, Follow, Only, Leaves}
 use Rattle.st_io.specs.Tears.{Turns}
-use Rattle.st_vault.specs.Spent.{AddsNoImage, KeepsSpent, SpentInAll}
+use Rattle.st_vault.specs.Spent.{AddsNoImage, KeepsSpent}
 
 -- two runs that add no image
 pub no_image_on : (a b c : Past) → AddsNoImage a b → AddsNoImage b c → AddsNoImage a c

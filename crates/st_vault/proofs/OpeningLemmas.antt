@@ -1,11 +1,11 @@
 -- What an image is opened as, by what it is.
-use Rattle.std.proofs.Common.{◌≡◌, ◌≢◌, ◌∙◌, ℕ, ◌+◌, ◌≤◌, ◌<◌, true, false, List, length, get_or, drop, take, IfSome, Result, Ok, Err, ap, refl, sym, subst, arith}
+use Rattle.std.proofs.Common.{◌≡◌, ◌≢◌, ◌∙◌, ℕ, ◌+◌, ◌≤◌, ◌<◌, false, List, length, get_or, drop, take, IfSome, Result, Ok, Err, ap, refl, sym, subst, arith}
 use Rattle.std.proofs.lemmas.Bool.{false_from_ne_true}
 use Rattle.std.proofs.lemmas.List.{drop-take, get_or-take, take-take}
 use Rattle.st_base.specs.Answers.{◌>>=◌}
 use Rattle.st_lms.specs.Keys.{SecretKey}
 use Rattle.st_vault.proofs.HeaderLemmas.{key_of_header-take}
-use Rattle.st_vault.proofs.ImageLemmas.{IsOpen, IsVault, IsWholeOf, Parts, formatted-open, kind-blank, kind-damaged, kind-whole, unformatted-short, unformatted-shut, vault-whole, whole-kind, whole-vault}
+use Rattle.st_vault.proofs.ImageLemmas.{IsOpen, IsVault, Parts, formatted-open, kind-blank, kind-damaged, kind-whole, unformatted-short, unformatted-shut, vault-whole, whole-kind}
 use Rattle.st_vault.proofs.SpentLemmas.{spent-whole}
 use Rattle.st_vault.specs.Image.{Kind, is_whole, key_in, key_of_header, kind_of, map_in, next_counter, nonzero_from, one_past, open_gate}
 use Rattle.st_vault.specs.Image.Kind.{Blank, Damaged, Whole}

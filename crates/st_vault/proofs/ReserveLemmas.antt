@@ -1,5 +1,5 @@
 -- One counter is spent: what the write and the sync leave.
-use Rattle.std.proofs.Common.{◌≡◌, ◌≢◌, ◌⊎◌, ⊎_elim, ◌∙◌, ℕ, suc, ◌+◌, ◌<◌, ◌≤◌, List, [], ◌∷◌, ◌++◌, length, get_or, take, drop, set, ap, sym, subst, refl, arith, append_assoc}
+use Rattle.std.proofs.Common.{◌≡◌, ⊎_elim, ◌∙◌, ℕ, suc, ◌+◌, ◌<◌, ◌≤◌, List, [], ◌∷◌, ◌++◌, length, get_or, take, drop, set, ap, sym, subst, arith, append_assoc}
 use Rattle.std.proofs.lemmas.Bool.{cases_eq}
 use Rattle.std.proofs.lemmas.List.{get_or-set_other, get_or-set_same, length-set, set_split, take-set-le}
 use Rattle.st_io.specs.Past.{Past, Images, GoesOn, Follow}
@@ -11,7 +11,7 @@ use Rattle.st_vault.proofs.OpeningLemmas.{OpensAs, opened-parts, opens_as}
 use Rattle.st_vault.proofs.SpentLemmas.{is_spent, marked, same_front, same_parts, stays_spent}
 use Rattle.st_vault.specs.Image.{IsSpent, key_in, next_counter, spent}
 use Rattle.st_vault.specs.Opening.{opened}
-use Rattle.st_vault.specs.Spent.{KeepsSpent, SpentInAll}
+use Rattle.st_vault.specs.Spent.{KeepsSpent}
 use Rattle.st_vault.specs.Values.{VaultValue, count_of, vault_after}
 use Rattle.std.specs.Prelude.{Ok}
 

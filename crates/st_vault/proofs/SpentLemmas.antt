@@ -1,11 +1,10 @@
 -- Which counters are spent in an image, by its bytes.
-use Rattle.std.proofs.Common.{◌≡◌, ◌≢◌, ◌∙◌, ℕ, ◌+◌, ◌<◌, ◌≤◌, List, [], length, get_or, take, drop, replicate, ap, refl, sym, subst, arith}
+use Rattle.std.proofs.Common.{◌≡◌, ◌≢◌, ◌∙◌, ℕ, ◌+◌, ◌<◌, ◌≤◌, List, length, get_or, take, drop, ap, refl, sym, subst, arith}
 use Rattle.std.proofs.lemmas.List.{get_or-drop, get_or-take, length-drop, length-take, take-take}
 use Rattle.std.specs.List.{Contains}
 use Rattle.st_io.specs.Tears.{Torn}
-use Rattle.st_lms.specs.Keys.{SecretKey}
 use Rattle.st_vault.proofs.HeaderLemmas.{same_key}
-use Rattle.st_vault.proofs.ImageLemmas.{IsOpen, IsVault, IsWholeOf, Parts, kind-whole, whole-kind}
+use Rattle.st_vault.proofs.ImageLemmas.{IsVault, Parts, kind-whole, whole-kind}
 use Rattle.st_vault.proofs.MapLemmas.{none_in, nonzero-marked, marked-nonzero}
 use Rattle.st_vault.specs.Image.{IsSpent, Kind, key_in, kind_of, map_in, nonzero_from, spent, spent_by_kind}
 use Rattle.st_vault.specs.Image.Kind.{Blank, Damaged, Whole}

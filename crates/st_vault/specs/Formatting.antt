@@ -1,8 +1,8 @@
 -- How a disk is formatted: the gate is shut, all that stands behind it is written, the gate is opened.
-use Rattle.std.specs.Prelude.{◌≡◌, ◌≢◌, ◌⊎◌, ℕ, ◌+◌, ◌≤◌, not, List, [], length, drop, replicate, slice_index, Option, Some, None, Result, Ok}
+use Rattle.std.specs.Prelude.{◌≡◌, ◌≢◌, ◌⊎◌, ℕ, ◌+◌, ◌≤◌, not, List, [], length, replicate, slice_index, Option, Some, None, Result, Ok}
 use Rattle.st_base.specs.Answers.{◌>>◌, holds_or}
 use Rattle.st_lms.specs.Keys.{SecretKey, IsSecretKey}
-use Rattle.st_vault.specs.Image.{Kind, kind_of, is_formatted, open_gate, key_in, map_in, spent}
+use Rattle.st_vault.specs.Image.{kind_of, is_formatted, open_gate, key_in, map_in, spent}
 use Rattle.st_vault.specs.Image.Kind.{Blank}
 use Rattle.st_vault.specs.Opening.{opened}
 use Rattle.st_vault.specs.Values.{VaultValue, count_of, new_vault}

@@ -1,57 +1,99 @@
-use super::{disk_of, key, left_by_a_stop, opened, spend};
-use crate::{format_vault, open_vault};
-use st_base::Bytes;
+use super::{Left, disk_of, key, left_of, spend};
+use crate::{OpenRefused, format_vault, open_vault};
+use st_base::{Bytes, WantOfMemory};
 use st_io::{Pick, ScriptDisk};
 use std::alloc::Global;
 use std::test::Fail;
 
+const BLANK: Left = Err(OpenRefused::Blank);
+
+/// What a disk is opened as after a stop, where each byte that was not synced holds what it held
+/// before, what was written, 0, or an open gate.
+#[derive(Clone, Copy, Debug, PartialEq)]
+struct Stop {
+    old: Left,
+    new: Left,
+    zeros: Left,
+    gates: Left,
+}
+
+fn after(alloc: Global, disk: &ScriptDisk, pick: Pick) -> Result<Left, WantOfMemory> {
+    let image = disk.crash(alloc, pick)?;
+    left_of(alloc, image.as_slice())
+}
+
+fn after_stop(alloc: Global, disk: &ScriptDisk) -> Result<Stop, WantOfMemory> {
+    let old = after(alloc, disk, Pick::Old)?;
+    let new = after(alloc, disk, Pick::New)?;
+    let zeros = after(alloc, disk, Pick::Fill(0))?;
+    let gates = after(alloc, disk, Pick::Fill(0xa5))?;
+    Ok(Stop {
+        old,
+        new,
+        zeros,
+        gates,
+    })
+}
+
+/// Whether an empty disk whose calls fail from some on is formatted, and what a stop then leaves.
+fn formatted(alloc: Global, last: u64) -> Result<(bool, Stop), Fail> {
+    let secret = key()?;
+    let mut disk = disk_of(alloc, b"", last)?;
+    let made = format_vault(&mut disk, secret).is_ok();
+    Ok((made, after_stop(alloc, &disk)?))
+}
+
+/// The same of opening a vault's disk and reserving a counter.
+fn reserved(alloc: Global, image: &[u8], last: u64) -> Result<(bool, Stop), WantOfMemory> {
+    let mut disk = disk_of(alloc, image, last)?;
+    let given = match open_vault(&mut disk) {
+        Ok(vault) => vault.reserve(&mut disk).is_ok(),
+        Err(_) => false,
+    };
+    Ok((given, after_stop(alloc, &disk)?))
+}
+
 /// The image of a vault of which no counter is spent.
 fn vault_image(alloc: Global) -> Result<Bytes, Fail> {
+    let secret = key()?;
     let mut disk = disk_of(alloc, b"", u64::MAX)?;
-    let _vault = format_vault(&mut disk, key()?)?;
+    let made = format_vault(&mut disk, secret).is_ok();
+    if !made {
+        return Err(Fail::from("not made"));
+    }
     Ok(disk.crash(alloc, Pick::New)?)
 }
 
-/// Formats a disk; says what came of it.
-fn format_answer(disk: &mut ScriptDisk) -> Result<&'static str, Fail> {
-    match format_vault(disk, key()?) {
-        Ok(_) => Ok("made"),
-        Err(_) => Ok("fault"),
-    }
-}
-
-/// Opens a disk and reserves a counter; says what came of it.
-fn reserve_answer(disk: &mut ScriptDisk) -> &'static str {
-    match open_vault(disk) {
-        Ok(vault) => match vault.reserve(disk) {
-            Ok(_) => "given",
-            Err(_) => "fault",
-        },
-        Err(_) => "closed",
-    }
-}
-
-// Each line has what came of it, and what the disk is then opened as where each byte that was not synced
-// holds what it held before, what was written, 0, and an open gate.
 #[test]
 fn a_stop_while_formatting_leaves_a_blank_disk_or_the_vault(rt: HostRuntime) -> Result<(), Fail> {
     let alloc = rt.alloc();
-    let lines = "fault Blank Blank Blank Blank
-fault Blank Blank Blank Blank
-fault Blank Blank Blank Blank
-fault Blank Blank Blank Blank
-fault Blank Blank Blank Blank
-fault Blank Blank Blank Blank
-fault Blank Blank Blank Blank
-fault Blank 32 Blank 32
-made 32 32 32 32";
-    for (last, line) in lines.lines().enumerate() {
-        let mut disk = disk_of(alloc, b"", last as u64)?;
-        let answer = format_answer(&mut disk)?;
-        let left = left_by_a_stop(alloc, &disk)?;
-        let found = format!(in alloc; "{answer} {left}")?;
-        assert_eq!(rt; found.as_str(), line, "after {last} calls");
+    let blank = Stop {
+        old: BLANK,
+        new: BLANK,
+        zeros: BLANK,
+        gates: BLANK,
+    };
+    for last in 0..7 {
+        assert_eq!(rt;
+            formatted(alloc, last)?,
+            (false, blank),
+            "after {last} calls"
+        );
     }
+    let opening = Stop {
+        old: BLANK,
+        new: Ok(32),
+        zeros: BLANK,
+        gates: Ok(32),
+    };
+    assert_eq!(rt; formatted(alloc, 7)?, (false, opening));
+    let whole = Stop {
+        old: Ok(32),
+        new: Ok(32),
+        zeros: Ok(32),
+        gates: Ok(32),
+    };
+    assert_eq!(rt; formatted(alloc, 8)?, (true, whole));
     Ok(())
 }
 
@@ -60,22 +102,33 @@ made 32 32 32 32";
 fn a_stop_while_opening_or_reserving_keeps_the_vault(rt: HostRuntime) -> Result<(), Fail> {
     let alloc = rt.alloc();
     let image = vault_image(alloc)?;
-    for last in 0..4 {
-        let mut disk = disk_of(alloc, image.as_slice(), last)?;
-        assert_eq!(rt; reserve_answer(&mut disk), "closed", "after {last} calls");
-        let left = disk.crash(alloc, Pick::New)?;
-        assert_eq!(rt; left.as_slice(), image.as_slice(), "after {last} calls");
+    let whole = Stop {
+        old: Ok(32),
+        new: Ok(32),
+        zeros: Ok(32),
+        gates: Ok(32),
+    };
+    for last in 0..5 {
+        assert_eq!(rt;
+            reserved(alloc, image.as_slice(), last)?,
+            (false, whole),
+            "after {last} calls"
+        );
     }
-    let lines = "fault 32 32 32 32
-fault 32 31 32 31
-given 31 31 31 31";
-    for (more, line) in lines.lines().enumerate() {
-        let mut disk = disk_of(alloc, image.as_slice(), 4 + more as u64)?;
-        let answer = reserve_answer(&mut disk);
-        let left = left_by_a_stop(alloc, &disk)?;
-        let found = format!(in alloc; "{answer} {left}")?;
-        assert_eq!(rt; found.as_str(), line, "after {more} calls");
-    }
+    let reserving = Stop {
+        old: Ok(32),
+        new: Ok(31),
+        zeros: Ok(32),
+        gates: Ok(31),
+    };
+    assert_eq!(rt; reserved(alloc, image.as_slice(), 5)?, (false, reserving));
+    let less = Stop {
+        old: Ok(31),
+        new: Ok(31),
+        zeros: Ok(31),
+        gates: Ok(31),
+    };
+    assert_eq!(rt; reserved(alloc, image.as_slice(), 6)?, (true, less));
     Ok(())
 }
 
@@ -88,9 +141,7 @@ fn a_stop_before_the_sync_of_the_tenth_reservation(rt: HostRuntime) -> Result<()
     let vault = spend(&mut disk, vault, 9)?;
     assert_eq!(rt; vault.left(), 23);
     assert!(rt; vault.reserve(&mut disk).is_err());
-    let old = opened(alloc, disk.crash(alloc, Pick::Old)?.as_slice())?;
-    assert_eq!(rt; old.as_str(), "23");
-    let new = opened(alloc, disk.crash(alloc, Pick::New)?.as_slice())?;
-    assert_eq!(rt; new.as_str(), "22");
+    assert_eq!(rt; after(alloc, &disk, Pick::Old)?, Ok(23));
+    assert_eq!(rt; after(alloc, &disk, Pick::New)?, Ok(22));
     Ok(())
 }

@@ -1,12 +1,11 @@
-use Rattle.std.proofs.Common.{◌≡◌, ◌∙◌, ◌+◌, ◌-◌, ◌++◌, take, drop, length, subst, arith}
+use Rattle.std.proofs.Common.{◌≡◌, take, subst}
 use Rattle.std.proofs.lemmas.Result.{on_ok_weaker}
 use Rattle.st_io.specs.Tears.{Holds, Torn}
 use Rattle.st_vault.proofs.FormatLemmas.{filled, filling}
 use Rattle.st_vault.proofs.MomentLemmas.{over, turns_weaker}
-use Rattle.st_vault.specs.Formatting.{IsFilled, zeros}
-use Rattle.st_vault.specs.Image.{header_of, kind_of}
+use Rattle.st_vault.specs.Formatting.{IsFilled}
+use Rattle.st_vault.specs.Image.{kind_of}
 use Rattle.st_vault.specs.Image.Kind.{Blank}
-use Rattle.st_vault.specs.Values.{count_of}
 use Rattle.st_vault.proofs.formatting.fill.Goals as goal
 
 pub returns-clause-filled : goal.returns-clause-filled

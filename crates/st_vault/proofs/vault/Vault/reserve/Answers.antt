@@ -1,4 +1,4 @@
-use Rattle.std.proofs.Common.{◌≡◌, ◌∙◌, ◌<◌, Ok, ap, sym, subst, arith}
+use Rattle.std.proofs.Common.{◌∙◌, ◌<◌, Ok, ap, sym, subst, arith}
 use Rattle.st_vault.proofs.ReserveLemmas.{after_write, fits, written}
 use Rattle.st_vault.specs.Image.{IsSpent}
 use Rattle.st_vault.specs.Values.{count_of}
