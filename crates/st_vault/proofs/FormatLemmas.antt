@@ -1,0 +1,184 @@
+-- What the parts of formatting leave.
+use Rattle.std.proofs.Common.{◌≡◌, inl, inr, ⊎_elim, ◌∙◌, ℕ, ◌+◌, ◌<◌, ◌≤◌, Bool, true, false, List, [], ◌∷◌, ◌++◌, length, get_or, take, drop, replicate, not, Ok, Err, ap, sym, subst, refl, arith, append_assoc, length-append}
+use Rattle.std.proofs.Math.Seq.{take-append-add}
+use Rattle.std.proofs.lemmas.Bool.{cases_eq}
+use Rattle.std.proofs.lemmas.List.{drop-drop, drop-replicate, drop_at, get_or-take, length-drop, length-replicate, length-take-le, replicate-append-replicate, take-replicate, take_at}
+use Rattle.st_base.specs.Answers.{holds_or}
+use Rattle.st_io.proofs.PastLemmas.{goes_on}
+use Rattle.st_io.specs.Past.{Past, Images, GoesOn, AddsNone, Follow, Only, Leaves}
+use Rattle.st_io.specs.Tears.{Torn, Holds}
+use Rattle.st_lms.specs.Keys.{SecretKey, IsSecretKey}
+use Rattle.st_vault.proofs.HeaderLemmas.{key_of_header-header_of, length-header_of}
+use Rattle.st_vault.proofs.ImageLemmas.{IsVault, Parts, kind-blank, unformatted-short, unformatted-shut}
+use Rattle.st_vault.proofs.MapLemmas.{nonzero-zeros}
+use Rattle.st_vault.proofs.MomentLemmas.{after, only_after, over, stays_only, weaker}
+use Rattle.st_vault.proofs.OpeningLemmas.{opened-parts}
+use Rattle.st_vault.proofs.SpentLemmas.{spent-whole, spent-none}
+use Rattle.st_vault.specs.Formatting.{IsFilled, IsFresh, IsNew, IsOldOrBlank, IsOldOrFresh, IsShut, unformatted, zeros}
+use Rattle.st_vault.specs.Image.{IsSpent, header_of, is_formatted, key_in, key_of_header, kind_of, map_in, next_counter, nonzero_from, one_past, open_gate, spent}
+use Rattle.st_vault.specs.Image.Kind.{Blank}
+use Rattle.st_vault.specs.Spent.{AddsNoImage, KeepsSpent}
+use Rattle.st_vault.specs.Values.{count_of, new_vault}
+use Rattle.st_vault.specs.declared.refused.FormatRefused.TheVariants.{Formatted}
+
+-- ---- the gate is shut over a disk of too few bytes
+
+pub shutting : (old image : List ℕ) → length old < 64 → Torn 0 1 old image → IsOldOrBlank old image
+shutting old image short torn =
+    inr (kind-blank old (unformatted-short old short), kind-blank image (unformatted-short image (omega (arith, short, torn.no_longer))))
+
+pub shut : (old image : List ℕ) → Holds 0 (0 ∷ []) old image → IsShut image
+shut old image holds = record {
+  there = let long = ap length holds in omega (arith, long);
+  gate = λ is. let zero : get_or image 0 0 ≡ 0 = ap (λ l. get_or l 0 0) holds in omega (arith, is, zero);
+}
+
+-- ---- all is written behind it
+
+take-front : (n m : ℕ) (xs ys : List ℕ) → n ≡ length xs + m → take n (xs ++ ys) ≡ xs ++ take m ys
+take-front n m xs ys is = ap (λ k. take k (xs ++ ys)) is ∙ take-append-add xs ys m
+
+-- what is written is a header and zeros
+pub row_is : (key : SecretKey) → IsSecretKey key → count_of key ≤ 1024
+    → take (63 + count_of key) (header_of key ++ drop 56 (zeros 1087)) ≡ header_of key ++ zeros (7 + count_of key)
+unfolding zeros
+row_is key known small =
+    let header = header_of key in
+    let count = count_of key in
+    let long = length-header_of key known in
+    let behind : drop 56 (replicate 1087 0) ≡ replicate 1031 0 = drop-replicate 56 1087 0 in
+    let cut : take (7 + count) (replicate 1031 0) ≡ replicate (7 + count) 0 = take-replicate (7 + count) 1031 0 (omega arith) in
+    take-front (63 + count) (7 + count) header (drop 56 (replicate 1087 0)) (omega (arith, long)) ∙ ap (λ l. header ++ take (7 + count) l) behind ∙ ap (λ l. header ++ l) cut
+
+-- a stop leaves the gate shut
+pub filling : (n : ℕ) (old image : List ℕ) → IsShut old → Torn 1 n old image → kind_of image ≡ Blank
+filling n old image is torn =
+    let same : get_or image 0 0 ≡ get_or old 0 0 = sym (get_or-take 1 image 0 0 (omega arith)) ∙ ap (λ l. get_or l 0 0) torn.before ∙ get_or-take 1 old 0 0 (omega arith) in
+    kind-blank image (unformatted-shut image (λ gate. is.gate (sym same ∙ gate)))
+
+pub filled : (key : SecretKey) (old image : List ℕ) → IsSecretKey key → IsShut old → Holds 1 (header_of key ++ zeros (7 + count_of key)) old image
+    → IsFilled key image
+unfolding zeros
+filled key old image known is holds =
+    let header = header_of key in
+    let count = count_of key in
+    let seven : List ℕ = replicate 7 0 in
+    let map : List ℕ = replicate count 0 in
+    let map_long : length map ≡ count = length-replicate {A = ℕ} count 0 in
+    let seven_long : length seven ≡ 7 = length-replicate {A = ℕ} 7 0 in
+    let bytes = header ++ replicate (7 + count) 0 in
+    let rest = drop (1 + length bytes) old in
+    let one : length (take 1 old) ≡ 1 = length-take-le 1 old is.there in
+    let split : replicate (7 + count) 0 ≡ seven ++ map = sym (replicate-append-replicate 7 count 0) in
+    let whole : image ≡ take 1 old ++ (header ++ (seven ++ (map ++ rest)))
+    = holds ∙ append_assoc (take 1 old) bytes rest ∙ ap (λ l. take 1 old ++ (header ++ l ++ rest)) split
+    ∙ ap (λ l. take 1 old ++ l) (append_assoc header (seven ++ map) rest) ∙ ap (λ l. take 1 old ++ (header ++ l)) (append_assoc seven map rest) in
+    let behind : drop 1 image ≡ header ++ (seven ++ (map ++ rest)) = ap (drop 1) whole ∙ drop_at (take 1 old) _ 1 one in
+    let after : drop 64 image ≡ map ++ rest
+    = sym (drop-drop 63 1 image) ∙ ap (drop 63) behind ∙ sym (drop-drop 7 56 (header ++ (seven ++ (map ++ rest)))) ∙ ap (drop 7) (drop_at header _ 56 (length-header_of key known)) ∙ drop_at seven (map ++ rest) 7 seven_long in
+    record {
+      known = known;
+      long = omega (arith, ap length after, length-drop 64 image, length-append map rest, map_long, ap length behind, length-drop 1 image, length-append header (seven ++ (map ++ rest)), length-header_of key known);
+      key_is = ap key_of_header behind ∙ key_of_header-header_of key (seven ++ (map ++ rest)) known;
+      map_is = ap (take count) after ∙ take_at map rest count map_long;
+    }
+
+-- ---- the gate is opened
+
+next_none : (image : List ℕ) → spent image ≡ [] → next_counter image ≡ 0
+unfolding next_counter
+next_none image none = ap one_past none
+
+-- a filled image whose gate is open is a new vault
+pub opened_over : (key : SecretKey) (old image : List ℕ) → IsFilled key old → length old ≤ length image → drop 1 image ≡ drop 1 old
+    → get_or image 0 0 ≡ open_gate → IsNew key image
+unfolding zeros
+opened_over key old image is longer same gate =
+    let key_is : key_in image ≡ key = ap key_of_header same ∙ is.key_is in
+    let long : 64 + count_of key ≤ length image = omega (arith, is.long, longer) in
+    let maps : map_in (count_of key) image ≡ replicate (count_of key) 0
+    = ap (take (count_of key)) (sym (drop-drop 63 1 image) ∙ ap (drop 63) same ∙ drop-drop 63 1 old) ∙ is.map_is in
+    let parts : Parts image = record {
+      opened = record { long = omega (arith, long); gate = gate };
+      vault = subst (λ k. IsVault k (length image)) (sym key_is) (record { ots = is.known.ots; tree = is.known.tree; long = long });
+    } in
+    let none : spent image ≡ [] = spent-whole image parts ∙ ap (λ k. nonzero_from 0 (map_in (count_of k) image)) key_is ∙ ap (nonzero_from 0) maps ∙ nonzero-zeros 0 (count_of key) in
+    record {
+      opens = opened-parts image (new_vault key) (record { parts = parts; key_is = key_is; next_is = next_none image none });
+      unspent = none;
+    }
+
+-- a stop leaves it shut, or open over a new vault
+pub opening : (key : SecretKey) (old image : List ℕ) → IsFilled key old → Torn 0 1 old image → IsFresh key image
+opening key old image is torn = ⊎_elim
+    (λ gate. inr (opened_over key old image is torn.no_shorter torn.after gate))
+    (λ shut. inl (kind-blank image (unformatted-shut image shut)))
+    (cases_eq (get_or image 0 0) open_gate)
+
+pub opened_by : (key : SecretKey) (old image : List ℕ) → IsFilled key old → Holds 0 (open_gate ∷ []) old image → IsNew key image
+opened_by key old image is holds =
+    let long = ap length holds in
+    opened_over key old image is (omega (arith, long, length-drop 1 old, is.long)) (ap (drop 1) holds) (ap (λ l. get_or l 0 0) holds)
+
+-- ---- the whole
+
+-- where the gate was shut at first, what is fresh may come of it
+pub blank_or_fresh : (key : SecretKey) (old image : List ℕ) → IsOldOrBlank old image → IsOldOrFresh key old image
+blank_or_fresh key old image = ⊎_elim (λ same. inl same) (λ blank. inr (blank.0, inl blank.1))
+
+-- on a blank disk that is fresh
+pub fresh_on_blank : (key : SecretKey) (old image : List ℕ) → kind_of old ≡ Blank → IsOldOrFresh key old image → IsFresh key image
+fresh_on_blank key old image blank = ⊎_elim (λ same. inl (ap kind_of same ∙ blank)) (λ fresh. fresh.1)
+
+-- and what was spent stays spent: on a blank disk nothing was, and another stays the same
+pub spent_on : (key : SecretKey) (old image : List ℕ) (q : ℕ) → IsSpent old q → IsOldOrFresh key old image → IsSpent image q
+spent_on key old image q there = ⊎_elim
+    (λ same. subst (λ l. IsSpent l q) (sym same) there)
+    (λ fresh. absurd (spent-none old q fresh.0 there))
+
+-- over the first sync and the steps
+pub formatting_keeps : (key : SecretKey) (old : List ℕ) (a b c : Past) → Images a old → GoesOn a b → AddsNone a b → Leaves (IsOldOrFresh key old) b c → KeepsSpent a c
+formatting_keeps key old a b c image goes none leaves = record {
+  goes = goes_on a b c goes leaves.goes;
+  stays = λ q all x left. ⊎_elim
+      (λ before. all x (none x before))
+      (λ since. spent_on key old x q (all old image) (leaves.each x since))
+      (leaves.goes.splits a.now x goes.later left);
+}
+
+-- ---- the gate, shut in steps
+
+pub unformatted-not : (image : List ℕ) → is_formatted image ≡ true → unformatted image ≡ Err Formatted
+unformatted-not image is = ap (λ test. holds_or (not test) Formatted) is
+
+pub unformatted-ok : (image : List ℕ) → is_formatted image ≡ false → unformatted image ≡ Ok tt
+unformatted-ok image isnt = ap (λ test. holds_or (not test) Formatted) isnt
+
+pub short-ok : (image : List ℕ) → length image < 64 → unformatted image ≡ Ok tt
+short-ok image short = unformatted-ok image (unformatted-short image short)
+
+pub shut-ok : (image : List ℕ) → IsShut image → unformatted image ≡ Ok tt
+shut-ok image is = unformatted-ok image (unformatted-shut image is.gate)
+
+-- the look at a short disk, and the write over it
+pub shut_moments : (a b c : Past) (old : List ℕ) → Only a old → AddsNoImage a b → length old < 64 → GoesOn b c → Follow (Torn 0 1) b c
+    → Leaves (IsOldOrBlank old) a c
+shut_moments a b c old only looked short goes follow =
+    after (IsOldOrBlank old) a b c (stays_only (IsOldOrBlank old) a b old only looked (λ x same. inl same))
+    (over (IsOldOrBlank old) (Torn 0 1) b c old (only_after a b old only looked) goes follow (λ x torn. shutting old x short torn))
+
+-- ---- shut, filled and opened
+
+ok_blank : (image : List ℕ) (done : Unit {0}) → unformatted image ≡ Ok done → kind_of image ≡ Blank
+ok_blank image done is = kind-blank image (by_test (is_formatted image) refl is)
+  where
+    by_test : (test : Bool) → is_formatted image ≡ test → holds_or (not test) Formatted ≡ Ok done → is_formatted image ≡ false
+    by_test true found same = absurd (cc)
+    by_test false found same = found
+
+pub made_moments : (key : SecretKey) (old : List ℕ) (done : Unit {0}) (a b c : Past) → unformatted old ≡ Ok done
+    → Leaves (IsOldOrBlank old) a b → Leaves (IsFresh key) b c → Leaves (IsOldOrFresh key old) a c
+made_moments key old done a b c is first second =
+    after (IsOldOrFresh key old) a b c
+    (weaker (IsOldOrBlank old) (IsOldOrFresh key old) a b first (blank_or_fresh key old))
+    (weaker (IsFresh key) (IsOldOrFresh key old) b c second (λ x fresh. inr (ok_blank old done is, fresh)))

@@ -1,0 +1,64 @@
+-- How a disk is formatted: the gate is shut, all that stands behind it is written, the gate is opened.
+use Rattle.std.specs.Prelude.{◌≡◌, ◌≢◌, ◌⊎◌, ℕ, ◌+◌, ◌≤◌, not, List, [], length, replicate, slice_index, Option, Some, None, Result, Ok}
+use Rattle.st_base.specs.Answers.{◌>>◌, holds_or}
+use Rattle.st_lms.specs.Keys.{SecretKey, IsSecretKey}
+use Rattle.st_vault.specs.Image.{kind_of, is_formatted, open_gate, key_in, map_in, spent}
+use Rattle.st_vault.specs.Image.Kind.{Blank}
+use Rattle.st_vault.specs.Opening.{opened}
+use Rattle.st_vault.specs.Values.{VaultValue, count_of, new_vault}
+use Rattle.st_vault.specs.declared.refused.FormatRefused.{FormatRefused}
+use Rattle.st_vault.specs.declared.refused.FormatRefused.TheVariants.{Formatted, DiskFault}
+
+-- a disk may be formatted where it is not yet
+abbrev pub unformatted : List ℕ → Result (Unit {0}) FormatRefused
+unformatted image = holds_or (not (is_formatted image)) Formatted
+
+-- it becomes a new vault of the key
+abbrev pub formatted : SecretKey → List ℕ → Result VaultValue FormatRefused
+formatted key image = do
+  unformatted image
+  Ok (new_vault key)
+
+-- the refusal that an error is
+abbrev pub refusal_of : FormatRefused → Option FormatRefused
+refusal_of Formatted = Some Formatted
+refusal_of DiskFault = None
+
+-- a vault of this key of which nothing is spent
+pub record IsNew (key : SecretKey) (image : List ℕ) : Type 0 where
+  pub opens : opened image ≡ Ok (new_vault key)
+  pub unspent : spent image ≡ []
+
+-- blank, or a vault of this key of which nothing is spent
+abbrev pub IsFresh : SecretKey → List ℕ → Type 0
+IsFresh key image = (kind_of image ≡ Blank) ⊎ IsNew key image
+
+-- what formatting may leave of a disk that read so: the same, or where that was blank what is fresh
+abbrev pub IsOldOrFresh : SecretKey → List ℕ → List ℕ → Type 0
+IsOldOrFresh key old image = (image ≡ old) ⊎ ((kind_of old ≡ Blank) × IsFresh key image)
+
+-- ---- between the steps
+
+-- what shutting the gate may leave
+abbrev pub IsOldOrBlank : List ℕ → List ℕ → Type 0
+IsOldOrBlank old image = (image ≡ old) ⊎ ((kind_of old ≡ Blank) × (kind_of image ≡ Blank))
+
+-- so many bytes that are 0
+unfoldable pub zeros : ℕ → List ℕ
+zeros n = replicate n 0
+
+-- there is a gate, and it is shut
+pub record IsShut (image : List ℕ) : Type 0 where
+  pub there : 1 ≤ length image
+  pub gate : slice_index image 0 ≢ open_gate
+
+-- all that stands behind the gate is that of a new vault
+pub record IsFilled (key : SecretKey) (image : List ℕ) : Type 0 where
+  pub known : IsSecretKey key
+  pub long : 64 + count_of key ≤ length image
+  pub key_is : key_in image ≡ key
+  pub map_is : map_in (count_of key) image ≡ zeros (count_of key)
+
+-- opening the gate makes a new vault of what was filled
+abbrev pub OpensTo : List ℕ → List ℕ → Type 0
+OpensTo old image = (key : SecretKey) → IsFilled key old → IsNew key image

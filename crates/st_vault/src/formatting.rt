@@ -1,0 +1,187 @@
+ghost use Rattle.std.specs.Prelude.{◌≡◌, ◌+◌, ◌≤◌, ◌++◌, List, ℕ, length, take, drop, IsSome, IfOk, OnOk, IsErrOf};
+ghost use Rattle.st_base.specs.Answers.{Gives};
+ghost use Rattle.st_io.specs.Causes.{HasCause, Rose};
+ghost use Rattle.st_io.specs.Past.{Only, Leaves, LeftSinceSync};
+ghost use Rattle.st_io.specs.Tears.{IfTold, Turns};
+ghost use Rattle.st_lms.specs.Keys.{SecretKey, IsSecretKey};
+ghost use Rattle.st_vault.specs.Formatting.{formatted, unformatted, refusal_of, zeros, IsFilled, IsFresh, IsNew, IsOldOrBlank, IsOldOrFresh, IsShut, OpensTo};
+ghost use Rattle.st_vault.specs.Image.{header_of, kind_of};
+ghost use Rattle.st_vault.specs.Image.Kind.{Blank};
+ghost use Rattle.st_vault.specs.Opening.{ReadsAs};
+ghost use Rattle.st_vault.specs.Spent.{AddsNoImage, KeepsSpent};
+ghost use Rattle.st_vault.specs.Start.{Begins};
+ghost use Rattle.st_vault.specs.Values.{count_of, new_vault};
+
+use crate::durable::put;
+use crate::header::write_header;
+use crate::layout::{HEADER_AT, MAP_AT, MOST_COUNTERS, OPEN_GATE, SHUT_GATE};
+use crate::refused::FormatRefused;
+use crate::vault::Vault;
+use st_io::{Disk, Failed};
+use st_lms::Secret;
+
+/// Makes a new vault of a key on a blank disk, and gives it. It takes no memory, and computes the
+/// public key.
+///
+/// `Formatted` comes exactly where the disk, as it reads after a sync, has at least 64 bytes and an
+/// open gate; then nothing is written. `DiskFault` comes only where the disk's count of faults rose:
+/// the disk may then be blank or the new vault, and is to be opened.
+pub fn format_vault<D: Disk>(disk: &mut D, secret: Secret) -> Result<Vault, FormatRefused>
+    ensures gives { IfTold (D.reads disk.old) (λ old. Gives refusal_of (formatted secret old) result) }
+    ensures value { IfOk result (λ vault. vault ≡ new_vault secret) }
+    ensures untouched { IsErrOf result FormatRefused.Formatted
+        → (D.reads disk.new ≡ D.reads disk.old) × AddsNoImage (D.past disk.old) (D.past disk.new) }
+
+    // The disk reads as the vault that is given.
+    ensures reads { IfOk result (ReadsAs (D.reads disk.new)) }
+    ensures told { OnOk result (IfTold (D.reads disk.old) (λ old. IsSome (D.reads disk.new))) }
+
+    // What was spent in every image stays so at each moment of the call.
+    ensures stays { IfTold (D.reads disk.old) (λ old. KeepsSpent (D.past disk.old) (D.past disk.new)) }
+
+    // On a blank disk every image is blank or the new vault, at each moment from the first good sync on.
+    ensures fresh { IfTold (D.reads disk.old) (λ old. kind_of old ≡ Blank → (image : List ℕ)
+        → LeftSinceSync (D.past disk.new) (D.past disk.old).now image → IsFresh secret image) }
+    ensures fault { IsErrOf result FormatRefused.DiskFault → Rose (D.faults disk.old) (D.faults disk.new) }
+    ensures later { D.faults disk.old ≤ D.faults disk.new }
+{
+    disk.sync()?;
+    format_synced(disk, &secret)?;
+    Ok(Vault::new(secret, 0))
+}
+
+/// Formats a disk of which a stop leaves just what it reads as.
+fn format_synced<D: Disk>(disk: &mut D, secret: &Secret) -> Result<(), FormatRefused>
+    requires { IfTold (D.reads disk.old) (Only (D.past disk.old)) }
+    ensures gives { IfTold (D.reads disk.old) (λ old. Gives refusal_of (unformatted old) result) }
+    ensures untouched { IsErrOf result FormatRefused.Formatted
+        → (D.reads disk.new ≡ D.reads disk.old) × AddsNoImage (D.past disk.old) (D.past disk.new) }
+    ensures new { OnOk result (Turns (D.reads disk.old) (D.reads disk.new) (λ old image. IsNew secret.now image)) }
+    ensures moments { IfTold (D.reads disk.old) (λ old. Leaves (IsOldOrFresh secret.now old) (D.past disk.old) (D.past disk.new)) }
+    ensures fault { IsErrOf result FormatRefused.DiskFault → Rose (D.faults disk.old) (D.faults disk.new) }
+    ensures later { D.faults disk.old ≤ D.faults disk.new }
+{
+    shut_gate(disk)?;
+    make(disk, secret)?;
+    Ok(())
+}
+
+/// How a disk stands before it is formatted.
+#[derive(Clone, Copy, Debug, PartialEq, Eq)]
+enum Start {
+    /// It has at least 64 bytes, and the gate is open.
+    Formatted,
+    /// It has fewer, and no gate that is shut.
+    Short,
+    /// Its gate is shut.
+    Shut,
+}
+
+fn look<D: Disk>(disk: &mut D) -> Result<Start, Failed>
+    ensures begins { IfOk result (λ start. IfTold (D.reads disk.old) (Begins start)) }
+    ensures reads { D.reads disk.new ≡ D.reads disk.old }
+    ensures images { AddsNoImage (D.past disk.old) (D.past disk.new) }
+    ensures cause { HasCause (D.faults disk.old) (D.faults disk.new) result }
+{
+    let len = disk.length()?;
+    if len == 0 {
+        return Ok(Start::Short);
+    }
+    let mut gate = [0; 1];
+    disk.read_at(0, &mut gate)?;
+    if gate[0] != OPEN_GATE {
+        return Ok(Start::Shut);
+    }
+    if len < MAP_AT {
+        return Ok(Start::Short);
+    }
+    Ok(Start::Formatted)
+}
+
+/// Sees to it that there is a gate which is shut: over too few bytes it is written so.
+fn shut_gate<D: Disk>(disk: &mut D) -> Result<(), FormatRefused>
+    requires { IfTold (D.reads disk.old) (Only (D.past disk.old)) }
+    ensures gives { IfTold (D.reads disk.old) (λ old. Gives refusal_of (unformatted old) result) }
+    ensures untouched { IsErrOf result FormatRefused.Formatted
+        → (D.reads disk.new ≡ D.reads disk.old) × AddsNoImage (D.past disk.old) (D.past disk.new) }
+    ensures shut { OnOk result (Turns (D.reads disk.old) (D.reads disk.new) (λ old image. IsShut image)) }
+    ensures durable { OnOk result (IfTold (D.reads disk.new) (Only (D.past disk.new))) }
+    ensures moments { IfTold (D.reads disk.old) (λ old. Leaves (IsOldOrBlank old) (D.past disk.old) (D.past disk.new)) }
+    ensures fault { IsErrOf result FormatRefused.DiskFault → Rose (D.faults disk.old) (D.faults disk.new) }
+    ensures later { D.faults disk.old ≤ D.faults disk.new }
+{
+    match look(disk)? {
+        Start::Formatted => Err(FormatRefused::Formatted),
+        Start::Short => {
+            put(disk, 0, &[SHUT_GATE])?;
+            Ok(())
+        }
+        Start::Shut => Ok(()),
+    }
+}
+
+/// Writes a whole vault over a gate that is shut.
+fn make<D: Disk>(disk: &mut D, secret: &Secret) -> Result<(), Failed>
+    requires { IfTold (D.reads disk.old) (λ old. IsShut old × Only (D.past disk.old) old) }
+    ensures new { OnOk result (Turns (D.reads disk.old) (D.reads disk.new) (λ old image. IsNew secret.now image)) }
+    ensures moments { IfTold (D.reads disk.old) (λ old. Leaves (IsFresh secret.now) (D.past disk.old) (D.past disk.new)) }
+    ensures cause { HasCause (D.faults disk.old) (D.faults disk.new) result }
+{
+    fill(disk, secret)?;
+    open_gate(disk)
+}
+
+/// Writes all behind a gate that is shut. A stop leaves the gate as it is.
+fn fill<D: Disk>(disk: &mut D, secret: &Secret) -> Result<(), Failed>
+    requires { IfTold (D.reads disk.old) (λ old. IsShut old × Only (D.past disk.old) old) }
+    ensures filled { OnOk result (Turns (D.reads disk.old) (D.reads disk.new) (λ old image. IsFilled secret.now image)) }
+    ensures durable { OnOk result (IfTold (D.reads disk.new) (Only (D.past disk.new))) }
+    ensures moments { IfTold (D.reads disk.old) (λ old. Leaves (λ image. kind_of image ≡ Blank) (D.past disk.old) (D.past disk.new)) }
+    ensures cause { HasCause (D.faults disk.old) (D.faults disk.new) result }
+{
+    let mut row = no_row();
+    let len = fill_row(&mut row, secret);
+    put(disk, HEADER_AT, &row[..len])
+}
+
+/// Room for all behind the gate, with the largest map.
+const ROW_LEN: usize = 63 + MOST_COUNTERS;
+
+#[tactic(auto, unfolding(crate::specs::Formatting::zeros))]
+fn no_row() -> [u8; ROW_LEN]
+    ensures { result ≡ zeros 1087 }
+{
+    [0; ROW_LEN]
+}
+
+/// Writes these bytes over the first of a row.
+fn begin_with(row: &mut [u8], bytes: &[u8])
+    requires { length bytes.now ≤ length row.old }
+    ensures { row.new ≡ bytes.now ++ drop (length bytes.now) row.old }
+{
+    row[..bytes.len()].copy_from_slice(bytes);
+}
+
+/// Writes the header of a key into a row of zeros, and says how much of the row a vault has behind its
+/// gate: up to the end of the map.
+fn fill_row(row: &mut [u8], secret: &Secret) -> usize
+    requires long { length row.old ≡ 1087 }
+    requires zeros { row.old ≡ zeros 1087 }
+    ensures known { IsSecretKey secret.now }
+    ensures len { result ≤ 1087 }
+    ensures bytes { take result row.new ≡ header_of secret.now ++ zeros (7 + count_of secret.now) }
+{
+    begin_with(row, &write_header(secret));
+    63 + secret.leaf_count() as usize
+}
+
+/// Opens the gate. Where all is written behind it, a stop leaves it shut, or open over a new vault.
+fn open_gate<D: Disk>(disk: &mut D) -> Result<(), Failed>
+    requires { IfTold (D.reads disk.old) (Only (D.past disk.old)) }
+    ensures opens { OnOk result (Turns (D.reads disk.old) (D.reads disk.new) OpensTo) }
+    ensures moments { IfTold (D.reads disk.old) (λ old. (key : SecretKey) → IsFilled key old
+        → Leaves (IsFresh key) (D.past disk.old) (D.past disk.new)) }
+    ensures cause { HasCause (D.faults disk.old) (D.faults disk.new) result }
+{
+    put(disk, 0, &[OPEN_GATE])
+}

@@ -1,0 +1,72 @@
+ghost use Rattle.std.specs.Prelude.{◌≡◌, ◌↔◌, ◌+◌, ◌≤◌, ◌++◌, length, take, drop, IsOk, IfOk};
+ghost use Rattle.st_lms.specs.Parameters.{IsOneTimeType, IsTreeType};
+ghost use Rattle.st_lms.specs.Strings.{u32str, str_to_u32};
+ghost use Rattle.st_vault.specs.Image.{header_of, key_of_header};
+
+use crate::layout::HEADER_LEN;
+use st_lms::{BadType, Secret};
+
+/// These bytes as an array.
+fn copied<const N: usize>(bytes: &[u8]) -> [u8; N]
+    requires { length bytes.now ≡ N }
+    ensures { result ≡ bytes.now }
+{
+    let mut copied = [0u8; N];
+    copied.copy_from_slice(bytes);
+    copied
+}
+
+/// Writes these bytes over what stands from a place on.
+fn put_in(row: &mut [u8], at: usize, bytes: &[u8])
+    requires { at + length bytes.now ≤ length row.old }
+    ensures { take (at + length bytes.now) row.new ≡ take at row.old ++ bytes.now }
+{
+    row[at..at + bytes.len()].copy_from_slice(bytes);
+}
+
+/// A number as 4 bytes, high first (RFC 8554, section 3.1.1).
+#[tactic(auto, unfolding(st_lms::specs::Strings::u32str))]
+fn u32str(n: u32) -> [u8; 4]
+    ensures { result ≡ u32str n }
+{
+    n.to_be_bytes()
+}
+
+/// The number that 4 bytes are.
+#[tactic(auto, unfolding(st_lms::specs::Strings::str_to_u32))]
+fn str_to_u32(bytes: &[u8]) -> u32
+    requires { length bytes.now ≡ 4 }
+    ensures { result ≡ str_to_u32 bytes.now }
+{
+    u32::from_be_bytes(copied(bytes))
+}
+
+fn zeros() -> [u8; HEADER_LEN]
+    ensures { length result ≡ 56 }
+{
+    [0; HEADER_LEN]
+}
+
+/// The header of a key, without the zeros behind it.
+pub(crate) fn write_header(secret: &Secret) -> [u8; HEADER_LEN]
+    ensures { result ≡ header_of secret.now }
+{
+    let mut header = zeros();
+    put_in(&mut header, 0, &u32str(secret.ots()));
+    put_in(&mut header, 4, &u32str(secret.tree()));
+    put_in(&mut header, 8, &secret.id());
+    put_in(&mut header, 24, &secret.seed());
+    header
+}
+
+/// The key that a header says. `BadType` comes exactly where one of its types is not known.
+#[tactic(auto, unfolding(crate::specs::Image::key_of_header))]
+pub(crate) fn read_header(header: &[u8]) -> Result<Secret, BadType>
+    requires { 56 ≤ length header.now }
+    ensures known { IsOk result ↔ (IsOneTimeType (key_of_header header.now).ots × IsTreeType (key_of_header header.now).tree) }
+    ensures value { IfOk result (λ secret. secret ≡ key_of_header header.now) }
+{
+    let ots = str_to_u32(&header[..4]);
+    let tree = str_to_u32(&header[4..8]);
+    Secret::new(ots, tree, copied(&header[8..24]), copied(&header[24..56]))
+}

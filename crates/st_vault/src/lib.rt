@@ -1,0 +1,21 @@
+//! A vault keeps an LMS secret key on a disk, and spends each of its counters there before it gives
+//! it: a one-time key of RFC 8554 must not sign twice, whatever a stop leaves of the disk.
+#![tactic(auto)]
+
+mod counter;
+mod durable;
+mod formatting;
+mod header;
+mod layout;
+mod map;
+mod opening;
+mod refused;
+#[cfg(test)]
+mod tests;
+mod vault;
+
+pub use counter::Counter;
+pub use formatting::format_vault;
+pub use opening::open_vault;
+pub use refused::{FormatRefused, OpenRefused, ReserveRefused};
+pub use vault::Vault;

@@ -1,0 +1,116 @@
+ghost use Rattle.std.specs.Prelude.{◌≡◌, ◌+◌, ◌≤◌, List, ℕ, length, take, drop, IfOk, IsErrOf};
+ghost use Rattle.st_base.specs.Answers.{Gives};
+ghost use Rattle.st_io.specs.Causes.{HasCause, Rose};
+ghost use Rattle.st_io.specs.Tears.{IfTold};
+ghost use Rattle.st_vault.specs.Image.{map_in, nonzero_from, one_past};
+ghost use Rattle.st_vault.specs.Opening.{ReadsAs, key_of, opened, refusal_of};
+ghost use Rattle.st_vault.specs.Spent.{AddsNoImage, KeepsSpent};
+
+use crate::header::read_header;
+use crate::layout::{MAP_AT, MOST_COUNTERS, OPEN_GATE};
+use crate::map::next_in;
+use crate::refused::OpenRefused;
+use crate::vault::Vault;
+use st_io::{Disk, Failed};
+use st_lms::Secret;
+
+/// The vault that a disk reads as after a sync. It takes no memory, and computes the public key.
+///
+/// `Blank` comes exactly where the disk has fewer than 64 bytes or its gate is shut; `Damaged` exactly
+/// where else a type of the key is not known or the map is not there whole. `DiskFault` comes only
+/// where the disk's count of faults rose. Nothing is written.
+pub fn open_vault<D: Disk>(disk: &mut D) -> Result<Vault, OpenRefused>
+    ensures gives { IfTold (D.reads disk.old) (λ image. Gives refusal_of (opened image) result) }
+    ensures reads_as { IfOk result (ReadsAs (D.reads disk.new)) }
+    ensures reads { D.reads disk.new ≡ D.reads disk.old }
+    ensures images { AddsNoImage (D.past disk.old) (D.past disk.new) }
+    ensures stays { KeepsSpent (D.past disk.old) (D.past disk.new) }
+    ensures fault { IsErrOf result OpenRefused.DiskFault → Rose (D.faults disk.old) (D.faults disk.new) }
+    ensures later { D.faults disk.old ≤ D.faults disk.new }
+{
+    disk.sync()?;
+    let secret = read_key(disk)?;
+    let next = read_next(disk, secret.leaf_count())?;
+    Ok(Vault::new(secret, next))
+}
+
+fn no_head() -> [u8; 64]
+    ensures { length result ≡ 64 }
+{
+    [0; 64]
+}
+
+/// The key of the vault that the disk reads as.
+fn read_key<D: Disk>(disk: &mut D) -> Result<Secret, OpenRefused>
+    ensures gives { IfTold (D.reads disk.old) (λ image. Gives refusal_of (key_of image) result) }
+    ensures reads { D.reads disk.new ≡ D.reads disk.old }
+    ensures images { AddsNoImage (D.past disk.old) (D.past disk.new) }
+    ensures fault { IsErrOf result OpenRefused.DiskFault → Rose (D.faults disk.old) (D.faults disk.new) }
+    ensures later { D.faults disk.old ≤ D.faults disk.new }
+{
+    let len = disk.length()?;
+    if len < MAP_AT {
+        return Err(OpenRefused::Blank);
+    }
+    let mut head = no_head();
+    disk.read_at(0, &mut head)?;
+    match key_of_head(&head, len) {
+        Ok(secret) => Ok(secret),
+        Err(refused) => Err(refused),
+    }
+}
+
+/// The key of an image of this length that begins with these 64 bytes.
+fn key_of_head(head: &[u8], len: u64) -> Result<Secret, OpenRefused>
+    requires head { length head.now ≡ 64 }
+    requires long { 64 ≤ len }
+    ensures gives { (image : List ℕ) → take 64 image ≡ head.now → length image ≡ len → Gives refusal_of (key_of image) result }
+    ensures fault { IsErrOf result OpenRefused.DiskFault → ⊥ }
+{
+    if head[0] != OPEN_GATE {
+        return Err(OpenRefused::Blank);
+    }
+    match read_header(&head[1..]) {
+        Ok(secret) => {
+            if len < MAP_AT + u64::from(secret.leaf_count()) {
+                return Err(OpenRefused::Damaged);
+            }
+            Ok(secret)
+        }
+        Err(_) => Err(OpenRefused::Damaged),
+    }
+}
+
+fn no_map() -> [u8; MOST_COUNTERS]
+    ensures { length result ≡ 1024 }
+{
+    [0; MOST_COUNTERS]
+}
+
+/// The next counter by the map for so many counters.
+fn read_next<D: Disk>(disk: &mut D, count: u32) -> Result<u32, Failed>
+    requires there { IfTold (D.reads disk.old) (λ image. 64 + count ≤ length image) }
+    requires small { count ≤ 1024 }
+    ensures next { IfOk result (λ next. IfTold (D.reads disk.old) (λ image. next ≡ one_past (nonzero_from 0 (map_in count image)))) }
+    ensures small { IfOk result (λ next. next ≤ count) }
+    ensures reads { D.reads disk.new ≡ D.reads disk.old }
+    ensures images { AddsNoImage (D.past disk.old) (D.past disk.new) }
+    ensures cause { HasCause (D.faults disk.old) (D.faults disk.new) result }
+{
+    let mut map = no_map();
+    next_by(disk, &mut map[..count as usize])
+}
+
+/// The same, with room for the map.
+fn next_by<D: Disk>(disk: &mut D, map: &mut [u8]) -> Result<u32, Failed>
+    requires there { IfTold (D.reads disk.old) (λ image. 64 + length map.old ≤ length image) }
+    requires small { length map.old ≤ 1024 }
+    ensures next { IfOk result (λ next. IfTold (D.reads disk.old) (λ image. next ≡ one_past (nonzero_from 0 (map_in (length map.old) image)))) }
+    ensures small { IfOk result (λ next. next ≤ length map.old) }
+    ensures reads { D.reads disk.new ≡ D.reads disk.old }
+    ensures images { AddsNoImage (D.past disk.old) (D.past disk.new) }
+    ensures cause { HasCause (D.faults disk.old) (D.faults disk.new) result }
+{
+    disk.read_at(MAP_AT, map)?;
+    Ok(next_in(map))
+}
