@@ -1,4 +1,5 @@
 pub mod Claim
+pub mod Counting
 pub mod KnownHashes
 pub mod Operation
 pub mod Request
