@@ -1,3 +1,4 @@
+pub mod Accepted
 pub mod Claim
 pub mod Counting
 pub mod KnownHashes

@@ -36,8 +36,9 @@ pub fn write_request(alloc: Global, operation: &Operation) -> Result<Bytes, Want
     Ok(write(alloc, &request)?)
 }
 
-// For the prover: the hashes of an operation are such, so that their texts are read again.
-fn know_hashes(operation: &Operation)
+/// For proofs: the hashes of an operation have the values that hashes have, by which their texts are
+/// read again. Nothing is done.
+pub fn know_hashes(operation: &Operation)
     ensures { HasHashes (plain_operation operation.now) }
 {
     match operation {
