@@ -1,2 +1,9 @@
+pub mod Accepted
 pub mod Claim
+pub mod Counting
+pub mod KnownHashes
 pub mod Operation
+pub mod Request
+pub mod RequestForm
+pub mod RequestText
+pub mod SignedPart

@@ -1,0 +1,73 @@
+ghost use Rattle.std.specs.Prelude.{◌≡◌, ◌≤◌, codes, option_map, IfOk, IsSome, Some};
+ghost use Rattle.st_base.specs.Work.{one_proof};
+ghost use Rattle.st_canon.specs.Plain.{object};
+ghost use Rattle.st_canon.specs.Shapes.{text_at};
+ghost use Rattle.st_canon.specs.View.{plain_members};
+ghost use Rattle.st_ops.specs.Operation.{plain_proof};
+ghost use Rattle.st_ops.specs.SignedPart.{proof_in, proof_of, target_in};
+
+use crate::hashes::hash_in;
+use st_base::{Text, WantOfMemory, Work};
+use st_canon::{Json, Object};
+use st_indexfiles::Target;
+use st_jws::{Signed, SignedRefused, open_signed};
+use std::alloc::Global;
+
+/// What a request names: the suffix and the reveal value whose hash texts of the version stand in it.
+#[tactic(auto, unfolding(crate::specs::SignedPart::target_in))]
+pub(crate) fn target_in(request: &Object, version: u8) -> Option<Target>
+    requires first { 1 ≤ version }
+    requires last { version ≤ 2 }
+    ensures { result ≡ target_in version (Some (object (plain_members request.now))) }
+{
+    let suffix = hash_in(request.get("didSuffix"), version)?;
+    let reveal = hash_in(request.get("revealValue"), version)?;
+    Some(Target { suffix, reveal })
+}
+
+/// The proof whose signed text of at most `limit` bytes stands in a request. It counts as one proof.
+///
+/// None comes exactly where the text does not open.
+#[tactic(auto, unfolding(crate::specs::SignedPart::proof_in))]
+pub(crate) fn proof_in(
+    alloc: Global,
+    request: &Object,
+    limit: usize,
+    work: &mut Work,
+) -> Result<Option<Signed>, WantOfMemory>
+    requires { IsSome (text_at (codes "signedData") (Some (object (plain_members request.now)))) }
+    ensures value { IfOk result (λ proof. option_map plain_proof proof ≡ proof_in limit (Some (object (plain_members request.now)))) }
+    ensures counted { work.new ≡ one_proof work.old }
+{
+    let text = signed_text(request).unwrap();
+    opened(alloc, text, limit, work)
+}
+
+fn signed_text(request: &Object) -> Option<&Text>
+    ensures { option_map (λ text. text.now) result ≡ text_at (codes "signedData") (Some (object (plain_members request.now))) }
+{
+    match request.get("signedData") {
+        Some(Json::Text(text)) => Some(text),
+        _ => None,
+    }
+}
+
+#[tactic(auto, unfolding(crate::specs::SignedPart::proof_of))]
+fn opened(
+    alloc: Global,
+    text: &Text,
+    limit: usize,
+    work: &mut Work,
+) -> Result<Option<Signed>, WantOfMemory>
+    ensures value { IfOk result (λ proof. option_map plain_proof proof ≡ proof_of limit text.now) }
+    ensures counted { work.new ≡ one_proof work.old }
+{
+    match open_signed(alloc, text, limit, work) {
+        Ok(signed) => Ok(Some(signed)),
+        Err(SignedRefused::BadForm) => Ok(None),
+        Err(SignedRefused::BadHeader) => Ok(None),
+        Err(SignedRefused::BadPayload) => Ok(None),
+        Err(SignedRefused::BadSignature) => Ok(None),
+        Err(SignedRefused::WantOfMemory) => Err(WantOfMemory),
+    }
+}
