@@ -96,9 +96,7 @@ fn on_active(
             Ok(Some(next))
         }
         (Operation::Deactivate { reveal, .. }, Some(Claim::Deactivate))
-            if reveals(reveal, &active.recovery) => {
-            Ok(Some(DidState::deactivated()))
-        }
+            if reveals(reveal, &active.recovery) => { Ok(Some(DidState::deactivated())) }
         (Operation::Update { reveal, delta, .. }, Some(Claim::Update { delta_hash })) => {
             on_update(alloc, active, reveal, delta_hash, delta, params)
         }
@@ -118,7 +116,7 @@ fn on_update(
 ) -> Result<Option<DidState>, WantOfMemory>
     ensures { IfOk result (λ next. unwrap_or next (shown_active active.now)
         ≡ step sidetree (shown_active active.now)
-          (updates reveal.now (counted_change params.now delta_hash.now (option_map plain delta.now)))) }
+        (updates reveal.now (counted_change params.now delta_hash.now (option_map plain delta.now)))) }
 {
     let Some(commitment) = &active.update else {
         return Ok(None);
@@ -130,11 +128,7 @@ fn on_update(
         None => Ok(None),
         Some(delta) => {
             let document = changed_document(alloc, params, &active.document, &delta)?;
-            Ok(Some(DidState::active(
-                active.recovery,
-                Some(delta.update),
-                document,
-            )))
+            Ok(Some(DidState::active(active.recovery, Some(delta.update), document)))
         }
     }
 }
