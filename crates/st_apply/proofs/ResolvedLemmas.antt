@@ -1,12 +1,12 @@
 -- What anchored operations resolve to, for the crates that keep their state.
 use Rattle.std.proofs.Common.{◌≡◌, ◌∙◌, sym, ℕ, ◌<◌, List, [], ◌∷◌, ◌++◌}
-use Rattle.std.specs.Prelude.{map, Option, fold}
+use Rattle.std.specs.Prelude.{map, Option}
 use Rattle.std.specs.List.{AllByRecursion}
 use Rattle.std.proofs.lemmas.List.Folds.{fold-map}
 use Rattle.st_ops.specs.Operation.{PlainOperation}
 use Rattle.st_opindex.specs.Items.{Held, Ascend, folded}
 use Rattle.st_params.specs.Schedule.{params_at}
-use Rattle.st_apply.specs.Anchored.{Anchored, place_of, resolved, seen_in}
+use Rattle.st_apply.specs.Anchored.{Anchored, all_applied, place_of, resolved, seen_in}
 use Rattle.st_apply.specs.Applied.{applied, sidetree}
 use Rattle.st_apply.specs.Laws.{PlacesAscend}
 use Rattle.st_apply.specs.Seen.{absent}
@@ -22,7 +22,7 @@ module _ (schedule : Option ℕ) where
 
   -- one step for each operation, from an absent state on, leads to what they resolve to
   pub resolved_fold : (operations : List Anchored) → PlacesAscend place_of operations
-      → fold (λ state anchored. applied (params_at schedule anchored.height) state anchored.operation) absent operations ≡ resolved schedule operations
+      → all_applied schedule absent operations ≡ resolved schedule operations
   unfolding resolved applied
   resolved_fold operations ascend = fold_is_walk sidetree place_of (seen_in schedule) operations ascend
 

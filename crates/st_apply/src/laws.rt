@@ -1,4 +1,5 @@
 ghost use Rattle.std.specs.Prelude.{ℕ, List};
+ghost use Rattle.st_apply.specs.Anchored.{StepsResolve};
 ghost use Rattle.st_apply.specs.Laws.{FoldIsWalk, GoesOn, LeavesIt, OneMore, SeenAlike, StaysDeactivated, WalksLead};
 ghost use Rattle.st_apply.specs.Numbered.{GivenAscend};
 ghost use Rattle.st_apply.specs.Seen.{Rules, Seen};
@@ -29,4 +30,10 @@ pub fn alike_law<H, D, I, J>()
 /// What entries give stands in ascending places: at most one item an entry, at the entry's number.
 pub fn given_law<E, I>()
     ensures { GivenAscend E I }
+{}
+
+/// Of anchored operations in ascending places, one `apply` for each, from `DidState::absent` on and at
+/// the limits of their heights, leads to what they resolve to.
+pub fn anchored_law()
+    ensures { StepsResolve }
 {}

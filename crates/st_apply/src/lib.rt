@@ -10,5 +10,5 @@ mod state;
 mod tests;
 
 pub use applying::apply;
-pub use laws::{alike_law, given_law, resolution_laws};
+pub use laws::{alike_law, anchored_law, given_law, resolution_laws};
 pub use state::{DidState, StateParts};

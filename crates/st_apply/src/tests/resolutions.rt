@@ -1,5 +1,5 @@
 use super::made::{committed, operation};
-use crate::{DidState, StateParts, alike_law, apply, given_law, resolution_laws};
+use crate::{DidState, StateParts, alike_law, anchored_law, apply, given_law, resolution_laws};
 use st_base::{Copied, Work};
 use st_doc::Document;
 use st_hash::Hash;
@@ -117,5 +117,6 @@ fn operations_resolve_to_a_state(rt: HostRuntime) -> Result<(), Fail> {
     resolution_laws::<Hash, u8, u64>();
     alike_law::<Hash, u8, u64, u32>();
     given_law::<u8, u64>();
+    anchored_law();
     Ok(())
 }
