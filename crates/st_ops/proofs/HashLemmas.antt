@@ -12,11 +12,8 @@ use Rattle.st_indexfiles.specs.Hashes.{hash_in}
 use Rattle.st_indexfiles.specs.SuffixData.{suffix_data_of}
 use Rattle.st_indexfiles.specs.declared.suffix_data.SuffixData.{SuffixData}
 use Rattle.st_indexfiles.specs.declared.target.Target.{Target}
+use Rattle.st_ops.specs.Accepted.{IsReadAt}
 use Rattle.st_ops.specs.SignedPart.{target_in}
-
--- the version reads the hash from its text
-abbrev pub IsReadAt : ℕ → HashValue → Type 0
-IsReadAt version hash = hash_of_text_at version (hash_text hash) ≡ Some hash
 
 -- ---- of a version
 

@@ -1,6 +1,11 @@
-mod AgainLemmas
+-- Private: what is known of a request that was read, step by step.
 mod AskedLemmas
 mod HashLemmas
 mod ProperLemmas
 mod ReadAgainLemmas
 mod StepLemmas
+-- For the crates above.
+-- what stands behind an operation that a request asks for
+pub mod AcceptedLemmas
+-- the text of an operation asks for it again
+pub mod AgainLemmas

@@ -1,4 +1,6 @@
+pub mod Accepted
 pub mod Claim
+pub mod Counting
 pub mod KnownHashes
 pub mod Operation
 pub mod Request

@@ -1,5 +1,5 @@
 -- The canonical texts of requests, and that they are read again.
-use Rattle.std.specs.Prelude.{◌≡◌, ◌≤◌, ℕ, List, [], ◌∷◌, codes, IfSome, Option, Some, None, option_map, Ok}
+use Rattle.std.specs.Prelude.{◌≡◌, ◌≤◌, ℕ, List, [], ◌∷◌, ◌++◌, codes, IfSome, Option, Some, None, option_map, Ok}
 use Rattle.st_canon.specs.Canonical.{canonical}
 use Rattle.st_canon.specs.Depth.{depth_of}
 use Rattle.st_canon.specs.Objects.{object_of_some}
@@ -15,14 +15,17 @@ use Rattle.st_params.specs.Limits.{Limits}
 abbrev pub proof_json : Proof → Plain
 proof_json proof = text proof.text
 
+-- its type, and what an operation that is signed names
+abbrev pub named_members : List ℕ → Target → List (List ℕ × Option Plain)
+named_members type target =
+    (codes "type", Some (text type))
+    ∷ (codes "didSuffix", Some (hash_json target.suffix))
+    ∷ (codes "revealValue", Some (hash_json target.reveal)) ∷ []
+
 -- the request of this type for an operation that is signed
 abbrev pub signed_json : List ℕ → Target → Option Proof → Option Plain → Plain
 signed_json type target proof delta = object_of_some
-    ((codes "type", Some (text type))
-    ∷ (codes "didSuffix", Some (hash_json target.suffix))
-    ∷ (codes "revealValue", Some (hash_json target.reveal))
-    ∷ (codes "signedData", option_map proof_json proof)
-    ∷ (codes "delta", delta) ∷ [])
+    (named_members type target ++ (codes "signedData", option_map proof_json proof) ∷ (codes "delta", delta) ∷ [])
 
 -- The request for an operation: its type, what it names, and its proof and its delta, where they are
 -- there (DIF Sidetree v1.0.0, "DID Operations").

@@ -21,4 +21,4 @@ pub use operation::{Operation, suffix};
 pub use reading::read_request;
 pub use refused::RequestRefused;
 pub use shared::Shared;
-pub use writing::write_request;
+pub use writing::{know_hashes, write_request};

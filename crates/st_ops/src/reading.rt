@@ -1,14 +1,15 @@
-ghost use Rattle.std.specs.Prelude.{◌≡◌, ◌≤◌, codes, IfNone, IfOk, IfSome, option_map, None, Some};
+ghost use Rattle.std.specs.Prelude.{◌≡◌, ◌≤◌, codes, if◌then◌else◌, IfNone, IfOk, IfSome, option_map, None, Some, Ok, Err};
+ghost use Rattle.st_ops.specs.declared.refused.RequestRefused.TheVariants.{BadProof};
 ghost use Rattle.st_base.specs.Answers.{GivesAs};
-ghost use Rattle.st_base.specs.Work.{ProofsAtMost};
+ghost use Rattle.st_base.specs.Work.{Counts, ProofsAtMost};
 ghost use Rattle.st_canon.specs.Entries.{members_in};
 ghost use Rattle.st_canon.specs.Plain.{object};
-ghost use Rattle.st_canon.specs.Proper.{IsProper};
 ghost use Rattle.st_canon.specs.Shapes.{member_in};
 ghost use Rattle.st_canon.specs.View.{plain, plain_members};
 ghost use Rattle.st_indexfiles.specs.SuffixData.{suffix_data_of};
+ghost use Rattle.st_ops.specs.Counting.{CountsOpening};
 ghost use Rattle.st_ops.specs.Operation.{plain_operation};
-ghost use Rattle.st_ops.specs.Request.{asked, create_asked, deactivate_asked, recover_asked, refusal_of, request_json_of, request_of, update_asked, with_claim, IsComplete};
+ghost use Rattle.st_ops.specs.Request.{asked, create_asked, deactivate_asked, recover_asked, refusal_of, request_of, update_asked, with_claim, IsComplete};
 ghost use Rattle.st_ops.specs.RequestText.{IsDeltaWithin, IsReadAgain};
 
 use crate::claiming::claim_of;
@@ -36,16 +37,22 @@ pub fn read_request(
 ) -> Result<Operation, RequestRefused>
     ensures value { GivesAs plain_operation refusal_of (request_of params.now bytes.now) result }
     ensures counted { ProofsAtMost 1 work.old work.new }
+    // It is counted exactly where the request came so far.
+    ensures exact { CountsOpening result work.old work.new }
     // The proof and the delta are there, where the kind has them.
     ensures complete { IfOk result (λ operation. IsComplete (plain_operation operation)) }
     // What `write_request` writes of it is read again, where the delta does not nest too deep for that.
     ensures again { IfOk result (λ operation. IsDeltaWithin 125 (plain_operation operation)
         → IsReadAgain params.now (plain_operation operation)) }
 {
-    let json = json_in(alloc, bytes)?;
-    match members_in(json) {
-        Some(request) => asked(alloc, request, params, work),
-        None => Err(RequestRefused::BadForm),
+    match read(alloc, bytes) {
+        Ok(json) => match members_in(json) {
+            Some(request) => asked(alloc, request, params, work),
+            None => Err(RequestRefused::BadForm),
+        },
+        Err(ReadRefused::NotJson) => Err(RequestRefused::NotJson),
+        Err(ReadRefused::NotWhole) => Err(RequestRefused::NotWhole),
+        Err(ReadRefused::WantOfMemory) => Err(RequestRefused::WantOfMemory),
     }
 }
 
@@ -60,19 +67,6 @@ fn members_in(json: Json) -> Option<Object>
     }
 }
 
-// The JSON that the bytes are.
-fn json_in(alloc: Global, bytes: &[u8]) -> Result<Json, RequestRefused>
-    ensures value { GivesAs plain refusal_of (request_json_of bytes.now) result }
-    ensures proper { IfOk result (λ json. IsProper (plain json)) }
-{
-    match read(alloc, bytes) {
-        Ok(json) => Ok(json),
-        Err(ReadRefused::NotJson) => Err(RequestRefused::NotJson),
-        Err(ReadRefused::NotWhole) => Err(RequestRefused::NotWhole),
-        Err(ReadRefused::WantOfMemory) => Err(RequestRefused::WantOfMemory),
-    }
-}
-
 // By the type of the request.
 #[tactic(auto, unfolding(crate::specs::Request::asked))]
 fn asked(
@@ -83,6 +77,7 @@ fn asked(
 ) -> Result<Operation, RequestRefused>
     ensures value { GivesAs plain_operation refusal_of (asked params.now (object (plain_members request))) result }
     ensures counted { ProofsAtMost 1 work.old work.new }
+    ensures exact { CountsOpening result work.old work.new }
 {
     let Some(kind) = request.text("type") else {
         return Err(RequestRefused::BadForm);
@@ -105,7 +100,8 @@ fn create_asked(
     request: Object,
     params: &Params,
 ) -> Result<Operation, RequestRefused>
-    ensures { GivesAs plain_operation refusal_of (create_asked params.now (Some (object (plain_members request)))) result }
+    ensures value { GivesAs plain_operation refusal_of (create_asked params.now (Some (object (plain_members request)))) result }
+    ensures exact { (work : Counts) → CountsOpening result work work }
 {
     if !is_create_form(&request) {
         return Err(RequestRefused::BadForm);
@@ -117,6 +113,7 @@ fn create_asked(
     Ok(Operation::Create { suffix_data, delta })
 }
 
+#[tactic(auto, unfolding(crate::specs::RequestForm::is_change_form, crate::specs::RequestForm::has_signed_texts))]
 fn update_asked(
     alloc: Global,
     request: Object,
@@ -125,6 +122,7 @@ fn update_asked(
 ) -> Result<Operation, RequestRefused>
     ensures value { GivesAs plain_operation refusal_of (update_asked params.now (Some (object (plain_members request)))) result }
     ensures counted { ProofsAtMost 1 work.old work.new }
+    ensures exact { CountsOpening result work.old work.new }
 {
     if !is_change_form(&request) {
         return Err(RequestRefused::BadForm);
@@ -132,16 +130,23 @@ fn update_asked(
     let Some(target) = target_in(&request, params.version()) else {
         return Err(RequestRefused::BadHash);
     };
-    let proof = proof_in(alloc, &request, params.max_signed(), work)?;
+    let Some(proof) = proof_in(alloc, &request, params.max_signed(), work)? else {
+        return Err(RequestRefused::BadProof);
+    };
     let operation = Operation::Update {
         suffix: target.suffix,
         reveal: target.reveal,
         proof: Some(Shared::new(alloc, proof)?),
         delta: delta_in(alloc, request)?,
     };
-    with_claim(alloc, operation, params)
+    if has_claim(alloc, &operation, params)? {
+        Ok(operation)
+    } else {
+        Err(RequestRefused::BadProof)
+    }
 }
 
+#[tactic(auto, unfolding(crate::specs::RequestForm::is_change_form, crate::specs::RequestForm::has_signed_texts))]
 fn recover_asked(
     alloc: Global,
     request: Object,
@@ -150,6 +155,7 @@ fn recover_asked(
 ) -> Result<Operation, RequestRefused>
     ensures value { GivesAs plain_operation refusal_of (recover_asked params.now (Some (object (plain_members request)))) result }
     ensures counted { ProofsAtMost 1 work.old work.new }
+    ensures exact { CountsOpening result work.old work.new }
 {
     if !is_change_form(&request) {
         return Err(RequestRefused::BadForm);
@@ -157,16 +163,23 @@ fn recover_asked(
     let Some(target) = target_in(&request, params.version()) else {
         return Err(RequestRefused::BadHash);
     };
-    let proof = proof_in(alloc, &request, params.max_signed(), work)?;
+    let Some(proof) = proof_in(alloc, &request, params.max_signed(), work)? else {
+        return Err(RequestRefused::BadProof);
+    };
     let operation = Operation::Recover {
         suffix: target.suffix,
         reveal: target.reveal,
         proof: Some(Shared::new(alloc, proof)?),
         delta: delta_in(alloc, request)?,
     };
-    with_claim(alloc, operation, params)
+    if has_claim(alloc, &operation, params)? {
+        Ok(operation)
+    } else {
+        Err(RequestRefused::BadProof)
+    }
 }
 
+#[tactic(auto, unfolding(crate::specs::RequestForm::is_deactivate_form, crate::specs::RequestForm::has_signed_texts))]
 fn deactivate_asked(
     alloc: Global,
     request: Object,
@@ -175,6 +188,7 @@ fn deactivate_asked(
 ) -> Result<Operation, RequestRefused>
     ensures value { GivesAs plain_operation refusal_of (deactivate_asked params.now (Some (object (plain_members request)))) result }
     ensures counted { ProofsAtMost 1 work.old work.new }
+    ensures exact { CountsOpening result work.old work.new }
 {
     if !is_deactivate_form(&request) {
         return Err(RequestRefused::BadForm);
@@ -182,13 +196,19 @@ fn deactivate_asked(
     let Some(target) = target_in(&request, params.version()) else {
         return Err(RequestRefused::BadHash);
     };
-    let proof = proof_in(alloc, &request, params.max_signed(), work)?;
+    let Some(proof) = proof_in(alloc, &request, params.max_signed(), work)? else {
+        return Err(RequestRefused::BadProof);
+    };
     let operation = Operation::Deactivate {
         suffix: target.suffix,
         reveal: target.reveal,
         proof: Some(Shared::new(alloc, proof)?),
     };
-    with_claim(alloc, operation, params)
+    if has_claim(alloc, &operation, params)? {
+        Ok(operation)
+    } else {
+        Err(RequestRefused::BadProof)
+    }
 }
 
 fn suffix_data_in(request: &Object, version: u8) -> Option<SuffixData>
@@ -209,17 +229,10 @@ fn delta_in(alloc: Global, mut request: Object) -> Result<Option<Shared<Json>>, 
     }
 }
 
-// The operation, where it has a claim.
 #[tactic(auto, unfolding(crate::specs::Request::with_claim))]
-fn with_claim(
-    alloc: Global,
-    operation: Operation,
-    params: &Params,
-) -> Result<Operation, RequestRefused>
-    ensures { GivesAs plain_operation refusal_of (with_claim params.now (plain_operation operation)) result }
+fn has_claim(alloc: Global, operation: &Operation, params: &Params) -> Result<bool, WantOfMemory>
+    ensures { IfOk result (λ has. with_claim params.now (plain_operation operation.now)
+        ≡ (if has then Ok (plain_operation operation.now) else Err BadProof)) }
 {
-    match claim_of(alloc, &operation, params)? {
-        Some(_) => Ok(operation),
-        None => Err(RequestRefused::BadProof),
-    }
+    Ok(claim_of(alloc, operation, params)?.is_some())
 }

@@ -1,5 +1,6 @@
 ghost use Rattle.std.specs.Prelude.{◌≡◌, ℕ, List, IfOk, Ok, option_map};
 ghost use Rattle.std.specs.Option.{option_copied};
+ghost use Rattle.st_canon.specs.Objects.{some_listed};
 ghost use Rattle.st_canon.specs.Plain.{object, text};
 ghost use Rattle.st_canon.specs.View.{plain, plain_members};
 ghost use Rattle.st_indexfiles.specs.Hashes.{hash_json};
@@ -7,7 +8,7 @@ ghost use Rattle.st_hash.specs.Hash.{IsHash};
 ghost use Rattle.st_ops.specs.KnownHashes.{HasHashes};
 ghost use Rattle.st_ops.specs.Operation.{creating, plain_operation, plain_proof};
 ghost use Rattle.st_ops.specs.Request.{request_of, IsComplete};
-ghost use Rattle.st_ops.specs.RequestText.{proof_json, request_json, request_text, signed_json, IsDeltaWithin, IsReadAgain};
+ghost use Rattle.st_ops.specs.RequestText.{named_members, proof_json, request_json, request_text, signed_json, IsDeltaWithin, IsReadAgain};
 ghost use Rattle.st_params.specs.Limits.{Limits};
 
 use crate::operation::Operation;
@@ -35,8 +36,9 @@ pub fn write_request(alloc: Global, operation: &Operation) -> Result<Bytes, Want
     Ok(write(alloc, &request)?)
 }
 
-// For the prover: the hashes of an operation are such, so that their texts are read again.
-fn know_hashes(operation: &Operation)
+/// For proofs: the hashes of an operation have the values that hashes have, by which their texts are
+/// read again. Nothing is done.
+pub fn know_hashes(operation: &Operation)
     ensures { HasHashes (plain_operation operation.now) }
 {
     match operation {
@@ -114,7 +116,6 @@ fn create_members(
     Ok(members)
 }
 
-#[tactic(auto, unfolding(st_canon::specs::Objects::put_some))]
 fn signed_members(
     alloc: Global,
     kind: &str,
@@ -126,6 +127,23 @@ fn signed_members(
     ensures { IfOk result (λ members. object (plain_members members)
         ≡ signed_json kind.now (record { suffix = suffix.now; reveal = reveal.now }) (option_map plain_proof proof.now) (option_map plain (option_copied delta.entry))) }
 {
+    let mut members = named_members(alloc, kind, suffix, reveal)?;
+    let signed = proof_json(alloc, proof)?;
+    members.set_some(alloc, "signedData", signed)?;
+    let delta = delta_json(alloc, delta)?;
+    members.set_some(alloc, "delta", delta)?;
+    Ok(members)
+}
+
+#[tactic(auto, unfolding(st_canon::specs::Objects::put_some))]
+fn named_members(
+    alloc: Global,
+    kind: &str,
+    suffix: &Hash,
+    reveal: &Hash,
+) -> Result<Object, WantOfMemory>
+    ensures { IfOk result (λ members. plain_members members ≡ some_listed (named_members kind.now (record { suffix = suffix.now; reveal = reveal.now }))) }
+{
     let mut members = Object::new(alloc);
     let kind = text_json(alloc, kind)?;
     members.set(alloc, "type", kind)?;
@@ -133,10 +151,6 @@ fn signed_members(
     members.set(alloc, "didSuffix", suffix)?;
     let reveal = hash_json(alloc, reveal)?;
     members.set(alloc, "revealValue", reveal)?;
-    let signed = proof_json(alloc, proof)?;
-    members.set_some(alloc, "signedData", signed)?;
-    let delta = delta_json(alloc, delta)?;
-    members.set_some(alloc, "delta", delta)?;
     Ok(members)
 }
 

@@ -6,12 +6,12 @@ use st_params::Schedule;
 use std::test::Fail;
 
 // A claim as a line: its kind and its hash texts.
-fn claim_line(rt: &HostRuntime, claim: Option<Claim>) -> Result<String, Fail> {
+fn claim_line(rt: &HostRuntime, claim: &Option<Claim>) -> Result<String, Fail> {
     let alloc = rt.alloc();
     match claim {
         None => Ok(format!(in alloc; "nothing")?),
         Some(Claim::Update { delta_hash }) => {
-            let delta_hash = hash_text(alloc, &delta_hash)?;
+            let delta_hash = hash_text(alloc, delta_hash)?;
             Ok(format!(in alloc; "update {}", delta_hash.as_str())?)
         }
         Some(
@@ -20,8 +20,8 @@ fn claim_line(rt: &HostRuntime, claim: Option<Claim>) -> Result<String, Fail> {
                 delta_hash,
             },
         ) => {
-            let recovery_commitment = hash_text(alloc, &recovery_commitment)?;
-            let delta_hash = hash_text(alloc, &delta_hash)?;
+            let recovery_commitment = hash_text(alloc, recovery_commitment)?;
+            let delta_hash = hash_text(alloc, delta_hash)?;
             Ok(format!(in alloc;
                 "recover {} {}",
                 recovery_commitment.as_str(),
@@ -43,7 +43,7 @@ fn reading(rt: &HostRuntime, version: u32, request: &str) -> Result<String, Fail
     };
     let operation = operation.copy(alloc)?;
     let named = hash_text(alloc, &suffix(alloc, &operation)?)?;
-    let claim = claim_line(rt, claim_of(alloc, &operation, &params)?)?;
+    let claim = claim_line(rt, &claim_of(alloc, &operation, &params)?)?;
     let written = write_request(alloc, &operation)?;
     let same = written.as_slice() == request.as_bytes();
     Ok(format!(in alloc; "{} {} {same}", named.as_str(), claim.as_str())?)

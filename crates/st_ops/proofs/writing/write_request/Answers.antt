@@ -4,7 +4,8 @@ use Rattle.st_canon.specs.Canonical.{canonical}
 use Rattle.st_canon.specs.Proper.{IsProper}
 use Rattle.st_ops.specs.Operation.{plain_operation}
 use Rattle.st_ops.specs.Request.{request_of}
-use Rattle.st_ops.proofs.ReadAgainLemmas.{written_again}
+use Rattle.st_ops.proofs.AcceptedLemmas.{accepted}
+use Rattle.st_ops.proofs.AgainLemmas.{accepted_again}
 use Rattle.st_ops.proofs.writing.write_request.Goals as goal
 
 pub returns-clause-read : goal.returns-clause-read
@@ -12,4 +13,5 @@ returns-clause-read c = λ limits bytes asked within.
     let json = c.in_ok-request.ensures in
     let written = c.in_ok-write.ensures.text ∙ ap canonical json in
     let proper = subst IsProper json c.in_ok-write.ensures.proper in
-    ap (request_of limits) written ∙ written_again limits bytes (plain_operation c.args.operation.now) asked c.know_hashes.ensures proper within
+    let operation = plain_operation c.args.operation.now in
+    ap (request_of limits) written ∙ accepted_again limits operation (accepted limits bytes operation asked c.know_hashes.ensures) proper within

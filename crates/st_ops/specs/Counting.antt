@@ -1,0 +1,16 @@
+-- What reading a request has counted.
+use Rattle.std.specs.Prelude.{◌≡◌, ◌⊎◌, Result, Ok, Err}
+use Rattle.st_base.specs.Work.{Counts, one_proof}
+use Rattle.st_ops.specs.declared.operation.Operation.{Operation}
+use Rattle.st_ops.specs.declared.operation.Operation.TheVariants.{Create}
+use Rattle.st_ops.specs.declared.refused.RequestRefused.{RequestRefused}
+use Rattle.st_ops.specs.declared.refused.RequestRefused.TheVariants.{BadProof, WantOfMemory}
+
+-- One signed text was opened, where the request came so far, and else nothing was counted; where
+-- memory was wanting, the one or the other.
+abbrev pub CountsOpening : Result Operation RequestRefused → Counts → Counts → Type 0
+CountsOpening (Ok (Create suffix_data delta)) old new = new ≡ old
+CountsOpening (Ok signed) old new = new ≡ one_proof old
+CountsOpening (Err BadProof) old new = new ≡ one_proof old
+CountsOpening (Err WantOfMemory) old new = (new ≡ old) ⊎ (new ≡ one_proof old)
+CountsOpening (Err refusal) old new = new ≡ old
