@@ -1,2 +1,11 @@
 pub mod Seen
+pub mod Codes
+pub mod Step
+pub mod Acting
+pub mod Resolution
+pub mod Laws
+pub mod Numbered
+pub mod Counting
+pub mod Applied
+pub mod Anchored
 pub mod Shown

@@ -2,14 +2,18 @@
 use Rattle.st_doc.specs.Document.{PlainDocument, plain_document}
 use Rattle.st_hash.specs.Hash.{HashValue}
 use Rattle.st_apply.specs.Seen.{State, absent, active, deactivated}
+use Rattle.st_apply.specs.declared.state.Active.{Active as ActiveParts}
 use Rattle.st_apply.specs.declared.state.Kept.{Kept}
 use Rattle.st_apply.specs.declared.state.Kept.TheVariants.{Absent, Active, Deactivated}
 use Rattle.st_apply.specs.declared.state.StateParts.{StateParts}
 use Rattle.st_apply.specs.declared.state.StateParts.TheVariants as parts
 
+abbrev pub shown_active : ActiveParts → State HashValue PlainDocument
+shown_active parts = active parts.recovery parts.update (plain_document parts.document)
+
 abbrev pub shown : Kept → State HashValue PlainDocument
 shown Absent = absent
-shown (Active recovery update document) = active recovery update (plain_document document)
+shown (Active parts) = shown_active parts
 shown Deactivated = deactivated
 
 abbrev pub lent : StateParts → State HashValue PlainDocument

@@ -1,7 +1,14 @@
-//! The state of an identifier, the step by which an operation changes it, and the law that one step
-//! for each operation, in the order of the ledger, is resolution from nothing.
+//! The state of an identifier, the step by which an operation changes it, and the law that one step for
+//! each operation, in the order of the ledger, is resolution from nothing.
 #![tactic(auto)]
 
+mod applying;
+mod counting;
+mod laws;
 mod state;
+#[cfg(test)]
+mod tests;
 
+pub use applying::apply;
+pub use laws::{alike_law, given_law, resolution_laws};
 pub use state::{DidState, StateParts};

@@ -16,12 +16,16 @@ pub struct DidState {
 #[derive(Drop)]
 pub(crate) enum Kept {
     Absent,
-    Active {
-        recovery: Hash,
-        update: Option<Hash>,
-        document: Shared<Document>,
-    },
+    Active(Active),
     Deactivated,
+}
+
+// What is known after a create. States that share the document are copied at the cost of a count.
+#[derive(Drop)]
+pub(crate) struct Active {
+    pub(crate) recovery: Hash,
+    pub(crate) update: Option<Hash>,
+    pub(crate) document: Shared<Document>,
 }
 
 impl Model for DidState {
@@ -44,10 +48,13 @@ impl Model for DidState {
 pub enum StateParts<'a> {
     /// No create has acted.
     Absent,
-    /// The commitments, of which that to an update may be missing, and the document.
+    /// A create has acted.
     Active {
+        /// The commitment to the key of the next recover or deactivate.
         recovery: Hash,
+        /// The commitment to the key of the next update, where there is one.
         update: Option<Hash>,
+        /// The document.
         document: &'a Document,
     },
     /// A deactivate has acted.
@@ -56,8 +63,9 @@ pub enum StateParts<'a> {
 
 impl DidState {
     ghost use Rattle.std.specs.Prelude.{◌≡◌};
-    ghost use Rattle.st_apply.specs.Seen.{absent};
+    ghost use Rattle.st_apply.specs.Seen.{absent, active, deactivated};
     ghost use Rattle.st_apply.specs.Shown.{lent};
+    ghost use Rattle.st_doc.specs.Document.{plain_document};
 
     /// The state before any operation.
     pub fn absent() -> DidState
@@ -66,20 +74,40 @@ impl DidState {
         DidState { kept: Kept::Absent }
     }
 
+    pub(crate) fn active(
+        recovery: Hash,
+        update: Option<Hash>,
+        document: Shared<Document>,
+    ) -> DidState
+        ensures { result ≡ active recovery update (plain_document document) }
+    {
+        DidState {
+            kept: Kept::Active(Active {
+                recovery,
+                update,
+                document,
+            }),
+        }
+    }
+
+    pub(crate) fn deactivated() -> DidState
+        ensures { result ≡ deactivated }
+    {
+        DidState {
+            kept: Kept::Deactivated,
+        }
+    }
+
     /// What it holds.
     pub fn parts(&self) -> StateParts<'_>
         ensures { lent result ≡ self.now }
     {
         match &self.kept {
             Kept::Absent => StateParts::Absent,
-            Kept::Active {
-                recovery,
-                update,
-                document,
-            } => StateParts::Active {
-                recovery: *recovery,
-                update: *update,
-                document: document.get(),
+            Kept::Active(active) => StateParts::Active {
+                recovery: active.recovery,
+                update: active.update,
+                document: active.document.get(),
             },
             Kept::Deactivated => StateParts::Deactivated,
         }
@@ -87,22 +115,16 @@ impl DidState {
 }
 
 impl Copied for DidState {
-    /// One owner more of the same document.
+    /// One owner more of the same document. It takes little memory, if any.
     fn copy(&self, alloc: Global) -> Result<DidState, WantOfMemory> {
-        Ok(DidState {
-            kept: match &self.kept {
-                Kept::Absent => Kept::Absent,
-                Kept::Active {
-                    recovery,
-                    update,
-                    document,
-                } => Kept::Active {
-                    recovery: *recovery,
-                    update: *update,
-                    document: document.copy(alloc)?,
-                },
-                Kept::Deactivated => Kept::Deactivated,
-            },
-        })
+        match &self.kept {
+            Kept::Absent => Ok(DidState::absent()),
+            Kept::Active(active) => Ok(DidState::active(
+                active.recovery,
+                active.update,
+                active.document.copy(alloc)?,
+            )),
+            Kept::Deactivated => Ok(DidState::deactivated()),
+        }
     }
 }

@@ -1,0 +1,113 @@
+-- The laws of resolution, from that of one more item.
+use Rattle.std.proofs.Common.{◌≡◌, ◌∙◌, sym, ap, subst, ℕ, ◌+◌, ◌<◌, ◌≤◌, refl, arith, List, [], ◌∷◌, ◌++◌, append_assoc, append-nil}
+use Rattle.std.specs.Prelude.{map, Option, Some, None}
+use Rattle.std.specs.List.{AllByRecursion, cons_option, fold}
+use Rattle.std.proofs.lemmas.List.Folds.{fold-map, fold_stays}
+use Rattle.st_base.proofs.Quantifiers.{each-weaker}
+use Rattle.st_apply.specs.Laws.{PlacesAscend, WalksLead}
+use Rattle.st_apply.specs.Numbered.{given_from}
+use Rattle.st_apply.specs.Resolution.{full_after, update_after, before_updates, resolve}
+use Rattle.st_apply.specs.Seen.{Rules, Seen, State, absent, deactivated}
+use Rattle.st_apply.specs.Step.{step, folded_steps}
+use Rattle.st_apply.proofs.OneMoreLemmas.{full_nearer, update_nearer, one_more}
+use Rattle.st_apply.proofs.PlaceLemmas.{behind, behind_within}
+use Rattle.st_apply.proofs.WalkLemmas.{walk_leads}
+
+-- what holds of each item of a list holds of one in its middle
+each_at : {X : Type 0} (P : X → Type 0) (done : List X) (x : X) (more : List X) → AllByRecursion P (done ++ x ∷ more) → P x
+each_at P [] x more each = each.0
+each_at P (y ∷ done) x more each = each_at P done x more each.1
+
+-- what stands before an item of a list in ascending places stands at an earlier place
+pub places_before : {X : Type 0} (place : X → ℕ) (done : List X) (item : X) (more : List X) → PlacesAscend place (done ++ item ∷ more)
+    → AllByRecursion (λ earlier. place earlier < place item) done
+places_before place [] item more ascend = tt
+places_before place (x ∷ done) item more ascend =
+    (each_at (λ later. place x < place later) done item more ascend.0, places_before place done item more ascend.1)
+
+-- such a list ascends with one more item behind all others
+pub ascend_push : {X : Type 0} (place : X → ℕ) (items : List X) (item : X) → PlacesAscend place items
+    → AllByRecursion (λ earlier. place earlier < place item) items → PlacesAscend place (items ++ item ∷ [])
+ascend_push place [] item ascend last = (tt, tt)
+ascend_push place (x ∷ items) item ascend last =
+    (each_push (λ later. place x < place later) items ascend.0 last.0, ascend_push place items item ascend.1 last.1)
+  where
+    each_push : (P : X → Type 0) (xs : List X) → AllByRecursion P xs → P item → AllByRecursion P (xs ++ item ∷ [])
+    each_push P [] each holds = (holds, tt)
+    each_push P (y ∷ ys) each holds = (each.0, each_push P ys each.1 holds)
+
+module _ {Hash Document Item : Type 0} (rules : Rules Hash Document) (place : Item → ℕ) (seen : Item → Seen Hash Document) where
+  -- the steps go on from what the items before resolve to
+  pub goes_on : (done more : List Item) → PlacesAscend place (done ++ more)
+      → folded_steps rules seen (resolve rules place seen done) more ≡ resolve rules place seen (done ++ more)
+  goes_on done [] ascend = ap (resolve rules place seen) (sym (append-nil done))
+  goes_on done (item ∷ more) ascend =
+      let along : (done ++ item ∷ []) ++ more ≡ done ++ item ∷ more = append_assoc done (item ∷ []) more in
+      ap (λ state. folded_steps rules seen state more) (sym (one_more rules place seen done item (places_before place done item more ascend)))
+      ∙ goes_on (done ++ item ∷ []) more (subst (PlacesAscend place) (sym along) ascend)
+      ∙ ap (resolve rules place seen) along
+
+  -- one step for each item is resolution
+  pub fold_is_walk : (items : List Item) → PlacesAscend place items
+      → folded_steps rules seen absent items ≡ resolve rules place seen items
+  fold_is_walk items ascend = goes_on [] items ascend
+
+  -- what is deactivated stays so
+  pub stays_deactivated : (done more : List Item) → PlacesAscend place (done ++ more)
+      → resolve rules place seen done ≡ deactivated → resolve rules place seen (done ++ more) ≡ deactivated
+  stays_deactivated done more ascend is =
+      sym (goes_on done more ascend)
+      ∙ ap (λ state. folded_steps rules seen state more) is
+      ∙ fold_stays (λ state item. step rules state (seen item)) deactivated (λ item. refl) more
+
+  -- the walks end where there is no next
+  pub walks_lead : (items : List Item) → WalksLead rules place seen items
+  walks_lead items = record {
+    full = λ create.
+        walk_leads (full_after rules place seen items) (λ here. behind place items (place here)) (full_nearer rules place seen items)
+        _ create (behind_within place items (place create));
+    update = λ from change.
+        walk_leads (update_after rules place seen items) (λ here. behind place items here.place) (update_nearer rules place seen items)
+        _ (before_updates rules from change) (behind_within place items from);
+  }
+
+-- items that are seen alike resolve alike
+pub seen_alike : {Hash Document Item Other : Type 0} (rules : Rules Hash Document)
+    (place : Item → ℕ) (seen : Item → Seen Hash Document) (place' : Other → ℕ) (seen' : Other → Seen Hash Document)
+    (items : List Item) (others : List Other) → PlacesAscend place items → PlacesAscend place' others
+    → map seen items ≡ map seen' others → resolve rules place seen items ≡ resolve rules place' seen' others
+seen_alike rules place seen place' seen' items others ascend ascend' alike =
+    sym (fold_is_walk rules place seen items ascend)
+    ∙ sym (fold-map (step rules) seen absent items)
+    ∙ ap (fold (step rules) absent) alike
+    ∙ fold-map (step rules) seen' absent others
+    ∙ fold_is_walk rules place' seen' others ascend'
+
+-- ---- what entries give
+
+module _ {Entry Item : Type 0} (give : ℕ → Entry → Option Item) (place : Item → ℕ)
+    (at : (number : ℕ) (entry : Entry) (item : Item) → give number entry ≡ Some item → place item ≡ number) where
+  -- stands at the numbers of the entries or later,
+  not_before : (number : ℕ) (entries : List Entry) → AllByRecursion (λ item. number ≤ place item) (given_from give number entries)
+  not_before number [] = tt
+  not_before number (entry ∷ entries) =
+      let rest = each-weaker (λ item. number + 1 ≤ place item) (λ item. number ≤ place item) (λ item late. omega arith)
+      (given_from give (number + 1) entries) (not_before (number + 1) entries) in
+      (elim (give number entry) as (λ o. give number entry ≡ o → AllByRecursion (λ item. number ≤ place item) (cons_option o (given_from give (number + 1) entries))) [
+        | None ↦ λ is. rest
+        | Some item ↦ λ is. ((let here = at number entry item is in omega arith), rest)
+      ]) refl
+
+  -- and in ascending places
+  pub given_ascend : (number : ℕ) (entries : List Entry) → PlacesAscend place (given_from give number entries)
+  given_ascend number [] = tt
+  given_ascend number (entry ∷ entries) =
+      (elim (give number entry) as (λ o. give number entry ≡ o → PlacesAscend place (cons_option o (given_from give (number + 1) entries))) [
+        | None ↦ λ is. given_ascend (number + 1) entries
+        | Some item ↦ λ is.
+            (let here = at number entry item is in (
+              each-weaker (λ later. number + 1 ≤ place later) (λ later. place item < place later) (λ later late. omega arith)
+                  (given_from give (number + 1) entries) (not_before (number + 1) entries),
+              given_ascend (number + 1) entries,
+            ))
+      ]) refl

@@ -1,0 +1,14 @@
+-- Private: what the laws rest on.
+mod ChaseLemmas
+mod MeetingLemmas
+mod PlaceLemmas
+mod WalkLemmas
+-- For the crates above.
+-- the laws, and lists whose places ascend
+pub mod LawLemmas
+-- one more item is one more step, on any items
+pub mod OneMoreLemmas
+-- what anchored operations resolve to: one more, a fold of steps, the items of an index
+pub mod ResolvedLemmas
+-- what a step does; an operation that does not act leaves the state
+pub mod StepLemmas

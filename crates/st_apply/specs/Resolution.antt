@@ -1,0 +1,117 @@
+-- Resolution from nothing (DIF Sidetree v1.0.0, "Operation Compilation"). It follows the commitments:
+-- from the create to the operation that reveals what the create commits to, and so on, first over
+-- recovers and deactivates, and then, from the last of these, over updates.
+use Rattle.std.specs.Prelude.{ℕ, zero, suc, nat_lt, length, List, find, Bool, true, false, ◌&&◌, is_some, Option, Some, None, option_map}
+use Rattle.std.specs.Option.{option_map_or}
+use Rattle.st_base.specs.Options.{◌>>=◌}
+use Rattle.st_apply.specs.Seen.{Rules, Change, Beginning, Seen, creates, recovers, deactivates, updates, State, absent, active, deactivated}
+use Rattle.st_apply.specs.Step.{changed, begun_update, begun_document}
+
+-- from here to the next, and on from there until there is no next, at most so many turns
+abbrev pub walk : {Here : Type 0} → (Here → Option Here) → ℕ → Here → Here
+walk next zero here = here
+walk next (suc turns) here = option_map_or (walk next turns) (next here) here
+
+-- ---- operations alone
+
+module _ {Hash Document : Type 0} where
+  -- it is a create
+  abbrev pub is_create : Seen Hash Document → Bool
+  is_create (creates beginning) = true
+  is_create other = false
+
+  -- what a create or a recover begins
+  abbrev pub beginning_of : Seen Hash Document → Option (Beginning Hash Document)
+  beginning_of (creates beginning) = Some beginning
+  beginning_of (recovers reveal beginning) = Some beginning
+  beginning_of other = None
+
+  -- what the delta of an update changes, where it counts
+  abbrev pub change_of : Seen Hash Document → Option (Change Hash Document)
+  change_of (updates reveal change) = change
+  change_of other = None
+
+-- how far the updates have got: the place of the last, and the update commitment and the document that
+-- it left
+pub record Reached (Hash Document : Type 0) : Type 0 where
+  pub place : ℕ
+  pub update : Option Hash
+  pub document : Document
+
+-- the state there, under this recovery commitment
+abbrev pub ending : {Hash Document : Type 0} → Hash → Reached Hash Document → State Hash Document
+ending recovery last = active recovery last.update last.document
+
+module _ {Hash Document : Type 0} (rules : Rules Hash Document) where
+  -- it is a recover or a deactivate that has a claim, and whose reveal value meets the commitment
+  abbrev pub is_full_for : Hash → Seen Hash Document → Bool
+  is_full_for commitment (recovers reveal beginning) = rules.meets reveal commitment
+  is_full_for commitment (deactivates reveal) = rules.meets reveal commitment
+  is_full_for commitment other = false
+
+  -- it is an update that has a claim, whose reveal value meets the commitment, and whose delta counts
+  abbrev pub is_update_for : Hash → Seen Hash Document → Bool
+  is_update_for commitment (updates reveal change) = rules.meets reveal commitment && is_some change
+  is_update_for commitment other = false
+
+  -- where the updates begin: at the place of a create or a recover, with what that leaves
+  abbrev pub before_updates : ℕ → Option (Change Hash Document) → Reached Hash Document
+  before_updates from change =
+      record { place = from; update = begun_update change; document = begun_document rules change }
+
+-- ---- operations at their places
+
+module _ {Hash Document Item : Type 0} (rules : Rules Hash Document) (place : Item → ℕ) (seen : Item → Seen Hash Document) where
+  -- the first create
+  abbrev pub start : List Item → Option Item
+  start items = find (λ item. is_create (seen item)) items
+
+  -- the first recover or deactivate behind a place that is for the commitment
+  abbrev pub next_full : List Item → ℕ → Hash → Option Item
+  next_full items after commitment =
+      find (λ item. nat_lt after (place item) && is_full_for rules commitment (seen item)) items
+
+  -- the first update behind a place that is for the commitment
+  abbrev pub next_update : List Item → ℕ → Hash → Option Item
+  next_update items after commitment =
+      find (λ item. nat_lt after (place item) && is_update_for rules commitment (seen item)) items
+
+  -- from a create or a recover to the next recover or deactivate; there is none behind a deactivate
+  abbrev pub full_after : List Item → Item → Option Item
+  full_after items reached = do
+    beginning ← beginning_of (seen reached)
+    next_full items (place reached) beginning.recovery
+
+  -- the last of them that one comes to from the create
+  abbrev pub last_full : List Item → Item → Item
+  last_full items create = walk (full_after items) (length items) create
+
+  -- what an update leaves
+  abbrev pub updated_by : Reached Hash Document → Item → Option (Reached Hash Document)
+  updated_by reached item =
+      option_map
+      (λ change. record { place = place item; update = Some change.update; document = changed reached.document change })
+      (change_of (seen item))
+
+  -- from an update, or the beginning of the updates, to the next update
+  abbrev pub update_after : List Item → Reached Hash Document → Option (Reached Hash Document)
+  update_after items reached = do
+    commitment ← reached.update
+    item ← next_update items reached.place commitment
+    updated_by reached item
+
+  -- the last update that one comes to from a create or a recover at this place, with this delta
+  abbrev pub last_update : List Item → ℕ → Option (Change Hash Document) → Reached Hash Document
+  last_update items from change = walk (update_after items) (length items) (before_updates rules from change)
+
+  -- the state behind the last recover or deactivate: what begins nothing is a deactivate
+  abbrev pub resolved_from : List Item → ℕ → Option (Beginning Hash Document) → State Hash Document
+  resolved_from items from None = deactivated
+  resolved_from items from (Some beginning) = ending beginning.recovery (last_update items from beginning.change)
+
+  abbrev pub resolved_by : List Item → Item → State Hash Document
+  resolved_by items full = resolved_from items (place full) (beginning_of (seen full))
+
+  -- The state of an identifier with these operations. It is absent where there is no create.
+  abbrev pub resolve : List Item → State Hash Document
+  resolve items = option_map_or (λ create. resolved_by items (last_full items create)) (start items) absent

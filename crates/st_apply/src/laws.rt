@@ -1,0 +1,32 @@
+ghost use Rattle.std.specs.Prelude.{ℕ, List};
+ghost use Rattle.st_apply.specs.Laws.{FoldIsWalk, GoesOn, LeavesIt, OneMore, SeenAlike, StaysDeactivated, WalksLead};
+ghost use Rattle.st_apply.specs.Numbered.{GivenAscend};
+ghost use Rattle.st_apply.specs.Seen.{Rules, Seen};
+
+/// One step for each operation, in the order of their places, is resolution from nothing, which follows
+/// the commitments; and what goes with that. `H`, `D` and `I` are hashes, documents and operations of
+/// any type.
+pub fn resolution_laws<H, D, I>()
+    ensures fold_is_walk { (rules : Rules H D) (place : I → ℕ) (seen : I → Seen H D)
+        → FoldIsWalk rules place seen }
+    ensures goes_on { (rules : Rules H D) (place : I → ℕ) (seen : I → Seen H D)
+        → GoesOn rules place seen }
+    ensures one_more { (rules : Rules H D) (place : I → ℕ) (seen : I → Seen H D)
+        → OneMore rules place seen }
+    ensures walks_lead { (rules : Rules H D) (place : I → ℕ) (seen : I → Seen H D) (items : List I)
+        → WalksLead rules place seen items }
+    ensures stays_deactivated { (rules : Rules H D) (place : I → ℕ) (seen : I → Seen H D)
+        → StaysDeactivated rules place seen }
+    ensures leaves_it { (rules : Rules H D) → LeavesIt rules }
+{}
+
+/// Operations that are seen alike resolve alike, also operations of two types and at other places.
+pub fn alike_law<H, D, I, J>()
+    ensures { (rules : Rules H D) (place : I → ℕ) (seen : I → Seen H D) (place' : J → ℕ) (seen' : J → Seen H D)
+        → SeenAlike rules place seen place' seen' }
+{}
+
+/// What entries give stands in ascending places: at most one item an entry, at the entry's number.
+pub fn given_law<E, I>()
+    ensures { GivenAscend E I }
+{}

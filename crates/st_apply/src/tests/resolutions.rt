@@ -1,0 +1,121 @@
+use super::made::{committed, operation};
+use crate::{DidState, StateParts, alike_law, apply, given_law, resolution_laws};
+use st_base::{Copied, Work};
+use st_doc::Document;
+use st_hash::Hash;
+use st_params::Schedule;
+use std::test::Fail;
+
+// Operations in the order of their places, then the state that they leave: the keys of its recovery
+// and its update commitment, and its services.
+const CASES: &str = "update u - v a
+create - r u b
+create - r u c
+update u - v d
+= active r v (bd)
+create - r u a
+recover r q v b
+recover r p w c
+= active q v (b)
+create - r u a
+update v - w b
+update u - v c
+= active r v (ac)
+create - r u a
+update u - v b
+recover r q w c
+update v - p d
+update w - y e
+= active q y (ce)
+create - r u a
+update u - v x
+update v - w b
+= active r w (ab)
+create - r u x
+recover r q v -
+update u - w b
+= active q none ()
+create - r u a
+update u - v -
+unproved u - v b
+update u - w c
+= active r w (ac)
+create - r u a
+recover u q v b
+update r - v c
+= active r u (a)
+create - r u a
+deactivate r - - -
+recover r q v b
+create - r u a
+= deactivated
+deactivate r - - -
+recover r q v b
+= absent";
+
+const KEYS: &str = "p q r u v w y";
+
+// The name of the key that is committed to.
+fn name_of(rt: &HostRuntime, commitment: &Hash) -> Result<&'static str, Fail> {
+    for name in KEYS.split(' ') {
+        if committed(rt, name)? == *commitment {
+            return Ok(name);
+        }
+    }
+    Err(Fail::from("no key"))
+}
+
+// The ids of the services, one after the other.
+fn services(rt: &HostRuntime, document: &Document) -> Result<String, Fail> {
+    let mut ids = String::new(rt.alloc());
+    for service in document.services() {
+        let id = service.member("id").ok_or("no id")?;
+        ids.push_str(id.as_text().ok_or("no text")?)?;
+    }
+    Ok(ids)
+}
+
+fn shown(rt: &HostRuntime, state: &DidState) -> Result<String, Fail> {
+    match state.parts() {
+        StateParts::Absent => Ok(String::from_str(rt.alloc(), "absent")?),
+        StateParts::Deactivated => Ok(String::from_str(rt.alloc(), "deactivated")?),
+        StateParts::Active {
+            recovery,
+            update,
+            document,
+        } => {
+            let recovery = name_of(rt, &recovery)?;
+            let update = match update {
+                Some(update) => name_of(rt, &update)?,
+                None => "none",
+            };
+            let services = services(rt, document)?;
+            Ok(format!(in rt.alloc(); "active {recovery} {update} ({services})")?)
+        }
+    }
+}
+
+#[test]
+fn operations_resolve_to_a_state(rt: HostRuntime) -> Result<(), Fail> {
+    let params = Schedule::new().at(0);
+    let mut work = Work::new(&rt);
+    let mut state = DidState::absent();
+    for line in CASES.lines() {
+        match line.strip_prefix("= ") {
+            Some(expected) => {
+                let copied = state.copy(rt.alloc())?;
+                assert_eq!(rt; shown(&rt, &copied)?.as_str(), expected);
+                state = DidState::absent();
+            }
+            None => {
+                let operation = operation(&rt, line)?;
+                state = apply(rt.alloc(), &state, &operation, &params, &mut work)?;
+            }
+        }
+    }
+    assert_eq!(rt; work.applies(), 34);
+    resolution_laws::<Hash, u8, u64>();
+    alike_law::<Hash, u8, u64, u32>();
+    given_law::<u8, u64>();
+    Ok(())
+}
