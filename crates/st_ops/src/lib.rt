@@ -7,5 +7,5 @@ mod operation;
 mod shared;
 
 pub use claim::Claim;
-pub use operation::Operation;
+pub use operation::{Operation, suffix};
 pub use shared::Shared;
