@@ -3,11 +3,11 @@ use Rattle.std.proofs.Common.{◌≡◌, ◌∙◌, sym, ap, subst, ℕ, ◌+◌
 use Rattle.std.specs.Prelude.{map, Option, Some, None}
 use Rattle.std.specs.List.{AllByRecursion, cons_option, fold}
 use Rattle.std.proofs.lemmas.List.Folds.{fold-map, fold_stays}
-use Rattle.st_base.proofs.Quantifiers.{each-weaker}
+use Rattle.st_base.proofs.Quantifiers.{each-append, each-weaker}
 use Rattle.st_apply.specs.Laws.{PlacesAscend, WalksLead}
 use Rattle.st_apply.specs.Numbered.{given_from}
 use Rattle.st_apply.specs.Resolution.{full_after, update_after, before_updates, resolve}
-use Rattle.st_apply.specs.Seen.{Rules, Seen, State, absent, deactivated}
+use Rattle.st_apply.specs.Seen.{Rules, Seen, absent, deactivated}
 use Rattle.st_apply.specs.Step.{step, folded_steps}
 use Rattle.st_apply.proofs.OneMoreLemmas.{full_nearer, update_nearer, one_more}
 use Rattle.st_apply.proofs.PlaceLemmas.{behind, behind_within}
@@ -30,11 +30,7 @@ pub ascend_push : {X : Type 0} (place : X → ℕ) (items : List X) (item : X) �
     → AllByRecursion (λ earlier. place earlier < place item) items → PlacesAscend place (items ++ item ∷ [])
 ascend_push place [] item ascend last = (tt, tt)
 ascend_push place (x ∷ items) item ascend last =
-    (each_push (λ later. place x < place later) items ascend.0 last.0, ascend_push place items item ascend.1 last.1)
-  where
-    each_push : (P : X → Type 0) (xs : List X) → AllByRecursion P xs → P item → AllByRecursion P (xs ++ item ∷ [])
-    each_push P [] each holds = (holds, tt)
-    each_push P (y ∷ ys) each holds = (each.0, each_push P ys each.1 holds)
+    (each-append (λ later. place x < place later) items (item ∷ []) ascend.0 (last.0, tt), ascend_push place items item ascend.1 last.1)
 
 module _ {Hash Document Item : Type 0} (rules : Rules Hash Document) (place : Item → ℕ) (seen : Item → Seen Hash Document) where
   -- the steps go on from what the items before resolve to

@@ -1,6 +1,6 @@
 -- How proofs store a state: JSON values, documents and states as trees of numbers, from which they can
 -- be had again. Nothing that is said of states turns on it.
-use Rattle.std.specs.Prelude.{◌≡◌, ℕ, zero, suc, ℤ, pos, negsuc, Bool, true, false, List, [], ◌∷◌, Option, Some, None, refl}
+use Rattle.std.specs.Prelude.{◌≡◌, ℕ, zero, suc, ℤ, pos, negsuc, true, false, List, [], ◌∷◌, Option, Some, None, refl}
 use Rattle.std.specs.Coded.{Coded, code_by, coded×, coded_list, coded_option, coded_ℕ}
 use Rattle.std.proofs.Common.{ap}
 use base.Stored.{Gv, gnil, gnum, gcons, num}
@@ -39,8 +39,8 @@ text_back (byte ∷ bytes) = ap (λ rest. byte ∷ rest) (text_back bytes)
 
 -- ---- JSON values
 
-mutual
-  abbrev plain_tree : Plain → Gv
+abbrev mutual
+  plain_tree : Plain → Gv
   plain_tree null = gnil
   plain_tree (boolean false) = gnum 0
   plain_tree (boolean true) = gnum 1
@@ -49,16 +49,16 @@ mutual
   plain_tree (list items) = gcons (gnum 1) (items_tree items)
   plain_tree (object members) = gcons (gcons gnil gnil) (members_tree members)
 
-  abbrev items_tree : Items → Gv
+  items_tree : Items → Gv
   items_tree no_items = gnil
   items_tree (item value items) = gcons (plain_tree value) (items_tree items)
 
-  abbrev members_tree : Members → Gv
+  members_tree : Members → Gv
   members_tree no_members = gnil
   members_tree (member name value members) = gcons (text_tree name) (gcons (plain_tree value) (members_tree members))
 
-mutual
-  abbrev plain_at : Gv → Plain
+abbrev mutual
+  plain_at : Gv → Plain
   plain_at gnil = null
   plain_at (gnum zero) = boolean false
   plain_at (gnum (suc n)) = boolean true
@@ -67,16 +67,16 @@ mutual
   plain_at (gcons (gnum (suc n)) inside) = list (items_at inside)
   plain_at (gcons (gcons a b) inside) = object (members_at inside)
 
-  abbrev items_at : Gv → Items
+  items_at : Gv → Items
   items_at (gcons value items) = item (plain_at value) (items_at items)
   items_at other = no_items
 
-  abbrev members_at : Gv → Members
+  members_at : Gv → Members
   members_at (gcons name (gcons value members)) = member (text_at name) (plain_at value) (members_at members)
   members_at other = no_members
 
 mutual
-  plain_back : (value : Plain) → plain_at (plain_tree value) ≡ value
+  pub plain_back : (value : Plain) → plain_at (plain_tree value) ≡ value
   plain_back null = refl
   plain_back (boolean false) = refl
   plain_back (boolean true) = refl
@@ -125,7 +125,7 @@ state_of None = absent
 state_of (Some None) = deactivated
 state_of (Some (Some parts)) = active parts.0 parts.1.0 parts.1.1
 
-state_back : (state : State HashValue PlainDocument) → state_of (parts_of state) ≡ state
+pub state_back : (state : State HashValue PlainDocument) → state_of (parts_of state) ≡ state
 state_back absent = refl
 state_back (active recovery update document) = refl
 state_back deactivated = refl

@@ -10,12 +10,13 @@ ghost use Rattle.st_ops.specs.Operation.{plain_operation};
 
 use crate::counting::{changed_document, counted_delta};
 use crate::state::{Active, DidState, Kept};
+use crate::stub::claim_of;
 use st_base::{Copied, WantOfMemory, Work};
 use st_canon::Json;
 use st_doc::Document;
 use st_hash::Hash;
 use st_jws::meets;
-use st_ops::{Claim, Operation, Shared, claim_of};
+use st_ops::{Claim, Operation, Shared};
 use st_params::Params;
 use std::alloc::Global;
 

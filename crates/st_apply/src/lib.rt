@@ -8,6 +8,7 @@ mod laws;
 mod state;
 #[cfg(test)]
 mod tests;
+mod stub;
 
 pub use applying::apply;
 pub use laws::{alike_law, given_law, resolution_laws};
