@@ -19,13 +19,16 @@ abbrev pub controller_of : List ℕ → Plain → Plain
 controller_of did key = unwrap_or (member_in (codes "controller") (Some key)) (text did)
 
 -- a key as a verification method of the identifier `did`
-abbrev pub method_of : List ℕ → Plain → Plain
-method_of did key = object_of_some (
+abbrev pub method_members : List ℕ → Plain → List (List ℕ × Option Plain)
+method_members did key =
     (codes "id", Some (text (reference_to key)))
     ∷ (codes "type", member_in (codes "type") (Some key))
     ∷ (codes "controller", Some (controller_of did key))
     ∷ (codes "publicKeyJwk", member_in (codes "publicKeyJwk") (Some key))
-    ∷ [])
+    ∷ []
+
+abbrev pub method_of : List ℕ → Plain → Plain
+method_of did key = object_of_some (method_members did key)
 
 -- the key serves this purpose
 abbrev pub has_purpose : List ℕ → Plain → Bool
@@ -38,9 +41,12 @@ references_for purpose keys = map (λ key. text (reference_to key)) (filter (has
 -- ---- services
 
 -- a service, with a reference as its id
-abbrev pub service_of : Plain → Plain
-service_of service = object_of_some (
+abbrev pub service_members : Plain → List (List ℕ × Option Plain)
+service_members service =
     (codes "id", Some (text (reference_to service)))
     ∷ (codes "type", member_in (codes "type") (Some service))
     ∷ (codes "serviceEndpoint", member_in (codes "serviceEndpoint") (Some service))
-    ∷ [])
+    ∷ []
+
+abbrev pub service_of : Plain → Plain
+service_of service = object_of_some (service_members service)

@@ -10,7 +10,7 @@ use crate::keys::{methods_of, references_for};
 use crate::services::services_of;
 use crate::texts::{text_json, texts_json};
 use st_apply::StateParts;
-use st_base::WantOfMemory;
+use st_base::{List, WantOfMemory};
 use st_canon::{Json, Object, some_list};
 use st_doc::Document;
 use std::alloc::Global;
@@ -35,20 +35,19 @@ pub(crate) fn did_document(
 fn described(alloc: Global, did: &str, document: &Document) -> Result<Object, WantOfMemory>
     ensures { IfOk result (λ members. plain_members members ≡ some_listed (described did.now (plain_document document.now))) }
 {
-    let keys = document.keys();
-    let mut members = Object::new(alloc);
-    members.set(alloc, "id", text_json(alloc, did)?)?;
+    let mut members = bare(alloc, did)?;
     let names = texts_json(alloc, document.names())?;
-    members.set_some(alloc, "alsoKnownAs", some_list(names))?;
-    let methods = methods_of(alloc, did, keys)?;
-    members.set_some(alloc, "verificationMethod", some_list(methods))?;
-    set_purposes(alloc, &mut members, keys)?;
+    set_list(alloc, &mut members, "alsoKnownAs", names)?;
+    let methods = methods_of(alloc, did, document.keys())?;
+    set_list(alloc, &mut members, "verificationMethod", methods)?;
+    set_purposes(alloc, &mut members, document.keys())?;
     let services = services_of(alloc, document.services())?;
-    members.set_some(alloc, "service", some_list(services))?;
+    set_list(alloc, &mut members, "service", services)?;
     Ok(members)
 }
 
 // The identifier alone.
+#[tactic(auto, unfolding(st_canon::specs::Objects::put_some))]
 fn bare(alloc: Global, did: &str) -> Result<Object, WantOfMemory>
     ensures { IfOk result (λ members. plain_members members ≡ some_listed (id_alone did.now)) }
 {
@@ -66,7 +65,8 @@ fn set_purposes(alloc: Global, members: &mut Object, keys: &[Json]) -> Result<()
     set_purpose(alloc, members, "assertionMethod", keys)?;
     set_purpose(alloc, members, "keyAgreement", keys)?;
     set_purpose(alloc, members, "capabilityInvocation", keys)?;
-    set_purpose(alloc, members, "capabilityDelegation", keys)
+    set_purpose(alloc, members, "capabilityDelegation", keys)?;
+    Ok(())
 }
 
 fn set_purpose(
@@ -79,5 +79,17 @@ fn set_purpose(
         ≡ put_some purpose.now (some_list (references_for purpose.now (map plain keys.now))) (plain_members members.old)) }
 {
     let references = references_for(alloc, purpose, keys)?;
-    members.set_some(alloc, purpose, some_list(references))
+    set_list(alloc, members, purpose, references)
+}
+
+// Puts the list under this name, but for an empty one.
+fn set_list(
+    alloc: Global,
+    members: &mut Object,
+    name: &str,
+    list: List<Json>,
+) -> Result<(), WantOfMemory>
+    ensures { OnOk result (plain_members members.new ≡ put_some name.now (some_list (map plain list)) (plain_members members.old)) }
+{
+    members.set_some(alloc, name, some_list(list))
 }

@@ -1,8 +1,9 @@
 ghost use Rattle.std.specs.Prelude.{◌≡◌, IfOk, map};
-ghost use Rattle.st_canon.specs.View.{plain};
+ghost use Rattle.st_canon.specs.Objects.{some_listed};
+ghost use Rattle.st_canon.specs.View.{plain, plain_members};
 ghost use Rattle.st_doc.specs.Alike.{is_among};
 ghost use Rattle.st_doc.specs.Entries.{texts_of};
-ghost use Rattle.st_resolve.specs.Method.{controller_of, has_purpose, method_of, references_for};
+ghost use Rattle.st_resolve.specs.Method.{controller_of, has_purpose, method_members, method_of, references_for};
 
 use crate::texts::{copy_there, reference_to, text_json};
 use st_base::{Copied, List, WantOfMemory};
@@ -24,9 +25,15 @@ pub(crate) fn methods_of(
     Ok(list)
 }
 
-#[tactic(auto, unfolding(st_canon::specs::Objects::put_some))]
 fn method_of(alloc: Global, did: &str, key: &Json) -> Result<Json, WantOfMemory>
     ensures { IfOk result (λ json. plain json ≡ method_of did.now (plain key.now)) }
+{
+    Ok(Json::Object(method_members(alloc, did, key)?))
+}
+
+#[tactic(auto, unfolding(st_canon::specs::Objects::put_some))]
+fn method_members(alloc: Global, did: &str, key: &Json) -> Result<Object, WantOfMemory>
+    ensures { IfOk result (λ members. plain_members members ≡ some_listed (method_members did.now (plain key.now))) }
 {
     let mut members = Object::new(alloc);
     members.set(alloc, "id", reference_to(alloc, key)?)?;
@@ -34,7 +41,7 @@ fn method_of(alloc: Global, did: &str, key: &Json) -> Result<Json, WantOfMemory>
     members.set(alloc, "controller", controller_of(alloc, did, key)?)?;
     let jwk = copy_there(alloc, key.member("publicKeyJwk"))?;
     members.set_some(alloc, "publicKeyJwk", jwk)?;
-    Ok(Json::Object(members))
+    Ok(members)
 }
 
 // Who controls the key: whom it names, or else the identifier.

@@ -1,8 +1,9 @@
-ghost use Rattle.std.specs.Prelude.{◌≡◌, IfOk, None};
+ghost use Rattle.std.specs.Prelude.{◌≡◌, IfOk, None, false};
 ghost use Rattle.st_apply.specs.Shown.{lent};
 ghost use Rattle.st_base.specs.Answers.{GivesAs};
 ghost use Rattle.st_base.specs.Work.{AppliesAtMost};
-ghost use Rattle.st_canon.specs.View.{plain};
+ghost use Rattle.st_canon.specs.Plain.{object};
+ghost use Rattle.st_canon.specs.View.{plain, plain_members};
 ghost use Rattle.st_resolve.specs.Identifier.{plain_did};
 ghost use Rattle.st_resolve.specs.LongForm.{plain_long};
 ghost use Rattle.st_resolve.specs.Result.{is_absent, made_by, refusal_of, result_of, said_of};
@@ -32,7 +33,9 @@ pub fn render(
 ) -> Result<Json, RenderRefused>
     ensures result { GivesAs plain refusal_of (result_of params.now (plain_did did.now) state.now) result }
     ensures work { AppliesAtMost 1 work.old work.new }
+    // Nothing is counted of a short form, nor of an identifier that entries made.
     ensures short { did.now.long ≡ None → work.new ≡ work.old }
+    ensures known { is_absent state.now ≡ false → work.new ≡ work.old }
 {
     let parts = state.parts();
     if !is_absent(&parts) {
@@ -80,10 +83,21 @@ pub(crate) fn said_of(
 ) -> Result<Json, WantOfMemory>
     ensures { IfOk result (λ json. plain json ≡ said_of published (plain_did did.now) (lent state.now)) }
 {
+    Ok(Json::Object(said_members(alloc, published, did, state)?))
+}
+
+fn said_members(
+    alloc: Global,
+    published: bool,
+    did: &Did,
+    state: &StateParts<'_>,
+) -> Result<Object, WantOfMemory>
+    ensures { IfOk result (λ members. object (plain_members members) ≡ said_of published (plain_did did.now) (lent state.now)) }
+{
     let mut members = Object::new(alloc);
     let document = did_document(alloc, did.text.as_str(), state)?;
     members.set(alloc, "didDocument", document)?;
     let metadata = metadata_of(alloc, published, did, state)?;
     members.set(alloc, "didDocumentMetadata", metadata)?;
-    Ok(Json::Object(members))
+    Ok(members)
 }

@@ -12,10 +12,10 @@ use st_hash::{Hash, hash_text};
 use std::alloc::Global;
 
 /// The text as JSON.
-pub(crate) fn text_json(alloc: Global, text: &str) -> Result<Json, WantOfMemory>
-    ensures { IfOk result (λ json. plain json ≡ text text.now) }
+pub(crate) fn text_json(alloc: Global, string: &str) -> Result<Json, WantOfMemory>
+    ensures { IfOk result (λ json. plain json ≡ text string.now) }
 {
-    Ok(Json::Text(Text::from_text(alloc, text)?))
+    Ok(Json::Text(Text::from_text(alloc, string)?))
 }
 
 /// The texts as JSON.
