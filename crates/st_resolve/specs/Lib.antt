@@ -1,0 +1,5 @@
+pub mod Identifier
+pub mod LongForm
+pub mod Method
+pub mod DidDocument
+pub mod Result

@@ -1,0 +1,21 @@
+//! Identifiers in their short and their long form, and what resolving them results in.
+#![tactic(auto)]
+
+mod described;
+mod identifier;
+mod keys;
+mod metadata;
+mod parts;
+mod reading;
+mod refused;
+mod rendering;
+mod services;
+mod spelling;
+#[cfg(test)]
+mod tests;
+mod texts;
+
+pub use identifier::{Did, LongForm};
+pub use reading::read_did;
+pub use refused::{DidRefused, RenderRefused};
+pub use rendering::render;
