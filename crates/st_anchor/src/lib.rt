@@ -1,0 +1,18 @@
+//! What is known of an entry of the ledger, by its text and by the files that have come (DIF Sidetree
+//! v1.0.0, "File Structures"), how it stands with the roles of its files, and which operations it
+//! gives.
+#![tactic(auto)]
+
+mod bound;
+mod branches;
+mod deltas;
+mod given;
+mod opened;
+mod part;
+mod role_state;
+mod rule;
+
+pub use bound::Bound;
+pub use given::Given;
+pub use role_state::RoleState;
+pub use rule::Rule;
