@@ -6,7 +6,14 @@ use Rattle.st_hash.specs.Hash.{HashValue, uri_of}
 use Rattle.st_anchor.specs.Known.{Known, bound_with, known_from}
 use Rattle.st_anchor.specs.States.{decided_roles, opened_proofs, role_state}
 use Rattle.st_anchor.specs.declared.role_state.RoleState.{RoleState}
-use Rattle.st_anchor.specs.declared.role_state.RoleState.TheVariants.{Unneeded, Missing}
+use Rattle.st_anchor.specs.declared.role_state.RoleState.TheVariants.{Unneeded, Missing, Rejected, Read}
+
+-- the file is missing
+abbrev pub IsMissing : RoleState → Type 0
+IsMissing Unneeded = ⊥
+IsMissing (Missing uri) = Unit {0}
+IsMissing (Rejected rule) = ⊥
+IsMissing Read = ⊥
 
 -- the role misses a file that has come
 pub record HasCome (files : Files) (bound : Known) (role : Role) (file : List ℕ) : Type 0 where

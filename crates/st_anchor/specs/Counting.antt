@@ -15,6 +15,14 @@ worked files proofs work = record {
   applies = work.applies;
 }
 
+-- one file more was read, and so many signed texts in it were opened
+abbrev pub one_file_with : ℕ → Counts → Counts
+one_file_with proofs work = record work { files = counted work.files; proofs = counted_more proofs work.proofs }
+
+-- so many signed texts more were opened
+abbrev pub more_proofs : ℕ → Counts → Counts
+more_proofs proofs work = record work { proofs = counted_more proofs work.proofs }
+
 -- at most so many files were read and so many signed texts opened, each of which was counted
 pub record WorkedAtMost (files proofs : ℕ) (old new : Counts) : Type 0 where
   pub files_read : ℕ

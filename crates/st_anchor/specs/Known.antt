@@ -1,7 +1,8 @@
 -- What is known of an entry (DIF Sidetree v1.0.0, "File Structures"): of each role, that its file isn't
 -- needed, is missing, fails a rule, or what it says. It is a tree that follows the files, so that
 -- nothing can be said of what stands below a file that wasn't read.
-use Rattle.std.specs.Prelude.{ℕ, ◌+◌, List, codes, length, map, Option, Some, None, Result, Ok, Err}
+use Rattle.std.specs.Prelude.{ℕ, ◌+◌, List, codes, length, map, Option, Some, None, refl}
+use Rattle.std.specs.Coded.{Coded, code_by, coded×}
 use Rattle.st_base.specs.Rules.{first_failing}
 use Rattle.st_canon.specs.Plain.{Plain}
 use Rattle.st_canon.specs.Shapes.{json_in}
@@ -27,6 +28,9 @@ use Rattle.st_ledger.specs.declared.anchor.AnchorRule.TheVariants.{A3}
 use Rattle.st_ops.specs.Operation.{Proof}
 use Rattle.st_params.specs.Limits.{Limits}
 use Rattle.st_anchor.specs.SignedTexts.{opened_of, proof_of}
+use Rattle.st_anchor.specs.contracts.branches.Context as context_row
+use Rattle.st_anchor.specs.contracts.branches.CoreBranch as branch_row
+use Rattle.st_anchor.specs.contracts.part.Part as part_row
 use Rattle.st_anchor.specs.declared.branches.Context.{Context}
 use Rattle.st_anchor.specs.declared.branches.CoreBranch.{CoreBranch}
 use Rattle.st_anchor.specs.declared.branches.OpenedCore.{OpenedCore}
@@ -34,13 +38,19 @@ use Rattle.st_anchor.specs.declared.branches.ProvisionalBranch.{ProvisionalBranc
 use Rattle.st_anchor.specs.declared.part.Part.{Part}
 use Rattle.st_anchor.specs.declared.part.Part.TheVariants.{Unneeded, Missing, Rejected, Is}
 use Rattle.st_anchor.specs.declared.rule.Rule.{Rule}
-use Rattle.st_anchor.specs.declared.rule.Rule.TheVariants as rule_of
+use Rattle.st_anchor.specs.declared.rule.Rule.TheVariants as fails
 
 -- what is known of one entry: the count that it declares, or 0 where its text says none, with the
 -- limits at its height; and its core index file
 pub record Known : Type 0 where
   pub context : Context
   pub core : Part CoreBranch
+
+-- it is stored as the pair of its fields
+abbrev pub coded_known : Coded Known
+coded_known =
+    code_by (Context × Part CoreBranch) (coded× context_row.the_row.coded (part_row.the_row branch_row.the_row).coded)
+    (λ bound. (bound.context, bound.core)) (λ fields. record { context = fields.0; core = fields.1 }) (λ _. refl)
 
 -- ---- a file that was read
 
@@ -64,9 +74,9 @@ provisional_branch index = record { says = index; proofs = named index.proof; ch
 
 -- A provisional index that names no chunk file fails P4, so the last case never comes.
 abbrev pub provisional_judged : Option ProvisionalRule → Option ProvisionalIndex → Part ProvisionalBranch
-provisional_judged (Some failing) says = Rejected (rule_of.Provisional failing)
+provisional_judged (Some failing) says = Rejected (fails.Provisional failing)
 provisional_judged None (Some index) = Is (provisional_branch index)
-provisional_judged None None = Rejected (rule_of.Provisional P4)
+provisional_judged None None = Rejected (fails.Provisional P4)
 
 -- how many deltas a chunk file has: one for each create, recover and update
 abbrev pub delta_count : CoreIndex → ProvisionalIndex → ℕ
@@ -76,27 +86,27 @@ delta_count core provisional = length core.creates + length core.recovers + leng
 
 unfoldable pub core_in : Context → List ℕ → Part CoreBranch
 core_in context bytes =
-    judged rule_of.Core (first_failing_core_rule context.params context.count bytes)
+    judged fails.Core (first_failing_core_rule context.params context.count bytes)
     (core_branch (core_index_of context.params.version (json_in bytes)))
 
-unfoldable pub core_proof_in : Limits → CoreIndex → List ℕ → Part OpenedCore
-core_proof_in limits core bytes =
-    judged rule_of.Proofs (first_failing_core_proof_rule limits (length core.recovers) (length core.deactivates) bytes)
-    (opened_of limits.max_signed (core_proofs_of (json_in bytes)))
+unfoldable pub core_proof_in : Context → CoreIndex → List ℕ → Part OpenedCore
+core_proof_in context core bytes =
+    judged fails.Proofs (first_failing_core_proof_rule context.params (length core.recovers) (length core.deactivates) bytes)
+    (opened_of context.params.max_signed (core_proofs_of (json_in bytes)))
 
 unfoldable pub provisional_in : Context → CoreIndex → List ℕ → Part ProvisionalBranch
 provisional_in context core bytes =
     provisional_judged (first_failing_provisional_rule context.params context.count core bytes)
     (provisional_index_of context.params.version (json_in bytes))
 
-unfoldable pub provisional_proof_in : Limits → ProvisionalIndex → List ℕ → Part (List (Option Proof))
-provisional_proof_in limits provisional bytes =
-    judged rule_of.Proofs (first_failing_provisional_proof_rule limits (length provisional.updates) bytes)
-    (map (proof_of limits.max_signed) (signed_of (codes "update") (json_in bytes)))
+unfoldable pub provisional_proof_in : Context → ProvisionalIndex → List ℕ → Part (List (Option Proof))
+provisional_proof_in context provisional bytes =
+    judged fails.Proofs (first_failing_provisional_proof_rule context.params (length provisional.updates) bytes)
+    (map (proof_of context.params.max_signed) (signed_of (codes "update") (json_in bytes)))
 
-unfoldable pub chunk_in : Limits → CoreIndex → ProvisionalIndex → List ℕ → Part (List Plain)
-chunk_in limits core provisional bytes =
-    judged rule_of.Chunk (first_failing_chunk_rule limits (delta_count core provisional) bytes) (deltas_of (json_in bytes))
+unfoldable pub chunk_in : Context → CoreIndex → ProvisionalIndex → List ℕ → Part (List Plain)
+chunk_in context core provisional bytes =
+    judged fails.Chunk (first_failing_chunk_rule context.params (delta_count core provisional) bytes) (deltas_of (json_in bytes))
 
 -- ---- what is known once files have come
 
@@ -123,18 +133,18 @@ looked_up read below files (Is says) = Is (below says)
 abbrev pub as_it_is : {Says : Type 0} → Says → Says
 as_it_is says = says
 
-abbrev pub provisional_over : Limits → CoreIndex → Files → ProvisionalBranch → ProvisionalBranch
-provisional_over limits core files branch = record {
+abbrev pub provisional_over : Context → CoreIndex → Files → ProvisionalBranch → ProvisionalBranch
+provisional_over context core files branch = record {
   says = branch.says;
-  proofs = looked_up (provisional_proof_in limits branch.says) as_it_is files branch.proofs;
-  chunk = looked_up (chunk_in limits core branch.says) as_it_is files branch.chunk;
+  proofs = looked_up (provisional_proof_in context branch.says) as_it_is files branch.proofs;
+  chunk = looked_up (chunk_in context core branch.says) as_it_is files branch.chunk;
 }
 
 abbrev pub core_over : Context → Files → CoreBranch → CoreBranch
 core_over context files branch = record {
   says = branch.says;
-  proofs = looked_up (core_proof_in context.params branch.says) as_it_is files branch.proofs;
-  provisional = looked_up (provisional_in context branch.says) (provisional_over context.params branch.says files) files branch.provisional;
+  proofs = looked_up (core_proof_in context branch.says) as_it_is files branch.proofs;
+  provisional = looked_up (provisional_in context branch.says) (provisional_over context branch.says files) files branch.provisional;
 }
 
 -- what is known once these files are looked up, from what is known already
@@ -148,11 +158,11 @@ known_from files bound = record {
 -- something, so the last case never comes.
 abbrev pub anchor_judged : Limits → Option AnchorRule → Option Anchor → Known
 anchor_judged limits (Some failing) says =
-    record { context = record { count = 0; params = limits }; core = Rejected (rule_of.Anchor failing) }
+    record { context = record { count = 0; params = limits }; core = Rejected (fails.Anchor failing) }
 anchor_judged limits None (Some anchor) =
     record { context = record { count = anchor.count; params = limits }; core = Missing anchor.core }
 anchor_judged limits None None =
-    record { context = record { count = 0; params = limits }; core = Rejected (rule_of.Anchor A3) }
+    record { context = record { count = 0; params = limits }; core = Rejected (fails.Anchor A3) }
 
 unfoldable pub known_of_text : Limits → List ℕ → Known
 known_of_text limits text = anchor_judged limits (first_failing (anchor_rules limits text)) (anchor_of limits text)
@@ -171,21 +181,23 @@ filled read bytes (Missing uri) = read bytes
 filled read bytes (Rejected rule) = Rejected rule
 filled read bytes (Is says) = Is says
 
-abbrev pub provisional_with : Role → Limits → CoreIndex → List ℕ → ProvisionalBranch → ProvisionalBranch
-provisional_with ProvisionalProof limits core bytes branch =
-    record branch { proofs = filled (provisional_proof_in limits branch.says) bytes branch.proofs }
-provisional_with Chunk limits core bytes branch =
-    record branch { chunk = filled (chunk_in limits core branch.says) bytes branch.chunk }
-provisional_with other limits core bytes branch = branch
+abbrev pub provisional_with : Role → Context → CoreIndex → List ℕ → ProvisionalBranch → ProvisionalBranch
+provisional_with ProvisionalProof context core bytes branch =
+    record branch { proofs = filled (provisional_proof_in context branch.says) bytes branch.proofs }
+provisional_with Chunk context core bytes branch =
+    record branch { chunk = filled (chunk_in context core branch.says) bytes branch.chunk }
+provisional_with other context core bytes branch = branch
+
+abbrev pub provisional_part_with : Role → Context → CoreIndex → List ℕ → Part ProvisionalBranch → Part ProvisionalBranch
+provisional_part_with Provisional context core bytes part = filled (provisional_in context core) bytes part
+provisional_part_with role context core bytes part = looked_below (provisional_with role context core bytes) part
 
 abbrev pub core_with : Role → Context → List ℕ → CoreBranch → CoreBranch
 core_with Core context bytes branch = branch
 core_with CoreProof context bytes branch =
-    record branch { proofs = filled (core_proof_in context.params branch.says) bytes branch.proofs }
-core_with Provisional context bytes branch =
-    record branch { provisional = filled (provisional_in context branch.says) bytes branch.provisional }
+    record branch { proofs = filled (core_proof_in context branch.says) bytes branch.proofs }
 core_with role context bytes branch =
-    record branch { provisional = looked_below (provisional_with role context.params branch.says bytes) branch.provisional }
+    record branch { provisional = provisional_part_with role context branch.says bytes branch.provisional }
 
 -- what is known once the missing file of a role is read from these bytes
 unfoldable pub bound_with : Role → List ℕ → Known → Known

@@ -4,4 +4,6 @@ pub mod SignedTexts
 pub mod Known
 pub mod States
 pub mod Gives
+pub mod Kinds
 pub mod Coming
+pub mod RuleNames

@@ -33,11 +33,14 @@ provisional_state ProvisionalProof branch = state branch.proofs
 provisional_state Chunk branch = state branch.chunk
 provisional_state other branch = role_is.Unneeded
 
+abbrev pub provisional_part_state : Role → Part ProvisionalBranch → RoleState
+provisional_part_state Provisional part = state part
+provisional_part_state role part = state_below (provisional_state role) part
+
 abbrev pub core_state : Role → CoreBranch → RoleState
 core_state Core branch = role_is.Unneeded
 core_state CoreProof branch = state branch.proofs
-core_state Provisional branch = state branch.provisional
-core_state role branch = state_below (provisional_state role) branch.provisional
+core_state role branch = provisional_part_state role branch.provisional
 
 -- how it stands with a role, by what is known
 unfoldable pub role_state : Role → Known → RoleState

@@ -1,3 +1,6 @@
+ghost use Rattle.std.specs.Prelude.{◌≡◌};
+ghost use Rattle.st_anchor.specs.Known.{core_branch, provisional_branch};
+
 use crate::deltas::Deltas;
 use crate::opened::Proofs;
 use crate::part::Part;
@@ -33,4 +36,34 @@ pub struct ProvisionalBranch {
     pub says: ProvisionalIndex,
     pub proofs: Part<Proofs>,
     pub chunk: Part<Deltas>,
+}
+
+impl CoreBranch {
+    /// A core index, before the files that it names are looked for.
+    pub fn new(says: CoreIndex) -> CoreBranch
+        ensures { result ≡ core_branch says }
+    {
+        let proofs = Part::named(says.core_proof);
+        let provisional = Part::named(says.provisional);
+        CoreBranch {
+            says,
+            proofs,
+            provisional,
+        }
+    }
+}
+
+impl ProvisionalBranch {
+    /// A provisional index, before the files that it names are looked for.
+    pub fn new(says: ProvisionalIndex) -> ProvisionalBranch
+        ensures { result ≡ provisional_branch says }
+    {
+        let proofs = Part::named(says.proof);
+        let chunk = Part::Missing(says.chunk);
+        ProvisionalBranch {
+            says,
+            proofs,
+            chunk,
+        }
+    }
 }

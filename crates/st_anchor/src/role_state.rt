@@ -1,5 +1,7 @@
 use crate::rule::Rule;
+use st_base::{Copied, WantOfMemory};
 use st_hash::Hash;
+use std::alloc::Global;
 
 /// How it stands with one role of an entry.
 #[derive(Clone, Copy, Debug, PartialEq, Eq)]
@@ -12,4 +14,10 @@ pub enum RoleState {
     Rejected(Rule),
     /// The file was read.
     Read,
+}
+
+impl Copied for RoleState {
+    fn copy(&self, _alloc: Global) -> Result<RoleState, WantOfMemory> {
+        Ok(*self)
+    }
 }
