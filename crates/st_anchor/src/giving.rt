@@ -11,6 +11,7 @@ use crate::opened::Proofs;
 use crate::part::Part;
 use st_base::{List, WantOfMemory};
 use st_canon::Json;
+use st_hash::Hash;
 use st_indexfiles::{CoreIndex, SuffixData, Target, suffix_of};
 use st_jws::Signed;
 use st_ops::{Operation, Shared};

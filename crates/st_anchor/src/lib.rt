@@ -3,14 +3,18 @@
 //! gives.
 #![tactic(auto)]
 
+mod binding;
 mod bound;
 mod branches;
 mod deltas;
 mod given;
+mod giving;
 mod opened;
 mod part;
+mod reading;
 mod role_state;
 mod rule;
+mod settling;
 
 pub use bound::Bound;
 pub use given::Given;
