@@ -1,5 +1,5 @@
 -- Sums of files that were read and of signed texts that were opened.
-use Rattle.std.proofs.Common.{◌≡◌, ◌∙◌, ℕ, zero, suc, ◌+◌, ◌≤◌, refl, sym, ap, arith}
+use Rattle.std.proofs.Common.{◌≡◌, ◌∙◌, ℕ, zero, suc, ◌+◌, ◌<◌, ◌≤◌, sym, ap, arith}
 use Rattle.st_base.specs.Work.{Counts, counted, one_file, one_proof}
 use Rattle.st_anchor.specs.Counting.{WorkedAtMost, counted_more, more_proofs, one_file_with, worked}
 
@@ -69,3 +69,21 @@ file-then_few proofs more old mid new same first few =
 
 pub file_with-few : (proofs : ℕ) (old new : Counts) → new ≡ one_file_with proofs old → WorkedAtMost 1 proofs old new
 file_with-few proofs old new counts = worked-few 1 proofs old new counts
+
+-- one signed text after some
+pub few-one : (done most : ℕ) (old mid new : Counts) → done < most → mid ≡ more_proofs done old → new ≡ one_proof mid → WorkedAtMost 0 most old new
+few-one done most old mid new inside before one =
+    few-more 0 (done + 1) 0 most old new (omega arith) (omega arith)
+    (worked-few 0 (done + 1) old new (one ∙ ap one_proof before ∙ one_more-proof done old))
+
+-- signed texts of two lists
+pub more_proofs-both : (first second : ℕ) (old mid new : Counts) → mid ≡ more_proofs first old → new ≡ more_proofs second mid
+    → new ≡ more_proofs (first + second) old
+more_proofs-both first second old mid new before after =
+    after ∙ ap (more_proofs second) before ∙ worked-both 0 first 0 second old
+    ∙ ap (λ n. more_proofs n old) (let e : second + first ≡ first + second = omega arith in e)
+
+pub few-both : (first second : ℕ) (old mid new : Counts) → mid ≡ more_proofs first old → WorkedAtMost 0 second mid new
+    → WorkedAtMost 0 (first + second) old new
+few-both first second old mid new before few =
+    few-more (0 + 0) (second + first) 0 (first + second) old new (omega arith) (omega arith) (few-after 0 first 0 second old mid new before few)

@@ -1,42 +1,30 @@
--- What an accepted file says keeps its rules: no suffix stands twice, and no more operations than the
--- declared count.
+-- What follows for an entry from the rules of its files.
 --     given-once         no suffix stands twice among what an entry gives
 --     opened_proofs-few  the signed texts in the proof files that were read are at most the declared count
-use Rattle.std.proofs.Common.{◌≡◌, ◌∙◌, ℕ, suc, ◌+◌, ◌≤◌, Bool, true, false, List, [], ◌∷◌, ◌++◌, codes, drop, length, map, Option, Some, None, option_and_then, option_map, refl, sym, ap, subst, append-nil, length-map, arith}
+use Rattle.std.proofs.Common.{◌≡◌, ◌∙◌, ℕ, ◌+◌, ◌≤◌, Bool, false, List, [], ◌∷◌, ◌++◌, drop, length, map, Option, option_and_then, refl, sym, ap, subst, append-nil, arith}
 use Rattle.std.specs.Prelude.{◌||◌, slice_get}
-use Rattle.std.specs.List.{cons_option, filter_map, list_any}
-use Rattle.std.proofs.lemmas.Bool.{and_parts, eqb-true, ltb-false, or_parts}
+use Rattle.std.specs.List.{list_any}
+use Rattle.std.proofs.lemmas.Bool.{or_parts}
 use Rattle.std.proofs.lemmas.List.{map-append}
 use Rattle.std.proofs.lemmas.List.Folds.{list_any-append}
-use Rattle.st_base.specs.Rules.{first_failing}
 use Rattle.st_base.specs.Twice.{has_twice, shares_one}
-use Rattle.st_base.proofs.RuleLemmas.{none_fails, passes}
 use Rattle.st_canon.specs.Plain.{Plain}
-use Rattle.st_canon.specs.Shapes.{json_in}
-use Rattle.st_content.specs.Files.{Files, file_at}
-use Rattle.st_datafiles.specs.ProofFiles.{core_proofs_of, proofs_of, signed_in, signed_of}
-use Rattle.st_datafiles.specs.ProofRules.{core_proof_rules, first_failing_core_proof_rule, first_failing_provisional_proof_rule, has_proofs, provisional_proof_rules}
+use Rattle.st_content.specs.Files.{Files}
 use Rattle.st_hash.specs.Hash.{HashValue, same_hash}
 use Rattle.st_hash.specs.Order.{same_hash-equivalence}
-use Rattle.st_indexfiles.specs.CoreIndex.{core_index_of, operations_of as operations_in, suffixes_of}
-use Rattle.st_indexfiles.specs.CoreRules.{core_rules, first_failing_core_rule, operation_count}
-use Rattle.st_indexfiles.specs.ProvisionalIndex.{chunk_in, provisional_with, suffixes_in, updates_in}
-use Rattle.st_indexfiles.specs.ProvisionalRules.{core_count, first_failing_provisional_rule, provisional_rules, repeats_suffix, update_count}
-use Rattle.st_indexfiles.specs.SuffixData.{create_of, suffix_of as suffix_of_data}
-use Rattle.st_indexfiles.specs.Target.{target_of}
+use Rattle.st_indexfiles.specs.CoreIndex.{suffixes_of}
+use Rattle.st_indexfiles.specs.ProvisionalIndex.{suffixes_in}
+use Rattle.st_indexfiles.specs.ProvisionalRules.{core_count}
+use Rattle.st_indexfiles.specs.SuffixData.{suffix_of as suffix_of_data}
 use Rattle.st_indexfiles.specs.declared.core_index.CoreIndex.{CoreIndex}
 use Rattle.st_indexfiles.specs.declared.provisional_index.ProvisionalIndex.{ProvisionalIndex}
-use Rattle.st_indexfiles.specs.declared.provisional_rule.ProvisionalRule.{ProvisionalRule}
 use Rattle.st_indexfiles.specs.declared.suffix_data.SuffixData.{SuffixData}
 use Rattle.st_indexfiles.specs.declared.target.Target.{Target}
-use Rattle.st_ledger.specs.Anchor.{anchor_of, anchor_rules}
-use Rattle.st_ledger.specs.declared.anchor.Anchor.{Anchor}
-use Rattle.st_ledger.specs.declared.anchor.AnchorRule.{AnchorRule}
 use Rattle.st_ops.specs.Operation.{PlainOperation, Proof, recovering, suffix_of, updating}
 use Rattle.st_params.specs.Limits.{Limits}
 use Rattle.st_anchor.specs.Gives.{creates_given, deactivates_given, deactivating_only, deltas_below, given, gives, operations_below, operations_of, recovers_given, signed_given, updates_below, updates_given, with_suffix}
-use Rattle.st_anchor.specs.Known.{Known, anchor_judged, as_it_is, core_branch, core_in, core_over, core_proof_in, judged, known, known_from, known_of_text, looked_at, looked_below, looked_up, named, provisional_branch, provisional_in, provisional_judged, provisional_over, provisional_proof_in}
-use Rattle.st_anchor.specs.SignedTexts.{opened_of, proof_of}
+use Rattle.st_anchor.specs.Known.{known}
+use Rattle.st_anchor.specs.Sound.{AreCoreProofs, AreProofs, Holds, IsSoundCore, IsSoundProvisional}
 use Rattle.st_anchor.specs.States.{core_proof_count, count_read, opened_in_core, opened_in_provisional, opened_proofs}
 use Rattle.st_anchor.specs.declared.branches.Context.{Context}
 use Rattle.st_anchor.specs.declared.branches.CoreBranch.{CoreBranch}
@@ -44,8 +32,7 @@ use Rattle.st_anchor.specs.declared.branches.OpenedCore.{OpenedCore}
 use Rattle.st_anchor.specs.declared.branches.ProvisionalBranch.{ProvisionalBranch}
 use Rattle.st_anchor.specs.declared.part.Part.{Part}
 use Rattle.st_anchor.specs.declared.part.Part.TheVariants.{Unneeded, Missing, Rejected, Is}
-use Rattle.st_anchor.specs.declared.rule.Rule.{Rule}
-use Rattle.st_anchor.specs.declared.rule.Rule.TheVariants as fails
+use Rattle.st_anchor.proofs.SoundLemmas.{sound-known}
 
 -- ---- items that stand twice
 
@@ -86,213 +73,6 @@ module _ {Item : Type 0} (same : Item → Item → Bool) (symm : (x y : Item) �
       let first = shares_one-first us x xs apart in
       rw (list_any-append (same x) xs us, parts.0, first.0) (has_twice-both xs us parts.1 other first.1)
 
--- ---- what holds of what a file says, where it was read
-
-abbrev pub Holds : {Says : Type 0} → (Says → Type 0) → Part Says → Type 0
-Holds P Unneeded = Unit {0}
-Holds P (Missing uri) = Unit {0}
-Holds P (Rejected rule) = Unit {0}
-Holds P (Is says) = P says
-
-module _ {Says : Type 0} (P : Says → Type 0) where
-  holds-below : (below : Says → Says) (part : Part Says) → ((says : Says) → P says → P (below says)) → Holds P part → Holds P (looked_below below part)
-  holds-below below Unneeded kept holds = tt
-  holds-below below (Missing uri) kept holds = tt
-  holds-below below (Rejected rule) kept holds = tt
-  holds-below below (Is says) kept holds = kept says holds
-
-  -- looking up keeps it, where it holds of each file that is read
-  pub holds-up : (read : List ℕ → Part Says) (below : Says → Says) (files : Files) (part : Part Says)
-      → ((bytes : List ℕ) → Holds P (read bytes)) → ((says : Says) → P says → P (below says))
-      → Holds P part → Holds P (looked_up read below files part)
-  holds-up read below files Unneeded reads kept holds = tt
-  holds-up read below files (Missing uri) reads kept holds =
-      elim (file_at uri files) as (λ file. Holds P (looked_at read below uri file)) [
-        | None ↦ tt
-        | Some bytes ↦ holds-below below (read bytes) kept (reads bytes)
-      ]
-  holds-up read below files (Rejected rule) reads kept holds = tt
-  holds-up read below files (Is says) reads kept holds = kept says holds
-
-  holds-judged : {Failing : Type 0} (rule_of : Failing → Rule) (failing : Option Failing) (says : Says) → (failing ≡ None → P says)
-      → Holds P (judged rule_of failing says)
-  holds-judged rule_of None says sound = sound refl
-  holds-judged rule_of (Some failing) says sound = tt
-
-  holds-named : (uri : Option HashValue) → Holds P (named uri)
-  holds-named None = tt
-  holds-named (Some uri) = tt
-
--- ---- what accepted files keep
-
-pub record SoundProvisional (context : Context) (core : CoreIndex) (branch : ProvisionalBranch) : Type 0 where
-  pub apart : repeats_suffix (suffixes_in branch.says.updates) core ≡ false
-  pub few : core_count core + length branch.says.updates ≤ context.count
-  pub proofs : Holds (λ proofs. length proofs ≤ length branch.says.updates) branch.proofs
-
-pub record SoundCore (context : Context) (branch : CoreBranch) : Type 0 where
-  pub once : has_twice same_hash (suffixes_of branch.says) ≡ false
-  pub few : core_count branch.says ≤ context.count
-  pub proofs : Holds (λ opened. core_proof_count opened ≤ length branch.says.recovers + length branch.says.deactivates) branch.proofs
-  pub provisional : Holds (SoundProvisional context branch.says) branch.provisional
-
-length-cons_option : {Read : Type 0} (first : Option Read) (rest : List Read) → length (cons_option first rest) ≤ suc (length rest)
-length-cons_option None rest = omega arith
-length-cons_option (Some found) rest = omega arith
-
-length-filter_map : {Item Read : Type 0} (read : Item → Option Read) (items : List Item) → length (filter_map read items) ≤ length items
-length-filter_map read [] = omega arith
-length-filter_map read (item ∷ items) =
-    omega (arith, length-cons_option (read item) (filter_map read items), length-filter_map read items)
-
-core_count-read : (version : ℕ) (index : Option Plain) → core_count (core_index_of version index) ≤ operation_count index
-unfolding core_index_of operation_count
-core_count-read version index =
-    omega (
-      arith,
-      length-filter_map (create_of version) (operations_in (codes "create") index),
-      length-filter_map (target_of version) (operations_in (codes "recover") index),
-      length-filter_map (target_of version) (operations_in (codes "deactivate") index),
-    )
-
-update_count-read : (version : ℕ) (index : Option Plain) → length (updates_in version index) ≤ update_count index
-unfolding updates_in update_count
-update_count-read version index = length-filter_map (target_of version) (operations_in (codes "update") index)
-
-signed-read : (kind : List ℕ) (file : Option Plain) → length (signed_of kind file) ≤ length (proofs_of kind file)
-unfolding signed_of
-signed-read kind file = length-filter_map signed_in (proofs_of kind file)
-
-wanted-proofs : (kind : List ℕ) (wanted : ℕ) (file : Option Plain) → has_proofs kind wanted file ≡ true → length (signed_of kind file) ≤ wanted
-unfolding has_proofs
-wanted-proofs kind wanted file has = omega (arith, signed-read kind file, eqb-true (length (proofs_of kind file)) wanted has)
-
-sound-core_accepted : (context : Context) (bytes : List ℕ) → first_failing_core_rule context.params context.count bytes ≡ None
-    → SoundCore context (core_branch (core_index_of context.params.version (json_in bytes)))
-unfolding core_index_of
-sound-core_accepted context bytes none =
-    let rows = none_fails (core_rules context.params context.count bytes) none in
-    let few : operation_count (json_in bytes) ≤ context.count = ltb-false context.count (operation_count (json_in bytes)) rows.1.1.1.1.1.0 in
-    record {
-      once = rows.1.1.1.1.1.1.0;
-      few = omega (arith, core_count-read context.params.version (json_in bytes));
-      proofs = holds-named _ _;
-      provisional = holds-named _ _;
-    }
-
-sound-core_in : (context : Context) (bytes : List ℕ) → Holds (SoundCore context) (core_in context bytes)
-unfolding core_in
-sound-core_in context bytes =
-    holds-judged (SoundCore context) fails.Core (first_failing_core_rule context.params context.count bytes) _ (sound-core_accepted context bytes)
-
-few-core_accepted : (context : Context) (core : CoreIndex) (bytes : List ℕ)
-    → first_failing_core_proof_rule context.params (length core.recovers) (length core.deactivates) bytes ≡ None
-    → core_proof_count (opened_of context.params.max_signed (core_proofs_of (json_in bytes))) ≤ length core.recovers + length core.deactivates
-few-core_accepted context core bytes none =
-    let rows = none_fails (core_proof_rules context.params (length core.recovers) (length core.deactivates) bytes) none in
-    let both = and_parts _ _ (passes _ rows.1.1.1.0) in
-    omega (
-      arith,
-      wanted-proofs (codes "recover") (length core.recovers) (json_in bytes) both.0,
-      wanted-proofs (codes "deactivate") (length core.deactivates) (json_in bytes) both.1,
-      length-map (signed_of (codes "recover") (json_in bytes)) (proof_of context.params.max_signed),
-      length-map (signed_of (codes "deactivate") (json_in bytes)) (proof_of context.params.max_signed),
-    )
-
-few-core_proof_in : (context : Context) (core : CoreIndex) (bytes : List ℕ)
-    → Holds (λ opened. core_proof_count opened ≤ length core.recovers + length core.deactivates) (core_proof_in context core bytes)
-unfolding core_proof_in
-few-core_proof_in context core bytes =
-    holds-judged (λ opened. core_proof_count opened ≤ length core.recovers + length core.deactivates) fails.Proofs
-    (first_failing_core_proof_rule context.params (length core.recovers) (length core.deactivates) bytes) _ (few-core_accepted context core bytes)
-
-few-provisional_accepted : (context : Context) (provisional : ProvisionalIndex) (bytes : List ℕ)
-    → first_failing_provisional_proof_rule context.params (length provisional.updates) bytes ≡ None
-    → length (map (proof_of context.params.max_signed) (signed_of (codes "update") (json_in bytes))) ≤ length provisional.updates
-few-provisional_accepted context provisional bytes none =
-    let rows = none_fails (provisional_proof_rules context.params (length provisional.updates) bytes) none in
-    omega (
-      arith,
-      wanted-proofs (codes "update") (length provisional.updates) (json_in bytes) (passes _ rows.1.1.1.0),
-      length-map (signed_of (codes "update") (json_in bytes)) (proof_of context.params.max_signed),
-    )
-
-few-provisional_proof_in : (context : Context) (provisional : ProvisionalIndex) (bytes : List ℕ)
-    → Holds (λ proofs. length proofs ≤ length provisional.updates) (provisional_proof_in context provisional bytes)
-unfolding provisional_proof_in
-few-provisional_proof_in context provisional bytes =
-    holds-judged (λ proofs. length proofs ≤ length provisional.updates) fails.Proofs
-    (first_failing_provisional_proof_rule context.params (length provisional.updates) bytes) _ (few-provisional_accepted context provisional bytes)
-
-sound-provisional_accepted : (context : Context) (core : CoreIndex) (bytes : List ℕ) (chunk : HashValue)
-    → first_failing_provisional_rule context.params context.count core bytes ≡ None
-    → SoundProvisional context core (provisional_branch (provisional_with context.params.version (json_in bytes) chunk))
-unfolding provisional_with
-sound-provisional_accepted context core bytes chunk none =
-    let rows = none_fails (provisional_rules context.params context.count core bytes) none in
-    let few : core_count core + update_count (json_in bytes) ≤ context.count =
-    ltb-false context.count (core_count core + update_count (json_in bytes)) rows.1.1.1.1.1.1.0 in
-    record {
-      apart = rows.1.1.1.1.1.0;
-      few = omega (arith, update_count-read context.params.version (json_in bytes));
-      proofs = holds-named _ _;
-    }
-
-sound-provisional_judged : (context : Context) (core : CoreIndex) (bytes : List ℕ) (failing : Option ProvisionalRule) (chunk : Option HashValue)
-    → (failing ≡ None → first_failing_provisional_rule context.params context.count core bytes ≡ None)
-    → Holds (SoundProvisional context core)
-    (provisional_judged failing (option_map (provisional_with context.params.version (json_in bytes)) chunk))
-sound-provisional_judged context core bytes (Some failing) chunk none = tt
-sound-provisional_judged context core bytes None None none = tt
-sound-provisional_judged context core bytes None (Some chunk) none = sound-provisional_accepted context core bytes chunk (none refl)
-
-sound-provisional_in : (context : Context) (core : CoreIndex) (bytes : List ℕ) → Holds (SoundProvisional context core) (provisional_in context core bytes)
-unfolding provisional_in
-sound-provisional_in context core bytes =
-    sound-provisional_judged context core bytes (first_failing_provisional_rule context.params context.count core bytes)
-    (chunk_in (json_in bytes)) (λ none. none)
-
--- ---- what is known keeps them
-
-sound-provisional_over : (context : Context) (core : CoreIndex) (files : Files) (branch : ProvisionalBranch)
-    → SoundProvisional context core branch → SoundProvisional context core (provisional_over context core files branch)
-sound-provisional_over context core files branch sound = record {
-  apart = sound.apart;
-  few = sound.few;
-  proofs = holds-up (λ proofs. length proofs ≤ length branch.says.updates) (provisional_proof_in context branch.says) as_it_is files branch.proofs
-      (few-provisional_proof_in context branch.says) (λ says few. few) sound.proofs;
-}
-
-sound-core_over : (context : Context) (files : Files) (branch : CoreBranch) → SoundCore context branch → SoundCore context (core_over context files branch)
-sound-core_over context files branch sound = record {
-  once = sound.once;
-  few = sound.few;
-  proofs = holds-up (λ opened. core_proof_count opened ≤ length branch.says.recovers + length branch.says.deactivates)
-      (core_proof_in context branch.says) as_it_is files branch.proofs (few-core_proof_in context branch.says) (λ says few. few) sound.proofs;
-  provisional = holds-up (SoundProvisional context branch.says) (provisional_in context branch.says) (provisional_over context branch.says files) files
-      branch.provisional (sound-provisional_in context branch.says) (sound-provisional_over context branch.says files) sound.provisional;
-}
-
--- what is known keeps the rules of its files
-abbrev pub IsSound : Known → Type 0
-IsSound bound = Holds (SoundCore bound.context) bound.core
-
-sound-from : (files : Files) (bound : Known) → IsSound bound → IsSound (known_from files bound)
-unfolding known_from
-sound-from files bound sound =
-    holds-up (SoundCore bound.context) (core_in bound.context) (core_over bound.context files) files bound.core
-    (sound-core_in bound.context) (sound-core_over bound.context files) sound
-
-sound-judged : (limits : Limits) (failing : Option AnchorRule) (says : Option Anchor) → IsSound (anchor_judged limits failing says)
-sound-judged limits (Some failing) says = tt
-sound-judged limits None (Some anchor) = tt
-sound-judged limits None None = tt
-
-pub sound-known : (files : Files) (limits : Limits) (text : List ℕ) → IsSound (known files limits text)
-unfolding known known_of_text
-sound-known files limits text =
-    sound-from files (known_of_text limits text) (sound-judged limits (first_failing (anchor_rules limits text)) (anchor_of limits text))
-
 -- ---- signed texts
 
 count_read-few : {Says : Type 0} (count : Says → ℕ) (most : ℕ) (part : Part Says) → Holds (λ says. count says ≤ most) part → count_read count part ≤ most
@@ -302,14 +82,14 @@ count_read-few count most (Rejected rule) few = omega arith
 count_read-few count most (Is says) few = few
 
 few-below : (context : Context) (core : CoreIndex) (part : Part ProvisionalBranch) → core_count core ≤ context.count
-    → Holds (SoundProvisional context core) part → core_count core + count_read opened_in_provisional part ≤ context.count
+    → Holds (IsSoundProvisional context core) part → core_count core + count_read opened_in_provisional part ≤ context.count
 few-below context core Unneeded few sound = omega arith
 few-below context core (Missing uri) few sound = omega arith
 few-below context core (Rejected rule) few sound = omega arith
 few-below context core (Is branch) few sound =
     omega (arith, sound.few, count_read-few length (length branch.says.updates) branch.proofs sound.proofs)
 
-few-opened : (context : Context) (part : Part CoreBranch) → Holds (SoundCore context) part → count_read opened_in_core part ≤ context.count
+few-opened : (context : Context) (part : Part CoreBranch) → Holds (IsSoundCore context) part → count_read opened_in_core part ≤ context.count
 few-opened context Unneeded sound = omega arith
 few-opened context (Missing uri) sound = omega arith
 few-opened context (Rejected rule) sound = omega arith
@@ -400,7 +180,7 @@ once-where (Is proofs) front us is own apart = has_twice-both same_hash same_has
 
 once-updates : (context : Context) (core : CoreIndex) (deltas : List Plain) (part : Part ProvisionalBranch) (front : List HashValue)
     → once front → ((us : List HashValue) → shares_one same_hash us (suffixes_of core) ≡ false → shares_one same_hash us front ≡ false)
-    → Holds (SoundProvisional context core) part → once (front ++ suffixes (updates_below deltas part))
+    → Holds (IsSoundProvisional context core) part → once (front ++ suffixes (updates_below deltas part))
 once-updates context core deltas Unneeded front is apart sound = once-nothing front is
 once-updates context core deltas (Missing uri) front is apart sound = once-nothing front is
 once-updates context core deltas (Rejected rule) front is apart sound = once-nothing front is
@@ -418,7 +198,7 @@ suffixes-append creates recovers deactivates updates =
     ∙ ap (λ front. front ++ suffixes updates) (map-append suffix_of (creates ++ recovers) deactivates)
     ∙ ap (λ front. front ++ suffixes deactivates ++ suffixes updates) (map-append suffix_of creates recovers)
 
-once-below : (context : Context) (branch : CoreBranch) → SoundCore context branch → once (suffixes (operations_below branch))
+once-below : (context : Context) (branch : CoreBranch) → IsSoundCore context branch → once (suffixes (operations_below branch))
 once-below context branch sound =
     let deltas : List Plain = deltas_below branch.provisional in
     let of_recovers : List Plain = drop (length branch.says.creates) deltas in
@@ -438,7 +218,7 @@ once-below context branch sound =
     (λ us apart. kept_where (λ hashes. shares_one same_hash us hashes ≡ false) (shares_one-front same_hash same_hash-equivalence.symm us) branch.proofs creates recovers deactivates apart)
     sound.provisional)
 
-once-part : (context : Context) (part : Part CoreBranch) → Holds (SoundCore context) part → once (suffixes (operations_of part))
+once-part : (context : Context) (part : Part CoreBranch) → Holds (IsSoundCore context) part → once (suffixes (operations_of part))
 once-part context Unneeded sound = refl
 once-part context (Missing uri) sound = refl
 once-part context (Rejected rule) sound = refl

@@ -5,5 +5,6 @@ pub mod Known
 pub mod States
 pub mod Gives
 pub mod Kinds
+pub mod Sound
 pub mod Coming
 pub mod RuleNames

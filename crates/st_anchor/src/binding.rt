@@ -1,8 +1,9 @@
 ghost use Rattle.std.specs.Prelude.{◌≡◌, ◌-◌, IfOk, OnOk};
 ghost use Rattle.st_anchor.specs.Coming.{IsMissing};
 ghost use Rattle.st_anchor.specs.Counting.{WorkedAtMost, one_file_with};
-ghost use Rattle.st_anchor.specs.Known.{core_with, provisional_with};
-ghost use Rattle.st_anchor.specs.States.{core_state, opened_in_core, opened_in_provisional, provisional_state};
+ghost use Rattle.st_anchor.specs.Known.{core_with, provisional_part_with, provisional_with};
+ghost use Rattle.st_anchor.specs.Sound.{Holds, IsSoundCore, IsSoundProvisional};
+ghost use Rattle.st_anchor.specs.States.{core_state, count_read, opened_in_core, opened_in_provisional, provisional_part_state, provisional_state};
 
 use crate::branches::{Context, CoreBranch, ProvisionalBranch};
 use crate::part::Part;
@@ -38,7 +39,8 @@ impl CoreBranch {
         bytes: &[u8],
         work: &mut Work,
     ) -> Result<CoreBranch, WantOfMemory>
-        requires { IsMissing (core_state role self) }
+        requires missing { IsMissing (core_state role self) }
+        requires sound { IsSoundCore context.now self }
         ensures value { IfOk result (λ branch. branch ≡ core_with role context.now bytes.now self) }
         ensures work { OnOk result (work.new ≡
             one_file_with (opened_in_core (core_with role context.now bytes.now self) - opened_in_core self) work.old) }
@@ -82,7 +84,8 @@ fn bind_provisional(
     bytes: &[u8],
     work: &mut Work,
 ) -> Result<Part<ProvisionalBranch>, WantOfMemory>
-    requires { IsMissing (provisional_part_state role provisional) }
+    requires missing { IsMissing (provisional_part_state role provisional) }
+    requires sound { Holds (IsSoundProvisional context.now core.now) provisional }
     ensures value { IfOk result (λ part. part ≡ provisional_part_with role context.now core.now bytes.now provisional) }
     ensures work { OnOk result (work.new ≡
         one_file_with (count_read opened_in_provisional (provisional_part_with role context.now core.now bytes.now provisional)
@@ -122,7 +125,8 @@ impl ProvisionalBranch {
         bytes: &[u8],
         work: &mut Work,
     ) -> Result<ProvisionalBranch, WantOfMemory>
-        requires { IsMissing (provisional_state role self) }
+        requires missing { IsMissing (provisional_state role self) }
+        requires sound { IsSoundProvisional context.now core.now self }
         ensures value { IfOk result (λ branch. branch ≡ provisional_with role context.now core.now bytes.now self) }
         ensures work { OnOk result (work.new ≡ one_file_with
             (opened_in_provisional (provisional_with role context.now core.now bytes.now self) - opened_in_provisional self) work.old) }

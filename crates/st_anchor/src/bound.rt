@@ -30,12 +30,16 @@ pub struct Bound {
 
 impl Model for Bound {
     ghost use Rattle.st_anchor.specs.Known.{Known, coded_known};
+    ghost use Rattle.st_anchor.specs.Sound.{IsSound};
 
     ghost Value = { Known };
 
     ghost coded = { coded_known };
 
     ghost view = { λ bound. record { context = bound.context; core = bound.core } };
+
+    // Its files have passed their rules.
+    ghost invariant = { λ bound. IsSound (record { context = bound.context; core = bound.core }) };
 }
 
 impl Bound {
@@ -79,6 +83,7 @@ impl Bound {
 
     /// Reads the file that a role misses. It counts as one file, and where it passes as a proof file,
     /// each of its signed texts as one proof.
+    #[tactic(auto, unfolding(crate::specs::States::role_state, crate::specs::Known::bound_with, crate::specs::States::opened_proofs))]
     pub fn bind(
         self,
         alloc: Global,
@@ -118,7 +123,7 @@ impl Bound {
         ensures { IfOk result (λ list. map plain_given list ≡ given self.now) }
     {
         match &self.core {
-            Part::Is(branch) => give_below(alloc, branch),
+            Part::Is(branch) => Ok(give_below(alloc, branch)?),
             _ => Ok(List::new(alloc)),
         }
     }

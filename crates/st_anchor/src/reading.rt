@@ -1,5 +1,6 @@
-ghost use Rattle.std.specs.Prelude.{◌≡◌, ◌+◌, IfOk, OnOk, length};
+ghost use Rattle.std.specs.Prelude.{◌≡◌, ◌+◌, ◌≤◌, IfOk, OnOk, length};
 ghost use Rattle.st_base.specs.Work.{one_file};
+ghost use Rattle.st_indexfiles.specs.ProvisionalRules.{core_count};
 ghost use Rattle.st_anchor.specs.Counting.{WorkedAtMost, more_proofs, one_file_with};
 ghost use Rattle.st_anchor.specs.Known.{chunk_in, core_in, core_proof_in, provisional_in, provisional_proof_in};
 ghost use Rattle.st_anchor.specs.SignedTexts.{opened_of};
@@ -123,6 +124,7 @@ pub fn chunk_part(
     context: &Context,
     work: &mut Work,
 ) -> Result<Part<Deltas>, WantOfMemory>
+    requires { core_count core.now + length provisional.now.updates ≤ context.now.count }
     ensures value { IfOk result (λ part. part ≡ chunk_in context.now core.now provisional.now bytes.now) }
     ensures counted { work.new ≡ one_file work.old }
 {

@@ -17,7 +17,7 @@ impl<T> Model for Shared<T> {
     ghost view = { λ shared. shared.inner.value };
 }
 
-impl<T> Shared<T> {
+impl<T: Drop> Shared<T> {
     ghost use Rattle.std.specs.Prelude.{◌≡◌, IfOk};
 
     /// The first owner of the value.
