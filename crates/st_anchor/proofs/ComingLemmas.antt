@@ -2,7 +2,7 @@
 --     with_file-extends    they have each of those before
 --     with_file-others     none but that one is new
 --     known_from-unmissed  a file that no role of an entry misses leaves what is known of it
-use Rattle.std.proofs.Common.{◌≡◌, ◌≢◌, ◌∙◌, ◌⊎◌, inl, inr, ℕ, Bool, true, false, List, Option, Some, None, refl, sym, ap}
+use Rattle.std.proofs.Common.{◌≡◌, ◌≢◌, ◌∙◌, ◌⊎◌, inl, inr, ℕ, Bool, true, false, List, Some, None, refl, sym, ap}
 use Rattle.std.specs.Option.{option_or}
 use Rattle.st_content.specs.Files.{Files, file_at, with_file}
 use Rattle.st_content.proofs.FileLemmas.{file_at-with_file, file_at-with_file-other}

@@ -4,8 +4,7 @@
 --     decided_roles-small   there are at most five
 --     opened_proofs-with    reading a file undoes no reading
 --     opened_proofs-up      nor does looking up
-use Rattle.std.proofs.Common.{◌≡◌, ◌+◌, ◌≤◌, ℕ, List, length, Option, Some, None, refl, ap, arith}
-use Rattle.st_canon.specs.Plain.{Plain}
+use Rattle.std.proofs.Common.{◌≡◌, ◌+◌, ◌≤◌, ℕ, List, length, Option, Some, None, refl, arith}
 use Rattle.st_canon.specs.Shapes.{json_in}
 use Rattle.st_content.specs.Files.{Files}
 use Rattle.st_datafiles.specs.declared.role.Role.{Role}
@@ -20,8 +19,8 @@ use Rattle.st_indexfiles.specs.declared.core_rule.CoreRule.{CoreRule}
 use Rattle.st_indexfiles.specs.declared.provisional_index.ProvisionalIndex.{ProvisionalIndex}
 use Rattle.st_indexfiles.specs.declared.provisional_rule.ProvisionalRule.{ProvisionalRule}
 use Rattle.st_ops.specs.Operation.{Proof}
-use Rattle.st_anchor.specs.Known.{Known, as_it_is, bound_with, chunk_in, core_branch, core_in, core_over, core_proof_in, core_with, filled, judged, known_from, looked_below, looked_up, named, provisional_in, provisional_judged, provisional_over, provisional_part_with, provisional_proof_in, provisional_with}
-use Rattle.st_anchor.specs.States.{core_proof_count, core_state, count_read, decided, decided_roles, opened_in_core, opened_in_provisional, opened_proofs, provisional_part_state, provisional_state, role_state, state, state_below}
+use Rattle.st_anchor.specs.Known.{Known, as_it_is, bound_with, chunk_in, core_branch, core_in, core_over, core_proof_in, core_with, filled, judged, known_from, looked_below, looked_up, named, provisional_in, provisional_judged, provisional_over, provisional_proof_in, provisional_with}
+use Rattle.st_anchor.specs.States.{core_proof_count, core_state, count_read, decided, decided_roles, opened_in_core, opened_in_provisional, opened_proofs, provisional_state, role_state, state, state_below}
 use Rattle.st_anchor.specs.declared.branches.Context.{Context}
 use Rattle.st_anchor.specs.declared.branches.CoreBranch.{CoreBranch}
 use Rattle.st_anchor.specs.declared.branches.OpenedCore.{OpenedCore}
@@ -312,7 +311,7 @@ opened_in_core-over context files branch =
       arith,
       count_read-up core_proof_count (core_proof_in context branch.says) as_it_is files branch.proofs (λ says. omega arith),
       count_read-up opened_in_provisional (provisional_in context branch.says) (provisional_over context branch.says files) files branch.provisional
-      (opened_in_provisional-over context branch.says files),
+          (opened_in_provisional-over context branch.says files),
     )
 
 pub opened_proofs-up : (files : Files) (bound : Known) → opened_proofs bound ≤ opened_proofs (known_from files bound)

@@ -5,7 +5,7 @@
 --     known_from-missing   what is still missing hasn't come
 --     known_from-stays     what is missing stays missing while its file hasn't come
 --     known_from-was       what is missing was missing before, or wasn't needed yet
-use Rattle.std.proofs.Common.{◌≡◌, ◌∙◌, ◌⊎◌, inl, inr, ℕ, List, length, Option, Some, None, refl, sym, ap}
+use Rattle.std.proofs.Common.{◌≡◌, ◌∙◌, inl, inr, ℕ, List, length, Option, Some, None, refl, sym, ap}
 use Rattle.st_canon.specs.Shapes.{json_in}
 use Rattle.st_content.specs.Files.{Files, file_at}
 use Rattle.st_datafiles.specs.Chunk.{first_failing_chunk_rule}

@@ -24,7 +24,7 @@ use Rattle.st_ops.specs.Operation.{PlainOperation, Proof, recovering, suffix_of,
 use Rattle.st_params.specs.Limits.{Limits}
 use Rattle.st_anchor.specs.Gives.{creates_given, deactivates_given, deactivating_only, deltas_below, given, gives, operations_below, operations_of, recovers_given, signed_given, updates_below, updates_given, with_suffix}
 use Rattle.st_anchor.specs.Known.{known}
-use Rattle.st_anchor.specs.Sound.{AreCoreProofs, AreProofs, Holds, IsSoundCore, IsSoundProvisional}
+use Rattle.st_anchor.specs.Sound.{Holds, IsSoundCore, IsSoundProvisional}
 use Rattle.st_anchor.specs.States.{core_proof_count, count_read, opened_in_core, opened_in_provisional, opened_proofs}
 use Rattle.st_anchor.specs.declared.branches.Context.{Context}
 use Rattle.st_anchor.specs.declared.branches.CoreBranch.{CoreBranch}

@@ -17,7 +17,7 @@ use Rattle.st_anchor.specs.declared.branches.OpenedCore.{OpenedCore}
 use Rattle.st_anchor.specs.declared.branches.ProvisionalBranch.{ProvisionalBranch}
 use Rattle.st_anchor.specs.declared.given.Given.{Given}
 use Rattle.st_anchor.specs.declared.part.Part.{Part}
-use Rattle.st_anchor.specs.declared.part.Part.TheVariants.{Unneeded, Missing, Rejected, Is}
+use Rattle.st_anchor.specs.declared.part.Part.TheVariants.{Is}
 
 -- each item beside the one in its place among the others, or beside none where there is none
 abbrev pub beside : {Item Other : Type 0} → List Item → List Other → List (Item × Option Other)

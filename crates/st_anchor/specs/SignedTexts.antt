@@ -2,7 +2,7 @@
 use Rattle.std.specs.Prelude.{ℕ, List, map, Option, option_map}
 use Rattle.std.specs.Result.{result_ok}
 use Rattle.st_datafiles.specs.declared.core_proofs.CoreProofs.{CoreProofs}
-use Rattle.st_jws.specs.Opening.{Opened, opened}
+use Rattle.st_jws.specs.Opening.{opened}
 use Rattle.st_ops.specs.Operation.{Proof}
 use Rattle.st_anchor.specs.declared.branches.OpenedCore.{OpenedCore}
 

@@ -1,9 +1,8 @@
 -- How it stands with the roles of an entry.
-use Rattle.std.specs.Prelude.{ℕ, ◌+◌, List, [], ◌∷◌, length, Option}
+use Rattle.std.specs.Prelude.{ℕ, ◌+◌, List, [], ◌∷◌, length}
 use Rattle.st_content.specs.Files.{Files}
 use Rattle.st_datafiles.specs.declared.role.Role.{Role}
 use Rattle.st_datafiles.specs.declared.role.Role.TheVariants.{Core, CoreProof, Provisional, ProvisionalProof, Chunk}
-use Rattle.st_ops.specs.Operation.{Proof}
 use Rattle.st_params.specs.Limits.{Limits}
 use Rattle.st_anchor.specs.Known.{Known, known}
 use Rattle.st_anchor.specs.declared.branches.CoreBranch.{CoreBranch}

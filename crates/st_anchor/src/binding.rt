@@ -62,8 +62,15 @@ impl CoreBranch {
                 })
             }
             _ => {
-                let provisional =
-                    bind_provisional(alloc, provisional, context, &says, role, bytes, work)?;
+                let provisional = bind_provisional(
+                    alloc,
+                    provisional,
+                    context,
+                    &says,
+                    role,
+                    bytes,
+                    work,
+                )?;
                 Ok(CoreBranch {
                     says,
                     proofs,
@@ -94,7 +101,10 @@ fn bind_provisional(
         - count_read opened_in_provisional provisional) work.old work.new }
 {
     match provisional {
-        Part::Missing(_) => provisional_part(alloc, bytes, core, context, work),
+        Part::Missing(_) => {
+            let part = provisional_part(alloc, bytes, core, context, work)?;
+            Ok(part)
+        }
         Part::Is(branch) => {
             let branch = branch.bind(alloc, context, core, role, bytes, work)?;
             Ok(Part::Is(branch))

@@ -71,5 +71,9 @@ pub fn delta_at(
 pub fn deltas_from(deltas: &[Shared<Json>], at: usize) -> &[Shared<Json>]
     ensures { map plain result.now ≡ drop at (map plain deltas.now) }
 {
-    if at < deltas.len() { &deltas[at..] } else { &[] }
+    if at < deltas.len() {
+        &deltas[at..]
+    } else {
+        &[]
+    }
 }

@@ -99,9 +99,23 @@ fn give_proved(
 {
     if let Part::Is(proofs) = proofs {
         let recovers = core.recovers.as_slice();
-        give_signed(alloc, Kind::Recover, recovers, &proofs.recovers, deltas, list)?;
+        give_signed(
+            alloc,
+            Kind::Recover,
+            recovers,
+            &proofs.recovers,
+            deltas,
+            list,
+        )?;
         let deactivates = core.deactivates.as_slice();
-        give_signed(alloc, Kind::Deactivate, deactivates, &proofs.deactivates, &[], list)?;
+        give_signed(
+            alloc,
+            Kind::Deactivate,
+            deactivates,
+            &proofs.deactivates,
+            &[],
+            list,
+        )?;
     }
     Ok(())
 }

@@ -105,7 +105,13 @@ pub fn provisional_proof_part(
     ensures work { OnOk result (work.new ≡ one_file_with (count_read length (provisional_proof_in context.now provisional.now bytes.now)) work.old) }
     ensures few { WorkedAtMost 1 (count_read length (provisional_proof_in context.now provisional.now bytes.now)) work.old work.new }
 {
-    match read_provisional_proof(alloc, bytes, provisional.updates.len(), &context.params, work) {
+    match read_provisional_proof(
+        alloc,
+        bytes,
+        provisional.updates.len(),
+        &context.params,
+        work,
+    ) {
         Ok(texts) => {
             let proofs = Proofs::open(alloc, texts.as_slice(), context.params.max_signed(), work)?;
             Ok(Part::Is(proofs))
@@ -128,6 +134,8 @@ pub fn chunk_part(
     ensures value { IfOk result (λ part. part ≡ chunk_in context.now core.now provisional.now bytes.now) }
     ensures counted { work.new ≡ one_file work.old }
 {
+    // Their sum is at most the declared count: the prover sees here that it fits.
+    let _count = context.count;
     let wanted = core.creates.len() + core.recovers.len() + provisional.updates.len();
     match read_chunk(alloc, bytes, wanted, &context.params, work) {
         Ok(deltas) => Ok(Part::Is(Deltas::share(alloc, deltas)?)),
