@@ -1,0 +1,6 @@
+mod AgainLemmas
+mod AskedLemmas
+mod HashLemmas
+mod ProperLemmas
+mod ReadAgainLemmas
+mod StepLemmas

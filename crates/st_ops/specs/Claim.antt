@@ -45,12 +45,18 @@ deactivate_claim version suffix payload = do
   same_hash named suffix
   Some Deactivate
 
+-- the payload of a proof whose key has this reveal value
+abbrev pub revealed : HashValue → Option Proof → Option Plain
+revealed reveal proof = do
+  found ← proof
+  is_revealed reveal found.key
+  Some found.payload
+
 -- what the payload claims, where there is a proof whose key has the reveal value of the target
 abbrev pub claim_under : Target → Option Proof → (Plain → Option Claim) → Option Claim
 claim_under target proof claimed = do
-  found ← proof
-  is_revealed target.reveal found.key
-  claimed found.payload
+  payload ← revealed target.reveal proof
+  claimed payload
 
 -- The claim of an operation at these limits. A create has none.
 abbrev pub claim_of : Limits → PlainOperation → Option Claim

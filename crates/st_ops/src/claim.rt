@@ -4,7 +4,9 @@ use st_hash::Hash;
 #[derive(Clone, Copy, Debug, PartialEq, Eq)]
 pub enum Claim {
     /// The hash of the delta of an update.
-    Update { delta_hash: Hash },
+    Update {
+        delta_hash: Hash,
+    },
     /// The next recovery commitment, and the hash of the delta, of a recover.
     Recover {
         recovery_commitment: Hash,

@@ -3,9 +3,22 @@
 #![tactic(auto)]
 
 mod claim;
+mod claiming;
+mod form;
+mod hashes;
 mod operation;
+mod reading;
+mod refused;
 mod shared;
+mod signed;
+#[cfg(test)]
+mod tests;
+mod writing;
 
 pub use claim::Claim;
-pub use operation::Operation;
+pub use claiming::claim_of;
+pub use operation::{Operation, suffix};
+pub use reading::read_request;
+pub use refused::RequestRefused;
 pub use shared::Shared;
+pub use writing::write_request;

@@ -1,0 +1,15 @@
+-- Whatever asked for the operation, its own text asks for it again.
+use Rattle.std.proofs.Common.{◌∙◌, ap, subst}
+use Rattle.st_canon.specs.Canonical.{canonical}
+use Rattle.st_canon.specs.Proper.{IsProper}
+use Rattle.st_ops.specs.Operation.{plain_operation}
+use Rattle.st_ops.specs.Request.{request_of}
+use Rattle.st_ops.proofs.ReadAgainLemmas.{written_again}
+use Rattle.st_ops.proofs.writing.write_request.Goals as goal
+
+pub returns-clause-read : goal.returns-clause-read
+returns-clause-read c = λ limits bytes asked within.
+    let json = c.in_ok-request.ensures in
+    let written = c.in_ok-write.ensures.text ∙ ap canonical json in
+    let proper = subst IsProper json c.in_ok-write.ensures.proper in
+    ap (request_of limits) written ∙ written_again limits bytes (plain_operation c.args.operation.now) asked c.know_hashes.ensures proper within

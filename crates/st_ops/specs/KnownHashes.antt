@@ -1,0 +1,9 @@
+-- The hashes of operations have the values that hashes have.
+use Rattle.st_hash.specs.Hash.{IsHash}
+use Rattle.st_ops.specs.Operation.{PlainOperation, creating, updating, recovering, deactivating}
+
+abbrev pub HasHashes : PlainOperation → Type 0
+HasHashes (creating suffix_data delta) = IsHash suffix_data.delta_hash × IsHash suffix_data.recovery_commitment
+HasHashes (updating target proof delta) = IsHash target.suffix × IsHash target.reveal
+HasHashes (recovering target proof delta) = IsHash target.suffix × IsHash target.reveal
+HasHashes (deactivating target proof) = IsHash target.suffix × IsHash target.reveal

@@ -1,0 +1,225 @@
+ghost use Rattle.std.specs.Prelude.{◌≡◌, ◌≤◌, codes, IfNone, IfOk, IfSome, option_map, None, Some};
+ghost use Rattle.st_base.specs.Answers.{GivesAs};
+ghost use Rattle.st_base.specs.Work.{ProofsAtMost};
+ghost use Rattle.st_canon.specs.Entries.{members_in};
+ghost use Rattle.st_canon.specs.Plain.{object};
+ghost use Rattle.st_canon.specs.Proper.{IsProper};
+ghost use Rattle.st_canon.specs.Shapes.{member_in};
+ghost use Rattle.st_canon.specs.View.{plain, plain_members};
+ghost use Rattle.st_indexfiles.specs.SuffixData.{suffix_data_of};
+ghost use Rattle.st_ops.specs.Operation.{plain_operation};
+ghost use Rattle.st_ops.specs.Request.{asked, create_asked, deactivate_asked, recover_asked, refusal_of, request_json_of, request_of, update_asked, with_claim, IsComplete};
+ghost use Rattle.st_ops.specs.RequestText.{IsDeltaWithin, IsReadAgain};
+
+use crate::claiming::claim_of;
+use crate::form::{is_change_form, is_create_form, is_deactivate_form};
+use crate::operation::Operation;
+use crate::refused::RequestRefused;
+use crate::shared::Shared;
+use crate::signed::{proof_in, target_in};
+use st_base::{WantOfMemory, Work};
+use st_canon::{Json, Object, ReadRefused, read};
+use st_indexfiles::SuffixData;
+use st_params::Params;
+use std::alloc::Global;
+
+/// The operation that the bytes ask for at these limits. Where its signed text is opened, that counts
+/// as one proof.
+///
+/// Each refusal but `WantOfMemory` comes exactly where it is the first in the order of
+/// `RequestRefused` that holds.
+pub fn read_request(
+    alloc: Global,
+    bytes: &[u8],
+    params: &Params,
+    work: &mut Work,
+) -> Result<Operation, RequestRefused>
+    ensures value { GivesAs plain_operation refusal_of (request_of params.now bytes.now) result }
+    ensures counted { ProofsAtMost 1 work.old work.new }
+    // The proof and the delta are there, where the kind has them.
+    ensures complete { IfOk result (λ operation. IsComplete (plain_operation operation)) }
+    // What `write_request` writes of it is read again, where the delta does not nest too deep for that.
+    ensures again { IfOk result (λ operation. IsDeltaWithin 125 (plain_operation operation)
+        → IsReadAgain params.now (plain_operation operation)) }
+{
+    let json = json_in(alloc, bytes)?;
+    match members_in(json) {
+        Some(request) => asked(alloc, request, params, work),
+        None => Err(RequestRefused::BadForm),
+    }
+}
+
+// The members of an object.
+fn members_in(json: Json) -> Option<Object>
+    ensures some { IfSome result (λ members. plain json ≡ object (plain_members members)) }
+    ensures none { IfNone result (members_in (plain json) ≡ None) }
+{
+    match json {
+        Json::Object(members) => Some(members),
+        _ => None,
+    }
+}
+
+// The JSON that the bytes are.
+fn json_in(alloc: Global, bytes: &[u8]) -> Result<Json, RequestRefused>
+    ensures value { GivesAs plain refusal_of (request_json_of bytes.now) result }
+    ensures proper { IfOk result (λ json. IsProper (plain json)) }
+{
+    match read(alloc, bytes) {
+        Ok(json) => Ok(json),
+        Err(ReadRefused::NotJson) => Err(RequestRefused::NotJson),
+        Err(ReadRefused::NotWhole) => Err(RequestRefused::NotWhole),
+        Err(ReadRefused::WantOfMemory) => Err(RequestRefused::WantOfMemory),
+    }
+}
+
+// By the type of the request.
+#[tactic(auto, unfolding(crate::specs::Request::asked))]
+fn asked(
+    alloc: Global,
+    request: Object,
+    params: &Params,
+    work: &mut Work,
+) -> Result<Operation, RequestRefused>
+    ensures value { GivesAs plain_operation refusal_of (asked params.now (object (plain_members request))) result }
+    ensures counted { ProofsAtMost 1 work.old work.new }
+{
+    let Some(kind) = request.text("type") else {
+        return Err(RequestRefused::BadForm);
+    };
+    if kind == "create" {
+        create_asked(alloc, request, params)
+    } else if kind == "update" {
+        update_asked(alloc, request, params, work)
+    } else if kind == "recover" {
+        recover_asked(alloc, request, params, work)
+    } else if kind == "deactivate" {
+        deactivate_asked(alloc, request, params, work)
+    } else {
+        Err(RequestRefused::BadForm)
+    }
+}
+
+fn create_asked(
+    alloc: Global,
+    request: Object,
+    params: &Params,
+) -> Result<Operation, RequestRefused>
+    ensures { GivesAs plain_operation refusal_of (create_asked params.now (Some (object (plain_members request)))) result }
+{
+    if !is_create_form(&request) {
+        return Err(RequestRefused::BadForm);
+    }
+    let Some(suffix_data) = suffix_data_in(&request, params.version()) else {
+        return Err(RequestRefused::BadHash);
+    };
+    let delta = delta_in(alloc, request)?;
+    Ok(Operation::Create { suffix_data, delta })
+}
+
+fn update_asked(
+    alloc: Global,
+    request: Object,
+    params: &Params,
+    work: &mut Work,
+) -> Result<Operation, RequestRefused>
+    ensures value { GivesAs plain_operation refusal_of (update_asked params.now (Some (object (plain_members request)))) result }
+    ensures counted { ProofsAtMost 1 work.old work.new }
+{
+    if !is_change_form(&request) {
+        return Err(RequestRefused::BadForm);
+    }
+    let Some(target) = target_in(&request, params.version()) else {
+        return Err(RequestRefused::BadHash);
+    };
+    let proof = proof_in(alloc, &request, params.max_signed(), work)?;
+    let operation = Operation::Update {
+        suffix: target.suffix,
+        reveal: target.reveal,
+        proof: Some(Shared::new(alloc, proof)?),
+        delta: delta_in(alloc, request)?,
+    };
+    with_claim(alloc, operation, params)
+}
+
+fn recover_asked(
+    alloc: Global,
+    request: Object,
+    params: &Params,
+    work: &mut Work,
+) -> Result<Operation, RequestRefused>
+    ensures value { GivesAs plain_operation refusal_of (recover_asked params.now (Some (object (plain_members request)))) result }
+    ensures counted { ProofsAtMost 1 work.old work.new }
+{
+    if !is_change_form(&request) {
+        return Err(RequestRefused::BadForm);
+    }
+    let Some(target) = target_in(&request, params.version()) else {
+        return Err(RequestRefused::BadHash);
+    };
+    let proof = proof_in(alloc, &request, params.max_signed(), work)?;
+    let operation = Operation::Recover {
+        suffix: target.suffix,
+        reveal: target.reveal,
+        proof: Some(Shared::new(alloc, proof)?),
+        delta: delta_in(alloc, request)?,
+    };
+    with_claim(alloc, operation, params)
+}
+
+fn deactivate_asked(
+    alloc: Global,
+    request: Object,
+    params: &Params,
+    work: &mut Work,
+) -> Result<Operation, RequestRefused>
+    ensures value { GivesAs plain_operation refusal_of (deactivate_asked params.now (Some (object (plain_members request)))) result }
+    ensures counted { ProofsAtMost 1 work.old work.new }
+{
+    if !is_deactivate_form(&request) {
+        return Err(RequestRefused::BadForm);
+    }
+    let Some(target) = target_in(&request, params.version()) else {
+        return Err(RequestRefused::BadHash);
+    };
+    let proof = proof_in(alloc, &request, params.max_signed(), work)?;
+    let operation = Operation::Deactivate {
+        suffix: target.suffix,
+        reveal: target.reveal,
+        proof: Some(Shared::new(alloc, proof)?),
+    };
+    with_claim(alloc, operation, params)
+}
+
+fn suffix_data_in(request: &Object, version: u8) -> Option<SuffixData>
+    requires first { 1 ≤ version }
+    requires last { version ≤ 2 }
+    ensures { result ≡ suffix_data_of version (member_in (codes "suffixData") (Some (object (plain_members request.now)))) }
+{
+    SuffixData::read(request.get("suffixData")?, version)
+}
+
+// The delta of a request, taken out of it.
+fn delta_in(alloc: Global, mut request: Object) -> Result<Option<Shared<Json>>, WantOfMemory>
+    ensures { IfOk result (λ delta. option_map plain delta ≡ member_in (codes "delta") (Some (object (plain_members request)))) }
+{
+    match request.remove("delta") {
+        Some(delta) => Ok(Some(Shared::new(alloc, delta)?)),
+        None => Ok(None),
+    }
+}
+
+// The operation, where it has a claim.
+#[tactic(auto, unfolding(crate::specs::Request::with_claim))]
+fn with_claim(
+    alloc: Global,
+    operation: Operation,
+    params: &Params,
+) -> Result<Operation, RequestRefused>
+    ensures { GivesAs plain_operation refusal_of (with_claim params.now (plain_operation operation)) result }
+{
+    match claim_of(alloc, &operation, params)? {
+        Some(_) => Ok(operation),
+        None => Err(RequestRefused::BadProof),
+    }
+}

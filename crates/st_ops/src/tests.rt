@@ -1,0 +1,3 @@
+mod refusals;
+mod samples;
+mod texts;
