@@ -1,30 +1,26 @@
 -- What follows for an entry from the rules of its files.
---     given-once         no suffix stands twice among what an entry gives
---     opened_proofs-few  the signed texts in the proof files that were read are at most the declared count
-use Rattle.std.proofs.Common.{◌≡◌, ◌∙◌, ℕ, ◌+◌, ◌≤◌, Bool, false, List, [], ◌∷◌, ◌++◌, drop, length, map, Option, option_and_then, refl, sym, ap, subst, append-nil, arith}
-use Rattle.std.specs.Prelude.{◌||◌, slice_get}
+--     given-once, gives-once   no suffix stands twice among what an entry gives
+--     given-kept               a suffix that is given is given over more files too
+--     opened_proofs-few        the signed texts in the proof files that were read are at most the declared count
+use Rattle.std.proofs.Common.{◌≡◌, ◌∙◌, ℕ, ◌+◌, ◌≤◌, Bool, true, false, List, [], ◌∷◌, ◌++◌, length, map, Option, refl, sym, ap, subst, append-nil, arith}
+use Rattle.std.specs.Prelude.{◌||◌}
 use Rattle.std.specs.List.{list_any}
-use Rattle.std.proofs.lemmas.Bool.{or_parts}
-use Rattle.std.proofs.lemmas.List.{map-append}
+use Rattle.std.proofs.lemmas.Bool.{or_parts, or_right}
 use Rattle.std.proofs.lemmas.List.Folds.{list_any-append}
 use Rattle.st_base.specs.Twice.{has_twice, shares_one}
-use Rattle.st_canon.specs.Plain.{Plain}
 use Rattle.st_content.specs.Files.{Files}
 use Rattle.st_hash.specs.Hash.{HashValue, same_hash}
 use Rattle.st_hash.specs.Order.{same_hash-equivalence}
 use Rattle.st_indexfiles.specs.CoreIndex.{suffixes_of}
 use Rattle.st_indexfiles.specs.ProvisionalIndex.{suffixes_in}
 use Rattle.st_indexfiles.specs.ProvisionalRules.{core_count}
-use Rattle.st_indexfiles.specs.SuffixData.{suffix_of as suffix_of_data}
+use Rattle.st_indexfiles.specs.SuffixData.{suffix_of}
 use Rattle.st_indexfiles.specs.declared.core_index.CoreIndex.{CoreIndex}
-use Rattle.st_indexfiles.specs.declared.provisional_index.ProvisionalIndex.{ProvisionalIndex}
-use Rattle.st_indexfiles.specs.declared.suffix_data.SuffixData.{SuffixData}
-use Rattle.st_indexfiles.specs.declared.target.Target.{Target}
-use Rattle.st_ops.specs.Operation.{PlainOperation, Proof, recovering, suffix_of, updating}
+use Rattle.st_ops.specs.Operation.{Proof}
 use Rattle.st_params.specs.Limits.{Limits}
-use Rattle.st_anchor.specs.Gives.{creates_given, deactivates_given, deactivating_only, deltas_below, given, gives, operations_below, operations_of, recovers_given, signed_given, updates_below, updates_given, with_suffix}
-use Rattle.st_anchor.specs.Known.{known}
-use Rattle.st_anchor.specs.Sound.{Holds, IsSoundCore, IsSoundProvisional}
+use Rattle.st_anchor.specs.Gives.{given, gives, suffixes_given}
+use Rattle.st_anchor.specs.Known.{Known, as_it_is, core_in, core_over, core_proof_in, known, known_from, looked_up, provisional_in, provisional_over, provisional_proof_in}
+use Rattle.st_anchor.specs.Sound.{Holds, IsSound, IsSoundCore, IsSoundProvisional}
 use Rattle.st_anchor.specs.States.{core_proof_count, count_read, opened_in_core, opened_in_provisional, opened_proofs}
 use Rattle.st_anchor.specs.declared.branches.Context.{Context}
 use Rattle.st_anchor.specs.declared.branches.CoreBranch.{CoreBranch}
@@ -33,6 +29,7 @@ use Rattle.st_anchor.specs.declared.branches.ProvisionalBranch.{ProvisionalBranc
 use Rattle.st_anchor.specs.declared.part.Part.{Part}
 use Rattle.st_anchor.specs.declared.part.Part.TheVariants.{Unneeded, Missing, Rejected, Is}
 use Rattle.st_anchor.proofs.SoundLemmas.{sound-known}
+use Rattle.st_anchor.proofs.SuffixLemmas.{suffixes_below, suffixes_given-given, suffixes_known, suffixes_updated, targeted, where_read}
 
 -- ---- items that stand twice
 
@@ -106,49 +103,7 @@ unfolding opened_proofs
 opened_proofs-few files limits text =
     few-opened (known files limits text).context (known files limits text).core (sound-known files limits text)
 
--- ---- suffixes
-
-abbrev pub suffixes : List PlainOperation → List HashValue
-suffixes operations = map suffix_of operations
-
-suffixes-creates : (creates : List SuffixData) (deltas : List Plain) → suffixes (creates_given creates deltas) ≡ map suffix_of_data creates
-suffixes-creates [] deltas = refl
-suffixes-creates (create ∷ creates) deltas = ap (λ rest. suffix_of_data create ∷ rest) (suffixes-creates creates (drop 1 deltas))
-
-suffixes-signed : (make : Target → Option Proof → Option Plain → PlainOperation)
-    → ((target : Target) (proof : Option Proof) (delta : Option Plain) → suffix_of (make target proof delta) ≡ target.suffix)
-    → (targets : List Target) (proofs : List (Option Proof)) (deltas : List Plain)
-    → suffixes (signed_given make targets proofs deltas) ≡ map (λ target. target.suffix) targets
-suffixes-signed make own [] proofs deltas = refl
-suffixes-signed make own (target ∷ targets) proofs deltas = λ i.
-    own target (option_and_then (λ proof. proof) (slice_get proofs 0)) (slice_get deltas 0) i
-    ∷ suffixes-signed make own targets (drop 1 proofs) (drop 1 deltas) i
-
--- those of a part, or none
-abbrev pub where_read : {Says : Type 0} → Part Says → List HashValue → List HashValue
-where_read (Is says) those = those
-where_read other those = []
-
-suffixes-recovers : (core : CoreIndex) (deltas : List Plain) (part : Part OpenedCore)
-    → suffixes (recovers_given core deltas part) ≡ where_read part (map (λ target. target.suffix) core.recovers)
-suffixes-recovers core deltas Unneeded = refl
-suffixes-recovers core deltas (Missing uri) = refl
-suffixes-recovers core deltas (Rejected rule) = refl
-suffixes-recovers core deltas (Is proofs) = suffixes-signed recovering (λ target proof delta. refl) core.recovers proofs.recovers deltas
-
-suffixes-deactivates : (core : CoreIndex) (part : Part OpenedCore)
-    → suffixes (deactivates_given core part) ≡ where_read part (map (λ target. target.suffix) core.deactivates)
-suffixes-deactivates core Unneeded = refl
-suffixes-deactivates core (Missing uri) = refl
-suffixes-deactivates core (Rejected rule) = refl
-suffixes-deactivates core (Is proofs) = suffixes-signed deactivating_only (λ target proof delta. refl) core.deactivates proofs.deactivates []
-
-suffixes-updates : (provisional : ProvisionalIndex) (deltas : List Plain) (part : Part (List (Option Proof)))
-    → suffixes (updates_given provisional deltas part) ≡ where_read part (suffixes_in provisional.updates)
-suffixes-updates provisional deltas Unneeded = refl
-suffixes-updates provisional deltas (Missing uri) = refl
-suffixes-updates provisional deltas (Rejected rule) = refl
-suffixes-updates provisional deltas (Is proofs) = suffixes-signed updating (λ target proof delta. refl) provisional.updates proofs deltas
+-- ---- no suffix stands twice
 
 -- what holds of the front of a list where it holds of the list
 front_kept : (P : List HashValue → Type 0) → ((xs ys : List HashValue) → P (xs ++ ys) → P xs) → (creates recovers deactivates : List HashValue)
@@ -178,59 +133,103 @@ once-where (Missing uri) front us is own apart = once-nothing front is
 once-where (Rejected rule) front us is own apart = once-nothing front is
 once-where (Is proofs) front us is own apart = has_twice-both same_hash same_hash-equivalence.symm front us is own apart
 
-once-updates : (context : Context) (core : CoreIndex) (deltas : List Plain) (part : Part ProvisionalBranch) (front : List HashValue)
+once-updates : (context : Context) (core : CoreIndex) (part : Part ProvisionalBranch) (front : List HashValue)
     → once front → ((us : List HashValue) → shares_one same_hash us (suffixes_of core) ≡ false → shares_one same_hash us front ≡ false)
-    → Holds (IsSoundProvisional context core) part → once (front ++ suffixes (updates_below deltas part))
-once-updates context core deltas Unneeded front is apart sound = once-nothing front is
-once-updates context core deltas (Missing uri) front is apart sound = once-nothing front is
-once-updates context core deltas (Rejected rule) front is apart sound = once-nothing front is
-once-updates context core deltas (Is branch) front is apart sound =
+    → Holds (IsSoundProvisional context core) part → once (front ++ suffixes_updated part)
+once-updates context core Unneeded front is apart sound = once-nothing front is
+once-updates context core (Missing uri) front is apart sound = once-nothing front is
+once-updates context core (Rejected rule) front is apart sound = once-nothing front is
+once-updates context core (Is branch) front is apart sound =
     let us : List HashValue = suffixes_in branch.says.updates in
     let parts = or_parts (has_twice same_hash us) (shares_one same_hash us (suffixes_of core)) sound.apart in
-    subst (λ those. once (front ++ those)) (sym (suffixes-updates branch.says deltas branch.proofs))
-    (once-where branch.proofs front us is parts.0 (apart us parts.1))
+    once-where branch.proofs front us is parts.0 (apart us parts.1)
 
--- those of all operations, one kind after the other
-suffixes-append : (creates recovers deactivates updates : List PlainOperation)
-    → suffixes (creates ++ recovers ++ deactivates ++ updates) ≡ suffixes creates ++ suffixes recovers ++ suffixes deactivates ++ suffixes updates
-suffixes-append creates recovers deactivates updates =
-    map-append suffix_of (creates ++ recovers ++ deactivates) updates
-    ∙ ap (λ front. front ++ suffixes updates) (map-append suffix_of (creates ++ recovers) deactivates)
-    ∙ ap (λ front. front ++ suffixes deactivates ++ suffixes updates) (map-append suffix_of creates recovers)
-
-once-below : (context : Context) (branch : CoreBranch) → IsSoundCore context branch → once (suffixes (operations_below branch))
+once-below : (context : Context) (branch : CoreBranch) → IsSoundCore context branch → once (suffixes_below branch)
 once-below context branch sound =
-    let deltas : List Plain = deltas_below branch.provisional in
-    let of_recovers : List Plain = drop (length branch.says.creates) deltas in
-    let of_updates : List Plain = drop (length branch.says.recovers) of_recovers in
-    let creates : List HashValue = map suffix_of_data branch.says.creates in
-    let recovers : List HashValue = map (λ target. target.suffix) branch.says.recovers in
-    let deactivates : List HashValue = map (λ target. target.suffix) branch.says.deactivates in
-    let front : List HashValue = creates ++ where_read branch.proofs recovers ++ where_read branch.proofs deactivates in
-    let kinds =
-    suffixes-append (creates_given branch.says.creates deltas) (recovers_given branch.says of_recovers branch.proofs) (deactivates_given branch.says branch.proofs)
-    (updates_below of_updates branch.provisional)
-    ∙ (λ i. suffixes-creates branch.says.creates deltas i ++ suffixes-recovers branch.says of_recovers branch.proofs i ++ suffixes-deactivates branch.says branch.proofs i
-    ++ suffixes (updates_below of_updates branch.provisional)) in
-    subst once (sym kinds)
-    (once-updates context branch.says of_updates branch.provisional front
+    let creates : List HashValue = map suffix_of branch.says.creates in
+    let recovers : List HashValue = targeted branch.says.recovers in
+    let deactivates : List HashValue = targeted branch.says.deactivates in
+    once-updates context branch.says branch.provisional (creates ++ where_read branch.proofs recovers ++ where_read branch.proofs deactivates)
     (kept_where once (has_twice-front same_hash same_hash-equivalence.symm) branch.proofs creates recovers deactivates sound.once)
     (λ us apart. kept_where (λ hashes. shares_one same_hash us hashes ≡ false) (shares_one-front same_hash same_hash-equivalence.symm us) branch.proofs creates recovers deactivates apart)
-    sound.provisional)
+    sound.provisional
 
-once-part : (context : Context) (part : Part CoreBranch) → Holds (IsSoundCore context) part → once (suffixes (operations_of part))
+once-part : (context : Context) (part : Part CoreBranch) → Holds (IsSoundCore context) part → once (suffixes_known part)
 once-part context Unneeded sound = refl
 once-part context (Missing uri) sound = refl
 once-part context (Rejected rule) sound = refl
 once-part context (Is branch) sound = once-below context branch sound
 
-own-suffixes : (operations : List PlainOperation) → map (λ entry. entry.0) (map with_suffix operations) ≡ suffixes operations
-own-suffixes [] = refl
-own-suffixes (operation ∷ operations) = ap (λ rest. suffix_of operation ∷ rest) (own-suffixes operations)
+pub given-once : (bound : Known) → IsSound bound → has_twice same_hash (suffixes_given (given bound)) ≡ false
+given-once bound sound = subst once (sym (suffixes_given-given bound)) (once-part bound.context bound.core sound)
 
-pub given-once : (files : Files) (limits : Limits) (text : List ℕ)
-    → has_twice same_hash (map (λ entry. entry.0) (gives files limits text)) ≡ false
-unfolding given
-given-once files limits text =
-    subst once (sym (own-suffixes (operations_of (known files limits text).core)))
-    (once-part (known files limits text).context (known files limits text).core (sound-known files limits text))
+pub gives-once : (files : Files) (limits : Limits) (text : List ℕ) → has_twice same_hash (suffixes_given (gives files limits text)) ≡ false
+gives-once files limits text = given-once (known files limits text) (sound-known files limits text)
+
+-- ---- more files withhold nothing that was given
+
+-- each suffix of the one list is in the other too
+abbrev pub Grows : List HashValue → List HashValue → Type 0
+Grows before after = (suffix : HashValue) → list_any (same_hash suffix) before ≡ true → list_any (same_hash suffix) after ≡ true
+
+or-grows : (a b c d : Bool) → (a ≡ true → c ≡ true) → (b ≡ true → d ≡ true) → (a || b) ≡ true → (c || d) ≡ true
+or-grows true b c d first second any = rw (first refl) refl
+or-grows false b c d first second any = or_right c d (second any)
+
+grows-append : (a b c d : List HashValue) → Grows a c → Grows b d → Grows (a ++ b) (c ++ d)
+grows-append a b c d first second suffix any =
+    list_any-append (same_hash suffix) c d
+    ∙ or-grows (list_any (same_hash suffix) a) (list_any (same_hash suffix) b) (list_any (same_hash suffix) c) (list_any (same_hash suffix) d)
+    (first suffix) (second suffix) (sym (list_any-append (same_hash suffix) a b) ∙ any)
+
+grows-nil : (after : List HashValue) → Grows [] after
+grows-nil after suffix any = cc
+
+grows-same : (hashes : List HashValue) → Grows hashes hashes
+grows-same hashes suffix any = any
+
+grows-read : {Says : Type 0} (read : List ℕ → Part Says) (below : Says → Says) (files : Files) (part : Part Says) (those : List HashValue)
+    → Grows (where_read part those) (where_read (looked_up read below files part) those)
+grows-read read below files Unneeded those = grows-nil (where_read (looked_up read below files Unneeded) those)
+grows-read read below files (Missing uri) those = grows-nil (where_read (looked_up read below files (Missing uri)) those)
+grows-read read below files (Rejected rule) those = grows-nil []
+grows-read read below files (Is says) those = grows-same those
+
+grows-updated : (context : Context) (core : CoreIndex) (files : Files) (part : Part ProvisionalBranch)
+    → Grows (suffixes_updated part) (suffixes_updated (looked_up (provisional_in context core) (provisional_over context core files) files part))
+grows-updated context core files Unneeded = grows-nil []
+grows-updated context core files (Missing uri) =
+    grows-nil (suffixes_updated (looked_up (provisional_in context core) (provisional_over context core files) files (Missing uri)))
+grows-updated context core files (Rejected rule) = grows-nil []
+grows-updated context core files (Is branch) =
+    grows-read (provisional_proof_in context branch.says) as_it_is files branch.proofs (suffixes_in branch.says.updates)
+
+grows-below : (context : Context) (files : Files) (branch : CoreBranch) → Grows (suffixes_below branch) (suffixes_below (core_over context files branch))
+grows-below context files branch =
+    let creates : List HashValue = map suffix_of branch.says.creates in
+    let recovers : List HashValue = targeted branch.says.recovers in
+    let deactivates : List HashValue = targeted branch.says.deactivates in
+    let later : Part OpenedCore = looked_up (core_proof_in context branch.says) as_it_is files branch.proofs in
+    let updated : List HashValue = suffixes_updated (core_over context files branch).provisional in
+    grows-append (creates ++ where_read branch.proofs recovers ++ where_read branch.proofs deactivates) (suffixes_updated branch.provisional)
+    (creates ++ where_read later recovers ++ where_read later deactivates) updated
+    (grows-append (creates ++ where_read branch.proofs recovers) (where_read branch.proofs deactivates) (creates ++ where_read later recovers) (where_read later deactivates)
+    (grows-append creates (where_read branch.proofs recovers) creates (where_read later recovers) (grows-same creates)
+    (grows-read (core_proof_in context branch.says) as_it_is files branch.proofs recovers))
+    (grows-read (core_proof_in context branch.says) as_it_is files branch.proofs deactivates))
+    (grows-updated context branch.says files branch.provisional)
+
+grows-part : (context : Context) (files : Files) (part : Part CoreBranch)
+    → Grows (suffixes_known part) (suffixes_known (looked_up (core_in context) (core_over context files) files part))
+grows-part context files Unneeded = grows-nil []
+grows-part context files (Missing uri) = grows-nil (suffixes_known (looked_up (core_in context) (core_over context files) files (Missing uri)))
+grows-part context files (Rejected rule) = grows-nil []
+grows-part context files (Is branch) = grows-below context files branch
+
+pub given-kept : (files : Files) (bound : Known) (suffix : HashValue)
+    → list_any (same_hash suffix) (suffixes_given (given bound)) ≡ true
+    → list_any (same_hash suffix) (suffixes_given (given (known_from files bound))) ≡ true
+unfolding known_from
+given-kept files bound suffix any =
+    ap (list_any (same_hash suffix)) (suffixes_given-given (known_from files bound))
+    ∙ grows-part bound.context files bound.core suffix (sym (ap (list_any (same_hash suffix)) (suffixes_given-given bound)) ∙ any)

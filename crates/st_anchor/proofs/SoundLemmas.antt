@@ -128,7 +128,9 @@ few-core_accepted : (context : Context) (core : CoreIndex) (bytes : List ℕ)
     → core_proof_count (opened_of context.params.max_signed (core_proofs_of (json_in bytes))) ≤ length core.recovers + length core.deactivates
 few-core_accepted context core bytes none =
     let rows = none_fails (core_proof_rules context.params (length core.recovers) (length core.deactivates) bytes) none in
-    let both = and_parts _ _ (passes _ rows.1.1.1.0) in
+    let both =
+    and_parts (has_proofs (codes "recover") (length core.recovers) (json_in bytes)) (has_proofs (codes "deactivate") (length core.deactivates) (json_in bytes))
+    (passes _ rows.1.1.1.0) in
     omega (
       arith,
       wanted-proofs (codes "recover") (length core.recovers) (json_in bytes) both.0,

@@ -94,6 +94,10 @@ given bound = map with_suffix (operations_of bound.core)
 abbrev pub gives : Files → Limits → List ℕ → List (HashValue × PlainOperation)
 gives files limits text = given (known files limits text)
 
+-- the suffixes of what is given
+abbrev pub suffixes_given : List (HashValue × PlainOperation) → List HashValue
+suffixes_given entries = map (λ entry. entry.0) entries
+
 -- what a `Given` stands for
 abbrev pub plain_given : Given → HashValue × PlainOperation
 plain_given given = (given.suffix, plain_operation given.operation)

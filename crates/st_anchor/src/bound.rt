@@ -1,8 +1,9 @@
-ghost use Rattle.std.specs.Prelude.{◌≡◌, IfOk, OnOk, map};
-ghost use Rattle.st_hash.specs.Hash.{uri_of};
+ghost use Rattle.std.specs.Prelude.{◌≡◌, IfOk, OnOk, false, map};
+ghost use Rattle.st_base.specs.Twice.{has_twice};
+ghost use Rattle.st_hash.specs.Hash.{same_hash, uri_of};
 ghost use Rattle.st_anchor.specs.Coming.{opened_by};
 ghost use Rattle.st_anchor.specs.Counting.{WorkedAtMost, one_file_with};
-ghost use Rattle.st_anchor.specs.Gives.{given, plain_given};
+ghost use Rattle.st_anchor.specs.Gives.{given, plain_given, suffixes_given};
 ghost use Rattle.st_anchor.specs.Known.{bound_with, known_of_text};
 ghost use Rattle.st_anchor.specs.States.{role_state};
 
@@ -120,7 +121,9 @@ impl Bound {
     /// what is kept here.
     #[tactic(auto, unfolding(crate::specs::Gives::given))]
     pub fn give(&self, alloc: Global) -> Result<List<Given>, WantOfMemory>
-        ensures { IfOk result (λ list. map plain_given list ≡ given self.now) }
+        ensures value { IfOk result (λ list. map plain_given list ≡ given self.now) }
+        // No suffix stands twice among what an entry gives.
+        ensures once { has_twice same_hash (suffixes_given (given self.now)) ≡ false }
     {
         match &self.core {
             Part::Is(branch) => Ok(give_below(alloc, branch)?),
