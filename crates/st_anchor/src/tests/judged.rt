@@ -78,10 +78,16 @@ fn one_file_is_read_in_one_entry_and_rejected_in_another(rt: HostRuntime) -> Res
     let mut work = Work::new(&rt);
     let text = anchor(alloc, "1.", &lone)?;
     let bound = known(alloc, &text, &content, &mut work)?;
-    assert_eq!(rt; words(alloc, &bound)?.as_str(), "read unneeded read missing missing");
+    assert_eq!(rt;
+        words(alloc, &bound)?.as_str(),
+        "read unneeded read missing missing"
+    );
     let text = anchor(alloc, "2.", &full)?;
     let bound = known(alloc, &text, &content, &mut work)?;
-    assert_eq!(rt; words(alloc, &bound)?.as_str(), "read unneeded P6 unneeded unneeded");
+    assert_eq!(rt;
+        words(alloc, &bound)?.as_str(),
+        "read unneeded P6 unneeded unneeded"
+    );
     assert_eq!(rt; work.files(), 4);
     Ok(())
 }
