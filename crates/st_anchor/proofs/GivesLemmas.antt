@@ -1,0 +1,55 @@
+-- One operation more is given: what was given before, with the item in its place and what stands beside
+-- it.
+use Rattle.std.proofs.Common.{◌≡◌, ◌∙◌, ℕ, zero, suc, ◌+◌, ◌<◌, ◌≤◌, List, [], ◌∷◌, ◌++◌, drop, get_or, length, map, take, Option, refl, sym, ap, subst, append_assoc, arith}
+use Rattle.std.specs.Prelude.{slice_get}
+use Rattle.std.proofs.lemmas.List.{map_more, map_push, take_all}
+use Rattle.st_anchor.specs.Gives.{beside}
+
+pub length-beside : {Item Other : Type 0} (items : List Item) (others : List Other) → length (beside items others) ≡ length items
+length-beside [] others = refl
+length-beside (item ∷ items) others = ap suc (length-beside items (drop 1 others))
+
+get-rest : {Other : Type 0} (others : List Other) (at : ℕ) → slice_get (drop 1 others) at ≡ slice_get others (suc at)
+get-rest [] at = refl
+get-rest (other ∷ others) at = refl
+
+-- what stands in a place
+pub at-beside : {Item Other : Type 0} (items : List Item) (others : List Other) (at : ℕ) (item : Item) (none : Item × Option Other) → at < length items
+    → get_or (beside items others) at none ≡ (get_or items at item, slice_get others at)
+at-beside [] others at item none inside = absurd (omega arith)
+at-beside (first ∷ items) others zero item none inside = refl
+at-beside (first ∷ items) others (suc at) item none inside =
+    at-beside items (drop 1 others) at item none (omega arith)
+    ∙ ap (λ other. (get_or items at item, other)) (get-rest others at)
+
+pub entry-beside : {Item Other : Type 0} (items : List Item) (others : List Other) (at : ℕ) (item : Item) (other : Option Other) (none : Item × Option Other)
+    → at < length items → item ≡ get_or items at item → other ≡ slice_get others at → (item, other) ≡ get_or (beside items others) at none
+entry-beside items others at item other none inside is found =
+    (λ i. (is i, found i)) ∙ sym (at-beside items others at item none inside)
+
+pub inside-beside : {Item Other : Type 0} (items : List Item) (others : List Other) (at : ℕ) → at < length items → at < length (beside items others)
+inside-beside items others at inside = subst (λ n. at < n) (sym (length-beside items others)) inside
+
+pub past-beside : {Item Other : Type 0} (items : List Item) (others : List Other) (at : ℕ) → length items ≤ at → length (beside items others) ≤ at
+past-beside items others at past = subst (λ n. n ≤ at) (sym (length-beside items others)) past
+
+-- ---- a list that is given item by item
+
+map-twice : {X Y Z : Type 0} (g : Y → Z) (f : X → Y) (xs : List X) → map (λ x. g (f x)) xs ≡ map g (map f xs)
+map-twice g f [] = refl
+map-twice g f (x ∷ xs) = ap (λ rest. g (f x) ∷ rest) (map-twice g f xs)
+
+module _ {Item Given Made Seen : Type 0} (view : Given → Seen) (seen : Made → Seen) (make : Item → Made) where
+  pub given-more : (items : List Item) (at : ℕ) (item : Item) (given : Given) (list : List Given) (start : List Seen) → at < length items
+      → view given ≡ seen (make (get_or items at item)) → map view list ≡ start ++ map (λ item. seen (make item)) (take at items)
+      → map view (list ++ given ∷ []) ≡ start ++ map (λ item. seen (make item)) (take (at + 1) items)
+  given-more items at item given list start inside is before =
+      map_push view list given ∙ ap (λ done. done ++ view given ∷ []) before
+      ∙ append_assoc start (map (λ item. seen (make item)) (take at items)) (view given ∷ [])
+      ∙ ap (λ one. start ++ (map (λ item. seen (make item)) (take at items) ++ one ∷ [])) is
+      ∙ ap (λ done. start ++ done) (sym (map_more (λ item. seen (make item)) items at item inside))
+
+  pub given-all : (items : List Item) (at : ℕ) (list : List Given) (start : List Seen) → length items ≤ at
+      → map view list ≡ start ++ map (λ item. seen (make item)) (take at items) → map view list ≡ start ++ map seen (map make items)
+  given-all items at list start past before =
+      before ∙ ap (λ front. start ++ map (λ item. seen (make item)) front) (take_all at items past) ∙ ap (λ done. start ++ done) (map-twice seen make items)

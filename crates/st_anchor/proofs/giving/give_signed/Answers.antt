@@ -1,0 +1,33 @@
+use Rattle.std.proofs.Common.{◌∙◌, ap, map, option_and_then, option_map, refl}
+use Rattle.std.specs.Prelude.{slice_get}
+use Rattle.st_canon.specs.View.{plain}
+use Rattle.st_anchor.specs.Gives.{beside, plain_given, with_suffix}
+use Rattle.st_anchor.specs.Kinds.{made}
+use Rattle.st_anchor.proofs.GivesLemmas.{entry-beside, given-all, given-more, inside-beside, past-beside}
+use Rattle.st_anchor.proofs.giving.give_signed.Goals as goal
+
+pub targets-preserved : goal.targets-preserved
+targets-preserved c =
+    let deltas = map plain c.args.deltas.now in
+    let signed = beside c.args.targets.now c.args.proofs.now in
+    let target = c.index-targets-at.result in
+    let proof = slice_get c.args.proofs.now c.targets.at in
+    let delta = option_map plain c.in_ok-delta.delta in
+    let inside = inside-beside c.args.targets.now c.args.proofs.now c.targets.at c.targets-test.true in
+    ap (map plain_given) c.in_ok-push.ensures.ok
+    ∙ given-more plain_given with_suffix (λ entry. made c.args.kind entry.0.0 (option_and_then (λ proof. proof) entry.0.1) entry.1) (beside signed deltas) c.targets.at
+    ((target, proof), delta) c.signed_of.result c.targets.list (map plain_given c.args.list.now) (inside-beside signed deltas c.targets.at inside)
+    (c.signed_of.ensures ∙ ap (λ opened. with_suffix (made c.args.kind target opened delta)) c.in_ok-proof.ensures
+    ∙ ap (λ entry. with_suffix (made c.args.kind entry.0.0 (option_and_then (λ proof. proof) entry.0.1) entry.1))
+    (entry-beside signed deltas c.targets.at (target, proof) delta ((target, proof), delta) inside
+    (entry-beside c.args.targets.now c.args.proofs.now c.targets.at target proof (target, proof) c.targets-test.true c.index-targets-at.is refl)
+    c.in_ok-delta.ensures))
+    c.targets.invariant
+
+pub returns : goal.returns
+returns c =
+    let deltas = map plain c.args.deltas.now in
+    let signed = beside c.args.targets.now c.args.proofs.now in
+    given-all plain_given with_suffix (λ entry. made c.args.kind entry.0.0 (option_and_then (λ proof. proof) entry.0.1) entry.1) (beside signed deltas) c.targets.at
+    c.targets.list (map plain_given c.args.list.now)
+    (past-beside signed deltas c.targets.at (past-beside c.args.targets.now c.args.proofs.now c.targets.at c.targets-test.false)) c.targets.invariant

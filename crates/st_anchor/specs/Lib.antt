@@ -1,0 +1,10 @@
+pub mod Codes
+pub mod Counting
+pub mod SignedTexts
+pub mod Known
+pub mod States
+pub mod Gives
+pub mod Kinds
+pub mod Sound
+pub mod Coming
+pub mod RuleNames

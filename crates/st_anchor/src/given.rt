@@ -1,0 +1,21 @@
+use st_base::{Copied, WantOfMemory};
+use st_hash::Hash;
+use st_ops::Operation;
+use std::alloc::Global;
+
+/// An operation that an entry gives, and the suffix of the identifier that it is for.
+#[derive(Drop)]
+pub struct Given {
+    pub suffix: Hash,
+    pub operation: Operation,
+}
+
+impl Copied for Given {
+    fn copy(&self, alloc: Global) -> Result<Given, WantOfMemory> {
+        let operation = self.operation.copy(alloc)?;
+        Ok(Given {
+            suffix: self.suffix,
+            operation,
+        })
+    }
+}
