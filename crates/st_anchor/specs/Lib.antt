@@ -1,4 +1,3 @@
-pub mod Codes
 pub mod Counting
 pub mod SignedTexts
 pub mod Known

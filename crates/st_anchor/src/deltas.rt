@@ -16,7 +16,7 @@ pub struct Deltas {
 
 impl Model for Deltas {
     ghost use Rattle.std.specs.Prelude.{List, map};
-    ghost use Rattle.st_anchor.specs.Codes.{coded_deltas};
+    ghost use Rattle.st_ops.specs.Codes.{coded_deltas};
     ghost use Rattle.st_canon.specs.Plain.{Plain};
     ghost use Rattle.st_canon.specs.View.{plain};
 

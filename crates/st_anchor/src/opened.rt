@@ -19,7 +19,7 @@ pub struct Proofs {
 
 impl Model for Proofs {
     ghost use Rattle.std.specs.Prelude.{List, Option, map, option_map};
-    ghost use Rattle.st_anchor.specs.Codes.{coded_proofs};
+    ghost use Rattle.st_ops.specs.Codes.{coded_proofs};
     ghost use Rattle.st_ops.specs.Operation.{Proof, plain_proof};
 
     ghost Value = { List (Option Proof) };
@@ -74,7 +74,7 @@ fn open_all(
     Ok(items)
 }
 
-#[tactic(auto, unfolding(crate::specs::SignedTexts::proof_of))]
+#[tactic(auto, unfolding(st_ops::specs::SignedPart::proof_of))]
 fn open_one(
     alloc: Global,
     text: &Text,

@@ -1,17 +1,28 @@
 -- What anchored operations resolve to, for the crates that keep their state.
-use Rattle.std.proofs.Common.{◌≡◌, ◌∙◌, sym, ℕ, ◌<◌, List, [], ◌∷◌, ◌++◌}
+use Rattle.std.proofs.Common.{◌≡◌, ◌∙◌, sym, ℕ, ◌<◌, false, List, [], ◌∷◌, ◌++◌}
 use Rattle.std.specs.Prelude.{map, Option}
 use Rattle.std.specs.List.{AllByRecursion}
 use Rattle.std.proofs.lemmas.List.Folds.{fold-map}
 use Rattle.st_ops.specs.Operation.{PlainOperation}
 use Rattle.st_opindex.specs.Items.{Held, Ascend, folded}
+use Rattle.st_doc.specs.Document.{PlainDocument}
+use Rattle.st_hash.specs.Hash.{HashValue}
+use Rattle.st_params.specs.Limits.{Limits}
 use Rattle.st_params.specs.Schedule.{params_at}
 use Rattle.st_apply.specs.Anchored.{Anchored, all_applied, place_of, resolved, seen_in}
-use Rattle.st_apply.specs.Applied.{applied, sidetree}
+use Rattle.st_apply.specs.Acting.{acts}
+use Rattle.st_apply.specs.Applied.{applied, seen_at, sidetree}
 use Rattle.st_apply.specs.Laws.{PlacesAscend}
-use Rattle.st_apply.specs.Seen.{absent}
+use Rattle.st_apply.specs.Seen.{State, absent}
 use Rattle.st_apply.proofs.LawLemmas.{fold_is_walk}
 use Rattle.st_apply.proofs.OneMoreLemmas.{one_more}
+use Rattle.st_apply.proofs.StepLemmas.{leaves_it}
+
+-- an operation that does not act leaves the state
+pub idle_leaves : (limits : Limits) (state : State HashValue PlainDocument) (operation : PlainOperation)
+    → acts sidetree state (seen_at limits operation) ≡ false → applied limits state operation ≡ state
+unfolding applied
+idle_leaves limits state operation idle = leaves_it sidetree state (seen_at limits operation) idle
 
 module _ (schedule : Option ℕ) where
   -- one more operation, at a place behind all others, is one more step

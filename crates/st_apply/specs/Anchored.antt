@@ -1,9 +1,12 @@
 -- Operations at their places in the ledger, and what they resolve to.
-use Rattle.std.specs.Prelude.{◌≡◌, ℕ, List, fold, Option}
+use Rattle.std.specs.Prelude.{◌≡◌, ℕ, ◌<◌, false, List, [], ◌∷◌, ◌++◌, fold, Option}
+use Rattle.std.specs.List.{AllByRecursion}
 use Rattle.st_doc.specs.Document.{PlainDocument}
 use Rattle.st_hash.specs.Hash.{HashValue}
 use Rattle.st_ops.specs.Operation.{PlainOperation}
+use Rattle.st_params.specs.Limits.{Limits}
 use Rattle.st_params.specs.Schedule.{params_at}
+use Rattle.st_apply.specs.Acting.{acts}
 use Rattle.st_apply.specs.Applied.{applied, seen_at, sidetree}
 use Rattle.st_apply.specs.Laws.{PlacesAscend}
 use Rattle.st_apply.specs.Resolution.{resolve}
@@ -35,3 +38,14 @@ all_applied schedule state operations =
 abbrev pub StepsResolve : Type 0
 StepsResolve = (schedule : Option ℕ) (operations : List Anchored) → PlacesAscend place_of operations
     → all_applied schedule absent operations ≡ resolved schedule operations
+
+-- One more operation, at a place behind all others, is one more step.
+abbrev pub OneMoreStep : Type 0
+OneMoreStep = (schedule : Option ℕ) (operations : List Anchored) (last : Anchored)
+    → AllByRecursion (λ earlier. earlier.place < last.place) operations
+    → resolved schedule (operations ++ last ∷ []) ≡ applied (params_at schedule last.height) (resolved schedule operations) last.operation
+
+-- An operation that does not act on a state leaves it.
+abbrev pub IdleLeaves : Type 0
+IdleLeaves = (limits : Limits) (state : State HashValue PlainDocument) (operation : PlainOperation)
+    → acts sidetree state (seen_at limits operation) ≡ false → applied limits state operation ≡ state

@@ -1,5 +1,5 @@
 ghost use Rattle.std.specs.Prelude.{ℕ, List};
-ghost use Rattle.st_apply.specs.Anchored.{StepsResolve};
+ghost use Rattle.st_apply.specs.Anchored.{IdleLeaves, OneMoreStep, StepsResolve};
 ghost use Rattle.st_apply.specs.Laws.{FoldIsWalk, GoesOn, LeavesIt, OneMore, SeenAlike, StaysDeactivated, WalksLead};
 ghost use Rattle.st_apply.specs.Numbered.{GivenAscend};
 ghost use Rattle.st_apply.specs.Seen.{Rules, Seen};
@@ -33,7 +33,10 @@ pub fn given_law<E, I>()
 {}
 
 /// Of anchored operations in ascending places, one `apply` for each, from `DidState::absent` on and at
-/// the limits of their heights, leads to what they resolve to.
+/// the limits of their heights, leads to what they resolve to. So one more operation behind all others
+/// is one more `apply`, and one that does not act changes nothing.
 pub fn anchored_law()
-    ensures { StepsResolve }
+    ensures steps { StepsResolve }
+    ensures one_more { OneMoreStep }
+    ensures idle { IdleLeaves }
 {}

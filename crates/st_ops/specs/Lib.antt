@@ -1,5 +1,6 @@
 pub mod Accepted
 pub mod Claim
+pub mod Codes
 pub mod Counting
 pub mod KnownHashes
 pub mod Operation
