@@ -1,6 +1,6 @@
 -- How a run of calls of a disk goes on. For crates that speak of stops inside a call.
 use Rattle.std.proofs.Common.{◌⊎◌, inl, inr, ⊎_elim, ℕ, zero, suc, ◌<◌, ◌≤◌, List, subst, arith}
-use Rattle.st_io.specs.Past.{Past, Images, GoesOn, NoSync, OneSync, AddsNone, Follow, LeftSinceSync, Leaves}
+use Rattle.st_io.specs.Past.{Past, Images, GoesOn, NoSync, OneSync, AddsNone, Follow, LeftSinceSync, Leaves, SplitsSinceSync}
 
 -- no call
 pub stands : (p : Past) → GoesOn p p
@@ -87,3 +87,10 @@ keeps_since_sync b c goes t s lt le synced x = ⊎_elim
     (λ w_lt. (s, lt, (goes.syncs s le).1 synced, c.earlier s b.now x le (goes.keeps b.now x (omega arith) (b.earlier b.now was.0 x (omega (arith, w_lt)) was.3))))
     (le_or_lt was.0 b.now))
     (λ new. (s, lt, (goes.syncs s le).1 synced, c.earlier s b.now x le new))
+
+-- so they split
+pub split_since_sync : (b c : Past) → GoesOn b c → (t : ℕ) → SplitsSinceSync b c t
+split_since_sync b c goes t = record {
+  splits = λ x left. splits_since_sync b c goes t x left;
+  keeps = λ come x left. keeps_since_sync b c goes t come.0 come.1 come.2 come.3 x left;
+}

@@ -26,6 +26,16 @@ pub record GoesOn (old new : Past) : Type 0 where
   pub keeps : (t : ℕ) (c : List ℕ) → t ≤ old.now → old.left_since t c → new.left_since t c
   pub syncs : (s : ℕ) → s ≤ old.now → new.synced s ↔ old.synced s
 
+-- a good sync has come after t, by now
+abbrev pub HasSynced : Past → ℕ → Type 0
+HasSynced past t = (s : ℕ) × (t < s) × (s ≤ past.now) × past.synced s
+
+-- The images from the first good sync after t on split too, at the old moment, where that sync has come
+-- by then: into those up to then and those since then.
+pub record SplitsSinceSync (old new : Past) (t : ℕ) : Type 0 where
+  pub splits : (c : List ℕ) → LeftSinceSync new t c → LeftSinceSync old t c ⊎ new.left_since old.now c
+  pub keeps : HasSynced old t → (c : List ℕ) → LeftSinceSync old t c ⊎ new.left_since old.now c → LeftSinceSync new t c
+
 -- no good sync has come since
 abbrev pub NoSync : Past → Past → Type 0
 NoSync old new = (s : ℕ) → old.now < s → new.synced s → ⊥

@@ -19,6 +19,7 @@ mod script_sink;
 mod script_source;
 mod sink;
 mod source;
+mod splits;
 mod std_sink;
 mod std_source;
 #[cfg(test)]
@@ -36,5 +37,6 @@ pub use script_sink::ScriptSink;
 pub use script_source::ScriptSource;
 pub use sink::Sink;
 pub use source::Source;
+pub use splits::images_split;
 pub use std_sink::StdSink;
 pub use std_source::StdSource;

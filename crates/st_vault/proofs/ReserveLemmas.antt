@@ -36,6 +36,10 @@ module _ (vault : VaultValue) (old : List ℕ) (opens : opened old ≡ Ok vault)
   pub fits : vault.next < count_of vault.key → 64 + vault.next ≤ length old
   fits left = omega (arith, long left)
 
+  -- the next counter is not spent
+  pub unspent : IsSpent old vault.next → ⊥
+  unspent there = omega (arith, spent_below old vault.next there, is_open.next_is)
+
   -- the image with that byte
   abbrev marked_image : List ℕ
   marked_image = set old (64 + vault.next) 1

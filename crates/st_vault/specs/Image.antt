@@ -46,7 +46,7 @@ pub data Kind : Type 0 where
   Damaged : Kind
   Whole : (key : SecretKey) (map : List ℕ) → Kind
 
--- both types of a key are in the tables (RFC 8554, sections 4.1 and 5.1), and its map fits into a length
+-- both types of a key are known here (RFC 8554, sections 4.1 and 5.1), and its map fits into a length
 abbrev pub is_whole : SecretKey → ℕ → Bool
 is_whole key len =
     (is_one_time_type key.ots && is_tree_type key.tree) && nat_le (64 + count_of key) len

@@ -25,7 +25,7 @@ use st_lms::Secret;
 ///
 /// `Formatted` comes exactly where the disk, as it reads after a sync, has at least 64 bytes and an
 /// open gate; then nothing is written. `DiskFault` comes only where the disk's count of faults rose:
-/// the disk may then be blank or the new vault, and is to be opened.
+/// the disk may then be as it was, blank, or the new vault, and is to be opened.
 pub fn format_vault<D: Disk>(disk: &mut D, secret: Secret) -> Result<Vault, FormatRefused>
     ensures gives { IfTold (D.reads disk.old) (λ old. Gives refusal_of (formatted secret old) result) }
     ensures value { IfOk result (λ vault. vault ≡ new_vault secret) }
@@ -71,9 +71,9 @@ fn format_synced<D: Disk>(disk: &mut D, secret: &Secret) -> Result<(), FormatRef
 enum Start {
     /// It has at least 64 bytes, and the gate is open.
     Formatted,
-    /// It has fewer, and no gate that is shut.
+    /// It has fewer.
     Short,
-    /// Its gate is shut.
+    /// It has a gate, which is shut.
     Shut,
 }
 

@@ -1,6 +1,7 @@
 ghost use Rattle.std.specs.Prelude.{◌≡◌, ◌<◌, ◌≤◌, IsSome, IfOk, OnOk};
 ghost use Rattle.st_io.specs.Tears.{IfTold};
 ghost use Rattle.st_lms.specs.Signature.{public_of};
+ghost use Rattle.st_vault.specs.Image.{IsSpent};
 ghost use Rattle.st_vault.specs.Opening.{ReadsAs};
 ghost use Rattle.st_vault.specs.Spent.{SpentInAll, KeepsSpent};
 ghost use Rattle.st_vault.specs.Values.{count_of, left_of, vault_after, counter_of};
@@ -87,7 +88,9 @@ impl Vault {
         ensures gives { ReserveGives self (D.faults disk.old) (D.faults disk.new) result }
         ensures untouched { left_of self ≡ 0 → disk.new ≡ disk.old }
 
-        // The disk reads as the vault that comes back, and the counter is spent in every image.
+        // The counter was not spent. The disk reads as the vault that comes back, and the counter is
+        // spent in every image.
+        ensures unspent { OnOk result (IfTold (D.reads disk.old) (λ image. IsSpent image self.next → ⊥)) }
         ensures reads { IfOk result (λ given. ReadsAs (D.reads disk.new) given.0) }
         ensures told { OnOk result (IfTold (D.reads disk.old) (λ image. IsSome (D.reads disk.new))) }
         ensures spent { OnOk result (IfTold (D.reads disk.old) (λ image. SpentInAll (D.past disk.new) self.next)) }

@@ -1,5 +1,5 @@
 use Rattle.std.proofs.Common.{◌∙◌, ◌<◌, Ok, ap, sym, subst, arith}
-use Rattle.st_vault.proofs.ReserveLemmas.{after_write, fits, written}
+use Rattle.st_vault.proofs.ReserveLemmas.{after_write, fits, unspent, written}
 use Rattle.st_vault.specs.Image.{IsSpent}
 use Rattle.st_vault.specs.Values.{count_of}
 use Rattle.st_vault.proofs.vault.Vault.reserve.Goals as goal
@@ -29,3 +29,6 @@ returns-clause-spent g c old told x image =
     let to = c.in_ok-put.ensures.written.forward old told in
     let only = c.in_ok-put.ensures.durable to.0 to.1 x image in
     subst (λ l. IsSpent l c.args.self.next) (sym only) (written c.args.self old (c.requires old told) _ to.0 (c.from-place.ensures ∙ c.next.ensures) left to.2).1
+
+pub returns-clause-unspent : goal.returns-clause-unspent
+returns-clause-unspent g c old told = unspent c.args.self old (c.requires old told)
