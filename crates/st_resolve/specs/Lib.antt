@@ -1,5 +1,6 @@
-pub mod Identifier
-pub mod LongForm
-pub mod Method
 pub mod DidDocument
+pub mod Identifier
+pub mod Keys
+pub mod LongForm
 pub mod Result
+pub mod Services

@@ -84,7 +84,7 @@ unpublished limits did = do
   Ok (said_of false did (made_by limits long))
 
 -- The result of an identifier whose suffix has this state, by the limits of the newest version.
-abbrev pub result_of : Limits → PlainDid → State HashValue PlainDocument → Result Plain RenderRefused
+unfoldable pub result_of : Limits → PlainDid → State HashValue PlainDocument → Result Plain RenderRefused
 result_of limits did state = if is_absent state then unpublished limits did else Ok (said_of true did state)
 
 -- what a refusal says: nothing, where memory was wanting

@@ -4,7 +4,7 @@ ghost use Rattle.st_canon.specs.Objects.{put_some, some_list, some_listed, with_
 ghost use Rattle.st_canon.specs.View.{plain, plain_members};
 ghost use Rattle.st_doc.specs.Document.{plain_document};
 ghost use Rattle.st_resolve.specs.DidDocument.{described, did_document, id_alone, purpose_lists};
-ghost use Rattle.st_resolve.specs.Method.{references_for};
+ghost use Rattle.st_resolve.specs.Keys.{references_for};
 
 use crate::keys::{methods_of, references_for};
 use crate::services::services_of;

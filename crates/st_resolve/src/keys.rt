@@ -3,7 +3,7 @@ ghost use Rattle.st_canon.specs.Objects.{some_listed};
 ghost use Rattle.st_canon.specs.View.{plain, plain_members};
 ghost use Rattle.st_doc.specs.Alike.{is_among};
 ghost use Rattle.st_doc.specs.Entries.{texts_of};
-ghost use Rattle.st_resolve.specs.Method.{controller_of, has_purpose, method_members, method_of, references_for};
+ghost use Rattle.st_resolve.specs.Keys.{controller_of, has_purpose, method_members, method_of, references_for};
 
 use crate::texts::{copy_there, reference_to, text_json};
 use st_base::{Copied, List, WantOfMemory};

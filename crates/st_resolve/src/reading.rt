@@ -1,14 +1,15 @@
-ghost use Rattle.std.specs.Prelude.{◌≡◌, ◌≤◌, Some, IfOk, bytes_eq, option_map};
+ghost use Rattle.std.specs.Prelude.{◌≡◌, ◌≤◌, Some, Ok, IfOk, bytes_eq, option_map};
 ghost use Rattle.std.specs.Option.{ok_or, option_copied};
 ghost use Rattle.st_base.specs.Answers.{Gives, GivesAs};
 ghost use Rattle.st_canon.specs.Canonical.{canonical};
 ghost use Rattle.st_canon.specs.View.{plain};
 ghost use Rattle.st_doc.specs.Entries.{is_object};
 ghost use Rattle.st_hash.specs.Base64url.{base64url, bytes_of_text};
+ghost use Rattle.st_hash.specs.Hash.{hash_of_text_at, hash_text};
 ghost use Rattle.st_indexfiles.specs.SuffixData.{suffix_data_of};
-ghost use Rattle.st_resolve.specs.Identifier.{did_of, long_of, plain_did, refusal_of};
+ghost use Rattle.st_resolve.specs.Identifier.{did_of, long_of, plain_did, refusal_of, short_did, short_form};
 ghost use Rattle.st_resolve.specs.LongForm.{long_in, plain_long};
-ghost use Rattle.st_resolve.specs.declared.refused.DidRefused.TheVariants.{BadLongForm};
+ghost use Rattle.st_resolve.specs.declared.refused.DidRefused.TheVariants.{BadDid, BadLongForm};
 
 use crate::identifier::{Did, LongForm};
 use crate::parts::{behind_prefix, cut_parts};
@@ -25,18 +26,19 @@ use std::alloc::Global;
 ///
 /// Each refusal but `WantOfMemory` comes exactly where it is the first in the order of `DidRefused`
 /// that holds.
+#[tactic(auto, unfolding(crate::specs::Identifier::did_of))]
 pub fn read_did(alloc: Global, text: &[u8], version: u8) -> Result<Did, DidRefused>
     requires first { 1 ≤ version }
     requires last { version ≤ 2 }
-    ensures { GivesAs plain_did refusal_of (did_of version text.now) result }
+    ensures did { GivesAs plain_did refusal_of (did_of version text.now) result }
+    // The short form of its suffix is an identifier too, of the same suffix.
+    ensures short { IfOk result (λ did. did_of version (short_form did.suffix) ≡ Ok (short_did did.suffix)) }
 {
     let Some(rest) = behind_prefix(text) else {
         return Err(DidRefused::BadDid);
     };
     let (first, second) = cut_parts(rest);
-    let Ok(suffix) = read_hash_at(first, version) else {
-        return Err(DidRefused::BadDid);
-    };
+    let suffix = read_suffix(first, version)?;
     let Some(part) = second else {
         let text = short_form(alloc, &suffix)?;
         return Ok(Did {
@@ -53,6 +55,20 @@ pub fn read_did(alloc: Global, text: &[u8], version: u8) -> Result<Did, DidRefus
         suffix,
         long: Some(long),
     })
+}
+
+// The suffix whose hash text of the version this is.
+fn read_suffix(text: &[u8], version: u8) -> Result<Hash, DidRefused>
+    requires first { 1 ≤ version }
+    requires last { version ≤ 2 }
+    ensures suffix { Gives refusal_of (ok_or (hash_of_text_at version text.now) BadDid) result }
+    ensures spelled { IfOk result (λ suffix. text.now ≡ hash_text suffix) }
+    ensures short { IfOk result (λ suffix. did_of version (short_form suffix) ≡ Ok (short_did suffix)) }
+{
+    match read_hash_at(text, version) {
+        Ok(suffix) => Ok(suffix),
+        Err(_) => Err(DidRefused::BadDid),
+    }
 }
 
 // The bytes whose base64url this is.

@@ -24,6 +24,7 @@ use std::alloc::Global;
 /// counts as one applied operation; a short form counts nothing.
 ///
 /// `NotFound` comes exactly where the state is absent and the identifier is a short form.
+#[tactic(auto, unfolding(crate::specs::Result::result_of))]
 pub fn render(
     alloc: Global,
     did: &Did,

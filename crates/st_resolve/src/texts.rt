@@ -4,7 +4,7 @@ ghost use Rattle.st_canon.specs.Plain.{text};
 ghost use Rattle.st_canon.specs.View.{plain};
 ghost use Rattle.st_doc.specs.Entries.{id_of};
 ghost use Rattle.st_indexfiles.specs.Hashes.{hash_json};
-ghost use Rattle.st_resolve.specs.Method.{reference_to};
+ghost use Rattle.st_resolve.specs.Keys.{reference_to};
 
 use st_base::{Copied, List, Text, WantOfMemory};
 use st_canon::Json;

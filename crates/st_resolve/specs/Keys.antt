@@ -1,6 +1,5 @@
--- The keys of a document in a DID document (W3C DID Core 1.0, "Verification Methods" and "Verification
--- Relationships"), and its services ("Services"). Of a key or a service that lacks a member, the member
--- is left out.
+-- The keys of a document, as a DID document lists them (W3C DID Core 1.0, "Verification Methods" and
+-- "Verification Relationships"). What a key lacks is left out.
 use Rattle.std.specs.Prelude.{ℕ, Bool, List, [], ◌∷◌, ◌++◌, codes, filter, map, Option, Some, unwrap_or}
 use Rattle.st_canon.specs.Objects.{object_of_some}
 use Rattle.st_canon.specs.Plain.{Plain, text}
@@ -8,11 +7,9 @@ use Rattle.st_canon.specs.Shapes.{entries_in, member_in}
 use Rattle.st_doc.specs.Alike.{is_among}
 use Rattle.st_doc.specs.Entries.{id_of, texts_of}
 
--- the reference to a key or a service from within the document: `#` and its id (RFC 3986, section 4.4)
+-- the reference to a key or a service within the same document: `#` and its id (RFC 3986, section 4.4)
 abbrev pub reference_to : Plain → List ℕ
 reference_to entry = codes "#" ++ id_of entry
-
--- ---- keys
 
 -- who controls a key: whom it names, or else the identifier itself
 abbrev pub controller_of : List ℕ → Plain → Plain
@@ -37,16 +34,3 @@ has_purpose purpose key = is_among (texts_of (entries_in (member_in (codes "purp
 -- references to the keys that serve a purpose, in the order of the keys
 abbrev pub references_for : List ℕ → List Plain → List Plain
 references_for purpose keys = map (λ key. text (reference_to key)) (filter (has_purpose purpose) keys)
-
--- ---- services
-
--- a service, with a reference as its id
-abbrev pub service_members : Plain → List (List ℕ × Option Plain)
-service_members service =
-    (codes "id", Some (text (reference_to service)))
-    ∷ (codes "type", member_in (codes "type") (Some service))
-    ∷ (codes "serviceEndpoint", member_in (codes "serviceEndpoint") (Some service))
-    ∷ []
-
-abbrev pub service_of : Plain → Plain
-service_of service = object_of_some (service_members service)
