@@ -7,3 +7,4 @@ pub mod Kinds
 pub mod Sound
 pub mod Coming
 pub mod RuleNames
+pub mod EntryLaws

@@ -9,6 +9,7 @@ mod branches;
 mod deltas;
 mod given;
 mod giving;
+mod laws;
 mod opened;
 mod part;
 mod reading;
@@ -20,5 +21,6 @@ mod tests;
 
 pub use bound::Bound;
 pub use given::Given;
+pub use laws::entry_laws;
 pub use role_state::RoleState;
 pub use rule::Rule;
