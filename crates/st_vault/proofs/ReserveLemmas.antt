@@ -6,19 +6,15 @@ use Rattle.st_io.specs.Past.{Past, Images, GoesOn, Follow}
 use Rattle.st_io.specs.Tears.{Torn, Holds}
 use Rattle.st_vault.proofs.HeaderLemmas.{same_key}
 use Rattle.st_vault.proofs.ImageLemmas.{Parts}
-use Rattle.st_vault.proofs.MapLemmas.{one_past-above, one_past-last}
+use Rattle.st_vault.proofs.MapLemmas.{one_past-last}
 use Rattle.st_vault.proofs.OpeningLemmas.{OpensAs, opened-parts, opens_as}
 use Rattle.st_vault.proofs.SpentLemmas.{is_spent, marked, same_front, same_parts, stays_spent}
+use Rattle.st_vault.proofs.VaultLemmas.{spent_below}
 use Rattle.st_vault.specs.Image.{IsSpent, key_in, next_counter, spent}
 use Rattle.st_vault.specs.Opening.{opened}
 use Rattle.st_vault.specs.Spent.{KeepsSpent}
 use Rattle.st_vault.specs.Values.{VaultValue, count_of, vault_after}
 use Rattle.std.specs.Prelude.{Ok}
-
--- what is spent lies below the next counter
-pub spent_below : (image : List ℕ) (q : ℕ) → IsSpent image q → q < next_counter image
-unfolding next_counter
-spent_below image q there = one_past-above (spent image) q there
 
 -- the next counter lies behind a last one that is spent
 pub next_behind : (image : List ℕ) (last : ℕ) → IsSpent image last → ((q : ℕ) → IsSpent image q → q < last + 1) → next_counter image ≡ last + 1

@@ -1,17 +1,21 @@
--- For crates above: what is spent over several calls, and what a blank image is.
-use Rattle.std.proofs.Common.{◌≡◌, ⊎_elim, ℕ, List, not, Ok, Err, ap, refl}
+-- For crates above: what is spent over several calls, which counters are, and what a blank image is.
+use Rattle.std.proofs.Common.{◌≡◌, ◌<◌, ⊎_elim, ℕ, List, not, Ok, Err, ap, refl}
 use Rattle.st_base.specs.Answers.{◌>>=◌, ◌>>◌, holds_or}
 use Rattle.st_io.proofs.PastLemmas.{goes_on, now_too}
 use Rattle.st_io.specs.Past.{Past, Leaves}
 use Rattle.st_lms.specs.Keys.{SecretKey}
 use Rattle.st_vault.proofs.ImageLemmas.{blank-unformatted}
+use Rattle.st_vault.proofs.MapLemmas.{one_past-above}
+use Rattle.st_vault.proofs.OpeningLemmas.{opened-parts, opens_as}
+use Rattle.st_vault.proofs.SpentLemmas.{marked}
 use Rattle.st_vault.specs.Formatting.{formatted}
-use Rattle.st_vault.specs.Image.{IsSpent, Kind, kind_of, next_counter}
+use Rattle.st_vault.specs.Image.{IsSpent, Kind, key_in, kind_of, next_counter, spent}
 use Rattle.st_vault.specs.Image.Kind.{Blank, Damaged, Whole}
 use Rattle.st_vault.specs.Opening.{key_by_kind, key_of, opened}
 use Rattle.st_vault.specs.Spent.{KeepsSpent, SpentInAll}
 use Rattle.st_vault.specs.Values.{VaultValue, new_vault}
 use Rattle.st_vault.specs.declared.refused.FormatRefused.TheVariants.{Formatted}
+use Rattle.st_vault.specs.declared.refused.OpenRefused.{OpenRefused}
 use Rattle.st_vault.specs.declared.refused.OpenRefused.TheVariants as refused
 
 -- what stays spent over one run and over the next stays so over both
@@ -28,6 +32,24 @@ keeps_on a b c first second = record {
 -- what is spent in every image is spent in every image after a run that keeps it
 pub still_spent : (a b : Past) (q : ℕ) → KeepsSpent a b → SpentInAll a q → SpentInAll b q
 still_spent a b q keeps all x image = keeps.stays q all x (b.earlier a.now b.now x keeps.goes.later image)
+
+-- ---- which counters are spent
+
+-- what is spent lies below the next counter
+pub spent_below : (image : List ℕ) (q : ℕ) → IsSpent image q → q < next_counter image
+unfolding next_counter
+spent_below image q there = one_past-above (spent image) q there
+
+-- which is that of the vault that the image is opened as
+pub next_opened : (image : List ℕ) (vault : VaultValue) → opened image ≡ Ok vault → next_counter image ≡ vault.next
+next_opened image vault is = (opens_as image vault is).next_is
+
+-- of an image that is not opened nothing is spent
+pub none_spent : (image : List ℕ) (q : ℕ) (refusal : OpenRefused) → opened image ≡ Err refusal → IsSpent image q → ⊥
+none_spent image q refusal none there =
+    let vault : VaultValue = record { key = key_in image; next = next_counter image } in
+    let is : opened image ≡ Ok vault = opened-parts image vault (record { parts = (marked image q there).parts; key_is = refl; next_is = refl }) in
+    cc
 
 -- ---- what is blank
 

@@ -41,6 +41,7 @@ map_in count image = take count (drop 64 image)
 
 -- ---- what an image is
 
+-- blank, damaged, or a vault with its key and its map
 pub data Kind : Type 0 where
   Blank : Kind
   Damaged : Kind
@@ -69,12 +70,13 @@ nonzero_from place [] = []
 nonzero_from place (byte ∷ map) =
     if byte == 0 then nonzero_from (place + 1) map else place ∷ nonzero_from (place + 1) map
 
+-- the places of the nonzero bytes of a vault's map; of what is no vault there are none
 abbrev pub spent_by_kind : Kind → List ℕ
 spent_by_kind (Whole key map) = nonzero_from 0 map
 spent_by_kind Blank = []
 spent_by_kind Damaged = []
 
--- the spent counters of an image: the places of the nonzero bytes of a vault's map
+-- the spent counters of an image
 unfoldable pub spent : List ℕ → List ℕ
 spent image = spent_by_kind (kind_of image)
 

@@ -9,12 +9,13 @@ use Rattle.st_vault.specs.Values.{VaultValue}
 use Rattle.st_vault.specs.declared.refused.OpenRefused.{OpenRefused}
 use Rattle.st_vault.specs.declared.refused.OpenRefused.TheVariants as refused
 
--- the key of a vault, or what the image is instead
+-- the key of a vault, or what there is instead
 abbrev pub key_by_kind : Kind → Result SecretKey OpenRefused
 key_by_kind Blank = Err refused.Blank
 key_by_kind Damaged = Err refused.Damaged
 key_by_kind (Whole key map) = Ok key
 
+-- the key of the vault that an image is, or what it is instead
 unfoldable pub key_of : List ℕ → Result SecretKey OpenRefused
 key_of image = key_by_kind (kind_of image)
 

@@ -32,9 +32,10 @@ pub fn format_vault<D: Disk>(disk: &mut D, secret: Secret) -> Result<Vault, Form
     ensures untouched { IsErrOf result FormatRefused.Formatted
         → (D.reads disk.new ≡ D.reads disk.old) × AddsNoImage (D.past disk.old) (D.past disk.new) }
 
-    // The disk reads as the vault that is given.
+    // The disk reads as the vault that is given, and a stop leaves that.
     ensures reads { IfOk result (ReadsAs (D.reads disk.new)) }
     ensures told { OnOk result (IfTold (D.reads disk.old) (λ old. IsSome (D.reads disk.new))) }
+    ensures durable { OnOk result (IfTold (D.reads disk.new) (Only (D.past disk.new))) }
 
     // What was spent in every image stays so at each moment of the call.
     ensures stays { IfTold (D.reads disk.old) (λ old. KeepsSpent (D.past disk.old) (D.past disk.new)) }
@@ -57,6 +58,7 @@ fn format_synced<D: Disk>(disk: &mut D, secret: &Secret) -> Result<(), FormatRef
     ensures untouched { IsErrOf result FormatRefused.Formatted
         → (D.reads disk.new ≡ D.reads disk.old) × AddsNoImage (D.past disk.old) (D.past disk.new) }
     ensures new { OnOk result (Turns (D.reads disk.old) (D.reads disk.new) (λ old image. IsNew secret.now image)) }
+    ensures durable { OnOk result (IfTold (D.reads disk.new) (Only (D.past disk.new))) }
     ensures moments { IfTold (D.reads disk.old) (λ old. Leaves (IsOldOrFresh secret.now old) (D.past disk.old) (D.past disk.new)) }
     ensures fault { IsErrOf result FormatRefused.DiskFault → Rose (D.faults disk.old) (D.faults disk.new) }
     ensures later { D.faults disk.old ≤ D.faults disk.new }
@@ -124,6 +126,7 @@ fn shut_gate<D: Disk>(disk: &mut D) -> Result<(), FormatRefused>
 fn make<D: Disk>(disk: &mut D, secret: &Secret) -> Result<(), Failed>
     requires { IfTold (D.reads disk.old) (λ old. IsShut old × Only (D.past disk.old) old) }
     ensures new { OnOk result (Turns (D.reads disk.old) (D.reads disk.new) (λ old image. IsNew secret.now image)) }
+    ensures durable { OnOk result (IfTold (D.reads disk.new) (Only (D.past disk.new))) }
     ensures moments { IfTold (D.reads disk.old) (λ old. Leaves (IsFresh secret.now) (D.past disk.old) (D.past disk.new)) }
     ensures cause { HasCause (D.faults disk.old) (D.faults disk.new) result }
 {
@@ -179,6 +182,7 @@ fn fill_row(row: &mut [u8], secret: &Secret) -> usize
 fn open_gate<D: Disk>(disk: &mut D) -> Result<(), Failed>
     requires { IfTold (D.reads disk.old) (Only (D.past disk.old)) }
     ensures opens { OnOk result (Turns (D.reads disk.old) (D.reads disk.new) OpensTo) }
+    ensures durable { OnOk result (IfTold (D.reads disk.new) (Only (D.past disk.new))) }
     ensures moments { IfTold (D.reads disk.old) (λ old. (key : SecretKey) → IsFilled key old
         → Leaves (IsFresh key) (D.past disk.old) (D.past disk.new)) }
     ensures cause { HasCause (D.faults disk.old) (D.faults disk.new) result }

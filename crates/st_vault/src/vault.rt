@@ -1,4 +1,5 @@
 ghost use Rattle.std.specs.Prelude.{◌≡◌, ◌<◌, ◌≤◌, IsSome, IfOk, OnOk};
+ghost use Rattle.st_io.specs.Past.{Only};
 ghost use Rattle.st_io.specs.Tears.{IfTold};
 ghost use Rattle.st_lms.specs.Signature.{public_of};
 ghost use Rattle.st_vault.specs.Image.{IsSpent};
@@ -93,6 +94,7 @@ impl Vault {
         ensures unspent { OnOk result (IfTold (D.reads disk.old) (λ image. IsSpent image self.next → ⊥)) }
         ensures reads { IfOk result (λ given. ReadsAs (D.reads disk.new) given.0) }
         ensures told { OnOk result (IfTold (D.reads disk.old) (λ image. IsSome (D.reads disk.new))) }
+        ensures durable { OnOk result (IfTold (D.reads disk.new) (Only (D.past disk.new))) }
         ensures spent { OnOk result (IfTold (D.reads disk.old) (λ image. SpentInAll (D.past disk.new) self.next)) }
 
         // What was spent in every image stays so at each moment of the call.
