@@ -1,4 +1,4 @@
--- What an entry gives (DIF Sidetree v1.0.0, "Processing of Operations"): creates, recovers,
+-- What an entry gives (DIF Sidetree v1.0.0, "Transaction & Operation Processing"): creates, recovers,
 -- deactivates and updates, each with its suffix. An operation is withheld only where a file that it
 -- needs itself wasn't read.
 use Rattle.std.specs.Prelude.{ℕ, List, [], ◌∷◌, ◌++◌, drop, length, map, slice_get, Option, option_and_then}
