@@ -1,5 +1,6 @@
 -- Private: what is known of a request that was read, step by step.
 mod AskedLemmas
+mod FormLemmas
 mod HashLemmas
 mod ProperLemmas
 mod ReadAgainLemmas

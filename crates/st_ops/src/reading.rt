@@ -1,5 +1,4 @@
 ghost use Rattle.std.specs.Prelude.{◌≡◌, ◌≤◌, codes, if◌then◌else◌, IfNone, IfOk, IfSome, option_map, None, Some, Ok, Err};
-ghost use Rattle.st_ops.specs.declared.refused.RequestRefused.TheVariants.{BadProof};
 ghost use Rattle.st_base.specs.Answers.{GivesAs};
 ghost use Rattle.st_base.specs.Work.{Counts, ProofsAtMost};
 ghost use Rattle.st_canon.specs.Entries.{members_in};
@@ -11,6 +10,7 @@ ghost use Rattle.st_ops.specs.Counting.{CountsOpening};
 ghost use Rattle.st_ops.specs.Operation.{plain_operation};
 ghost use Rattle.st_ops.specs.Request.{asked, create_asked, deactivate_asked, recover_asked, refusal_of, request_of, update_asked, with_claim, IsComplete};
 ghost use Rattle.st_ops.specs.RequestText.{IsDeltaWithin, IsReadAgain};
+ghost use Rattle.st_ops.specs.declared.refused.RequestRefused.TheVariants.{BadProof};
 
 use crate::claiming::claim_of;
 use crate::form::{is_change_form, is_create_form, is_deactivate_form};
@@ -113,7 +113,7 @@ fn create_asked(
     Ok(Operation::Create { suffix_data, delta })
 }
 
-#[tactic(auto, unfolding(crate::specs::RequestForm::is_change_form, crate::specs::RequestForm::has_signed_texts))]
+#[tactic(auto, using(crate::proofs::FormLemmas::change_signed))]
 fn update_asked(
     alloc: Global,
     request: Object,
@@ -146,7 +146,7 @@ fn update_asked(
     }
 }
 
-#[tactic(auto, unfolding(crate::specs::RequestForm::is_change_form, crate::specs::RequestForm::has_signed_texts))]
+#[tactic(auto, using(crate::proofs::FormLemmas::change_signed))]
 fn recover_asked(
     alloc: Global,
     request: Object,
@@ -179,7 +179,7 @@ fn recover_asked(
     }
 }
 
-#[tactic(auto, unfolding(crate::specs::RequestForm::is_deactivate_form, crate::specs::RequestForm::has_signed_texts))]
+#[tactic(auto, using(crate::proofs::FormLemmas::deactivate_signed))]
 fn deactivate_asked(
     alloc: Global,
     request: Object,
