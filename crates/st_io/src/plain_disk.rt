@@ -1,4 +1,5 @@
 #![tactic(auto, using(crate::proofs::HistoryLemmas::synced_by_now))]
+
 ghost use Rattle.std.specs.Prelude.{◌≡◌, ◌≤◌, Some, length, OnOk, OnErr};
 ghost use Rattle.st_io.specs.Causes.{HasCause};
 ghost use Rattle.st_io.specs.Histories.{reads_of, past_of, reads_is_image};

@@ -1,4 +1,5 @@
 #![tactic(auto, using(crate::proofs::HistoryLemmas::synced_by_now))]
+
 ghost use Rattle.std.specs.Prelude.{◌≡◌, ◌+◌, ◌≤◌, ◌↔◌, Some, [], length, take, drop, IsTrue, IsErr, IfOk, OnOk, OnErr};
 ghost use Rattle.st_io.specs.Causes.{HasCause};
 ghost use Rattle.st_io.specs.Crashes.{crashed};

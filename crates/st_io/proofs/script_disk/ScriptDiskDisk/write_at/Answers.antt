@@ -8,4 +8,4 @@ pub returns-in-Ok-clause-images : goal.returns-in-Ok-clause-images
 returns-in-Ok-clause-images c =
     let was = ap (λ (d : DiskScript). d.history) c.self.view_is in
     follows_write c.args.at c.args.from.now c.args.self.now.history (c.requires _ refl) c.write.new.self
-      (c.in-Ok.ensures.ok ∙ ap (with_write c.args.at c.args.from.now) was)
+    (c.in-Ok.ensures.ok ∙ ap (with_write c.args.at c.args.from.now) was)
