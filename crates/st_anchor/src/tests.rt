@@ -1,31 +1,30 @@
 mod entries;
+mod files;
 mod judged;
 
 use crate::{Bound, RoleState};
 use st_base::{Bytes, WantOfMemory, Work};
 use st_content::Content;
 use st_datafiles::Role;
-use st_hash::{Hash, hash_text};
 use st_params::Schedule;
 use std::alloc::Global;
 use std::test::Fail;
 
-// An anchor string: what stands before the URI of the core index file, and that URI.
-fn anchor(alloc: Global, head: &str, core: &Hash) -> Result<Bytes, WantOfMemory> {
-    let mut text = Bytes::from_slice(alloc, head.as_bytes())?;
-    text.push_all(alloc, hash_text(alloc, core)?.as_str().as_bytes())?;
-    Ok(text)
-}
-
-// What is known of an entry of version 2 over the content.
-fn known(
+// What is known of an entry of version 1 with this text, after these files have come one by one.
+fn after(
     alloc: Global,
-    text: &Bytes,
-    content: &Content,
+    text: &str,
+    files: &[&str],
     work: &mut Work,
 ) -> Result<Bound, WantOfMemory> {
-    let bound = Bound::new(alloc, text.as_slice(), &Schedule::new().at(0))?;
-    bound.settle(alloc, content, work)
+    let mut content = Content::new(alloc);
+    let mut bound = Bound::new(alloc, text.as_bytes(), &Schedule::new().at(0))?;
+    for file in files {
+        let file = Bytes::from_slice(alloc, file.as_bytes())?;
+        let _ = content.put(alloc, file)?;
+        bound = bound.settle(alloc, &content, work)?;
+    }
+    Ok(bound)
 }
 
 // How it stands with a role, in a word.
@@ -46,4 +45,13 @@ fn words(alloc: Global, bound: &Bound) -> Result<String, Fail> {
     let provisional_proof = word(bound.state(Role::ProvisionalProof));
     let chunk = word(bound.state(Role::Chunk));
     Ok(format!(in alloc; "{core} {core_proof} {provisional} {provisional_proof} {chunk}")?)
+}
+
+// Whether the entry then stands so with its roles, after so many files read and texts opened.
+fn stands(rt: &HostRuntime, text: &str, files: &[&str], wanted: &str) -> Result<bool, Fail> {
+    let mut work = Work::new(rt);
+    let bound = after(rt.alloc(), text, files, &mut work)?;
+    let words = words(rt.alloc(), &bound)?;
+    let found = format!(in rt.alloc(); "{words}, {} {}", work.files(), work.proofs())?;
+    Ok(found.as_str() == wanted)
 }

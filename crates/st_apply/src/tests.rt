@@ -1,2 +1,3 @@
 mod made;
 mod resolutions;
+mod walking;

@@ -1,8 +1,10 @@
 use super::made::{committed, operation};
+use super::walking::walk;
 use crate::{DidState, StateParts, alike_law, anchored_law, apply, given_law, resolution_laws};
-use st_base::{Copied, Work};
+use st_base::{Copied, List, Work};
 use st_doc::Document;
 use st_hash::Hash;
+use st_ops::Operation;
 use st_params::Schedule;
 use std::test::Fail;
 
@@ -95,22 +97,34 @@ fn shown(rt: &HostRuntime, state: &DidState) -> Result<String, Fail> {
     }
 }
 
+// By one step for each operation, and by following commitments over all of them.
+fn both_ways(
+    rt: &HostRuntime,
+    operations: &[Operation],
+    expected: &str,
+    work: &mut Work,
+) -> Result<bool, Fail> {
+    let params = Schedule::new().at(0);
+    let mut state = DidState::absent();
+    for operation in operations {
+        state = apply(rt.alloc(), &state, operation, &params, work)?;
+    }
+    let copied = state.copy(rt.alloc())?;
+    let walked = walk(rt.alloc(), operations, &params, &mut Work::new(rt))?;
+    Ok(shown(rt, &copied)?.as_str() == expected && shown(rt, &walked)?.as_str() == expected)
+}
+
 #[test]
 fn operations_resolve_to_a_state(rt: HostRuntime) -> Result<(), Fail> {
-    let params = Schedule::new().at(0);
     let mut work = Work::new(&rt);
-    let mut state = DidState::absent();
+    let mut operations = List::new(rt.alloc());
     for line in CASES.lines() {
         match line.strip_prefix("= ") {
             Some(expected) => {
-                let copied = state.copy(rt.alloc())?;
-                assert_eq!(rt; shown(&rt, &copied)?.as_str(), expected);
-                state = DidState::absent();
+                assert!(rt; both_ways(&rt, operations.as_slice(), expected, &mut work)?);
+                operations = List::new(rt.alloc());
             }
-            None => {
-                let operation = operation(&rt, line)?;
-                state = apply(rt.alloc(), &state, &operation, &params, &mut work)?;
-            }
+            None => operations.push(rt.alloc(), operation(&rt, line)?)?,
         }
     }
     assert_eq!(rt; work.applies(), 34);
