@@ -99,23 +99,17 @@ fn a_long_form_that_is_published_says_what_the_entries_say(rt: HostRuntime) -> R
 }
 
 #[test]
-fn keys_services_and_names_stand_in_the_document(rt: HostRuntime) -> Result<(), Fail> {
+fn a_state_says_its_document_until_it_is_deactivated(rt: HostRuntime) -> Result<(), Fail> {
     let did = did(&rt, SHORT)?;
     let value = read(rt.alloc(), DOCUMENT.as_bytes())?;
     let document = Document::read(rt.alloc(), &value, &Schedule::with_second(0).newest())?;
-    let state = StateParts::Active {
+    let active = StateParts::Active {
         recovery: hash(OF_NOTHING)?,
         update: Some(hash(OF_ABC)?),
         document: &document,
     };
-    let json = said_of(rt.alloc(), true, &did, &state)?;
+    let json = said_of(rt.alloc(), true, &did, &active)?;
     assert_eq!(rt; text(&rt, &json)?.as_str(), DESCRIBED);
-    Ok(())
-}
-
-#[test]
-fn a_deactivated_identifier_has_itself_alone(rt: HostRuntime) -> Result<(), Fail> {
-    let did = did(&rt, SHORT)?;
     let json = said_of(rt.alloc(), true, &did, &StateParts::Deactivated)?;
     assert_eq!(rt; text(&rt, &json)?.as_str(), DEACTIVATED);
     Ok(())
