@@ -44,6 +44,7 @@ abbrev pub recovers_given : CoreIndex → List Plain → Part OpenedCore → Lis
 recovers_given core deltas (Is proofs) = signed_given recovering core.recovers proofs.recovers deltas
 recovers_given core deltas other = []
 
+-- the deactivates of a core index
 abbrev pub deactivates_given : CoreIndex → Part OpenedCore → List PlainOperation
 deactivates_given core (Is proofs) = signed_given deactivating_only core.deactivates proofs.deactivates []
 deactivates_given core other = []
@@ -53,6 +54,7 @@ abbrev pub updates_given : ProvisionalIndex → List Plain → Part (List (Optio
 updates_given provisional deltas (Is proofs) = signed_given updating provisional.updates proofs deltas
 updates_given provisional deltas other = []
 
+-- the updates of a provisional index, where it was read
 abbrev pub updates_below : List Plain → Part ProvisionalBranch → List PlainOperation
 updates_below deltas (Is branch) = updates_given branch.says deltas branch.proofs
 updates_below deltas other = []
@@ -64,6 +66,7 @@ abbrev pub deltas_read : Part (List Plain) → List Plain
 deltas_read (Is deltas) = deltas
 deltas_read other = []
 
+-- the same by what is known of the provisional index
 abbrev pub deltas_below : Part ProvisionalBranch → List Plain
 deltas_below (Is branch) = deltas_read branch.chunk
 deltas_below other = []
@@ -78,6 +81,7 @@ operations_below branch =
     creates_given branch.says.creates deltas ++ recovers_given branch.says of_recovers branch.proofs
     ++ deactivates_given branch.says branch.proofs ++ updates_below of_updates branch.provisional
 
+-- what an entry gives by what is known of its core index: nothing where that wasn't read
 abbrev pub operations_of : Part CoreBranch → List PlainOperation
 operations_of (Is branch) = operations_below branch
 operations_of other = []

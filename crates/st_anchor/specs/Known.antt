@@ -84,26 +84,31 @@ delta_count core provisional = length core.creates + length core.recovers + leng
 
 -- ---- what the bytes of a file make of its role, in the context of what stands above it
 
+-- a core index file, by its rules under the declared count
 unfoldable pub core_in : Context → List ℕ → Part CoreBranch
 core_in context bytes =
     judged fails.Core (first_failing_core_rule context.params context.count bytes)
     (core_branch (core_index_of context.params.version (json_in bytes)))
 
+-- a core proof file, beside the core index that names it; each signed text is opened
 unfoldable pub core_proof_in : Context → CoreIndex → List ℕ → Part OpenedCore
 core_proof_in context core bytes =
     judged fails.Proofs (first_failing_core_proof_rule context.params (length core.recovers) (length core.deactivates) bytes)
     (opened_of context.params.max_signed (core_proofs_of (json_in bytes)))
 
+-- a provisional index file, beside the core index that names it
 unfoldable pub provisional_in : Context → CoreIndex → List ℕ → Part ProvisionalBranch
 provisional_in context core bytes =
     provisional_judged (first_failing_provisional_rule context.params context.count core bytes)
     (provisional_index_of context.params.version (json_in bytes))
 
+-- a provisional proof file, beside the provisional index that names it
 unfoldable pub provisional_proof_in : Context → ProvisionalIndex → List ℕ → Part (List (Option Proof))
 provisional_proof_in context provisional bytes =
     judged fails.Proofs (first_failing_provisional_proof_rule context.params (length provisional.updates) bytes)
     (map (proof_of context.params.max_signed) (signed_of (codes "update") (json_in bytes)))
 
+-- a chunk file, beside both indexes
 unfoldable pub chunk_in : Context → CoreIndex → ProvisionalIndex → List ℕ → Part (List Plain)
 chunk_in context core provisional bytes =
     judged fails.Chunk (first_failing_chunk_rule context.params (delta_count core provisional) bytes) (deltas_of (json_in bytes))
@@ -133,6 +138,7 @@ looked_up read below files (Is says) = Is (below says)
 abbrev pub as_it_is : {Says : Type 0} → Says → Says
 as_it_is says = says
 
+-- a provisional index, once the files that it names are looked up
 abbrev pub provisional_over : Context → CoreIndex → Files → ProvisionalBranch → ProvisionalBranch
 provisional_over context core files branch = record {
   says = branch.says;
@@ -140,6 +146,7 @@ provisional_over context core files branch = record {
   chunk = looked_up (chunk_in context core branch.says) as_it_is files branch.chunk;
 }
 
+-- a core index, once the files that it names and those below are looked up
 abbrev pub core_over : Context → Files → CoreBranch → CoreBranch
 core_over context files branch = record {
   says = branch.says;
@@ -164,6 +171,7 @@ anchor_judged limits None (Some anchor) =
 anchor_judged limits None None =
     record { context = record { count = 0; params = limits }; core = Rejected (fails.Anchor A3) }
 
+-- what is known of an entry by its text alone, at these limits
 unfoldable pub known_of_text : Limits → List ℕ → Known
 known_of_text limits text = anchor_judged limits (first_failing (anchor_rules limits text)) (anchor_of limits text)
 
@@ -181,6 +189,7 @@ filled read bytes (Missing uri) = read bytes
 filled read bytes (Rejected rule) = Rejected rule
 filled read bytes (Is says) = Is says
 
+-- what stands below a provisional index, once the file of a role is read
 abbrev pub provisional_with : Role → Context → CoreIndex → List ℕ → ProvisionalBranch → ProvisionalBranch
 provisional_with ProvisionalProof context core bytes branch =
     record branch { proofs = filled (provisional_proof_in context branch.says) bytes branch.proofs }
@@ -188,10 +197,12 @@ provisional_with Chunk context core bytes branch =
     record branch { chunk = filled (chunk_in context core branch.says) bytes branch.chunk }
 provisional_with other context core bytes branch = branch
 
+-- a provisional index and what stands below it, once the file of a role is read
 abbrev pub provisional_part_with : Role → Context → CoreIndex → List ℕ → Part ProvisionalBranch → Part ProvisionalBranch
 provisional_part_with Provisional context core bytes part = filled (provisional_in context core) bytes part
 provisional_part_with role context core bytes part = looked_below (provisional_with role context core bytes) part
 
+-- what stands below a core index, once the file of a role is read
 abbrev pub core_with : Role → Context → List ℕ → CoreBranch → CoreBranch
 core_with Core context bytes branch = branch
 core_with CoreProof context bytes branch =

@@ -13,11 +13,13 @@ use Rattle.st_ledger.specs.declared.anchor.AnchorRule.TheVariants.{A1, A2, A3}
 use Rattle.st_anchor.specs.declared.rule.Rule.{Rule}
 use Rattle.st_anchor.specs.declared.rule.Rule.TheVariants.{Anchor, Core, Provisional, Proofs, Chunk}
 
+-- rules of an anchor string
 abbrev pub anchor_rule_name : AnchorRule → List ℕ
 anchor_rule_name A1 = codes "A1"
 anchor_rule_name A2 = codes "A2"
 anchor_rule_name A3 = codes "A3"
 
+-- rules of a core index file
 abbrev pub core_rule_name : CoreRule → List ℕ
 core_rule_name C1 = codes "C1"
 core_rule_name C2 = codes "C2"
@@ -28,6 +30,7 @@ core_rule_name C6 = codes "C6"
 core_rule_name C7 = codes "C7"
 core_rule_name C8 = codes "C8"
 
+-- rules of a provisional index file
 abbrev pub provisional_rule_name : ProvisionalRule → List ℕ
 provisional_rule_name P1 = codes "P1"
 provisional_rule_name P2 = codes "P2"
@@ -39,12 +42,14 @@ provisional_rule_name P7 = codes "P7"
 provisional_rule_name P8 = codes "P8"
 provisional_rule_name P9 = codes "P9"
 
+-- rules of a proof file
 abbrev pub proof_rule_name : ProofRule → List ℕ
 proof_rule_name Q1 = codes "Q1"
 proof_rule_name Q2 = codes "Q2"
 proof_rule_name Q3 = codes "Q3"
 proof_rule_name Q4 = codes "Q4"
 
+-- rules of a chunk file
 abbrev pub chunk_rule_name : ChunkRule → List ℕ
 chunk_rule_name K1 = codes "K1"
 chunk_rule_name K2 = codes "K2"

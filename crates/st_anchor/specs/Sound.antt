@@ -27,6 +27,7 @@ Holds P (Is says) = P says
 abbrev pub AreCoreProofs : CoreIndex → OpenedCore → Type 0
 AreCoreProofs core opened = core_proof_count opened ≤ length core.recovers + length core.deactivates
 
+-- at most as many signed texts as updates
 abbrev pub AreProofs : ℕ → List (Option Proof) → Type 0
 AreProofs updates proofs = length proofs ≤ updates
 
@@ -44,5 +45,6 @@ pub record IsSoundCore (context : Context) (branch : CoreBranch) : Type 0 where
   pub proofs : Holds (AreCoreProofs branch.says) branch.proofs
   pub provisional : Holds (IsSoundProvisional context branch.says) branch.provisional
 
+-- What was read of an entry's files has passed the rules that its laws need.
 abbrev pub IsSound : Known → Type 0
 IsSound bound = Holds (IsSoundCore bound.context) bound.core

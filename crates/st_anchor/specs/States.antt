@@ -27,15 +27,18 @@ state_below below (Missing uri) = role_is.Unneeded
 state_below below (Rejected rule) = role_is.Unneeded
 state_below below (Is says) = below says
 
+-- with a role below a provisional index
 abbrev pub provisional_state : Role → ProvisionalBranch → RoleState
 provisional_state ProvisionalProof branch = state branch.proofs
 provisional_state Chunk branch = state branch.chunk
 provisional_state other branch = role_is.Unneeded
 
+-- with the provisional index, or a role below it
 abbrev pub provisional_part_state : Role → Part ProvisionalBranch → RoleState
 provisional_part_state Provisional part = state part
 provisional_part_state role part = state_below (provisional_state role) part
 
+-- with a role below a core index
 abbrev pub core_state : Role → CoreBranch → RoleState
 core_state Core branch = role_is.Unneeded
 core_state CoreProof branch = state branch.proofs
@@ -81,9 +84,11 @@ count_read count other = 0
 abbrev pub core_proof_count : OpenedCore → ℕ
 core_proof_count opened = length opened.recovers + length opened.deactivates
 
+-- how many signed texts a provisional proof file has that was read
 abbrev pub opened_in_provisional : ProvisionalBranch → ℕ
 opened_in_provisional branch = count_read length branch.proofs
 
+-- how many stand in both proof files
 abbrev pub opened_in_core : CoreBranch → ℕ
 opened_in_core branch = count_read core_proof_count branch.proofs + count_read opened_in_provisional branch.provisional
 

@@ -18,6 +18,7 @@ pub record Anchored : Type 0 where
   pub height : ℕ
   pub operation : PlainOperation
 
+-- its place in the ledger
 abbrev pub place_of : Anchored → ℕ
 place_of anchored = anchored.place
 

@@ -17,6 +17,7 @@ use Rattle.st_apply.specs.Step.{step}
 abbrev pub reveal_meets : HashValue → HashValue → Bool
 reveal_meets reveal commitment = same_hash (hash_of_with reveal.code reveal.digest) commitment
 
+-- the rules by which hashes meet, and the document that a create begins with
 abbrev pub sidetree : Rules HashValue PlainDocument
 sidetree = record { meets = reveal_meets; empty = empty_document }
 

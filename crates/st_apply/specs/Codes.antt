@@ -36,6 +36,7 @@ state_back absent = refl
 state_back (active recovery update document) = refl
 state_back deactivated = refl
 
+-- how a state is stored: by its parts, where there are any
 abbrev pub state_code : Coded (State HashValue PlainDocument)
 state_code =
     code_by Parts

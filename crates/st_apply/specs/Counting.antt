@@ -19,6 +19,7 @@ counted limits delta_hash there = do
   same_hash (hash_of_with delta_hash.code (canonical delta)) delta_hash
   result_ok (delta_of limits delta)
 
+-- The delta counts for this delta hash.
 abbrev pub Counts : Limits → HashValue → Option Plain → Type 0
 Counts limits delta_hash there = IsTrue (is_some (counted limits delta_hash there))
 

@@ -8,14 +8,17 @@ use Rattle.st_apply.specs.declared.state.Kept.TheVariants.{Absent, Active, Deact
 use Rattle.st_apply.specs.declared.state.StateParts.{StateParts}
 use Rattle.st_apply.specs.declared.state.StateParts.TheVariants as parts
 
+-- an active state by its parts
 abbrev pub shown_active : ActiveParts → State HashValue PlainDocument
 shown_active parts = active parts.recovery parts.update (plain_document parts.document)
 
+-- what is kept, as a state
 abbrev pub shown : Kept → State HashValue PlainDocument
 shown Absent = absent
 shown (Active parts) = shown_active parts
 shown Deactivated = deactivated
 
+-- what is lent, as a state
 abbrev pub lent : StateParts → State HashValue PlainDocument
 lent parts.Absent = absent
 lent (parts.Active recovery update document) = active recovery update (plain_document document.now)

@@ -1,27 +1,34 @@
--- A run of a node: the replies of the reference machine to an input, and the table of the run.
+-- A run of a node: the replies of the reference machine to an input, the table of the run, and a bound on
+-- the work that is counted.
 use Rattle.std.specs.Prelude.{ℕ, List}
 use Rattle.std.specs.declared.option.Option.{Option}
 use Rattle.st_base.specs.Work.{Counts}
 use Rattle.st_drive.specs.Lines.{all_lines}
 use Rattle.st_drive.specs.Runs.{RanOver, GaveUpOver}
-use Rattle.st_node.specs.Machine.{NodeValue, empty, replies}
+use Rattle.st_node.specs.Machine.{Machine, new_machine, replies}
+use Rattle.st_node.specs.Work.{RunCounts, entries_of}
 use Rattle.st_cli.specs.declared.form.NodeOptions.{NodeOptions}
 use Rattle.st_cli.specs.NodeLines.{node_meaning}
 use Rattle.st_cli.specs.Status.{StatusTable}
 
--- the replies to lines of a node with these options, from the beginning on
+-- the reference machine under the schedule of these options, before anything has come
+abbrev pub new_node : NodeOptions → Machine
+new_node options = new_machine options.schedule
+
+-- its replies to lines, from the beginning on
 abbrev pub node_replies : NodeOptions → List (List ℕ) → List ℕ
-node_replies options lines = replies options.schedule empty lines
+node_replies options lines = replies (new_node options) lines
 
 -- the replies to all lines of an input
 abbrev pub replies_to : NodeOptions → List ℕ → List ℕ
 replies_to options input = node_replies options (all_lines input)
 
--- a node with these options that knows nothing yet
-abbrev pub new_node : NodeOptions → NodeValue
-new_node options = record { schedule = options.schedule; state = empty }
-
 -- what the run of a node has taken and written, and what became of the counters of work
 abbrev pub NodeTable : NodeOptions → (work counted : Counts) → (had left held holds : Option (List ℕ)) → ℕ → Type 0
 NodeTable options work counted =
     StatusTable (node_replies options) (RanOver node_meaning (new_node options) work counted) (GaveUpOver node_meaning (new_node options) work counted) options.limit
+
+-- Over an input at most five files are read for each anchor that is accepted among its lines, and at most
+-- as many signed texts opened as these declare operations.
+abbrev pub InputCounts : NodeOptions → List ℕ → (work counted : Counts) → Type 0
+InputCounts options input = RunCounts options.schedule (entries_of (new_node options) (all_lines input))

@@ -1,33 +1,24 @@
--- What a node means to a run of lines: it replies as the reference machine, and counts files alone.
-use Rattle.std.specs.Prelude.{◌≡◌, refl}
-use Rattle.std.proofs.Common.{◌∙◌}
+-- What a node means to a run of lines: it replies as the reference machine, it comes to the machine that
+-- the lines leave, and what is counted on the way is no more than what is due.
+use Rattle.std.specs.Prelude.{◌≡◌, ℕ, ◌+◌, List}
 use Rattle.st_base.specs.Work.{Counts}
-use Rattle.st_node.specs.Machine.{NodeValue, replies}
-use Rattle.st_drive.specs.Meaning.{Meaning, Laws}
-use Rattle.st_drive.specs.Uncut.{no_cap, uncut_laws}
+use Rattle.st_drive.specs.Meaning.{Meaning}
+use Rattle.st_node.specs.Command.{longest_line}
+use Rattle.st_node.specs.Machine.{Machine, after, replies}
+use Rattle.st_node.specs.Work.{DueOver}
 
--- files may have been counted, and nothing else was
-pub record CountsFilesAlone (old new : Counts) : Type 0 where
-  pub proofs : new.proofs ≡ old.proofs
-  pub applies : new.applies ≡ old.applies
+-- how many bytes of a line are kept: one more than a line may have, by which a longer one is known
+abbrev pub kept_of_line : ℕ
+kept_of_line = longest_line + 1
 
-none_counted : (work : Counts) → CountsFilesAlone work work
-none_counted work = record { proofs = refl; applies = refl }
+-- over these lines the node came to that machine, and no more was counted than was due
+pub record RanLines (machine : Machine) (work : Counts) (lines : List (List ℕ)) (next : Machine) (counted : Counts) : Type 0 where
+  pub came : next ≡ after machine lines
+  pub due : DueOver machine lines work counted
 
-counted_then : (old between new : Counts) → CountsFilesAlone old between → CountsFilesAlone between new → CountsFilesAlone old new
-counted_then old between new first second = record {
-  proofs = second.proofs ∙ first.proofs;
-  applies = second.applies ∙ first.applies;
-}
-
-abbrev pub node_meaning : Meaning NodeValue Counts
+abbrev pub node_meaning : Meaning Machine Counts
 node_meaning = record {
-  answers = λ node lines. replies node.schedule node.state lines;
-  ran = λ node work lines next after. CountsFilesAlone work after;
-  gave_up = λ node work lines after. CountsFilesAlone work after;
+  answers = replies;
+  ran = RanLines;
+  gave_up = λ machine work lines counted. DueOver machine lines work counted;
 }
-
-pub node_laws : Laws node_meaning no_cap
-node_laws = uncut_laws node_meaning (λ _. refl) (λ _ work. none_counted work)
-    (λ _ _ _ old between new _ _ first second. counted_then old between new first second)
-    (λ _ _ old between new _ _ first second. counted_then old between new first second)

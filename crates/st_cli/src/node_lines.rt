@@ -1,23 +1,27 @@
 ghost use Rattle.std.specs.Prelude.{◌≡◌, ⊤};
-ghost use Rattle.st_drive.specs.Uncut.{no_cap};
-ghost use Rattle.st_cli.specs.NodeLines.{node_meaning, node_laws};
+ghost use Rattle.st_cli.specs.NodeLaws.{node_laws};
+ghost use Rattle.st_cli.specs.NodeLines.{kept_of_line, node_meaning};
 
 use st_base::{Bytes, Work};
 use st_drive::{Machine, StepError};
-use st_node::Node;
+use st_node::{LONGEST_LINE, Node};
 use std::alloc::Global;
 use std::marker::Model;
 
-/// A node that is driven by lines. It looks at all of a line.
+/// A node that is driven by lines. It looks at one byte more of a line than a line may have, by which
+/// it knows one that is too long.
 #[derive(Drop)]
 pub struct NodeLines {
     node: Node,
 }
 
 impl Model for NodeLines {
-    ghost use Rattle.st_node.specs.Machine.{NodeValue};
+    ghost use Rattle.st_node.specs.Codes.{coded_machine};
+    ghost use Rattle.st_node.specs.Machine.{Machine as Reference};
 
-    ghost Value = { NodeValue };
+    ghost Value = { Reference };
+
+    ghost coded = { coded_machine };
 
     ghost view = { λ n. n.node };
 }
@@ -36,9 +40,9 @@ impl Machine for NodeLines {
 
     ghost meaning = { node_meaning };
 
-    ghost CAP = { no_cap };
+    ghost CAP = { kept_of_line };
 
-    const CAP: usize = usize::MAX;
+    const CAP: usize = LONGEST_LINE + 1;
 
     ghost fits = { λ _ _. ⊤ };
 

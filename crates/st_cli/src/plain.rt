@@ -18,10 +18,6 @@ pub fn plain_replies(
 ) -> Result<Bytes, StepError>
     ensures { IfOk result (λ replies. replies ≡ replies_to options input.now) }
 {
-    answer_all(
-        alloc,
-        NodeLines::new(Node::new(alloc, options.schedule)),
-        work,
-        input,
-    )
+    let node = Node::new(alloc, options.schedule)?;
+    answer_all(alloc, NodeLines::new(node), work, input)
 }

@@ -1,10 +1,9 @@
 ghost use Rattle.std.specs.Prelude.{◌≡◌, ◌≢◌, ◌↔◌, ◌≤◌, ◌⊎◌, List, ℕ, [], Some, None, true, length, IsTrue, IfSome};
-ghost use Rattle.std.specs.Io.KnownBytes.{Appends};
+ghost use Rattle.std.specs.Io.KnownBytes.{Appends, Consumes};
 ghost use Rattle.st_io.specs.Causes.{Rose};
 ghost use Rattle.st_io.specs.Sinks.{FinishesNothing};
 ghost use Rattle.st_cli.specs.Form.{form_of, max_input, IfNode};
-ghost use Rattle.st_cli.specs.Node.{NodeTable, replies_to};
-ghost use Rattle.st_cli.specs.NodeLines.{CountsFilesAlone};
+ghost use Rattle.st_cli.specs.Node.{InputCounts, NodeTable, replies_to};
 ghost use Rattle.st_cli.specs.Status.{is_end, is_status};
 
 use crate::driven::run_machine;
@@ -18,19 +17,25 @@ use std::alloc::Global;
 
 /// Does all that the program does with these words, and answers its status.
 ///
-/// The one form is the word `node`: each line of the source is answered to the sink, as the
-/// reference machine answers it, however the source cuts its bytes. The statuses:
+/// The words are `node`, and behind it `--limit=N`, `--v2-at=H`, both in this order, or neither: each
+/// line of the source is answered to the sink, as the reference machine answers it, however the
+/// source cuts its bytes. At most `N` bytes are answered, 1,073,741,824 where no limit is named, and
+/// version 2 of the limits on files stands from height `H` on. The statuses:
 ///
 /// - 0: the input was read to its end, all replies are written, and the sink is finished.
 /// - 1: the words are of no form; nothing was read or written.
 /// - 2: the source failed. The replies to the whole lines of what was read are written.
 /// - 3: the sink failed. A prefix of the replies is written.
-/// - 5: the source gave more bytes than the form's limit, 1,073,741,824. The replies to the whole
-///   lines before that limit are written.
+/// - 5: the source gave more bytes than the limit. The replies to the whole lines before that limit
+///   are written.
 /// - 6: memory could not be had. A prefix of the replies is written.
 ///
-/// Under every status but 0 the sink is finished only where it was before. The counters of `work`
-/// for signed texts and operations stay as they were; files that are read are counted.
+/// Under every status but 0 the sink is finished only where it was before.
+///
+/// At most 24,000,001 bytes of a line are kept, which tells that it is too long, and the rest is
+/// skipped. Whatever the status, at most five files are read for each anchor that was accepted among
+/// the bytes taken, and at most as many signed texts opened as these declare operations. That a
+/// `resolve` reads and opens nothing, and applies at most one operation, is a clause of `Node::answer`.
 pub fn run<S: Source, K: Sink>(
     alloc: Global,
     words: &[Text],
@@ -68,7 +73,10 @@ pub fn run<S: Source, K: Sink>(
         → ¬ Rose (K.faults sink.old) (K.faults sink.new)
         → (result ≡ 0) ⊎ (result ≡ 6)) }
 
-    ensures work { CountsFilesAlone work.old work.new }
+    // The work that was counted is bounded by the anchors that were accepted in what was taken.
+    ensures work { IfNode (form_of words.now) (λ options. IfSome (S.left source.old) (λ input.
+        (taken : List ℕ) → Consumes (Some input) (S.left source.new) taken
+        → InputCounts options taken work.old work.new)) }
 {
     match read_form(words) {
         Some(Form::Node(options)) => run_node(alloc, options, source, sink, work),
@@ -93,8 +101,14 @@ fn run_node<S: Source, K: Sink>(
     ensures read_fault { result ≡ 2 → Rose (S.faults source.old) (S.faults source.new) }
     ensures write_fault { result ≡ 3 → Rose (K.faults sink.old) (K.faults sink.new) }
     ensures statuses { IsTrue (is_end result) × (result ≢ 4) }
-    ensures work { CountsFilesAlone work.old work.new }
+    ensures work { IfSome (S.left source.old) (λ input. (taken : List ℕ)
+        → Consumes (Some input) (S.left source.new) taken → InputCounts options taken work.old work.new) }
 {
-    let node = NodeLines::new(Node::new(alloc, options.schedule));
-    run_machine(alloc, options.limit, node, work, source, sink)
+    match Node::new(alloc, options.schedule) {
+        Ok(node) => {
+            let lines = NodeLines::new(node);
+            run_machine(alloc, options.limit, lines, work, source, sink)
+        }
+        Err(_) => 6,
+    }
 }

@@ -1,5 +1,16 @@
+mod create_files;
+mod creates;
 mod faults;
-mod files;
+mod limits;
 mod lines;
+mod second;
+mod second_files;
 mod sessions;
+mod signed;
+mod signed_files;
+mod size_files;
+mod sizes;
 mod support;
+mod verdict_files;
+mod verdicts;
+mod words;

@@ -49,11 +49,11 @@ if_some_map None p f = tt
 if_some_map (Some x) p f = f x p
 
 -- these lines are the first of all lines of the bytes
-abbrev AreFirst : List (List ℕ) → List ℕ → Type 0
+abbrev pub AreFirst : List (List ℕ) → List ℕ → Type 0
 AreFirst lines bytes = (later : List (List ℕ)) × (lines ++ later ≡ all_lines bytes)
 
 -- the lines of more bytes begin with the whole lines of these
-whole_first : (bytes more : List ℕ) → AreFirst (whole_lines bytes) (bytes ++ more)
+pub whole_first : (bytes more : List ℕ) → AreFirst (whole_lines bytes) (bytes ++ more)
 whole_first bytes more =
     let e = split_append bytes more in
     let next = (split bytes).1 ++ more in

@@ -19,7 +19,7 @@ pub record Laws {M C : Type 0} (means : Meaning M C) (cap : ℕ) : Type 0 where
   -- it looks at a byte at least, and so tells an empty line from another
   pub positive : 0 < cap
   -- A line that is cut to its first `cap` bytes is answered alike. This and the next two laws are asked of
-  -- lines below 2^62 bytes alone: of a machine whose `cap` isn't below that, they say nothing.
+  -- lines below 2^62 bytes alone, since a run takes fewer.
   pub cut_answers : (m : M) (line : List ℕ) (more : List (List ℕ)) → length line < 2 ^ 62
       → means.answers m (take cap line ∷ more) ≡ means.answers m (line ∷ more)
   -- what it may do over the cut line, it may do over the line

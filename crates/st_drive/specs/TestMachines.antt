@@ -1,10 +1,9 @@
--- The machines of the tests. One numbers the lines by one digit and shows the first four bytes of
--- each; its context has an allowance of lines. The other says each line again.
-use Rattle.std.specs.Prelude.{◌≡◌, refl, ⊤, ◌%◌, ◌+◌, ℕ, List, [], ◌∷◌, ◌++◌, length, take}
+-- The machine of the tests. It numbers the lines by one digit and shows the first four bytes of each;
+-- its context has an allowance of lines.
+use Rattle.std.specs.Prelude.{◌≡◌, refl, ◌%◌, ◌+◌, ℕ, List, [], ◌∷◌, ◌++◌, length, take}
 use Rattle.std.proofs.Common.{ap, arith, length-append}
 use Rattle.std.proofs.lemmas.List.{take-take}
 use Rattle.st_drive.specs.Meaning.{Meaning, Laws}
-use Rattle.st_drive.specs.Uncut.{no_cap, uncut_laws}
 
 -- the digit, the front of the line and a line feed
 abbrev pub numbered_reply : ℕ → List ℕ → List ℕ
@@ -41,14 +40,3 @@ numbered_laws = record {
   ran_more = λ m n o c d e lines more p q. record { spent = omega (arith, length-append lines more, p.spent, q.spent) };
   gave_up_more = λ m n c d e lines more p q. record { spent = omega (arith, length-append lines more, p.spent, q.spent) };
 }
-
--- each line with a line feed
-abbrev pub echoed : List (List ℕ) → List ℕ
-echoed [] = []
-echoed (line ∷ lines) = (line ++ 10 ∷ []) ++ echoed lines
-
-abbrev pub echo_meaning : {M : Type 0} → Meaning M (Unit {0})
-echo_meaning = record { answers = λ _. echoed; ran = λ _ _ _ _ _. ⊤; gave_up = λ _ _ _ _. ⊤ }
-
-pub echo_laws : {M : Type 0} → Laws {M = M} echo_meaning no_cap
-echo_laws = uncut_laws echo_meaning (λ _. refl) (λ _ _. tt) (λ _ _ _ _ _ _ _ _ _ _. tt) (λ _ _ _ _ _ _ _ _ _. tt)

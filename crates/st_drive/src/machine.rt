@@ -42,7 +42,7 @@ pub trait Machine: Sized + Drop {
     /// How many bytes of a line it looks at.
     ghost CAP: { ℕ };
 
-    /// How many bytes of a line it looks at. `usize::MAX` means that it looks at all of them.
+    /// How many bytes of a line it looks at: the others are skipped.
     const CAP: usize;
 
     /// The machine may go on with this context.

@@ -3,9 +3,9 @@ ghost use Rattle.std.specs.Prelude.{◌≡◌, ◌<◌, ◌≤◌, ◌^◌, leng
 mod machines;
 
 use crate::{Stop, answer_all, drive};
-use machines::{Allowance, Echo, Numbered};
+use machines::{Allowance, Numbered};
 use st_base::{Bytes, List, WantOfMemory};
-use st_io::{PlainSink, PlainSource, ScriptSink, ScriptSource};
+use st_io::{PlainSource, ScriptSink, ScriptSource};
 use std::alloc::Global;
 use std::test::Fail;
 
@@ -206,35 +206,12 @@ fn many_short_lines_are_one_write(rt: HostRuntime) -> Result<(), Fail> {
         alloc,
         &mut buffer,
         1000,
-        Echo {},
-        &mut (),
+        Numbered::new(),
+        &mut Allowance::new(1000),
         &mut source,
         &mut sink,
     );
     assert_eq!(rt; end, Ok(()));
-    assert_eq!(rt; sink.written().as_slice().len(), 1000);
-    Ok(())
-}
-
-#[test]
-fn a_machine_without_a_cap_looks_at_whole_lines(rt: HostRuntime) -> Result<(), Fail> {
-    let alloc = rt.alloc();
-    let line = vec![in alloc; b'x'; 100_000]?;
-    let mut source = PlainSource::new(Bytes::from_slice(alloc, &line)?);
-    let mut sink = PlainSink::new(alloc);
-    let mut buffer = [0u8; 1000];
-    let end = drive(
-        alloc,
-        &mut buffer,
-        1 << 30,
-        Echo {},
-        &mut (),
-        &mut source,
-        &mut sink,
-    );
-    assert_eq!(rt; end, Ok(()));
-    let written = sink.written().as_slice();
-    assert_eq!(rt; written.len(), 100_001);
-    assert!(rt; written.starts_with(&line));
+    assert_eq!(rt; sink.written().as_slice().len(), 2000);
     Ok(())
 }

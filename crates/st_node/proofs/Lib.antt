@@ -1,4 +1,10 @@
 mod AnchorLemmas
-mod CreateLemmas
-mod IdentifierLemmas
-mod WorkLemmas
+mod CountsLemmas
+mod DueLemmas
+mod EntryLemmas
+mod IsolationLemmas
+mod LosingLemmas
+mod SumLemmas
+mod TellingLemmas
+pub mod LineLemmas
+pub mod RunLemmas

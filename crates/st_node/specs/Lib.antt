@@ -1,5 +1,6 @@
+pub mod Codes
 pub mod Command
-pub mod Identifier
+pub mod Isolation
 pub mod Machine
-pub mod Resolution
 pub mod Words
+pub mod Work

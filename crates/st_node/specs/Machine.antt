@@ -1,115 +1,226 @@
--- The reference machine: what a node answers to a line, and what it is then.
-use Rattle.std.specs.Prelude.{◌≡◌, ℕ, List, [], ◌∷◌, ◌++◌, codes, length, is_some, if◌then◌else◌, Option, Result, Ok, Err}
+-- The reference machine: what a node answers to a line, and what it is then. Nothing is kept but the
+-- ledger, the files and the queue; each answer is said from these, from nothing.
+use Rattle.std.specs.Prelude.{◌≡◌, ℕ, ◌-◌, nat_le, List, [], ◌∷◌, ◌++◌, codes, length, map, is_some, if◌then◌else◌, Option, Some, None, Result, Ok, Err}
 use Rattle.std.specs.Fmt.{decimal}
-use Rattle.st_content.specs.Files.{Files, file_at, with_file}
-use Rattle.st_hash.specs.Hash.{hash_text, uri_of}
+use Rattle.st_anchor.specs.RuleNames.{rule_name}
+use Rattle.st_anchor.specs.declared.role_state.RoleState.{RoleState}
+use Rattle.st_anchor.specs.declared.role_state.RoleState.TheVariants as role_is
+use Rattle.st_base.specs.Answers.{◌>>=◌}
+use Rattle.st_canon.specs.Canonical.{canonical}
+use Rattle.st_canon.specs.Plain.{Plain}
+use Rattle.st_content.specs.Files.{Files, file_at}
+use Rattle.st_hash.specs.Hash.{HashValue, hash_text, uri_of}
 use Rattle.st_ledger.specs.Ledger.{admitted}
 use Rattle.st_ledger.specs.declared.entry.Entry.{Entry}
 use Rattle.st_ledger.specs.declared.refused.LedgerRefused.{LedgerRefused}
 use Rattle.st_ledger.specs.declared.refused.LedgerRefused.TheVariants.{HeightFalls, LedgerFull}
 use Rattle.st_node.specs.Command.{command_of}
-use Rattle.st_node.specs.Resolution.{resolved}
 use Rattle.st_node.specs.declared.command.Command.{Command}
-use Rattle.st_node.specs.declared.command.Command.TheVariants.{Content, Anchor, Resolve}
+use Rattle.st_node.specs.declared.command.Command.TheVariants.{Content, Anchor, Rollback, Resolve, Wanted, Report}
 use Rattle.st_node.specs.declared.command.LineCause.{LineCause}
-use Rattle.st_node.specs.declared.command.LineCause.TheVariants as line
-use Rattle.st_node.specs.declared.unresolved.Unresolved.{Unresolved}
-use Rattle.st_node.specs.declared.unresolved.Unresolved.TheVariants as unresolved
+use Rattle.st_node.specs.declared.command.LineCause.TheVariants as line_is
+use Rattle.st_observer.specs.Observed.{Observed, appended, arrived, cut_to, nothing_yet, report, state_of}
+use Rattle.st_observer.specs.Wanted.{wanted}
+use Rattle.st_ops.specs.Operation.{PlainOperation}
+use Rattle.st_params.specs.Limits.{Limits}
+use Rattle.st_params.specs.Schedule.{newest_of}
+use Rattle.st_resolve.specs.Identifier.{PlainDid, did_of}
+use Rattle.st_resolve.specs.Result.{result_of}
+use Rattle.st_resolve.specs.declared.refused.DidRefused.{DidRefused}
+use Rattle.st_resolve.specs.declared.refused.DidRefused.TheVariants as did_is
+use Rattle.st_resolve.specs.declared.refused.RenderRefused.{RenderRefused}
+use Rattle.st_resolve.specs.declared.refused.RenderRefused.TheVariants as result_is
 
--- the ledger, and the files that have come
-pub record State : Type 0 where
-  pub ledger : List Entry
-  pub files : Files
+-- the ledger and the files under a schedule of limits, and the operations that wait for a batch
+pub record Machine : Type 0 where
+  pub observed : Observed
+  pub queue : List PlainOperation
 
-abbrev pub empty : State
-empty = record { ledger = []; files = [] }
+-- under a schedule of limits, before anything has come
+abbrev pub new_machine : Option ℕ → Machine
+new_machine schedule = record { observed = nothing_yet schedule; queue = [] }
 
 -- what a line leaves, and the reply to it
 pub record Answered : Type 0 where
-  pub next : State
+  pub next : Machine
   pub reply : List ℕ
 
 -- a reply: a word, the rest, and the line end
 abbrev pub reply : List ℕ → List ℕ → List ℕ
 reply word rest = word ++ (rest ++ codes "\n")
 
--- ---- `content`
+-- words, with a space before each
+abbrev pub spaced : List (List ℕ) → List ℕ
+spaced [] = []
+spaced (word ∷ words) = codes " " ++ (word ++ spaced words)
 
+-- this reply, and nothing changes
+abbrev pub replied : Machine → List ℕ → Answered
+replied machine text = record { next = machine; reply = text }
+
+-- `refused <cause>`, and nothing changes
+abbrev pub refused : Machine → List ℕ → Answered
+refused machine cause = replied machine (reply (codes "refused ") cause)
+
+-- ---- `content`: the file stays, where none of its URI is there
+
+-- `had` where a file of this URI is there, else `have`
 abbrev pub have_or_had : Files → List ℕ → List ℕ
 have_or_had files bytes = if is_some (file_at (uri_of bytes) files) then codes "had " else codes "have "
 
-abbrev pub answered_content : State → List ℕ → Answered
-answered_content state bytes = record {
-  next = record state { files = with_file bytes state.files };
-  reply = reply (have_or_had state.files bytes) (hash_text (uri_of bytes));
+-- the file under its URI
+abbrev pub answered_content : Machine → List ℕ → Answered
+answered_content machine bytes = record {
+  next = record machine { observed = arrived bytes machine.observed };
+  reply = reply (have_or_had machine.observed.files bytes) (hash_text (uri_of bytes));
 }
 
--- ---- `anchor`
+-- ---- `anchor`: the entry comes last, where the ledger admits its height
 
-abbrev pub refusal_word : LedgerRefused → List ℕ
-refusal_word (HeightFalls last) = codes "height"
-refusal_word LedgerFull = codes "full"
+-- why the ledger refuses an entry
+abbrev pub ledger_word : LedgerRefused → List ℕ
+ledger_word (HeightFalls last) = codes "height"
+ledger_word LedgerFull = codes "full"
 
-abbrev pub answered_admitted : State → Entry → Result Unit LedgerRefused → Answered
-answered_admitted state entry (Ok _) = record {
-  next = record state { ledger = state.ledger ++ entry ∷ [] };
-  reply = reply (codes "anchored ") (decimal (length state.ledger));
+-- the entry, where it is admitted
+abbrev pub answered_admitted : Machine → Entry → Result Unit LedgerRefused → Answered
+answered_admitted machine entry (Ok _) = record {
+  next = record machine { observed = appended entry machine.observed };
+  reply = reply (codes "anchored ") (decimal (length machine.observed.ledger));
 }
-answered_admitted state entry (Err refused) = record { next = state; reply = reply (codes "refused ") (refusal_word refused) }
+answered_admitted machine entry (Err cause) = refused machine (ledger_word cause)
 
--- the entry is appended, where the ledger admits its height
-abbrev pub answered_anchor : State → Entry → Answered
-answered_anchor state entry = answered_admitted state entry (admitted state.ledger entry.height)
+-- an entry of a height and a text
+abbrev pub answered_anchor : Machine → Entry → Answered
+answered_anchor machine entry = answered_admitted machine entry (admitted machine.observed.ledger entry.height)
+
+-- ---- `rollback`: the first n entries stay, where there are so many, and all files
+
+-- the first entries stay, and the reply tells how many went
+abbrev pub rolled_back : Machine → ℕ → Answered
+rolled_back machine n = record {
+  next = record machine { observed = cut_to n machine.observed };
+  reply = reply (codes "cut ") (decimal (length machine.observed.ledger - n));
+}
+
+-- where there are so many
+abbrev pub answered_rollback : Machine → ℕ → Answered
+answered_rollback machine n =
+    if nat_le n (length machine.observed.ledger) then rolled_back machine n else refused machine (codes "range")
 
 -- ---- `resolve`
 
-abbrev pub unresolved_word : Unresolved → List ℕ
-unresolved_word unresolved.BadDid = codes "badDid"
-unresolved_word unresolved.Unbuilt = codes "unbuilt"
-unresolved_word unresolved.NotFound = codes "notFound"
+-- why a text is no identifier; that memory is wanting is never said here
+abbrev pub did_word : DidRefused → List ℕ
+did_word did_is.BadDid = codes "badDid"
+did_word did_is.BadLongForm = codes "badLongForm"
+did_word did_is.NotCanonical = codes "notCanonical"
+did_word did_is.SuffixDiffers = codes "suffixDiffers"
+did_word did_is.WantOfMemory = []
 
-abbrev pub resolve_reply : Result (List ℕ) Unresolved → List ℕ
-resolve_reply (Ok text) = reply (codes "resolved ") text
-resolve_reply (Err cause) = reply (codes "unresolved ") (unresolved_word cause)
+-- why an identifier has no result; that memory is wanting is never said here
+abbrev pub result_word : RenderRefused → List ℕ
+result_word result_is.NotFound = codes "notFound"
+result_word result_is.WantOfMemory = []
+
+-- the same, with the word of a refusal in its place
+abbrev pub or_word : {Value Refusal : Type 0} → (Refusal → List ℕ) → Result Value Refusal → Result Value (List ℕ)
+or_word word (Ok value) = Ok value
+or_word word (Err refusal) = Err (word refusal)
+
+-- the limits of the highest version
+abbrev pub newest : Observed → Limits
+newest observed = newest_of observed.schedule
+
+-- The result of an identifier: of the state of its suffix, which follows from the ledger and the files.
+abbrev pub result_for : Observed → PlainDid → Result Plain (List ℕ)
+result_for observed did = or_word result_word (result_of (newest observed) did (state_of did.suffix observed))
+
+-- What a text resolves to, or the word of the first cause for which it doesn't.
+abbrev pub resolution : Observed → List ℕ → Result Plain (List ℕ)
+resolution observed text = do
+  did ← or_word did_word (did_of (newest observed).version text)
+  result_for observed did
+
+-- the result as canonical text, or the cause
+abbrev pub resolve_reply : Result Plain (List ℕ) → List ℕ
+resolve_reply (Ok result) = reply (codes "resolved ") (canonical result)
+resolve_reply (Err cause) = reply (codes "unresolved ") cause
+
+-- what the text resolves to; nothing changes
+abbrev pub answered_resolve : Machine → List ℕ → Answered
+answered_resolve machine text = replied machine (resolve_reply (resolution machine.observed text))
+
+-- ---- `wanted`: how many files are missing, and the URI of each
+
+-- their number, and each
+abbrev pub wanted_reply : List HashValue → List ℕ
+wanted_reply uris = reply (codes "wanted ") (decimal (length uris) ++ spaced (map hash_text uris))
+
+-- the files that are wanted; nothing changes
+abbrev pub answered_wanted : Machine → Answered
+answered_wanted machine = replied machine (wanted_reply (wanted machine.observed))
+
+-- ---- `report`: how it stands with the five roles of an entry
+
+-- how it stands with a role; a rule that failed by its name
+abbrev pub state_word : RoleState → List ℕ
+state_word role_is.Unneeded = codes "unneeded"
+state_word (role_is.Missing uri) = codes "missing"
+state_word (role_is.Rejected rule) = rule_name rule
+state_word role_is.Read = codes "read"
+
+-- a word for each role, or `refused range` where there is no such entry
+abbrev pub reported : Machine → Option (List RoleState) → Answered
+reported machine (Some states) = replied machine (reply (codes "report") (spaced (map state_word states)))
+reported machine None = refused machine (codes "range")
+
+-- the report of the entry with this number; nothing changes
+abbrev pub answered_report : Machine → ℕ → Answered
+answered_report machine n = reported machine (report n machine.observed)
 
 -- ---- commands
 
-abbrev pub answered_command : Option ℕ → State → Command → Answered
-answered_command schedule state (Content bytes) = answered_content state bytes
-answered_command schedule state (Anchor height text) = answered_anchor state (record { height = height; text = text })
-answered_command schedule state (Resolve did) =
-    record { next = state; reply = resolve_reply (resolved schedule state.files state.ledger did) }
+-- by the command
+abbrev pub answered_command : Machine → Command → Answered
+answered_command machine (Content bytes) = answered_content machine bytes
+answered_command machine (Anchor height text) = answered_anchor machine (record { height = height; text = text })
+answered_command machine (Rollback n) = answered_rollback machine n
+answered_command machine (Resolve did) = answered_resolve machine did
+answered_command machine Wanted = answered_wanted machine
+answered_command machine (Report n) = answered_report machine n
 
 -- ---- lines
 
+-- why a line is no command
 abbrev pub cause_word : LineCause → List ℕ
-cause_word line.Command = codes "command"
-cause_word line.Words = codes "words"
-cause_word line.Number = codes "number"
-cause_word line.Base64 = codes "base64"
+cause_word line_is.Long = codes "long"
+cause_word line_is.Command = codes "command"
+cause_word line_is.Words = codes "words"
+cause_word line_is.Number = codes "number"
+cause_word line_is.Base64 = codes "base64"
 
-abbrev pub answered_read : Option ℕ → State → Result Command LineCause → Answered
-answered_read schedule state (Ok command) = answered_command schedule state command
-answered_read schedule state (Err cause) = record { next = state; reply = reply (codes "refused line ") (cause_word cause) }
+-- the command of a line, or why it is none
+abbrev pub answered_read : Machine → Result Command LineCause → Answered
+answered_read machine (Ok command) = answered_command machine command
+answered_read machine (Err cause) = replied machine (reply (codes "refused line ") (cause_word cause))
 
--- the answer to a line, under the schedule of the limits
-abbrev pub answered : Option ℕ → State → List ℕ → Answered
-answered schedule state line = answered_read schedule state (command_of line)
+-- the answer to a line
+abbrev pub answered : Machine → List ℕ → Answered
+answered machine line = answered_read machine (command_of line)
 
 -- the replies to lines, one after the other
-abbrev pub replies : Option ℕ → State → List (List ℕ) → List ℕ
-replies schedule state [] = []
-replies schedule state (line ∷ lines) =
-    (answered schedule state line).reply ++ replies schedule (answered schedule state line).next lines
+abbrev pub replies : Machine → List (List ℕ) → List ℕ
+replies machine [] = []
+replies machine (line ∷ lines) = (answered machine line).reply ++ replies (answered machine line).next lines
+
+-- the machine behind these lines
+abbrev pub after : Machine → List (List ℕ) → Machine
+after machine [] = machine
+after machine (line ∷ lines) = after (answered machine line).next lines
 
 -- ---- nodes
 
--- a node: the schedule that it was given, which stays, and its state
-pub record NodeValue : Type 0 where
-  pub schedule : Option ℕ
-  pub state : State
-
--- The node that comes of it has the state that the answer leaves, and gives its reply.
-abbrev pub AnswersWith : NodeValue → Answered → NodeValue × List ℕ → Type 0
-AnswersWith node answer done =
-    (done.0 ≡ record node { state = answer.next }) × (done.1 ≡ answer.reply)
+-- The node that comes of it is what the answer leaves, and its reply is given.
+abbrev pub AnswersWith : Answered → Machine × List ℕ → Type 0
+AnswersWith answer done = (done.0 ≡ answer.next) × (done.1 ≡ answer.reply)

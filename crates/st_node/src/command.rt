@@ -1,6 +1,6 @@
 ghost use Rattle.std.specs.Option.{option_copied};
 ghost use Rattle.st_base.specs.Answers.{Gives};
-ghost use Rattle.st_node.specs.Command.{anchor_of, cause_of, command_of, command_of_words, content_of, resolve_of};
+ghost use Rattle.st_node.specs.Command.{anchor_of, cause_of, command_of, command_of_words, content_of, report_of, resolve_of, rollback_of, wanted_of};
 
 use crate::words::cut_word;
 use st_base::{Bytes, Copied, WantOfMemory, cut_at, read_number};
@@ -8,11 +8,20 @@ use st_hash::{DecRefused, dec};
 use std::alloc::Global;
 use thiserror::Error;
 
+/// How many bytes a line has at most.
+pub const LONGEST_LINE: usize = 24_000_000;
+
 const CONTENT: &[u8] = b"content";
 
 const ANCHOR: &[u8] = b"anchor";
 
+const ROLLBACK: &[u8] = b"rollback";
+
 const RESOLVE: &[u8] = b"resolve";
+
+const WANTED: &[u8] = b"wanted";
+
+const REPORT: &[u8] = b"report";
 
 /// What a line asks for.
 #[derive(Debug, Drop)]
@@ -21,8 +30,14 @@ pub enum Command {
     Content(Bytes),
     /// `anchor <height> <text>`: append this entry to the ledger.
     Anchor { height: u32, text: Bytes },
+    /// `rollback <n>`: keep the first `n` entries of the ledger.
+    Rollback(u32),
     /// `resolve <did>`: what does this identifier resolve to?
     Resolve(Bytes),
+    /// `wanted`: which files are missing?
+    Wanted,
+    /// `report <n>`: how does it stand with the five roles of this entry?
+    Report(u32),
 }
 
 impl Copied for Command {
@@ -33,7 +48,10 @@ impl Copied for Command {
                 height: *height,
                 text: text.copy(alloc)?,
             }),
+            Command::Rollback(n) => Ok(Command::Rollback(*n)),
             Command::Resolve(did) => Ok(Command::Resolve(did.copy(alloc)?)),
+            Command::Wanted => Ok(Command::Wanted),
+            Command::Report(n) => Ok(Command::Report(*n)),
         }
     }
 }
@@ -41,9 +59,11 @@ impl Copied for Command {
 /// Why a line is no command: the first of these that holds, in this order.
 #[derive(Clone, Copy, Debug, PartialEq, Eq)]
 pub enum LineCause {
+    /// The line has more than 24,000,000 bytes.
+    Long,
     /// The command word is unknown. It is what stands before the first space, or the whole line.
     Command,
-    /// A space is missing.
+    /// A space is missing, or stands behind `wanted`.
     Words,
     /// A number is not decimal from 0 to 4,294,967,295 without a leading zero.
     Number,
@@ -79,13 +99,29 @@ impl From<WantOfMemory> for LineRefused {
 pub fn read_command(alloc: Global, line: &[u8]) -> Result<Command, LineRefused>
     ensures { Gives cause_of (command_of line.now) result }
 {
+    if line.len() > LONGEST_LINE {
+        return Err(LineRefused::BadLine(LineCause::Long));
+    }
     let (word, behind) = cut_word(line, b' ');
+    read_words(alloc, word, behind)
+}
+
+// The command of this command word, and of what stands behind it and a space.
+fn read_words(alloc: Global, word: &[u8], behind: Option<&[u8]>) -> Result<Command, LineRefused>
+    ensures { Gives cause_of (command_of_words word.now (option_copied behind.entry)) result }
+{
     if word == CONTENT {
         read_content(alloc, behind)
     } else if word == ANCHOR {
         read_entry(alloc, behind)
+    } else if word == ROLLBACK {
+        read_rollback(behind)
     } else if word == RESOLVE {
         read_resolve(alloc, behind)
+    } else if word == WANTED {
+        read_wanted(behind)
+    } else if word == REPORT {
+        read_report(behind)
     } else {
         Err(LineRefused::BadLine(LineCause::Command))
     }
@@ -120,6 +156,18 @@ fn read_entry(alloc: Global, behind: Option<&[u8]>) -> Result<Command, LineRefus
     Ok(Command::Anchor { height, text })
 }
 
+fn read_rollback(behind: Option<&[u8]>) -> Result<Command, LineRefused>
+    ensures { Gives cause_of (rollback_of (option_copied behind.entry)) result }
+{
+    let Some(rest) = behind else {
+        return Err(LineRefused::BadLine(LineCause::Words));
+    };
+    let Some(n) = read_number(rest, u32::MAX) else {
+        return Err(LineRefused::BadLine(LineCause::Number));
+    };
+    Ok(Command::Rollback(n))
+}
+
 fn read_resolve(alloc: Global, behind: Option<&[u8]>) -> Result<Command, LineRefused>
     ensures { Gives cause_of (resolve_of (option_copied behind.entry)) result }
 {
@@ -128,4 +176,25 @@ fn read_resolve(alloc: Global, behind: Option<&[u8]>) -> Result<Command, LineRef
     };
     let did = Bytes::from_slice(alloc, did)?;
     Ok(Command::Resolve(did))
+}
+
+fn read_wanted(behind: Option<&[u8]>) -> Result<Command, LineRefused>
+    ensures { Gives cause_of (wanted_of (option_copied behind.entry)) result }
+{
+    match behind {
+        Some(_) => Err(LineRefused::BadLine(LineCause::Words)),
+        None => Ok(Command::Wanted),
+    }
+}
+
+fn read_report(behind: Option<&[u8]>) -> Result<Command, LineRefused>
+    ensures { Gives cause_of (report_of (option_copied behind.entry)) result }
+{
+    let Some(rest) = behind else {
+        return Err(LineRefused::BadLine(LineCause::Words));
+    };
+    let Some(n) = read_number(rest, u32::MAX) else {
+        return Err(LineRefused::BadLine(LineCause::Number));
+    };
+    Ok(Command::Report(n))
 }

@@ -1,17 +1,17 @@
-//! The node as a machine of lines: it keeps files and ledger entries, and resolves identifiers.
+//! The node as a machine of lines: it takes files and ledger entries, goes back on entries, resolves
+//! identifiers, and tells which files are wanted and how it stands with an entry.
 #![tactic(auto)]
 
 mod command;
-mod giving;
-mod identifier;
+mod laws;
 mod node;
-mod rendering;
 mod reply;
-mod resolution;
+mod resolving;
+mod telling;
 #[cfg(test)]
 mod tests;
-mod unresolved;
 mod words;
 
-pub use command::{Command, LineCause, LineRefused, read_command};
+pub use command::{Command, LONGEST_LINE, LineCause, LineRefused, read_command};
+pub use laws::isolation_law;
 pub use node::Node;

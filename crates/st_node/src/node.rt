@@ -1,63 +1,72 @@
-ghost use Rattle.std.specs.Prelude.{◌≡◌, IfOk, length};
-ghost use Rattle.st_base.specs.Work.{FilesAtMost};
-ghost use Rattle.st_node.specs.Machine.{AnswersWith, answered, answered_anchor, answered_command, answered_content, cause_word, empty, refusal_word, resolve_reply, unresolved_word};
-ghost use Rattle.st_node.specs.Resolution.{resolved};
+ghost use Rattle.std.specs.Prelude.{◌≡◌, ◌≤◌, IfOk, length};
+ghost use Rattle.st_node.specs.Command.{command_of};
+ghost use Rattle.st_node.specs.Machine.{AnswersWith, answered, answered_anchor, answered_command, answered_content, answered_report, answered_rollback, answered_wanted, new_machine};
+ghost use Rattle.st_node.specs.Work.{AdmittedCounts, ArrivalCounts, CommandCounts, LineCounts, RollbackCounts, StaysDue, entry_of_command, entry_of_line};
+ghost use Rattle.st_ledger.specs.Ledger.{admitted};
 
-use crate::command::{Command, LineCause, LineRefused, read_command};
-use crate::reply::reply;
-use crate::resolution::resolve;
-use crate::unresolved::{ResolveRefused, Unresolved};
+use crate::command::{Command, LineRefused, read_command};
+use crate::reply::{cause_word, ledger_word, reply};
+use crate::resolving::resolve;
+use crate::telling::{tell_states, tell_wanted};
 use itoa::Buffer;
 use st_base::{Bytes, WantOfMemory, Work};
-use st_content::{Content, Put};
+use st_content::Put;
 use st_hash::hash_text;
-use st_ledger::{Ledger, LedgerRefused};
+use st_observer::Observer;
 use st_params::Schedule;
 use std::alloc::Global;
 use std::marker::Model;
 
-/// A node. Contracts see its schedule, and its ledger and files.
+/// A node. Contracts see the reference machine: its schedule of limits, its ledger and its files, and
+/// an empty queue.
 #[derive(Drop)]
 pub struct Node {
-    schedule: Schedule,
-    ledger: Ledger,
-    content: Content,
+    observer: Observer,
 }
 
 impl Model for Node {
-    ghost use Rattle.st_node.specs.Machine.{NodeValue};
+    ghost use Rattle.std.specs.Prelude.{[]};
+    ghost use Rattle.st_node.specs.Codes.{coded_machine};
+    ghost use Rattle.st_node.specs.Machine.{Machine};
 
-    ghost Value = { NodeValue };
+    ghost Value = { Machine };
 
-    ghost view = { λ n. record {
-      schedule = n.schedule;
-      state = record { ledger = n.ledger; files = n.content };
-    } };
+    ghost coded = { coded_machine };
+
+    ghost view = { λ n. record { observed = n.observer; queue = [] } };
 }
 
 impl Node {
-    /// A node that knows nothing yet, under this schedule of limits. It takes no memory.
-    pub fn new(alloc: Global, schedule: Schedule) -> Node
-        ensures { result ≡ record { schedule = schedule; state = empty } }
+    /// A node under this schedule of limits, before anything has come.
+    pub fn new(alloc: Global, schedule: Schedule) -> Result<Node, WantOfMemory>
+        ensures { IfOk result (λ node. node ≡ new_machine schedule) }
     {
-        Node {
-            schedule,
-            ledger: Ledger::new(alloc),
-            content: Content::new(alloc),
-        }
+        let observer = Observer::new(alloc, schedule)?;
+        Ok(Node { observer })
+    }
+
+    /// What it has seen: its ledger and its files, and what follows from them.
+    pub fn observer(&self) -> &Observer
+        ensures { result.now ≡ self.now.observed }
+    {
+        &self.observer
     }
 
     /// Answers a line, which comes without its line feed. The reply has its line end.
     ///
-    /// At most one file an entry of the ledger is read, and nothing else is counted.
+    /// What is counted is bounded by the line's command, and nothing is counted of a line that is no
+    /// command. Over all lines, at most five files are read for each anchor that is accepted, and at
+    /// most as many signed texts opened as these declare operations.
     pub fn answer(
         self,
         alloc: Global,
         line: &[u8],
         work: &mut Work,
     ) -> Result<(Node, Bytes), WantOfMemory>
-        ensures answer { IfOk result (AnswersWith self (answered self.schedule self.state line.now)) }
-        ensures work { FilesAtMost (length self.state.ledger) work.old work.new }
+        ensures answer { IfOk result (AnswersWith (answered self line.now)) }
+        ensures counts { LineCounts self (command_of line.now) work.old work.new }
+        ensures due { StaysDue self.observed (answered self line.now).next.observed
+            (entry_of_line self line.now) work.old work.new }
     {
         match read_command(alloc, line) {
             Ok(command) => self.step(alloc, command, work),
@@ -71,118 +80,124 @@ impl Node {
 
     /// Carries a command out, and gives the reply with its line end.
     ///
-    /// At most one file an entry of the ledger is read, and nothing else is counted.
+    /// A `content` and an `anchor` read at most one file for each role that they decide, and open at
+    /// most the signed texts of the proof files that they read; a `rollback` reads and opens nothing; a
+    /// `resolve` does neither, and applies one operation at most; `wanted` and `report` count nothing.
     pub fn step(
         self,
         alloc: Global,
         command: Command,
         work: &mut Work,
     ) -> Result<(Node, Bytes), WantOfMemory>
-        ensures answer { IfOk result (AnswersWith self (answered_command self.schedule self.state command)) }
-        ensures work { FilesAtMost (length self.state.ledger) work.old work.new }
+        ensures answer { IfOk result (AnswersWith (answered_command self command)) }
+        ensures counts { CommandCounts self command work.old work.new }
+        ensures due { StaysDue self.observed (answered_command self command).next.observed
+            (entry_of_command self command) work.old work.new }
+    {
+        // In two steps, so that what is due is proved once, from what is counted.
+        match self.carry_out(alloc, command, work) {
+            Ok(done) => Ok(done),
+            Err(want) => Err(want),
+        }
+    }
+
+    fn carry_out(
+        self,
+        alloc: Global,
+        command: Command,
+        work: &mut Work,
+    ) -> Result<(Node, Bytes), WantOfMemory>
+        ensures answer { IfOk result (AnswersWith (answered_command self command)) }
+        ensures counts { CommandCounts self command work.old work.new }
     {
         match command {
-            Command::Content(bytes) => self.take(alloc, bytes),
-            Command::Anchor { height, text } => self.append(alloc, height, text),
+            Command::Content(bytes) => self.take(alloc, bytes, work),
+            Command::Anchor { height, text } => self.append(alloc, height, text, work),
+            Command::Rollback(n) => self.cut(alloc, n, work),
             Command::Resolve(did) => {
-                let text = self.resolve(alloc, did.as_slice(), work)?;
+                let text = resolve(alloc, &self.observer, did.as_slice(), work)?;
                 Ok((self, text))
             }
+            Command::Wanted => self.wanted(alloc),
+            Command::Report(n) => self.report(alloc, n),
         }
     }
 
     // `content`
-    fn take(self, alloc: Global, bytes: Bytes) -> Result<(Node, Bytes), WantOfMemory>
-        ensures { IfOk result (AnswersWith self (answered_content self.state bytes)) }
+    fn take(
+        self,
+        alloc: Global,
+        bytes: Bytes,
+        work: &mut Work,
+    ) -> Result<(Node, Bytes), WantOfMemory>
+        ensures answer { IfOk result (AnswersWith (answered_content self bytes)) }
+        ensures counts { ArrivalCounts self.observed bytes work.old work.new }
     {
-        let Node {
-            schedule,
-            ledger,
-            mut content,
-        } = self;
-        let (uri, put) = content.put(alloc, bytes)?;
+        let Node { observer } = self;
+        let (observer, uri, put) = observer.arrive(alloc, bytes, work)?;
         let uri = hash_text(alloc, &uri)?;
         let word = match put {
             Put::New => "have ",
             Put::Had => "had ",
         };
         let text = reply(alloc, word, uri.as_str().as_bytes())?;
-        let node = Node {
-            schedule,
-            ledger,
-            content,
-        };
-        Ok((node, text))
+        Ok((Node { observer }, text))
     }
 
     // `anchor`
-    fn append(self, alloc: Global, height: u32, text: Bytes) -> Result<(Node, Bytes), WantOfMemory>
-        ensures { IfOk result (AnswersWith self (answered_anchor self.state (record { height = height; text = text }))) }
+    fn append(
+        self,
+        alloc: Global,
+        height: u32,
+        text: Bytes,
+        work: &mut Work,
+    ) -> Result<(Node, Bytes), WantOfMemory>
+        ensures answer { IfOk result (AnswersWith (answered_anchor self (record { height = height; text = text }))) }
+        ensures counts { AdmittedCounts self.observed (record { height = height; text = text })
+            (admitted self.observed.ledger height) work.old work.new }
     {
-        if let Err(refused) = self.ledger.admits(height) {
-            let text = reply(alloc, "refused ", refusal_word(refused).as_bytes())?;
+        if let Err(refused) = self.observer.ledger().admits(height) {
+            let text = reply(alloc, "refused ", ledger_word(refused).as_bytes())?;
             return Ok((self, text));
         }
-        let Node {
-            schedule,
-            mut ledger,
-            content,
-        } = self;
-        let number = ledger.append(alloc, height, text)?;
+        let Node { observer } = self;
+        let (observer, number) = observer.append(alloc, height, text, work)?;
         let text = reply(alloc, "anchored ", Buffer::new().format(number).as_bytes())?;
-        let node = Node {
-            schedule,
-            ledger,
-            content,
-        };
-        Ok((node, text))
+        Ok((Node { observer }, text))
     }
 
-    // `resolve`
-    fn resolve(&self, alloc: Global, did: &[u8], work: &mut Work) -> Result<Bytes, WantOfMemory>
-        ensures reply { IfOk result (λ text. text
-            ≡ resolve_reply (resolved self.now.schedule self.now.state.files self.now.state.ledger did.now)) }
-        ensures work { FilesAtMost (length self.now.state.ledger) work.old work.new }
+    // `rollback`
+    fn cut(self, alloc: Global, n: u32, work: &mut Work) -> Result<(Node, Bytes), WantOfMemory>
+        ensures answer { IfOk result (AnswersWith (answered_rollback self n)) }
+        ensures counts { RollbackCounts self.observed n work.old work.new }
     {
-        let entries = self.ledger.entries();
-        match resolve(alloc, &self.schedule, &self.content, entries, did, work) {
-            Ok(text) => reply(alloc, "resolved ", text.as_slice()),
-            Err(ResolveRefused::Unresolved(cause)) => {
-                reply(alloc, "unresolved ", unresolved_word(cause).as_bytes())
-            }
-            Err(ResolveRefused::WantOfMemory) => Err(WantOfMemory),
+        if n > self.observer.ledger().len() {
+            let text = reply(alloc, "refused ", b"range")?;
+            return Ok((self, text));
         }
+        let Node { observer } = self;
+        let (observer, removed) = observer.cut(alloc, n, work)?;
+        let text = reply(alloc, "cut ", Buffer::new().format(removed).as_bytes())?;
+        Ok((Node { observer }, text))
     }
-}
 
-// The words of causes, as they stand in replies.
-
-fn cause_word(cause: LineCause) -> &'static str
-    ensures { result.now ≡ cause_word cause }
-{
-    match cause {
-        LineCause::Command => "command",
-        LineCause::Words => "words",
-        LineCause::Number => "number",
-        LineCause::Base64 => "base64",
+    // `wanted`
+    fn wanted(self, alloc: Global) -> Result<(Node, Bytes), WantOfMemory>
+        ensures { IfOk result (AnswersWith (answered_wanted self)) }
+    {
+        let uris = self.observer.wanted(alloc)?;
+        let text = tell_wanted(alloc, uris.as_slice())?;
+        Ok((self, text))
     }
-}
 
-fn refusal_word(refused: LedgerRefused) -> &'static str
-    ensures { result.now ≡ refusal_word refused }
-{
-    match refused {
-        LedgerRefused::HeightFalls(_) => "height",
-        LedgerRefused::LedgerFull => "full",
-    }
-}
-
-fn unresolved_word(cause: Unresolved) -> &'static str
-    ensures { result.now ≡ unresolved_word cause }
-{
-    match cause {
-        Unresolved::BadDid => "badDid",
-        Unresolved::Unbuilt => "unbuilt",
-        Unresolved::NotFound => "notFound",
+    // `report`
+    fn report(self, alloc: Global, n: u32) -> Result<(Node, Bytes), WantOfMemory>
+        ensures { IfOk result (AnswersWith (answered_report self n)) }
+    {
+        let text = match self.observer.report(n) {
+            Some(states) => tell_states(alloc, &states)?,
+            None => reply(alloc, "refused ", b"range")?,
+        };
+        Ok((self, text))
     }
 }

@@ -1,52 +1,87 @@
-use crate::{Command, Node, read_command};
-use st_base::{Bytes, Copied, Work};
+use crate::{Command, Node, isolation_law, read_command};
+use st_base::{Bytes, Copied, WantOfMemory, Work};
 use st_params::Schedule;
+use std::alloc::Global;
 use std::test::Fail;
 
-// A core index file with one create whose delta hash is of SHA-512, its URI and the suffix of that
-// create, each computed by Python's hashlib and base64. Version 2, which alone has such hashes and in
-// which a batch may declare more than 1,000 operations, begins at height 10. Each line stands before
-// its reply.
+// A core index file with one create, its URI, the suffix of that create, and the long form that has its
+// delta, each computed by Python's hashlib and base64. Version 2, in which a batch may declare more than
+// 1,000 operations, begins at height 10. Each line stands before its reply.
 const SESSION: &str = "\
-content YWJj
-have EiC6eBa_jwHP6kFBQN5driIjsANho5YXepy0EP9h8gAVrQ
-content YWJj
-had EiC6eBa_jwHP6kFBQN5driIjsANho5YXepy0EP9h8gAVrQ
-content eyJvcGVyYXRpb25zIjp7ImNyZWF0ZSI6W3sic3VmZml4RGF0YSI6eyJkZWx0YUhhc2giOiJFMERkcnpXaGsyRjZ1c3hCYzBtdUlFRXhFdWI2VG9tcGZxSUtudTdtUzFYVG1pR1NtU29uVDhHb05ybzhJNlAtNjcxRlRVUWpaRHpvRGlxYXlVLWxUS1NmIiwicmVjb3ZlcnlDb21taXRtZW50IjoiRWlEanNNUkNtUHdjRkpyNzlNaVpiN2trSjY1QjVHU2JrMHlrbFprYmVGSzRWUSJ9fV19fQ
-have EiDQzs77ehI6ePwHWBtjZnnd8aYzsvOhv0r5ioaD0Lmhaw
-anchor 9 1.EiDQzs77ehI6ePwHWBtjZnnd8aYzsvOhv0r5ioaD0Lmhaw
+anchor 9 1001.EiDdm4nmM3a--pujoWQeY8rkmIKAWTB8tXpAJAg2HC128g
 anchored 0
+anchor 10 1001.EiDdm4nmM3a--pujoWQeY8rkmIKAWTB8tXpAJAg2HC128g
+anchored 1
 anchor 8 x
 refused height
-resolve did:sidetree:E0AmwPrThr-UCJj8CIlEm1c8x3AZhnnWXtvJT3obZtMdfcZGLTWm3PTqh86gOMSQteVqJZjZtG4ps1qCFbmpiDm_
+report 0
+report A2 unneeded unneeded unneeded unneeded
+report 1
+report missing unneeded unneeded unneeded unneeded
+report 2
+refused range
+wanted
+wanted 1 EiDdm4nmM3a--pujoWQeY8rkmIKAWTB8tXpAJAg2HC128g
+resolve did:sidetree:EiCBpaF3RXYBbNXvPtIkriTZX8_XM0IXu_AzacNqO9Kx1w
 unresolved notFound
-anchor 10 1001.EiDQzs77ehI6ePwHWBtjZnnd8aYzsvOhv0r5ioaD0Lmhaw
-anchored 1
-resolve did:sidetree:E0AmwPrThr-UCJj8CIlEm1c8x3AZhnnWXtvJT3obZtMdfcZGLTWm3PTqh86gOMSQteVqJZjZtG4ps1qCFbmpiDm_
-resolved {\"didDocument\":{\"id\":\"did:sidetree:E0AmwPrThr-UCJj8CIlEm1c8x3AZhnnWXtvJT3obZtMdfcZGLTWm3PTqh86gOMSQteVqJZjZtG4ps1qCFbmpiDm_\"},\"didDocumentMetadata\":{\"canonicalId\":\"did:sidetree:E0AmwPrThr-UCJj8CIlEm1c8x3AZhnnWXtvJT3obZtMdfcZGLTWm3PTqh86gOMSQteVqJZjZtG4ps1qCFbmpiDm_\",\"method\":{\"published\":true,\"recoveryCommitment\":\"EiDjsMRCmPwcFJr79MiZb7kkJ65B5GSbk0yklZkbeFK4VQ\"}}}
-resolve did:sidetree:E0AmwPrThr-UCJj8CIlEm1c8x3AZhnnWXtvJT3obZtMdfcZGLTWm3PTqh86gOMSQteVqJZjZtG4ps1qCFbmpiDm_:e30
-unresolved unbuilt
+resolve did:sidetree:EiCBpaF3RXYBbNXvPtIkriTZX8_XM0IXu_AzacNqO9Kx1w:eyJkZWx0YSI6eyJwYXRjaGVzIjpbXSwidXBkYXRlQ29tbWl0bWVudCI6IkVpQzZlQmFfandIUDZrRkJRTjVkcmlJanNBTmhvNVlYZXB5MEVQOWg4Z0FWclEifSwic3VmZml4RGF0YSI6eyJkZWx0YUhhc2giOiJFaUFvUDk1YUhHZTZJa0dnZjNwX2podE1idzdvdWRpRUM3VDd5RWZCa2FleDZRIiwicmVjb3ZlcnlDb21taXRtZW50IjoiRWlEanNNUkNtUHdjRkpyNzlNaVpiN2trSjY1QjVHU2JrMHlrbFprYmVGSzRWUSJ9fQ
+resolved {\"didDocument\":{\"id\":\"did:sidetree:EiCBpaF3RXYBbNXvPtIkriTZX8_XM0IXu_AzacNqO9Kx1w:eyJkZWx0YSI6eyJwYXRjaGVzIjpbXSwidXBkYXRlQ29tbWl0bWVudCI6IkVpQzZlQmFfandIUDZrRkJRTjVkcmlJanNBTmhvNVlYZXB5MEVQOWg4Z0FWclEifSwic3VmZml4RGF0YSI6eyJkZWx0YUhhc2giOiJFaUFvUDk1YUhHZTZJa0dnZjNwX2podE1idzdvdWRpRUM3VDd5RWZCa2FleDZRIiwicmVjb3ZlcnlDb21taXRtZW50IjoiRWlEanNNUkNtUHdjRkpyNzlNaVpiN2trSjY1QjVHU2JrMHlrbFprYmVGSzRWUSJ9fQ\"},\"didDocumentMetadata\":{\"method\":{\"published\":false,\"recoveryCommitment\":\"EiDjsMRCmPwcFJr79MiZb7kkJ65B5GSbk0yklZkbeFK4VQ\",\"updateCommitment\":\"EiC6eBa_jwHP6kFBQN5driIjsANho5YXepy0EP9h8gAVrQ\"}}}
+content eyJvcGVyYXRpb25zIjp7ImNyZWF0ZSI6W3sic3VmZml4RGF0YSI6eyJkZWx0YUhhc2giOiJFaUFvUDk1YUhHZTZJa0dnZjNwX2podE1idzdvdWRpRUM3VDd5RWZCa2FleDZRIiwicmVjb3ZlcnlDb21taXRtZW50IjoiRWlEanNNUkNtUHdjRkpyNzlNaVpiN2trSjY1QjVHU2JrMHlrbFprYmVGSzRWUSJ9fV19fQ
+have EiDdm4nmM3a--pujoWQeY8rkmIKAWTB8tXpAJAg2HC128g
+content eyJvcGVyYXRpb25zIjp7ImNyZWF0ZSI6W3sic3VmZml4RGF0YSI6eyJkZWx0YUhhc2giOiJFaUFvUDk1YUhHZTZJa0dnZjNwX2podE1idzdvdWRpRUM3VDd5RWZCa2FleDZRIiwicmVjb3ZlcnlDb21taXRtZW50IjoiRWlEanNNUkNtUHdjRkpyNzlNaVpiN2trSjY1QjVHU2JrMHlrbFprYmVGSzRWUSJ9fV19fQ
+had EiDdm4nmM3a--pujoWQeY8rkmIKAWTB8tXpAJAg2HC128g
+wanted
+wanted 0
+report 1
+report read unneeded unneeded unneeded unneeded
+resolve did:sidetree:EiCBpaF3RXYBbNXvPtIkriTZX8_XM0IXu_AzacNqO9Kx1w:eyJkZWx0YSI6eyJwYXRjaGVzIjpbXSwidXBkYXRlQ29tbWl0bWVudCI6IkVpQzZlQmFfandIUDZrRkJRTjVkcmlJanNBTmhvNVlYZXB5MEVQOWg4Z0FWclEifSwic3VmZml4RGF0YSI6eyJkZWx0YUhhc2giOiJFaUFvUDk1YUhHZTZJa0dnZjNwX2podE1idzdvdWRpRUM3VDd5RWZCa2FleDZRIiwicmVjb3ZlcnlDb21taXRtZW50IjoiRWlEanNNUkNtUHdjRkpyNzlNaVpiN2trSjY1QjVHU2JrMHlrbFprYmVGSzRWUSJ9fQ
+resolved {\"didDocument\":{\"id\":\"did:sidetree:EiCBpaF3RXYBbNXvPtIkriTZX8_XM0IXu_AzacNqO9Kx1w:eyJkZWx0YSI6eyJwYXRjaGVzIjpbXSwidXBkYXRlQ29tbWl0bWVudCI6IkVpQzZlQmFfandIUDZrRkJRTjVkcmlJanNBTmhvNVlYZXB5MEVQOWg4Z0FWclEifSwic3VmZml4RGF0YSI6eyJkZWx0YUhhc2giOiJFaUFvUDk1YUhHZTZJa0dnZjNwX2podE1idzdvdWRpRUM3VDd5RWZCa2FleDZRIiwicmVjb3ZlcnlDb21taXRtZW50IjoiRWlEanNNUkNtUHdjRkpyNzlNaVpiN2trSjY1QjVHU2JrMHlrbFprYmVGSzRWUSJ9fQ\"},\"didDocumentMetadata\":{\"canonicalId\":\"did:sidetree:EiCBpaF3RXYBbNXvPtIkriTZX8_XM0IXu_AzacNqO9Kx1w\",\"method\":{\"published\":true,\"recoveryCommitment\":\"EiDjsMRCmPwcFJr79MiZb7kkJ65B5GSbk0yklZkbeFK4VQ\"}}}
+resolve did:sidetree:EiCBpaF3RXYBbNXvPtIkriTZX8_XM0IXu_AzacNqO9Kx1w:e30
+unresolved badLongForm
 resolve did:other:x
 unresolved badDid
-wanted
+rollback 3
+refused range
+rollback 1
+cut 1
+resolve did:sidetree:EiCBpaF3RXYBbNXvPtIkriTZX8_XM0IXu_AzacNqO9Kx1w
+unresolved notFound
+rollback 4294967296
+refused line number
+wanted 
+refused line words
+flush
 refused line command
 ";
 
 #[test]
 fn each_line_has_its_reply(rt: HostRuntime) -> Result<(), Fail> {
     let mut work = Work::new(&rt);
-    let mut node = Node::new(rt.alloc(), Schedule::with_second(10));
-    let mut lines = SESSION.lines();
+    assert!(rt; replies_as(rt.alloc(), SESSION, &mut work)?);
+    // The file was read for the one entry whose anchor string passes.
+    assert_eq!(rt; work.files(), 1);
+    assert_eq!(rt; work.proofs(), 0);
+    Ok(())
+}
+
+// Whether a new node gives each line the reply that stands behind it.
+fn replies_as(alloc: Global, session: &str, work: &mut Work) -> Result<bool, WantOfMemory> {
+    let mut node = Node::new(alloc, Schedule::with_second(10))?;
+    let mut lines = session.lines();
     while let Some(line) = lines.next() {
         let expected = lines.next().unwrap_or("");
-        let (next, reply) = node.answer(rt.alloc(), line.as_bytes(), &mut work)?;
+        let (next, reply) = node.answer(alloc, line.as_bytes(), work)?;
         node = next;
-        let reply = str::from_utf8(reply.as_slice()).unwrap_or("");
-        assert_eq!(rt; reply.strip_suffix('\n'), Some(expected), "{line}");
+        if !is_reply(&reply, expected) {
+            return Ok(false);
+        }
     }
-    // The first resolve reads the file for one entry, and the second for both.
-    assert_eq!(rt; work.files(), 3);
-    Ok(())
+    Ok(true)
+}
+
+fn is_reply(reply: &Bytes, expected: &str) -> bool {
+    let reply = str::from_utf8(reply.as_slice()).unwrap_or("");
+    reply.strip_suffix('\n') == Some(expected)
 }
 
 #[test]
@@ -63,11 +98,17 @@ fn a_line_is_read_as_a_command(rt: HostRuntime) -> Result<(), Fail> {
 
 #[test]
 fn a_command_is_copied_and_carried_out(rt: HostRuntime) -> Result<(), Fail> {
-    let alloc = rt.alloc();
     let mut work = Work::new(&rt);
-    let command = Command::Content(Bytes::from_slice(alloc, b"abc")?);
-    let node = Node::new(alloc, Schedule::new());
-    let (_, reply) = node.step(alloc, command.copy(alloc)?, &mut work)?;
-    assert!(rt; reply.as_slice().starts_with(b"have "));
+    assert_eq!(rt; entries_after(rt.alloc(), &mut work)?, 1);
+    isolation_law();
     Ok(())
+}
+
+// How many entries there are once a copied command appended one.
+fn entries_after(alloc: Global, work: &mut Work) -> Result<u32, WantOfMemory> {
+    let text = Bytes::from_slice(alloc, b"x")?;
+    let command = Command::Anchor { height: 0, text };
+    let node = Node::new(alloc, Schedule::new())?;
+    let (node, _reply) = node.step(alloc, command.copy(alloc)?, work)?;
+    Ok(node.observer().ledger().len())
 }

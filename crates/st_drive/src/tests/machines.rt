@@ -1,7 +1,6 @@
-// The machines of the tests.
-ghost use Rattle.std.specs.Prelude.{◌≡◌, ◌+◌, ◌%◌, ◌<◌, ◌++◌, [], ◌∷◌, take, ⊤, IfOk};
-ghost use Rattle.st_drive.specs.TestMachines.{numbered_reply, numbered_meaning, numbered_laws, echo_meaning, echo_laws};
-ghost use Rattle.st_drive.specs.Uncut.{no_cap};
+// The machine of the tests.
+ghost use Rattle.std.specs.Prelude.{◌≡◌, ◌+◌, ◌%◌, ⊤, IfOk};
+ghost use Rattle.st_drive.specs.TestMachines.{numbered_reply, numbered_meaning, numbered_laws};
 
 use crate::machine::{Machine, StepError};
 use st_base::{Bytes, WantOfMemory};
@@ -106,44 +105,4 @@ impl Machine for Numbered {
     }
 
     ghost laws = { numbered_laws };
-}
-
-// Says each line again, however long it is.
-#[derive(Drop)]
-pub struct Echo {}
-
-impl Machine for Echo {
-    type Context = ();
-
-    ghost meaning = { echo_meaning };
-
-    ghost CAP = { no_cap };
-
-    const CAP: usize = usize::MAX;
-
-    ghost fits = { λ _ _. ⊤ };
-
-    ghost faults = { λ _. 0 };
-
-    fn step(
-        self,
-        alloc: Global,
-        _context: &mut (),
-        line: &[u8],
-    ) -> Result<(Self, Bytes), StepError> {
-        match with_line_feed(alloc, line) {
-            Ok(reply) => Ok((self, reply)),
-            Err(_) => Err(StepError::WantOfMemory),
-        }
-    }
-
-    ghost laws = { echo_laws };
-}
-
-fn with_line_feed(alloc: Global, line: &[u8]) -> Result<Bytes, WantOfMemory>
-    ensures { IfOk result (λ reply. reply ≡ line.now ++ 10 ∷ []) }
-{
-    let mut reply = Bytes::from_slice(alloc, line)?;
-    reply.push_all(alloc, b"\n")?;
-    Ok(reply)
 }

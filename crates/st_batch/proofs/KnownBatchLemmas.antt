@@ -1,0 +1,341 @@
+-- The files of ready operations by kind: what is known of an entry that names them, over every content
+-- that has them.
+use Rattle.std.proofs.Common.{◌≡◌, ◌∙◌, ℕ, suc, ◌+◌, ◌≤◌, ◌++◌, Bool, true, false, nat_le, nat_lt, List, [], ◌∷◌, length, map, Option, Some, None, option_map, ◌⊎◌, inl, inr, refl, ap, arith}
+use Rattle.std.specs.Prelude.{◌||◌, is_some, IfSome}
+use Rattle.std.specs.List.{AllByRecursion, filter_map, list_all}
+use Rattle.std.specs.Str.{IsUtf8}
+use Rattle.std.proofs.lemmas.Bool.{and_parts}
+use Rattle.std.proofs.lemmas.Bool.Decides.{nat_tests}
+use Rattle.std.proofs.lemmas.List.{length-append}
+use Rattle.st_anchor.specs.Known.{chunk_in, core_branch, core_in, core_proof_in, delta_count, looked_at, looked_below, looked_up, named as named_part, provisional_branch, provisional_in, provisional_proof_in}
+use Rattle.st_anchor.specs.SignedTexts.{opened_of, proof_of}
+use Rattle.st_anchor.specs.declared.branches.Context.{Context}
+use Rattle.st_anchor.specs.declared.part.Part.{Part}
+use Rattle.st_anchor.specs.declared.part.Part.TheVariants.{Is, Unneeded}
+use Rattle.st_base.specs.Twice.{has_twice}
+use Rattle.st_base.proofs.Quantifiers.{each-append, each-both, each-weaker}
+use Rattle.st_canon.specs.Canonical.{canonical}
+use Rattle.st_content.specs.Files.{Files, file_at}
+use Rattle.st_datafiles.specs.ProofFiles.{core_proof_json, provisional_proof_json}
+use Rattle.st_datafiles.specs.declared.core_proofs.CoreProofs.{CoreProofs}
+use Rattle.st_datafiles.specs.declared.role.Role.{Role}
+use Rattle.st_datafiles.specs.declared.role.Role.TheVariants.{Core, CoreProof, Provisional, ProvisionalProof, Chunk}
+use Rattle.st_hash.specs.Hash.{HashValue, same_hash, uri_of}
+use Rattle.st_indexfiles.specs.CoreIndex.{suffixes_of as suffixes_of_index}
+use Rattle.st_indexfiles.specs.CoreRules.{one_alone}
+use Rattle.st_indexfiles.specs.ProvisionalIndex.{provisional_json, suffixes_in}
+use Rattle.st_indexfiles.specs.ProvisionalRules.{repeats_suffix}
+use Rattle.st_indexfiles.specs.SuffixData.{create_json, create_of}
+use Rattle.st_indexfiles.specs.Target.{target_json, target_of}
+use Rattle.st_ops.specs.Operation.{PlainOperation}
+use Rattle.st_ops.specs.RequestText.{delta_there}
+use Rattle.st_params.specs.Limits.{Limits}
+use Rattle.st_batch.specs.BatchFiles.{chunk_file, chunk_text, core_file, core_index, core_proof_file, filed, files_of, if_any, provisional_file, provisional_index, provisional_proof_file}
+use Rattle.st_batch.specs.Groups.{Grouped, is_create, is_deactivate, is_recover, is_update, signed_text_in, suffix_data_in, target_in, with_delta}
+use Rattle.st_batch.specs.Kept.{suffixes_of}
+use Rattle.st_batch.specs.Prefix.{is_small, most_bytes}
+use Rattle.st_batch.specs.ReadBack.{HasFiles}
+use Rattle.st_batch.specs.declared.batch.BatchFile.{BatchFile}
+use Rattle.st_batch.proofs.AgainEntryLemmas.{IsAgain}
+use Rattle.st_batch.proofs.AgainHashLemmas.{uri_again}
+use Rattle.st_batch.proofs.AgainObjectLemmas.{IsReadable}
+use Rattle.st_batch.proofs.GivenDifferentLemmas.{apart, different, named_in_groups, times, times-append}
+use Rattle.st_batch.proofs.GivenOperationsLemmas.{AreOfKind, IsOfKind, as_many, create_data, create_delta, create_suffixes, data_again, deactivate_target, deactivate_text, each_taken, named_again, recover_delta, recover_target, recover_text, target_suffixes, update_delta, update_target, update_text}
+use Rattle.st_batch.proofs.KnownCoreLemmas.{IsCoreSound, core_known}
+use Rattle.st_batch.proofs.KnownDataLemmas.{chunk_known, core_proof_known, provisional_proof_known}
+use Rattle.st_batch.proofs.KnownProvisionalLemmas.{IsProvisionalSound, provisional_known}
+use Rattle.st_batch.proofs.KnownRuleLemmas.{IsUriAgain}
+use Rattle.st_batch.proofs.ReadBackFitLemmas.{IsReady}
+
+-- ready operations by kind, so many, each suffix once
+pub record AreReadyGroups (limits : Limits) (count : ℕ) (groups : Grouped) : Type 0 where
+  pub creates : AreOfKind limits is_create groups.creates
+  pub recovers : AreOfKind limits is_recover groups.recovers
+  pub deactivates : AreOfKind limits is_deactivate groups.deactivates
+  pub updates : AreOfKind limits is_update groups.updates
+  pub counted : length groups.creates + length groups.recovers + length groups.deactivates + length groups.updates ≡ count
+  pub once : (hash : HashValue) → named_in_groups hash groups ≤ 1
+
+-- ---- files that are there
+
+-- a file's own URI is read from its text
+file_uri_again : (file : Option (List ℕ)) → IsUriAgain (option_map uri_of file)
+file_uri_again None = tt
+file_uri_again (Some bytes) = uri_again bytes
+
+-- the content has the file under its URI, and it has no more bytes than so many
+abbrev pub IsThere : Files → ℕ → List ℕ → Type 0
+IsThere content most bytes = (file_at (uri_of bytes) content ≡ Some bytes) × (length bytes ≤ most)
+
+-- what its bytes make of the role of a file that may be there
+abbrev pub part_of : {Says : Type 0} → (List ℕ → Part Says) → (Says → Says) → Option (List ℕ) → Part Says
+part_of read below None = Unneeded
+part_of read below (Some bytes) = looked_below below (read bytes)
+
+-- a file that is named and there is read
+pub looked_named : {Says : Type 0} (read : List ℕ → Part Says) (below : Says → Says) (content : Files) (most : ℕ) (file : Option (List ℕ))
+    → IfSome file (IsThere content most) → looked_up read below content (named_part (option_map uri_of file)) ≡ part_of read below file
+looked_named read below content most None there = refl
+looked_named read below content most (Some bytes) there = ap (looked_at read below (uri_of bytes)) there.0
+
+-- what holds of a text where there is an operation for it
+pub there_for : (operations : List PlainOperation) (said : List ℕ) (P : List ℕ → Type 0) → 1 ≤ length operations → IfSome (if_any operations said) P → P said
+there_for [] said P some there = absurd (omega arith)
+there_for (operation ∷ operations) said P some there = there
+
+-- the files of operations by kind are there
+pub record FilesAreThere (limits : Limits) (content : Files) (groups : Grouped) : Type 0 where
+  pub core : IsThere content limits.max_index (core_file groups)
+  pub core_proof : IfSome (core_proof_file groups) (IsThere content limits.max_proofs)
+  pub provisional : IfSome (provisional_file groups) (IsThere content limits.max_index)
+  pub provisional_proof : IfSome (provisional_proof_file groups) (IsThere content limits.max_proofs)
+  pub chunk : IfSome (chunk_file groups) (IsThere content limits.max_chunk)
+
+each_split : {Item : Type 0} (P : Item → Type 0) (xs ys : List Item) → AllByRecursion P (xs ++ ys) → AllByRecursion P xs × AllByRecursion P ys
+each_split P [] ys all = (tt, all)
+each_split P (x ∷ xs) ys all = let later = each_split P xs ys all.1 in ((all.0, later.0), later.1)
+
+each_small : {Item : Type 0} (test : Item → Bool) (items : List Item) → list_all test items ≡ true → AllByRecursion (λ item. test item ≡ true) items
+each_small test [] all = tt
+each_small test (item ∷ items) all =
+    let parts = and_parts (test item) (list_all test items) all in (parts.0, each_small test items parts.1)
+
+module _ (limits : Limits) (content : Files) where
+  -- it is there, and small
+  abbrev Stands : BatchFile → Type 0
+  Stands file = (file_at file.uri content ≡ Some file.bytes) × (is_small limits file ≡ true)
+
+  within : (n most : ℕ) → nat_le n most ≡ true → n ≤ most
+  within n most e = grind (arith, nat_tests)
+
+  filed_there : (role : Role) (file : Option (List ℕ)) → AllByRecursion Stands (filed role file) → IfSome file (IsThere content (most_bytes limits role))
+  filed_there role None all = tt
+  filed_there role (Some bytes) all = (all.0.0, within (length bytes) (most_bytes limits role) all.0.1)
+
+  pub files_there : (groups : Grouped) → HasFiles content (files_of groups) → list_all (is_small limits) (files_of groups) ≡ true
+      → FilesAreThere limits content groups
+  unfolding files_of
+  files_there groups has small =
+      let all = each-both (λ file. file_at file.uri content ≡ Some file.bytes) (λ file. is_small limits file ≡ true) Stands
+      (λ file there fits. (there, fits)) (files_of groups)
+      has (each_small (is_small limits) (files_of groups) small) in
+      let core = filed Core (Some (core_file groups)) in
+      let core_proof = filed CoreProof (core_proof_file groups) in
+      let provisional = filed Provisional (provisional_file groups) in
+      let provisional_proof = filed ProvisionalProof (provisional_proof_file groups) in
+      let fourth = each_split Stands (core ++ core_proof ++ provisional ++ provisional_proof) (filed Chunk (chunk_file groups)) all in
+      let third = each_split Stands (core ++ core_proof ++ provisional) provisional_proof fourth.0 in
+      let second = each_split Stands (core ++ core_proof) provisional third.0 in
+      let first = each_split Stands core core_proof second.0 in
+      record {
+        core = filed_there Core (Some (core_file groups)) first.0;
+        core_proof = filed_there CoreProof (core_proof_file groups) first.1;
+        provisional = filed_there Provisional (provisional_file groups) second.1;
+        provisional_proof = filed_there ProvisionalProof (provisional_proof_file groups) third.1;
+        chunk = filed_there Chunk (chunk_file groups) fourth.1;
+      }
+
+-- ---- a file is named exactly where there is an operation for it
+
+above_none : (n k : ℕ) → n ≡ suc k → nat_lt 0 n ≡ true
+above_none n k e = grind (arith, nat_tests)
+
+named_for_one : (operations : List PlainOperation) (said : List ℕ) (n : ℕ) → n ≡ length operations
+    → one_alone (is_some (option_map uri_of (if_any operations said))) (nat_lt 0 n) ≡ false
+named_for_one [] said n e = rw e refl
+named_for_one (operation ∷ operations) said n e = rw (above_none n (length operations) e) refl
+
+named_for_two : (first second : List PlainOperation) (said : List ℕ) (n m : ℕ) → n ≡ length first → m ≡ length second
+    → one_alone (is_some (option_map uri_of (if_any (first ++ second) said))) (nat_lt 0 n || nat_lt 0 m) ≡ false
+named_for_two [] [] said n m e f = rw (e, f) refl
+named_for_two [] (operation ∷ operations) said n m e f = rw (e, above_none m (length operations) f) refl
+named_for_two (operation ∷ operations) second said n m e f = rw (above_none n (length operations) e) refl
+
+neither : (first second : Bool) → first ≡ false → second ≡ false → (first || second) ≡ false
+neither first second e f = rw (e, f) refl
+
+-- ---- the indexes
+
+-- what a core proof file says of operations by kind
+abbrev pub core_proofs : Grouped → CoreProofs
+core_proofs groups = record {
+  recovers = filter_map signed_text_in groups.recovers;
+  deactivates = filter_map signed_text_in groups.deactivates;
+}
+
+module _ (limits : Limits) (count : ℕ) (groups : Grouped) (are : AreReadyGroups limits count groups) where
+  creates_long : length (filter_map suffix_data_in groups.creates) ≡ length groups.creates
+  creates_long = as_many suffix_data_in (IsOfKind limits is_create) (create_data limits) groups.creates are.creates
+
+  recovers_long : length (filter_map target_in groups.recovers) ≡ length groups.recovers
+  recovers_long = as_many target_in (IsOfKind limits is_recover) (recover_target limits) groups.recovers are.recovers
+
+  deactivates_long : length (filter_map target_in groups.deactivates) ≡ length groups.deactivates
+  deactivates_long = as_many target_in (IsOfKind limits is_deactivate) (deactivate_target limits) groups.deactivates are.deactivates
+
+  updates_long : length (filter_map target_in groups.updates) ≡ length groups.updates
+  updates_long = as_many target_in (IsOfKind limits is_update) (update_target limits) groups.updates are.updates
+
+  targets_again : (is_kind : PlainOperation → Bool) (operations : List PlainOperation) → AreOfKind limits is_kind operations
+      → AllByRecursion (IsAgain (target_of limits.version) target_json) (filter_map target_in operations)
+  targets_again is_kind operations all =
+      each_taken target_in (IsOfKind limits is_kind) (IsAgain (target_of limits.version) target_json)
+      (λ operation right. named_again limits operation right.0) operations all
+
+  -- the suffixes of the core index are those of its operations
+  core_suffixes : suffixes_of_index (core_index groups) ≡ suffixes_of groups.creates ++ suffixes_of groups.recovers ++ suffixes_of groups.deactivates
+  unfolding core_index
+  core_suffixes =
+      let creates = create_suffixes limits groups.creates are.creates in
+      let recovers = target_suffixes groups.recovers
+      (each-weaker (IsOfKind limits is_recover) (λ operation. is_some (target_in operation) ≡ true) (recover_target limits) groups.recovers are.recovers) in
+      let deactivates = target_suffixes groups.deactivates
+      (each-weaker (IsOfKind limits is_deactivate) (λ operation. is_some (target_in operation) ≡ true)
+      (deactivate_target limits) groups.deactivates are.deactivates) in
+      λ i. creates i ++ recovers i ++ deactivates i
+
+  core_times : (hash : HashValue) → times hash (suffixes_of_index (core_index groups))
+      ≡ times hash (suffixes_of groups.creates) + times hash (suffixes_of groups.recovers) + times hash (suffixes_of groups.deactivates)
+  core_times hash =
+      let first = times-append hash (suffixes_of groups.creates ++ suffixes_of groups.recovers) (suffixes_of groups.deactivates) in
+      let second = times-append hash (suffixes_of groups.creates) (suffixes_of groups.recovers) in
+      ap (times hash) core_suffixes ∙ first ∙ ap (λ before. before + times hash (suffixes_of groups.deactivates)) second
+
+  core_different : has_twice same_hash (suffixes_of_index (core_index groups)) ≡ false
+  core_different = different (suffixes_of_index (core_index groups)) (λ hash. omega (arith, are.once hash, core_times hash))
+
+  update_suffixes : suffixes_in (filter_map target_in groups.updates) ≡ suffixes_of groups.updates
+  update_suffixes =
+      target_suffixes groups.updates
+      (each-weaker (IsOfKind limits is_update) (λ operation. is_some (target_in operation) ≡ true) (update_target limits) groups.updates are.updates)
+
+  updates_different : repeats_suffix (suffixes_in (filter_map target_in groups.updates)) (core_index groups) ≡ false
+  updates_different =
+      let twice = different (suffixes_of groups.updates) (λ hash. omega (arith, are.once hash)) in
+      let shared = apart (suffixes_of groups.updates) (suffixes_of_index (core_index groups)) (λ hash. omega (arith, are.once hash, core_times hash)) in
+      ap (λ suffixes. repeats_suffix suffixes (core_index groups)) update_suffixes ∙ neither _ _ twice shared
+
+  pub core_sound : IsCoreSound limits count (core_index groups)
+  unfolding core_index core_proof_file
+  core_sound = record {
+    core_proof = file_uri_again (core_proof_file groups);
+    provisional = file_uri_again (provisional_file groups);
+    creates = each_taken suffix_data_in (IsOfKind limits is_create) (IsAgain (create_of limits.version) create_json)
+        (λ operation right. data_again limits operation right.0) groups.creates are.creates;
+    recovers = targets_again is_recover groups.recovers are.recovers;
+    deactivates = targets_again is_deactivate groups.deactivates are.deactivates;
+    few = omega (arith, creates_long, recovers_long, deactivates_long, are.counted);
+    different = core_different;
+    proved = named_for_two groups.recovers groups.deactivates (canonical (core_proof_json (core_proofs groups))) _ _ recovers_long deactivates_long;
+  }
+
+  pub provisional_sound : 1 ≤ length (with_delta groups) → IsProvisionalSound limits count (core_index groups) (provisional_index groups)
+  unfolding core_index provisional_index provisional_proof_file
+  provisional_sound some = record {
+    proof = file_uri_again (provisional_proof_file groups);
+    chunk = uri_again (chunk_text groups);
+    updates = targets_again is_update groups.updates are.updates;
+    different = updates_different;
+    few = omega (arith, creates_long, recovers_long, deactivates_long, updates_long, are.counted);
+    proved = named_for_one groups.updates (canonical (provisional_proof_json (filter_map signed_text_in groups.updates))) _ updates_long;
+    some = omega (
+      arith,
+      some,
+      creates_long,
+      recovers_long,
+      updates_long,
+      length-append (groups.creates ++ groups.recovers) groups.updates,
+      length-append groups.creates groups.recovers,
+    );
+  }
+
+  -- ---- proofs and deltas
+
+  texts_utf8 : (is_kind : PlainOperation → Bool) (operations : List PlainOperation) → AreOfKind limits is_kind operations
+      → AllByRecursion IsUtf8 (filter_map signed_text_in operations)
+  texts_utf8 is_kind operations all = each_taken signed_text_in (IsOfKind limits is_kind) IsUtf8 (λ operation right. right.0.signed) operations all
+
+  deltas_readable : (is_kind : PlainOperation → Bool) (operations : List PlainOperation) → AreOfKind limits is_kind operations
+      → AllByRecursion (IsReady limits) operations
+  deltas_readable is_kind operations all = each-weaker (IsOfKind limits is_kind) (IsReady limits) (λ operation right. right.0) operations all
+
+  all_readable : AllByRecursion (IsReadable 64) (filter_map delta_there (with_delta groups))
+  all_readable =
+      let before = each-append (IsReady limits) groups.creates groups.recovers (deltas_readable is_create groups.creates are.creates)
+      (deltas_readable is_recover groups.recovers are.recovers) in
+      each_taken delta_there (IsReady limits) (IsReadable 64) (λ operation right. right.delta) (with_delta groups)
+      (each-append (IsReady limits) (groups.creates ++ groups.recovers) groups.updates before (deltas_readable is_update groups.updates are.updates))
+
+  has_delta : (is_kind : PlainOperation → Bool) → ((operation : PlainOperation) → IsOfKind limits is_kind operation → is_some (delta_there operation) ≡ true)
+      → (operations : List PlainOperation) → AreOfKind limits is_kind operations
+      → AllByRecursion (λ operation. is_some (delta_there operation) ≡ true) operations
+  has_delta is_kind has operations all = each-weaker (IsOfKind limits is_kind) (λ operation. is_some (delta_there operation) ≡ true) has operations all
+
+  deltas_long : length (filter_map delta_there (with_delta groups)) ≡ length groups.creates + length groups.recovers + length groups.updates
+  deltas_long =
+      let Has : PlainOperation → Type 0 = λ operation. is_some (delta_there operation) ≡ true in
+      let before = each-append Has groups.creates groups.recovers (has_delta is_create (create_delta limits) groups.creates are.creates)
+      (has_delta is_recover (recover_delta limits) groups.recovers are.recovers) in
+      let all = each-append Has (groups.creates ++ groups.recovers) groups.updates before
+      (has_delta is_update (update_delta limits) groups.updates are.updates) in
+      let long = as_many delta_there Has (λ operation has. has) (with_delta groups) all in
+      omega (arith, long, length-append (groups.creates ++ groups.recovers) groups.updates, length-append groups.creates groups.recovers)
+
+  recover_texts_long : length (filter_map signed_text_in groups.recovers) ≡ length groups.recovers
+  recover_texts_long = as_many signed_text_in (IsOfKind limits is_recover) (recover_text limits) groups.recovers are.recovers
+
+  deactivate_texts_long : length (filter_map signed_text_in groups.deactivates) ≡ length groups.deactivates
+  deactivate_texts_long = as_many signed_text_in (IsOfKind limits is_deactivate) (deactivate_text limits) groups.deactivates are.deactivates
+
+  update_texts_long : length (filter_map signed_text_in groups.updates) ≡ length groups.updates
+  update_texts_long = as_many signed_text_in (IsOfKind limits is_update) (update_text limits) groups.updates are.updates
+
+  -- ---- what is known of each file
+
+  abbrev context : Context
+  context = record { count = count; params = limits }
+
+  pub core_is : length (core_file groups) ≤ limits.max_index → core_in context (core_file groups) ≡ Is (core_branch (core_index groups))
+  unfolding core_file
+  core_is small = core_known context (core_index groups) core_sound small
+
+  some_proof : (1 ≤ length groups.recovers) ⊎ (1 ≤ length groups.deactivates)
+      → (1 ≤ length (filter_map signed_text_in groups.recovers)) ⊎ (1 ≤ length (filter_map signed_text_in groups.deactivates))
+  some_proof (inl some) = inl (omega (arith, some, recover_texts_long))
+  some_proof (inr some) = inr (omega (arith, some, deactivate_texts_long))
+
+  pub core_proof_is : (1 ≤ length groups.recovers) ⊎ (1 ≤ length groups.deactivates)
+      → length (canonical (core_proof_json (core_proofs groups))) ≤ limits.max_proofs
+      → core_proof_in context (core_index groups) (canonical (core_proof_json (core_proofs groups))) ≡ Is (opened_of limits.max_signed (core_proofs groups))
+  unfolding core_index
+  core_proof_is some small = core_proof_known context (core_index groups) (core_proofs groups) (record {
+    some = some_proof some;
+    recovers_utf8 = texts_utf8 is_recover groups.recovers are.recovers;
+    deactivates_utf8 = texts_utf8 is_deactivate groups.deactivates are.deactivates;
+    recovers_long = omega (arith, recover_texts_long, recovers_long);
+    deactivates_long = omega (arith, deactivate_texts_long, deactivates_long);
+  }) small
+
+  pub provisional_is : 1 ≤ length (with_delta groups) → length (canonical (provisional_json (provisional_index groups))) ≤ limits.max_index
+      → provisional_in context (core_index groups) (canonical (provisional_json (provisional_index groups)))
+      ≡ Is (provisional_branch (provisional_index groups))
+  provisional_is some small = provisional_known context (core_index groups) (provisional_index groups) (provisional_sound some) small
+
+  pub provisional_proof_is : 1 ≤ length groups.updates
+      → length (canonical (provisional_proof_json (filter_map signed_text_in groups.updates))) ≤ limits.max_proofs
+      → provisional_proof_in context (provisional_index groups) (canonical (provisional_proof_json (filter_map signed_text_in groups.updates)))
+      ≡ Is (map (proof_of limits.max_signed) (filter_map signed_text_in groups.updates))
+  unfolding provisional_index
+  provisional_proof_is some small =
+      provisional_proof_known context (provisional_index groups) (filter_map signed_text_in groups.updates) (omega (arith, some, update_texts_long))
+      (texts_utf8 is_update groups.updates are.updates) (omega (arith, update_texts_long, updates_long)) small
+
+  pub chunk_is : 1 ≤ length (with_delta groups) → length (chunk_text groups) ≤ limits.max_chunk
+      → chunk_in context (core_index groups) (provisional_index groups) (chunk_text groups) ≡ Is (filter_map delta_there (with_delta groups))
+  unfolding chunk_text core_index provisional_index
+  chunk_is some small =
+      let many : length (filter_map delta_there (with_delta groups)) ≡ delta_count (core_index groups) (provisional_index groups) =
+      omega (arith, deltas_long, creates_long, recovers_long, updates_long) in
+      let first : 1 ≤ length (filter_map delta_there (with_delta groups)) =
+      omega (arith, some, deltas_long, length-append (groups.creates ++ groups.recovers) groups.updates, length-append groups.creates groups.recovers) in
+      chunk_known context (core_index groups) (provisional_index groups) (filter_map delta_there (with_delta groups)) first all_readable many small

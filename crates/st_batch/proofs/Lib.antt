@@ -1,0 +1,25 @@
+-- What a queue keeps, and a delta that counts.
+mod DeltaLemmas
+mod QueueLemmas
+-- What is written is read again: values, hashes, entries of files.
+mod AgainEntryLemmas
+mod AgainHashLemmas
+mod AgainObjectLemmas
+-- The anchor string of a batch, and what is known by its files.
+mod AnchorTextLemmas
+mod KnownBatchLemmas
+mod KnownCoreLemmas
+mod KnownDataLemmas
+mod KnownProvisionalLemmas
+mod KnownRuleLemmas
+-- What an entry with that string gives: the operations of the batch.
+mod GivenBatchLemmas
+mod GivenDifferentLemmas
+mod GivenOperationsLemmas
+mod GivenPrefixLemmas
+mod ReadBackFitLemmas
+mod ReadBackLemmas
+-- One operation goes into a batch alone.
+mod FirstSizeLemmas
+mod FirstTakenLemmas
+mod TakesTheFirstLemmas

@@ -1,0 +1,9 @@
+pub mod Codes
+pub mod Groups
+pub mod BatchFiles
+pub mod Prefix
+pub mod Fits
+pub mod Submitted
+pub mod Kept
+pub mod ReadBack
+pub mod BatchLaws

@@ -1,0 +1,80 @@
+ghost use Rattle.std.specs.Prelude.{◌≡◌, true, is_some, option_map, IfOk, IfSome};
+ghost use Rattle.st_apply.specs.Counting.{counted};
+ghost use Rattle.st_batch.specs.Fits.{delta_counts, has_right_delta};
+ghost use Rattle.st_canon.specs.Proper.{IsProper};
+ghost use Rattle.st_canon.specs.View.{plain};
+ghost use Rattle.st_ops.specs.Operation.{plain_operation};
+ghost use Rattle.st_ops.specs.RequestText.{delta_there};
+
+use st_base::WantOfMemory;
+use st_canon::{Json, write};
+use st_doc::{DeltaRefused, check_delta};
+use st_hash::{Hash, hash_with};
+use st_ops::{Claim, Operation, Shared, claim_of};
+use st_params::Params;
+use std::alloc::Global;
+
+/// Whether the delta of an operation is one at these limits and has its delta hash, where its kind has
+/// a delta.
+#[tactic(auto, unfolding(crate::specs::Fits::has_right_delta))]
+pub(crate) fn has_right_delta(
+    alloc: Global,
+    operation: &Operation,
+    params: &Params,
+) -> Result<bool, WantOfMemory>
+    ensures value { IfOk result (λ is. is ≡ has_right_delta params.now (plain_operation operation.now)) }
+    ensures proper { IfOk result (λ is. is ≡ true → IfSome (delta_there (plain_operation operation.now)) IsProper) }
+{
+    let claim = claim_of(alloc, operation, params)?;
+    delta_counts(alloc, operation, &claim, params)
+}
+
+fn delta_counts(
+    alloc: Global,
+    operation: &Operation,
+    claim: &Option<Claim>,
+    params: &Params,
+) -> Result<bool, WantOfMemory>
+    ensures value { IfOk result (λ counts. counts ≡ delta_counts params.now (plain_operation operation.now) claim.now) }
+    ensures proper { IfOk result (λ counts. counts ≡ true → IfSome (delta_there (plain_operation operation.now)) IsProper) }
+{
+    match (operation, claim) {
+        (Operation::Create { suffix_data, delta }, _) => {
+            counts(alloc, &suffix_data.delta_hash, delta, params)
+        }
+        (Operation::Update { delta, .. }, Some(Claim::Update { delta_hash })) => {
+            counts(alloc, delta_hash, delta, params)
+        }
+        (Operation::Recover { delta, .. }, Some(Claim::Recover { delta_hash, .. })) => {
+            counts(alloc, delta_hash, delta, params)
+        }
+        (Operation::Deactivate { .. }, _) => Ok(true),
+        _ => Ok(false),
+    }
+}
+
+// Whether the delta counts for the delta hash.
+fn counts(
+    alloc: Global,
+    delta_hash: &Hash,
+    delta: &Option<Shared<Json>>,
+    params: &Params,
+) -> Result<bool, WantOfMemory>
+    ensures value { IfOk result (λ counts. counts ≡ is_some (counted params.now delta_hash.now (option_map plain delta.now))) }
+    ensures proper { IfOk result (λ counts. counts ≡ true → IfSome (option_map plain delta.now) IsProper) }
+{
+    let Some(delta) = delta else {
+        return Ok(false);
+    };
+    let text = write(alloc, delta.get())?;
+    if hash_with(text.as_slice(), delta_hash.code()) != *delta_hash {
+        return Ok(false);
+    }
+    match check_delta(alloc, delta.get(), params) {
+        Ok(_) => Ok(true),
+        Err(DeltaRefused::TooLong) => Ok(false),
+        Err(DeltaRefused::BadDelta) => Ok(false),
+        Err(DeltaRefused::BadPatch(_)) => Ok(false),
+        Err(DeltaRefused::WantOfMemory) => Err(WantOfMemory),
+    }
+}

@@ -1,0 +1,28 @@
+ghost use Rattle.std.specs.Prelude.{◌≡◌, option_map};
+ghost use Rattle.st_batch.specs.Groups.{signed_text_in};
+ghost use Rattle.st_ops.specs.Operation.{plain_operation, plain_proof};
+
+use st_base::Text;
+use st_jws::Signed;
+use st_ops::{Operation, Shared};
+
+/// The signed text of an operation that has a proof.
+pub(crate) fn signed_text_in(operation: &Operation) -> Option<&Text>
+    ensures { option_map (λ text. text.now) result ≡ signed_text_in (plain_operation operation.now) }
+{
+    match operation {
+        Operation::Create { .. } => None,
+        Operation::Update { proof, .. } => text_of(proof),
+        Operation::Recover { proof, .. } => text_of(proof),
+        Operation::Deactivate { proof, .. } => text_of(proof),
+    }
+}
+
+fn text_of(proof: &Option<Shared<Signed>>) -> Option<&Text>
+    ensures { option_map (λ text. text.now) result ≡ option_map (λ found. found.text) (option_map plain_proof proof.now) }
+{
+    match proof {
+        Some(proof) => Some(&proof.get().text),
+        None => None,
+    }
+}

@@ -1,0 +1,321 @@
+// Sessions whose files are read or refused. A Python program made each text here.
+
+// Four core index files: an object with the greatest whole number, with the next one, with 1.0, and an empty list.
+pub const NUMBERS: &str = concat!(
+    "content eyJ4Ijo5MDA3MTk5MjU0NzQwOTkxfQ\n",
+    "content eyJ4Ijo5MDA3MTk5MjU0NzQwOTkyfQ\n",
+    "content eyJ4IjoxLjB9\n",
+    "content W10\n",
+    "anchor 1 1.EiDpteJ2qE7C77I3EjrZICMvtx5enGD2CqLNP3W4ItuWKA\n",
+    "anchor 1 1.EiCXmddR9reNGdfS3-GziJAH6y3lbDSpLpmDiXlbJssU0w\n",
+    "anchor 1 1.EiC_MvViNomeE-9U24ddE2xsvMZSREZIKcVJEaqQabCuJQ\n",
+    "anchor 1 1.EiBPU82hjCuqDANUu1-aPsvl7RKrTY4Ruoc8LxEWEgK5RQ\n",
+    "report 0\n",
+    "report 1\n",
+    "report 2\n",
+    "report 3\n",
+);
+
+// The replies to it, by a reader of these formats in Python.
+pub const NUMBERS_REPLIES: &str = concat!(
+    "have EiDpteJ2qE7C77I3EjrZICMvtx5enGD2CqLNP3W4ItuWKA\n",
+    "have EiCXmddR9reNGdfS3-GziJAH6y3lbDSpLpmDiXlbJssU0w\n",
+    "have EiC_MvViNomeE-9U24ddE2xsvMZSREZIKcVJEaqQabCuJQ\n",
+    "have EiBPU82hjCuqDANUu1-aPsvl7RKrTY4Ruoc8LxEWEgK5RQ\n",
+    "anchored 0\n",
+    "anchored 1\n",
+    "anchored 2\n",
+    "anchored 3\n",
+    "report C3 unneeded unneeded unneeded unneeded\n",
+    "report C2 unneeded unneeded unneeded unneeded\n",
+    "report C2 unneeded unneeded unneeded unneeded\n",
+    "report C3 unneeded unneeded unneeded unneeded\n",
+);
+
+// Six anchor strings over the file `{}`, their reports, a lower height and a report too far.
+pub const ANCHORS: &str = concat!(
+    "content e30\n",
+    "anchor 5 0.EiBEE2-jVbNnihFGrRb36GSelPtPwh_nfoMQwGD2HKr_ig\n",
+    "anchor 5 01.EiBEE2-jVbNnihFGrRb36GSelPtPwh_nfoMQwGD2HKr_ig\n",
+    "anchor 5 1000.EiBEE2-jVbNnihFGrRb36GSelPtPwh_nfoMQwGD2HKr_ig\n",
+    "anchor 5 1001.EiBEE2-jVbNnihFGrRb36GSelPtPwh_nfoMQwGD2HKr_ig\n",
+    "anchor 5 EiBEE2-jVbNnihFGrRb36GSelPtPwh_nfoMQwGD2HKr_ig\n",
+    "anchor 5 1.x\n",
+    "report 0\n",
+    "report 1\n",
+    "report 2\n",
+    "report 3\n",
+    "report 4\n",
+    "report 5\n",
+    "anchor 4 1.EiBEE2-jVbNnihFGrRb36GSelPtPwh_nfoMQwGD2HKr_ig\n",
+    "report 6\n",
+);
+
+// The replies to it, by a reader of these formats in Python.
+pub const ANCHORS_REPLIES: &str = concat!(
+    "have EiBEE2-jVbNnihFGrRb36GSelPtPwh_nfoMQwGD2HKr_ig\n",
+    "anchored 0\n",
+    "anchored 1\n",
+    "anchored 2\n",
+    "anchored 3\n",
+    "anchored 4\n",
+    "anchored 5\n",
+    "report A2 unneeded unneeded unneeded unneeded\n",
+    "report A2 unneeded unneeded unneeded unneeded\n",
+    "report read unneeded unneeded unneeded unneeded\n",
+    "report A2 unneeded unneeded unneeded unneeded\n",
+    "report A1 unneeded unneeded unneeded unneeded\n",
+    "report A3 unneeded unneeded unneeded unneeded\n",
+    "refused height\n",
+    "refused range\n",
+);
+
+// Core index files, each against one rule: no JSON, a member of another name, no object of operations, a lock
+// that is no text, a create without suffix data, a create twice (with count 1 and with count 2), and a proof
+// file that no operation needs.
+pub const CORES: &str = concat!(
+    "content H4sI\n",
+    "content eyJhIjoxfQ\n",
+    "content eyJvcGVyYXRpb25zIjpbXX0\n",
+    "content eyJ3cml0ZXJMb2NrSWQiOjd9\n",
+    "content eyJvcGVyYXRpb25zIjp7ImNyZWF0ZSI6W3t9XX19\n",
+    "content eyJvcGVyYXRpb25zIjp7ImNyZWF0ZSI6W3sic3VmZml4RGF0YSI6eyJkZWx0YUhhc2giOiJFaUM2ZUJhX2p3SFA2a0ZCUU41ZHJpSWpzQU5obzVZWGVweTBFUDloOGdBVnJRIiwicmVjb3ZlcnlDb21taXRtZW50IjoiRWlEanNNUkNtUHdjRkpyNzlNaVpiN2trSjY1QjVHU2JrMHlrbFprYmVGSzRWUSJ9fSx7InN1ZmZpeERhdGEiOnsiZGVsdGFIYXNoIjoiRWlDNmVCYV9qd0hQNmtGQlFONWRyaUlqc0FOaG81WVhlcHkwRVA5aDhnQVZyUSIsInJlY292ZXJ5Q29tbWl0bWVudCI6IkVpRGpzTVJDbVB3Y0ZKcjc5TWlaYjdra0o2NUI1R1NiazB5a2xaa2JlRks0VlEifX1dfX0\n",
+    "content eyJjb3JlUHJvb2ZGaWxlVXJpIjoiRWlDNmVCYV9qd0hQNmtGQlFONWRyaUlqc0FOaG81WVhlcHkwRVA5aDhnQVZyUSJ9\n",
+    "anchor 1 1.EiC6qJhYx-VFOQJzUwumPGG5TC4J04wosKAxG_p73jlhgQ\n",
+    "anchor 1 1.EiABWr1_XMV6LdlLdZDwStgIQnOQXuM-xc6-rmInapf4Yg\n",
+    "anchor 1 1.EiC6AIs_8uZP0Pch5ipBWdEGjaTD-MpDK_QKBBTBZwEwWQ\n",
+    "anchor 1 1.EiBeO9rxO2worC64rOW8EhN73joCWCNXJJ5SgHX17sJ3jg\n",
+    "anchor 1 1.EiBE4ukEJTia5fiK6bzlYM2mJ5wj-raafc1mLSyXwyDMmQ\n",
+    "anchor 1 1.EiAKDbocakQZLdX1rLeTfoNRvV5NuLGjQKAZgpG77Mc9Vw\n",
+    "anchor 1 2.EiAKDbocakQZLdX1rLeTfoNRvV5NuLGjQKAZgpG77Mc9Vw\n",
+    "anchor 1 1.EiBd3e1V_H1FlKVL_FtZcIwq9E6WGfRtYBsW9WZlOZnwUA\n",
+    "report 0\n",
+    "report 1\n",
+    "report 2\n",
+    "report 3\n",
+    "report 4\n",
+    "report 5\n",
+    "report 6\n",
+    "report 7\n",
+);
+
+// The replies to it, by a reader of these formats in Python.
+pub const CORES_REPLIES: &str = concat!(
+    "have EiC6qJhYx-VFOQJzUwumPGG5TC4J04wosKAxG_p73jlhgQ\n",
+    "have EiABWr1_XMV6LdlLdZDwStgIQnOQXuM-xc6-rmInapf4Yg\n",
+    "have EiC6AIs_8uZP0Pch5ipBWdEGjaTD-MpDK_QKBBTBZwEwWQ\n",
+    "have EiBeO9rxO2worC64rOW8EhN73joCWCNXJJ5SgHX17sJ3jg\n",
+    "have EiBE4ukEJTia5fiK6bzlYM2mJ5wj-raafc1mLSyXwyDMmQ\n",
+    "have EiAKDbocakQZLdX1rLeTfoNRvV5NuLGjQKAZgpG77Mc9Vw\n",
+    "have EiBd3e1V_H1FlKVL_FtZcIwq9E6WGfRtYBsW9WZlOZnwUA\n",
+    "anchored 0\n",
+    "anchored 1\n",
+    "anchored 2\n",
+    "anchored 3\n",
+    "anchored 4\n",
+    "anchored 5\n",
+    "anchored 6\n",
+    "anchored 7\n",
+    "report C2 unneeded unneeded unneeded unneeded\n",
+    "report C3 unneeded unneeded unneeded unneeded\n",
+    "report C3 unneeded unneeded unneeded unneeded\n",
+    "report C4 unneeded unneeded unneeded unneeded\n",
+    "report C5 unneeded unneeded unneeded unneeded\n",
+    "report C6 unneeded unneeded unneeded unneeded\n",
+    "report C7 unneeded unneeded unneeded unneeded\n",
+    "report C8 unneeded unneeded unneeded unneeded\n",
+);
+
+// Provisional index files, each against one rule and named by a core index without operations: a number that is
+// not whole, no object, no chunk file, an update without members, an update twice, two updates where one is
+// declared, a proof file that no operation needs, and no operation at all.
+pub const PROVISIONALS: &str = concat!(
+    "content eyJhIjoxLjV9\n",
+    "content eyJwcm92aXNpb25hbEluZGV4RmlsZVVyaSI6IkVpQTdITFFMSXBNOWcta2tMNHJISlBFVTJCTGQxSmtKa1hzMlUzWENTMm1rVlEifQ\n",
+    "content W10\n",
+    "content eyJwcm92aXNpb25hbEluZGV4RmlsZVVyaSI6IkVpQlBVODJoakN1cURBTlV1MS1hUHN2bDdSS3JUWTRSdW9jOEx4RVdFZ0s1UlEifQ\n",
+    "content e30\n",
+    "content eyJwcm92aXNpb25hbEluZGV4RmlsZVVyaSI6IkVpQkVFMi1qVmJObmloRkdyUmIzNkdTZWxQdFB3aF9uZm9NUXdHRDJIS3JfaWcifQ\n",
+    "content eyJjaHVua3MiOlt7ImNodW5rRmlsZVVyaSI6IkVpQzZlQmFfandIUDZrRkJRTjVkcmlJanNBTmhvNVlYZXB5MEVQOWg4Z0FWclEifV0sIm9wZXJhdGlvbnMiOnsidXBkYXRlIjpbe31dfX0\n",
+    "content eyJwcm92aXNpb25hbEluZGV4RmlsZVVyaSI6IkVpQm5jR21ReUxxN1BJRnUtcTBodGZkZkFsUTlKdGpSYXNsVXAtRXNOZW1DS1EifQ\n",
+    "content eyJjaHVua3MiOlt7ImNodW5rRmlsZVVyaSI6IkVpQzZlQmFfandIUDZrRkJRTjVkcmlJanNBTmhvNVlYZXB5MEVQOWg4Z0FWclEifV0sIm9wZXJhdGlvbnMiOnsidXBkYXRlIjpbeyJkaWRTdWZmaXgiOiJFaUM2ZUJhX2p3SFA2a0ZCUU41ZHJpSWpzQU5obzVZWGVweTBFUDloOGdBVnJRIiwicmV2ZWFsVmFsdWUiOiJFaURqc01SQ21Qd2NGSnI3OU1pWmI3a2tKNjVCNUdTYmsweWtsWmtiZUZLNFZRIn0seyJkaWRTdWZmaXgiOiJFaUM2ZUJhX2p3SFA2a0ZCUU41ZHJpSWpzQU5obzVZWGVweTBFUDloOGdBVnJRIiwicmV2ZWFsVmFsdWUiOiJFaURqc01SQ21Qd2NGSnI3OU1pWmI3a2tKNjVCNUdTYmsweWtsWmtiZUZLNFZRIn1dfSwicHJvdmlzaW9uYWxQcm9vZkZpbGVVcmkiOiJFaUM2ZUJhX2p3SFA2a0ZCUU41ZHJpSWpzQU5obzVZWGVweTBFUDloOGdBVnJRIn0\n",
+    "content eyJwcm92aXNpb25hbEluZGV4RmlsZVVyaSI6IkVpQmZ1bVNiUXRhVHhLR3Iwb3d1M2QxLVNvckNrVzdkLThnMVJGNFoyQ3FsVGcifQ\n",
+    "content eyJjaHVua3MiOlt7ImNodW5rRmlsZVVyaSI6IkVpQzZlQmFfandIUDZrRkJRTjVkcmlJanNBTmhvNVlYZXB5MEVQOWg4Z0FWclEifV0sIm9wZXJhdGlvbnMiOnsidXBkYXRlIjpbeyJkaWRTdWZmaXgiOiJFaUM2ZUJhX2p3SFA2a0ZCUU41ZHJpSWpzQU5obzVZWGVweTBFUDloOGdBVnJRIiwicmV2ZWFsVmFsdWUiOiJFaURqc01SQ21Qd2NGSnI3OU1pWmI3a2tKNjVCNUdTYmsweWtsWmtiZUZLNFZRIn0seyJkaWRTdWZmaXgiOiJFaUJFRTItalZiTm5paEZHclJiMzZHU2VsUHRQd2hfbmZvTVF3R0QySEtyX2lnIiwicmV2ZWFsVmFsdWUiOiJFaURqc01SQ21Qd2NGSnI3OU1pWmI3a2tKNjVCNUdTYmsweWtsWmtiZUZLNFZRIn1dfSwicHJvdmlzaW9uYWxQcm9vZkZpbGVVcmkiOiJFaUM2ZUJhX2p3SFA2a0ZCUU41ZHJpSWpzQU5obzVZWGVweTBFUDloOGdBVnJRIn0\n",
+    "content eyJwcm92aXNpb25hbEluZGV4RmlsZVVyaSI6IkVpQ2NWYWR3Mm9CbjNDeFFxeTJqZ3hsUXJEbTgwZWktbjBtWkxrcEZ6UE0tVFEifQ\n",
+    "content eyJjaHVua3MiOlt7ImNodW5rRmlsZVVyaSI6IkVpQzZlQmFfandIUDZrRkJRTjVkcmlJanNBTmhvNVlYZXB5MEVQOWg4Z0FWclEifV0sInByb3Zpc2lvbmFsUHJvb2ZGaWxlVXJpIjoiRWlDNmVCYV9qd0hQNmtGQlFONWRyaUlqc0FOaG81WVhlcHkwRVA5aDhnQVZyUSJ9\n",
+    "content eyJwcm92aXNpb25hbEluZGV4RmlsZVVyaSI6IkVpQUhBZ2QwUVBRNkRsSGhQU3gzYmprTGNNQ3NpWXF1cHJDYzZGZ01Fd1RRencifQ\n",
+    "content eyJjaHVua3MiOlt7ImNodW5rRmlsZVVyaSI6IkVpQzZlQmFfandIUDZrRkJRTjVkcmlJanNBTmhvNVlYZXB5MEVQOWg4Z0FWclEifV19\n",
+    "content eyJwcm92aXNpb25hbEluZGV4RmlsZVVyaSI6IkVpQWJfTEVuWlUtRV9vVWIzN2U1eHJMNXNCMHZLUjRXS3hPR2lscDRaTHNnc3cifQ\n",
+    "anchor 1 1.EiBtonup6PSXo4ykNS2C40cWpdmBo8qOaBAujPubRety-g\n",
+    "anchor 1 1.EiCmp69V7BFaPa0UIqY3nKXyLhyQnbDPwM6dhw0p0wNvFg\n",
+    "anchor 1 1.EiDAJ_uhVB9fdzVmDO4TUnU4AtWkvvGELqFoQOKVAYZ1tw\n",
+    "anchor 1 1.EiAUlB95eMllrkg4k5kfma0l5GOCY8ROk7z82CJXdY_DMg\n",
+    "anchor 1 2.EiACcpgE8wls1jWvVdt7b1JtSSpApUKBtC2H_RLxfR2HjA\n",
+    "anchor 1 1.EiDlddLzsfSxIYUR3Kefkcpz2QqrZxVNIr3eS7ciJiZMaw\n",
+    "anchor 1 1.EiB8uM1Dq_qlfu8s6tkl4ywOEjUY2JYGmZ68tHdOcMq7zg\n",
+    "anchor 1 1.EiAciE0W0m3UHmGlUaQHDK7HXFluULVZIwFd3L3WsAeqGA\n",
+    "report 0\n",
+    "report 1\n",
+    "report 2\n",
+    "report 3\n",
+    "report 4\n",
+    "report 5\n",
+    "report 6\n",
+    "report 7\n",
+);
+
+// The replies to it, by a reader of these formats in Python.
+pub const PROVISIONALS_REPLIES: &str = concat!(
+    "have EiA7HLQLIpM9g-kkL4rHJPEU2BLd1JkJkXs2U3XCS2mkVQ\n",
+    "have EiBtonup6PSXo4ykNS2C40cWpdmBo8qOaBAujPubRety-g\n",
+    "have EiBPU82hjCuqDANUu1-aPsvl7RKrTY4Ruoc8LxEWEgK5RQ\n",
+    "have EiCmp69V7BFaPa0UIqY3nKXyLhyQnbDPwM6dhw0p0wNvFg\n",
+    "have EiBEE2-jVbNnihFGrRb36GSelPtPwh_nfoMQwGD2HKr_ig\n",
+    "have EiDAJ_uhVB9fdzVmDO4TUnU4AtWkvvGELqFoQOKVAYZ1tw\n",
+    "have EiBncGmQyLq7PIFu-q0htfdfAlQ9JtjRaslUp-EsNemCKQ\n",
+    "have EiAUlB95eMllrkg4k5kfma0l5GOCY8ROk7z82CJXdY_DMg\n",
+    "have EiBfumSbQtaTxKGr0owu3d1-SorCkW7d-8g1RF4Z2CqlTg\n",
+    "have EiACcpgE8wls1jWvVdt7b1JtSSpApUKBtC2H_RLxfR2HjA\n",
+    "have EiCcVadw2oBn3CxQqy2jgxlQrDm80ei-n0mZLkpFzPM-TQ\n",
+    "have EiDlddLzsfSxIYUR3Kefkcpz2QqrZxVNIr3eS7ciJiZMaw\n",
+    "have EiAHAgd0QPQ6DlHhPSx3bjkLcMCsiYquprCc6FgMEwTQzw\n",
+    "have EiB8uM1Dq_qlfu8s6tkl4ywOEjUY2JYGmZ68tHdOcMq7zg\n",
+    "have EiAb_LEnZU-E_oUb37e5xrL5sB0vKR4WKxOGilp4ZLsgsw\n",
+    "have EiAciE0W0m3UHmGlUaQHDK7HXFluULVZIwFd3L3WsAeqGA\n",
+    "anchored 0\n",
+    "anchored 1\n",
+    "anchored 2\n",
+    "anchored 3\n",
+    "anchored 4\n",
+    "anchored 5\n",
+    "anchored 6\n",
+    "anchored 7\n",
+    "report read unneeded P2 unneeded unneeded\n",
+    "report read unneeded P3 unneeded unneeded\n",
+    "report read unneeded P4 unneeded unneeded\n",
+    "report read unneeded P5 unneeded unneeded\n",
+    "report read unneeded P6 unneeded unneeded\n",
+    "report read unneeded P7 unneeded unneeded\n",
+    "report read unneeded P8 unneeded unneeded\n",
+    "report read unneeded P9 unneeded unneeded\n",
+);
+
+// A create, and four deactivates of it: the core proof file is no JSON, has no operations, has no proof, and has
+// one that is no signed text. The create stands.
+pub const PROOFS: &str = concat!(
+    "content eyJvcGVyYXRpb25zIjp7ImNyZWF0ZSI6W3sic3VmZml4RGF0YSI6eyJkZWx0YUhhc2giOiJFaUM2ZUJhX2p3SFA2a0ZCUU41ZHJpSWpzQU5obzVZWGVweTBFUDloOGdBVnJRIiwicmVjb3ZlcnlDb21taXRtZW50IjoiRWlEanNNUkNtUHdjRkpyNzlNaVpiN2trSjY1QjVHU2JrMHlrbFprYmVGSzRWUSJ9fV19fQ\n",
+    "content eA\n",
+    "content eyJjb3JlUHJvb2ZGaWxlVXJpIjoiRWlBdGNSWkN0eWF3UkFGaWZLbjdyREwxeUZNUHNaQTh4TnNDSlljWGtocElnUSIsIm9wZXJhdGlvbnMiOnsiZGVhY3RpdmF0ZSI6W3siZGlkU3VmZml4IjoiRWlBVGRYOFE1TVZfcGxKSm11TkFGXzBuT2Z3b0FYNzByLXRQNWVTT1BmODZ2QSIsInJldmVhbFZhbHVlIjoiRWlEanNNUkNtUHdjRkpyNzlNaVpiN2trSjY1QjVHU2JrMHlrbFprYmVGSzRWUSJ9XX19\n",
+    "content e30\n",
+    "content eyJjb3JlUHJvb2ZGaWxlVXJpIjoiRWlCRUUyLWpWYk5uaWhGR3JSYjM2R1NlbFB0UHdoX25mb01Rd0dEMkhLcl9pZyIsIm9wZXJhdGlvbnMiOnsiZGVhY3RpdmF0ZSI6W3siZGlkU3VmZml4IjoiRWlBVGRYOFE1TVZfcGxKSm11TkFGXzBuT2Z3b0FYNzByLXRQNWVTT1BmODZ2QSIsInJldmVhbFZhbHVlIjoiRWlEanNNUkNtUHdjRkpyNzlNaVpiN2trSjY1QjVHU2JrMHlrbFprYmVGSzRWUSJ9XX19\n",
+    "content eyJvcGVyYXRpb25zIjp7ImRlYWN0aXZhdGUiOltdfX0\n",
+    "content eyJjb3JlUHJvb2ZGaWxlVXJpIjoiRWlDQVI1eEYzRlhGX01KRFVsQ1JiSGVvOGhJRkZRU2NEamM2SkFjSXg5QUpHQSIsIm9wZXJhdGlvbnMiOnsiZGVhY3RpdmF0ZSI6W3siZGlkU3VmZml4IjoiRWlBVGRYOFE1TVZfcGxKSm11TkFGXzBuT2Z3b0FYNzByLXRQNWVTT1BmODZ2QSIsInJldmVhbFZhbHVlIjoiRWlEanNNUkNtUHdjRkpyNzlNaVpiN2trSjY1QjVHU2JrMHlrbFprYmVGSzRWUSJ9XX19\n",
+    "content eyJvcGVyYXRpb25zIjp7ImRlYWN0aXZhdGUiOlt7InNpZ25lZERhdGEiOiJ4In1dfX0\n",
+    "content eyJjb3JlUHJvb2ZGaWxlVXJpIjoiRWlDSk5TdmZqUk1nZGZTQVpzZXh0a0RNY3BDZmNfNnozMnAzeDZ6NWhWbUJkZyIsIm9wZXJhdGlvbnMiOnsiZGVhY3RpdmF0ZSI6W3siZGlkU3VmZml4IjoiRWlBVGRYOFE1TVZfcGxKSm11TkFGXzBuT2Z3b0FYNzByLXRQNWVTT1BmODZ2QSIsInJldmVhbFZhbHVlIjoiRWlEanNNUkNtUHdjRkpyNzlNaVpiN2trSjY1QjVHU2JrMHlrbFprYmVGSzRWUSJ9XX19\n",
+    "anchor 1 1.EiA10dvb-_d3kAW7ki4Rzo6ZaD84v2bZZ4O2fJ21bh1ChA\n",
+    "anchor 1 1.EiDqfuFhkEevWHfA3KdBKssKzcV174YSTnWEcRbk8aHGKQ\n",
+    "anchor 1 1.EiAkNFfetPVB2XAU9WAfhOhaXOBILzkp_bKG79bd6jEYdA\n",
+    "anchor 1 1.EiAE3CzPj7rqC3xQ2KlDPBGoKVsQhsn8ZckwqQFsikuQKw\n",
+    "anchor 1 1.EiDJfKKgnIFTuthWGw3MvMD6MM9hcfGBUduUv84eApV0Ug\n",
+    "report 1\n",
+    "report 2\n",
+    "report 3\n",
+    "report 4\n",
+    "resolve did:sidetree:EiATdX8Q5MV_plJJmuNAF_0nOfwoAX70r-tP5eSOPf86vA\n",
+);
+
+// The replies to it, by a reader of these formats in Python.
+pub const PROOFS_REPLIES: &str = concat!(
+    "have EiA10dvb-_d3kAW7ki4Rzo6ZaD84v2bZZ4O2fJ21bh1ChA\n",
+    "have EiAtcRZCtyawRAFifKn7rDL1yFMPsZA8xNsCJYcXkhpIgQ\n",
+    "have EiDqfuFhkEevWHfA3KdBKssKzcV174YSTnWEcRbk8aHGKQ\n",
+    "have EiBEE2-jVbNnihFGrRb36GSelPtPwh_nfoMQwGD2HKr_ig\n",
+    "have EiAkNFfetPVB2XAU9WAfhOhaXOBILzkp_bKG79bd6jEYdA\n",
+    "have EiCAR5xF3FXF_MJDUlCRbHeo8hIFFQScDjc6JAcIx9AJGA\n",
+    "have EiAE3CzPj7rqC3xQ2KlDPBGoKVsQhsn8ZckwqQFsikuQKw\n",
+    "have EiCJNSvfjRMgdfSAZsextkDMcpCfc_6z32p3x6z5hVmBdg\n",
+    "have EiDJfKKgnIFTuthWGw3MvMD6MM9hcfGBUduUv84eApV0Ug\n",
+    "anchored 0\n",
+    "anchored 1\n",
+    "anchored 2\n",
+    "anchored 3\n",
+    "anchored 4\n",
+    "report read Q2 unneeded unneeded unneeded\n",
+    "report read Q3 unneeded unneeded unneeded\n",
+    "report read Q4 unneeded unneeded unneeded\n",
+    "report read read unneeded unneeded unneeded\n",
+    "resolved {\"didDocument\":{\"id\":\"did:sidetree:EiATdX8Q5MV_plJJmuNAF_0nOfwoAX70r-tP5eSOPf86vA\"},\"didDocumentMetadata\":{\"canonicalId\":\"did:sidetree:EiATdX8Q5MV_plJJmuNAF_0nOfwoAX70r-tP5eSOPf86vA\",\"method\":{\"published\":true,\"recoveryCommitment\":\"EiDjsMRCmPwcFJr79MiZb7kkJ65B5GSbk0yklZkbeFK4VQ\"}}}\n",
+);
+
+// A create with four chunk files: one is no JSON, one has no deltas, one has too few, and one has a delta that is
+// null. The create has no delta that counts.
+pub const CHUNKS: &str = concat!(
+    "content eA\n",
+    "content eyJjaHVua3MiOlt7ImNodW5rRmlsZVVyaSI6IkVpQXRjUlpDdHlhd1JBRmlmS243ckRMMXlGTVBzWkE4eE5zQ0pZY1hraHBJZ1EifV19\n",
+    "content eyJvcGVyYXRpb25zIjp7ImNyZWF0ZSI6W3sic3VmZml4RGF0YSI6eyJkZWx0YUhhc2giOiJFaUM2ZUJhX2p3SFA2a0ZCUU41ZHJpSWpzQU5obzVZWGVweTBFUDloOGdBVnJRIiwicmVjb3ZlcnlDb21taXRtZW50IjoiRWlEanNNUkNtUHdjRkpyNzlNaVpiN2trSjY1QjVHU2JrMHlrbFprYmVGSzRWUSJ9fV19LCJwcm92aXNpb25hbEluZGV4RmlsZVVyaSI6IkVpQjhNbTl6cnhXYUN1eUdpNFlFTGE3WGNzQ0txUFJsYzF6Zm1SUGRVNzROaGcifQ\n",
+    "content e30\n",
+    "content eyJjaHVua3MiOlt7ImNodW5rRmlsZVVyaSI6IkVpQkVFMi1qVmJObmloRkdyUmIzNkdTZWxQdFB3aF9uZm9NUXdHRDJIS3JfaWcifV19\n",
+    "content eyJvcGVyYXRpb25zIjp7ImNyZWF0ZSI6W3sic3VmZml4RGF0YSI6eyJkZWx0YUhhc2giOiJFaUM2ZUJhX2p3SFA2a0ZCUU41ZHJpSWpzQU5obzVZWGVweTBFUDloOGdBVnJRIiwicmVjb3ZlcnlDb21taXRtZW50IjoiRWlEanNNUkNtUHdjRkpyNzlNaVpiN2trSjY1QjVHU2JrMHlrbFprYmVGSzRWUSJ9fV19LCJwcm92aXNpb25hbEluZGV4RmlsZVVyaSI6IkVpQlZWWTZPdFNsXzlkcmh2OVo4aHRJM0psYkdmajVlT1JEaEdLem01bndhZXcifQ\n",
+    "content eyJkZWx0YXMiOltdfQ\n",
+    "content eyJjaHVua3MiOlt7ImNodW5rRmlsZVVyaSI6IkVpQnkxbC1rMGJ3d3RHNlRwbU82Z3RHelJxbldDUXJfQjJSUjlkTF90WVc5b2cifV19\n",
+    "content eyJvcGVyYXRpb25zIjp7ImNyZWF0ZSI6W3sic3VmZml4RGF0YSI6eyJkZWx0YUhhc2giOiJFaUM2ZUJhX2p3SFA2a0ZCUU41ZHJpSWpzQU5obzVZWGVweTBFUDloOGdBVnJRIiwicmVjb3ZlcnlDb21taXRtZW50IjoiRWlEanNNUkNtUHdjRkpyNzlNaVpiN2trSjY1QjVHU2JrMHlrbFprYmVGSzRWUSJ9fV19LCJwcm92aXNpb25hbEluZGV4RmlsZVVyaSI6IkVpQUJNamNuNmVwWHRjbzFXckJpQkE1eUdtRUNoVUhZWGE1cGxNNXBFajctclEifQ\n",
+    "content eyJkZWx0YXMiOltudWxsXX0\n",
+    "content eyJjaHVua3MiOlt7ImNodW5rRmlsZVVyaSI6IkVpQ0RGX1RXMnRtRkpWVjNQeEdmV3JmWkdXYnNyZ3Q2NE1fOEZob2M2QzFGcWcifV19\n",
+    "content eyJvcGVyYXRpb25zIjp7ImNyZWF0ZSI6W3sic3VmZml4RGF0YSI6eyJkZWx0YUhhc2giOiJFaUM2ZUJhX2p3SFA2a0ZCUU41ZHJpSWpzQU5obzVZWGVweTBFUDloOGdBVnJRIiwicmVjb3ZlcnlDb21taXRtZW50IjoiRWlEanNNUkNtUHdjRkpyNzlNaVpiN2trSjY1QjVHU2JrMHlrbFprYmVGSzRWUSJ9fV19LCJwcm92aXNpb25hbEluZGV4RmlsZVVyaSI6IkVpQVBqUnFvMFA1dkVZVmdvX2s1Zlo1cE5xd3dVTGFQVVlLMDdkNVZxM0JEQ0EifQ\n",
+    "anchor 1 1.EiD_IlLwWQlIH7MZxgeOKMvuIU_21qnaQe60ZvEDY1O2Uw\n",
+    "anchor 1 1.EiAIW_IX7hzYwqpTIJe0rtzzhMPV-tqZiqPAsktLOK_sjQ\n",
+    "anchor 1 1.EiCpry8Vbi2vfw9-o2Nj3gJJIw_Gkr5MSjoAqkYCKSfoPw\n",
+    "anchor 1 1.EiCVeqHqnr7f7zXPF1C9ceh-9vyVhY0q8iekTrXnXstd6w\n",
+    "report 0\n",
+    "report 1\n",
+    "report 2\n",
+    "report 3\n",
+    "resolve did:sidetree:EiATdX8Q5MV_plJJmuNAF_0nOfwoAX70r-tP5eSOPf86vA\n",
+);
+
+// The replies to it, by a reader of these formats in Python.
+pub const CHUNKS_REPLIES: &str = concat!(
+    "have EiAtcRZCtyawRAFifKn7rDL1yFMPsZA8xNsCJYcXkhpIgQ\n",
+    "have EiB8Mm9zrxWaCuyGi4YELa7XcsCKqPRlc1zfmRPdU74Nhg\n",
+    "have EiD_IlLwWQlIH7MZxgeOKMvuIU_21qnaQe60ZvEDY1O2Uw\n",
+    "have EiBEE2-jVbNnihFGrRb36GSelPtPwh_nfoMQwGD2HKr_ig\n",
+    "have EiBVVY6OtSl_9drhv9Z8htI3JlbGfj5eORDhGKzm5nwaew\n",
+    "have EiAIW_IX7hzYwqpTIJe0rtzzhMPV-tqZiqPAsktLOK_sjQ\n",
+    "have EiBy1l-k0bwwtG6TpmO6gtGzRqnWCQr_B2RR9dL_tYW9og\n",
+    "have EiABMjcn6epXtco1WrBiBA5yGmEChUHYXa5plM5pEj7-rQ\n",
+    "have EiCpry8Vbi2vfw9-o2Nj3gJJIw_Gkr5MSjoAqkYCKSfoPw\n",
+    "have EiCDF_TW2tmFJVV3PxGfWrfZGWbsrgt64M_8Fhoc6C1Fqg\n",
+    "have EiAPjRqo0P5vEYVgo_k5fZ5pNqwwULaPUYK07d5Vq3BDCA\n",
+    "have EiCVeqHqnr7f7zXPF1C9ceh-9vyVhY0q8iekTrXnXstd6w\n",
+    "anchored 0\n",
+    "anchored 1\n",
+    "anchored 2\n",
+    "anchored 3\n",
+    "report read unneeded read unneeded K2\n",
+    "report read unneeded read unneeded K3\n",
+    "report read unneeded read unneeded K4\n",
+    "report read unneeded read unneeded read\n",
+    "resolved {\"didDocument\":{\"id\":\"did:sidetree:EiATdX8Q5MV_plJJmuNAF_0nOfwoAX70r-tP5eSOPf86vA\"},\"didDocumentMetadata\":{\"canonicalId\":\"did:sidetree:EiATdX8Q5MV_plJJmuNAF_0nOfwoAX70r-tP5eSOPf86vA\",\"method\":{\"published\":true,\"recoveryCommitment\":\"EiDjsMRCmPwcFJr79MiZb7kkJ65B5GSbk0yklZkbeFK4VQ\"}}}\n",
+);
+
+// A provisional index with an update of an identifier, named by a core index alone and by one that creates it.
+pub const SHARED: &str = concat!(
+    "anchor 1 1.EiDmh3UGiB4XVuiWNwFInGMib2NwUYv4pkZ0zgZIgY3PHw\n",
+    "anchor 1 2.EiAts87oE3-4qIZaSDyFDlnqoKmC2UEaw4X3YuD82kIRnA\n",
+    "content eyJwcm92aXNpb25hbEluZGV4RmlsZVVyaSI6IkVpQzRER1RMUERVVzJ1Q25saDVtLUhsY3NSMHVZYjBfQ1ZjT09sWHlGYjVnbHcifQ\n",
+    "content eyJvcGVyYXRpb25zIjp7ImNyZWF0ZSI6W3sic3VmZml4RGF0YSI6eyJkZWx0YUhhc2giOiJFaUM2ZUJhX2p3SFA2a0ZCUU41ZHJpSWpzQU5obzVZWGVweTBFUDloOGdBVnJRIiwicmVjb3ZlcnlDb21taXRtZW50IjoiRWlEanNNUkNtUHdjRkpyNzlNaVpiN2trSjY1QjVHU2JrMHlrbFprYmVGSzRWUSJ9fV19LCJwcm92aXNpb25hbEluZGV4RmlsZVVyaSI6IkVpQzRER1RMUERVVzJ1Q25saDVtLUhsY3NSMHVZYjBfQ1ZjT09sWHlGYjVnbHcifQ\n",
+    "content eyJjaHVua3MiOlt7ImNodW5rRmlsZVVyaSI6IkVpQzZlQmFfandIUDZrRkJRTjVkcmlJanNBTmhvNVlYZXB5MEVQOWg4Z0FWclEifV0sIm9wZXJhdGlvbnMiOnsidXBkYXRlIjpbeyJkaWRTdWZmaXgiOiJFaUFUZFg4UTVNVl9wbEpKbXVOQUZfMG5PZndvQVg3MHItdFA1ZVNPUGY4NnZBIiwicmV2ZWFsVmFsdWUiOiJFaURqc01SQ21Qd2NGSnI3OU1pWmI3a2tKNjVCNUdTYmsweWtsWmtiZUZLNFZRIn1dfSwicHJvdmlzaW9uYWxQcm9vZkZpbGVVcmkiOiJFaUJFRTItalZiTm5paEZHclJiMzZHU2VsUHRQd2hfbmZvTVF3R0QySEtyX2lnIn0\n",
+    "report 0\n",
+    "report 1\n",
+);
+
+// The replies to it, by a reader of these formats in Python.
+pub const SHARED_REPLIES: &str = concat!(
+    "anchored 0\n",
+    "anchored 1\n",
+    "have EiDmh3UGiB4XVuiWNwFInGMib2NwUYv4pkZ0zgZIgY3PHw\n",
+    "have EiAts87oE3-4qIZaSDyFDlnqoKmC2UEaw4X3YuD82kIRnA\n",
+    "have EiC4DGTLPDUW2uCnlh5m-HlcsR0uYb0_CVcOOlXyFb5glw\n",
+    "report read unneeded read missing missing\n",
+    "report read unneeded P6 unneeded unneeded\n",
+);

@@ -1,0 +1,29 @@
+-- Isolation: what is answered of an identifier follows from its own operations.
+use Rattle.std.specs.Prelude.{◌≡◌, ℕ, List, Ok}
+use Rattle.st_hash.specs.Hash.{HashValue}
+use Rattle.st_node.specs.Command.{command_of}
+use Rattle.st_node.specs.Machine.{Machine, answered, newest}
+use Rattle.st_node.specs.declared.command.Command.TheVariants.{Resolve}
+use Rattle.st_observer.specs.Observed.{operations}
+use Rattle.st_resolve.specs.Identifier.{PlainDid, did_of}
+
+-- the line asks a machine to resolve an identifier of this suffix
+pub record AsksFor (machine : Machine) (suffix : HashValue) (line : List ℕ) : Type 0 where
+  pub text : List ℕ
+  pub did : PlainDid
+  pub asks : command_of line ≡ Ok (Resolve text)
+  pub identifies : did_of (newest machine.observed).version text ≡ Ok did
+  pub by_suffix : did.suffix ≡ suffix
+
+-- two machines under one schedule of limits know the same operations of a suffix
+pub record AgreeOn (suffix : HashValue) (first second : Machine) : Type 0 where
+  pub same_schedule : first.observed.schedule ≡ second.observed.schedule
+  pub same_operations : operations suffix first.observed ≡ operations suffix second.observed
+
+-- Two machines that know the same operations of a suffix reply alike to each line that asks to resolve
+-- an identifier of it. So no entry that gives no operation for it, no cut of such entries, no file that
+-- leaves its operations and nothing in the queue changes a reply for it (by `isolation_law` of
+-- st_observer).
+abbrev pub IsolatesIdentifiers : Type 0
+IsolatesIdentifiers = (suffix : HashValue) (first second : Machine) (line : List ℕ) → AgreeOn suffix first second
+    → AsksFor first suffix line → (answered first line).reply ≡ (answered second line).reply

@@ -1,0 +1,142 @@
+-- Bounds on the work that is counted: of one line, and of a run of lines.
+use Rattle.std.specs.Prelude.{◌≡◌, ℕ, ◌+◌, ◌-◌, ◌*◌, ◌≤◌, nat_le, Bool, true, false, List, [], ◌∷◌, ◌++◌, length, sum_by, Option, option_map, unwrap_or, Result, Ok, Err}
+use Rattle.st_anchor.specs.States.{decided_roles, opened_proofs}
+use Rattle.st_base.specs.Work.{Counts, AppliesAtMost}
+use Rattle.st_hash.specs.Hash.{HashValue}
+use Rattle.st_ledger.specs.Anchor.{anchor_of}
+use Rattle.st_ledger.specs.Ledger.{admitted}
+use Rattle.st_ledger.specs.declared.entry.Entry.{Entry}
+use Rattle.st_ledger.specs.declared.refused.LedgerRefused.{LedgerRefused}
+use Rattle.st_node.specs.Command.{command_of}
+use Rattle.st_node.specs.Machine.{Machine, after, answered}
+use Rattle.st_node.specs.declared.command.Command.{Command}
+use Rattle.st_node.specs.declared.command.Command.TheVariants.{Content, Anchor, Rollback, Resolve, Wanted, Report}
+use Rattle.st_node.specs.declared.command.LineCause.{LineCause}
+use Rattle.st_observer.specs.Observed.{Observed, appended, arrived, known_of}
+use Rattle.st_observer.specs.Work.{GrewAtMost, NamesLosing, arrival_cost, decided_in, entry_cost, opened_in}
+use Rattle.st_params.specs.Schedule.{params_at}
+
+-- ---- what a command may cost
+
+-- A file costs one reading for each role that it decides, of whatever entry, and one opening for each
+-- signed text in the proof files that are read now.
+abbrev pub ArrivalCounts : Observed → List ℕ → Counts → Counts → Type 0
+ArrivalCounts observed bytes old new =
+    GrewAtMost
+    (decided_in (arrived bytes observed) - decided_in observed)
+    (opened_in (arrived bytes observed) - opened_in observed)
+    (arrival_cost bytes observed)
+    old new
+
+-- An entry costs the same of its own roles.
+abbrev pub EntryCounts : Observed → Entry → Counts → Counts → Type 0
+EntryCounts observed entry old new =
+    GrewAtMost
+    (decided_roles (known_of observed.schedule observed.files entry))
+    (opened_proofs (known_of observed.schedule observed.files entry))
+    (entry_cost (length observed.ledger) entry (appended entry observed))
+    old new
+
+-- nothing is counted of one that is refused
+abbrev pub AdmittedCounts : Observed → Entry → Result Unit LedgerRefused → Counts → Counts → Type 0
+AdmittedCounts observed entry (Ok _) old new = EntryCounts observed entry old new
+AdmittedCounts observed entry (Err cause) old new = new ≡ old
+
+-- A cut reads and opens nothing, and costs at most 7 applied operations for each identifier that loses
+-- one.
+pub record CutCounts (observed : Observed) (n : ℕ) (old new : Counts) : Type 0 where
+  pub files : new.files ≡ old.files
+  pub proofs : new.proofs ≡ old.proofs
+  pub applies : (names : List HashValue) → NamesLosing n observed names → new.applies ≤ old.applies + 7 * length names
+
+-- and where it is refused, nothing is counted
+abbrev pub FittingCounts : Observed → ℕ → Bool → Counts → Counts → Type 0
+FittingCounts observed n true old new = CutCounts observed n old new
+FittingCounts observed n false old new = new ≡ old
+
+-- the same by the number of entries that are kept
+abbrev pub RollbackCounts : Observed → ℕ → Counts → Counts → Type 0
+RollbackCounts observed n old new = FittingCounts observed n (nat_le n (length observed.ledger)) old new
+
+-- What is counted while a command is carried out. An identifier is resolved without a reading, and with
+-- one applied operation at most; what asks how things stand costs nothing.
+abbrev pub CommandCounts : Machine → Command → Counts → Counts → Type 0
+CommandCounts machine (Content bytes) old new = ArrivalCounts machine.observed bytes old new
+CommandCounts machine (Anchor height text) old new =
+    AdmittedCounts machine.observed (record { height = height; text = text }) (admitted machine.observed.ledger height) old new
+CommandCounts machine (Rollback n) old new = RollbackCounts machine.observed n old new
+CommandCounts machine (Resolve did) old new = AppliesAtMost 1 old new
+CommandCounts machine Wanted old new = new ≡ old
+CommandCounts machine (Report n) old new = new ≡ old
+
+-- and while a line is answered: nothing is counted of one that is no command
+abbrev pub LineCounts : Machine → Result Command LineCause → Counts → Counts → Type 0
+LineCounts machine (Ok command) old new = CommandCounts machine command old new
+LineCounts machine (Err cause) old new = new ≡ old
+
+-- ---- what is still due
+
+-- how many files may still be read for an entry: one for each of its five roles that isn't decided
+abbrev pub files_due_for : Observed → Entry → ℕ
+files_due_for observed entry = 5 - decided_roles (known_of observed.schedule observed.files entry)
+
+-- how many operations an anchor string declares, or 0 where it fails a rule
+abbrev pub declared_count : Option ℕ → Entry → ℕ
+declared_count schedule entry = unwrap_or (option_map (λ anchor. anchor.count) (anchor_of (params_at schedule entry.height) entry.text)) 0
+
+-- how many signed texts may still be opened for an entry: as many as it declares operations, but for
+-- those that were
+abbrev pub proofs_due_for : Observed → Entry → ℕ
+proofs_due_for observed entry =
+    declared_count observed.schedule entry - opened_proofs (known_of observed.schedule observed.files entry)
+
+-- how many files may still be read for all entries
+abbrev pub files_due : Observed → ℕ
+files_due observed = sum_by (files_due_for observed) observed.ledger
+
+-- how many signed texts may still be opened for all entries
+abbrev pub proofs_due : Observed → ℕ
+proofs_due observed = sum_by (proofs_due_for observed) observed.ledger
+
+-- ---- over lines
+
+-- the entry that comes of an anchor, where it is accepted
+abbrev pub entry_admitted : Entry → Result Unit LedgerRefused → List Entry
+entry_admitted entry (Ok _) = entry ∷ []
+entry_admitted entry (Err cause) = []
+
+-- that of a command
+abbrev pub entry_of_command : Machine → Command → List Entry
+entry_of_command machine (Anchor height text) =
+    entry_admitted (record { height = height; text = text }) (admitted machine.observed.ledger height)
+entry_of_command machine command = []
+
+-- that of a line that was read
+abbrev pub entry_of_read : Machine → Result Command LineCause → List Entry
+entry_of_read machine (Ok command) = entry_of_command machine command
+entry_of_read machine (Err cause) = []
+
+-- that of a line
+abbrev pub entry_of_line : Machine → List ℕ → List Entry
+entry_of_line machine line = entry_of_read machine (command_of line)
+
+-- the entries that come of lines: one for each accepted anchor among them
+abbrev pub entries_of : Machine → List (List ℕ) → List Entry
+entries_of machine [] = []
+entries_of machine (line ∷ lines) = entry_of_line machine line ++ entries_of (answered machine line).next lines
+
+-- What was counted, with what is due afterwards, is no more than what was due before and what these
+-- entries bring: each five files, and as many signed texts as it declares operations.
+pub record StaysDue (before later : Observed) (entries : List Entry) (old new : Counts) : Type 0 where
+  pub files : new.files + files_due later ≤ old.files + files_due before + 5 * length entries
+  pub proofs : new.proofs + proofs_due later ≤ old.proofs + proofs_due before + sum_by (declared_count before.schedule) entries
+
+-- the same over a run of lines
+abbrev pub DueOver : Machine → List (List ℕ) → Counts → Counts → Type 0
+DueOver machine lines old new = StaysDue machine.observed (after machine lines).observed (entries_of machine lines) old new
+
+-- A run of lines from the beginning on reads at most five files for each anchor that is accepted, and
+-- opens at most as many signed texts as these declare operations.
+pub record RunCounts (schedule : Option ℕ) (entries : List Entry) (old new : Counts) : Type 0 where
+  pub files : new.files ≤ old.files + 5 * length entries
+  pub proofs : new.proofs ≤ old.proofs + sum_by (declared_count schedule) entries

@@ -1,0 +1,80 @@
+-- An entry is appended: what is kept, and what was counted.
+--     appended-known    what is known of it
+--     appended-kept, appended-few, appended-wanting
+use Rattle.std.proofs.Common.{◌≡◌, ◌∙◌, ℕ, ◌-◌, ◌≤◌, List, length, ap, refl, subst, sym, arith}
+use Rattle.st_anchor.specs.Coming.{newly_decided, newly_opened}
+use Rattle.st_anchor.specs.Counting.{WorkedAtMost}
+use Rattle.st_anchor.specs.Gives.{given}
+use Rattle.st_anchor.specs.Known.{Known, known_from, known_of_text}
+use Rattle.st_anchor.specs.States.{decided_roles, opened_proofs}
+use Rattle.st_base.specs.Work.{AppliesAtMost, Counts}
+use Rattle.st_ledger.specs.declared.entry.Entry.{Entry}
+use Rattle.st_params.specs.Limits.{Limits}
+use Rattle.st_params.specs.Schedule.{params_at}
+use Rattle.st_observer.specs.Kept.{IsKept}
+use Rattle.st_observer.specs.Observed.{Observed, appended, known_of}
+use Rattle.st_observer.specs.States.{given_cost}
+use Rattle.st_observer.specs.Steps.{Pushes}
+use Rattle.st_observer.specs.Work.{GrewAtMost, entry_cost}
+use Rattle.st_observer.specs.declared.kept.Kept.{Kept}
+use Rattle.st_observer.proofs.CostLemmas.{pushed-cost}
+use Rattle.st_observer.proofs.GoingLemmas.{kept-length}
+use Rattle.st_observer.proofs.KeptLemmas.{kept-pushed, settled-known}
+use Rattle.st_observer.proofs.WorkLemmas.{grew-more, grew-only, grew-worked}
+
+module _ (observed : Observed) (entry : Entry) (text : List ℕ) (limits : Limits) (anchored bound : Known) (texts : text ≡ entry.text)
+    (limited : limits ≡ params_at observed.schedule entry.height)
+    (says : anchored ≡ known_of_text limits text) (settles : bound ≡ known_from observed.files anchored) where
+  says-so : anchored ≡ known_of_text (params_at observed.schedule entry.height) entry.text
+  says-so = says ∙ ap (λ l. known_of_text l text) limited ∙ ap (known_of_text (params_at observed.schedule entry.height)) texts
+
+  appended-known : bound ≡ known_of observed.schedule observed.files entry
+  appended-known = settled-known observed.files (params_at observed.schedule entry.height) entry.text anchored bound says-so settles
+
+  pub appended-kept : (n : ℕ) (before after : Kept) → IsKept observed before → n ≡ length observed.ledger → Pushes n entry.height bound before after
+      → IsKept (appended entry observed) after
+  appended-kept n before after is number step =
+      kept-pushed observed entry n before after is (number ∙ sym (kept-length observed before is))
+      (subst (λ (b : Known). Pushes n entry.height b before after) appended-known step)
+
+  decided-few : newly_decided observed.files anchored ≤ decided_roles (known_of observed.schedule observed.files entry)
+  decided-few = omega (arith, ap decided_roles (sym settles ∙ appended-known))
+
+  opened-few : newly_opened observed.files anchored ≤ opened_proofs (known_of observed.schedule observed.files entry)
+  opened-few = omega (arith, ap opened_proofs (sym settles ∙ appended-known))
+
+  pub appended-few : (n : ℕ) (before : Kept) (old mid new : Counts) → IsKept observed before → n ≡ length observed.ledger
+      → WorkedAtMost (newly_decided observed.files anchored) (newly_opened observed.files anchored) old mid
+      → AppliesAtMost (given_cost n entry.height (given bound) before.states.items) mid new
+      → GrewAtMost (decided_roles (known_of observed.schedule observed.files entry)) (opened_proofs (known_of observed.schedule observed.files entry))
+      (entry_cost (length observed.ledger) entry (appended entry observed)) old new
+  appended-few n before old mid new is number few applied =
+      let cost : given_cost n entry.height (given (known_of observed.schedule observed.files entry)) before.states.items ≤ entry_cost n entry
+      (appended entry observed) =
+      pushed-cost observed before.bounds.items entry n before.states is.same (number ∙ sym (kept-length observed before is)) is.states in
+      let same : given_cost n entry.height (given bound) before.states.items ≡ given_cost n entry.height
+      (given (known_of observed.schedule observed.files entry)) before.states.items =
+      ap (λ b. given_cost n entry.height (given b) before.states.items) appended-known in
+      let at : entry_cost n entry (appended entry observed) ≡ entry_cost (length observed.ledger) entry (appended entry observed) = ap
+      (λ k. entry_cost k entry (appended entry observed)) number in
+      grew-more (newly_decided observed.files anchored) (newly_opened observed.files anchored) (given_cost n entry.height (given bound) before.states.items)
+      (decided_roles (known_of observed.schedule observed.files entry)) (opened_proofs (known_of observed.schedule observed.files entry))
+      (entry_cost (length observed.ledger) entry (appended entry observed)) old new
+      decided-few opened-few (omega (arith, cost, same, at))
+      (grew-worked (newly_decided observed.files anchored) (newly_opened observed.files anchored)
+      (given_cost n entry.height (given bound) before.states.items) old mid new few applied)
+
+-- memory ran out before its files were all read
+pub appended-wanting : (observed : Observed) (entry : Entry) (text : List ℕ) (limits : Limits) (anchored : Known) → text ≡ entry.text
+    → limits ≡ params_at observed.schedule entry.height
+    → anchored ≡ known_of_text limits text → (old new : Counts)
+    → WorkedAtMost (newly_decided observed.files anchored) (newly_opened observed.files anchored) old new
+    → GrewAtMost (decided_roles (known_of observed.schedule observed.files entry)) (opened_proofs (known_of observed.schedule observed.files entry))
+    (entry_cost (length observed.ledger) entry (appended entry observed)) old new
+appended-wanting observed entry text limits anchored texts limited says old new few =
+    let cost : ℕ = entry_cost (length observed.ledger) entry (appended entry observed) in
+    grew-more (newly_decided observed.files anchored) (newly_opened observed.files anchored) cost
+    (decided_roles (known_of observed.schedule observed.files entry)) (opened_proofs (known_of observed.schedule observed.files entry)) cost old new
+    (decided-few observed entry text limits anchored (known_from observed.files anchored) texts limited says refl)
+    (opened-few observed entry text limits anchored (known_from observed.files anchored) texts limited says refl) (omega arith)
+    (grew-only (newly_decided observed.files anchored) (newly_opened observed.files anchored) cost old new few)

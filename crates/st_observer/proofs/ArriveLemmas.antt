@@ -1,0 +1,92 @@
+-- A file arrives: what is kept, and what was counted.
+--     arrived-start     the entries that wait for it
+--     arrived-kept      once they have been looked at again
+--     arrived-exact, arrived-few
+use Rattle.std.proofs.Common.{◌≡◌, ◌∙◌, ℕ, ◌+◌, ◌-◌, false, List, Option, map, ap, refl, subst, sym, arith}
+use Rattle.std.specs.List.{sum_by}
+use Rattle.std.proofs.lemmas.List.Folds.{fold-map}
+use Rattle.st_anchor.specs.Known.{Known, known_from}
+use Rattle.st_anchor.specs.States.{decided_roles, opened_proofs}
+use Rattle.st_base.specs.Work.{Counts}
+use Rattle.st_content.specs.Files.{Files, with_file}
+use Rattle.st_hash.specs.Hash.{HashValue, uri_of}
+use Rattle.st_observer.specs.Kept.{IsKept}
+use Rattle.st_observer.specs.Observed.{Observed, arrived, known_of}
+use Rattle.st_observer.specs.Steps.{IsGoing, costs_where, decided_of, opened_of, over}
+use Rattle.st_observer.specs.Waiting.{is_waiting}
+use Rattle.st_observer.specs.Work.{GrewAtMost, ReadExactly, arrival_cost, decided_in, opened_in}
+use Rattle.st_observer.specs.declared.kept.Kept.{Kept}
+use Rattle.st_observer.proofs.AskedLemmas.{waits-asked}
+use Rattle.st_observer.proofs.CostLemmas.{costs-arrival}
+use Rattle.st_observer.proofs.GoingLemmas.{going-end, going-start}
+use Rattle.st_observer.proofs.WorkLemmas.{grew-more}
+
+-- what the code hands on is the file, the schedule and the files with it
+module _ (file : List ℕ) (observed : Observed) (before : Kept) (uri : HashValue) (later : Files) (is : IsKept observed before)
+    (named : uri ≡ uri_of file) (with : later ≡ with_file file observed.files) where
+  same-over : over before.states.schedule observed.ledger later ≡ arrived file observed
+  same-over = ap (λ s. over s observed.ledger later) is.schedule ∙ ap (over observed.schedule observed.ledger) with
+
+  pub arrived-start : IsGoing (over before.states.schedule observed.ledger later) (λ n. is_waiting uri n before.waiting) before
+  arrived-start =
+      subst (λ (o : Observed). IsGoing o (λ n. is_waiting uri n before.waiting) before) (sym same-over)
+      (subst (λ (u : HashValue). IsGoing (arrived file observed) (λ n. is_waiting u n before.waiting) before) (sym named) (going-start file observed before is))
+
+  pub arrived-kept : (after : Kept) → IsGoing (over before.states.schedule observed.ledger later) (λ n. false) after
+      → IsKept (over observed.schedule observed.ledger later) after
+  arrived-kept after going =
+      going-end (over observed.schedule observed.ledger later) (λ n. false) after (λ n. refl)
+      (subst (λ (s : Option ℕ). IsGoing (over s observed.ledger later) (λ n. false) after) is.schedule going)
+
+  -- counts of what is known of the entries
+  module _ (count : Known → ℕ) where
+    sum-known : (o : Observed) (kept : Kept) → IsKept o kept → sum_by count kept.bounds.items ≡ sum_by
+        (λ entry. count (known_of o.schedule o.files entry)) o.ledger
+    sum-known o kept held =
+        ap (sum_by count) held.same ∙ fold-map (λ total bound. total + count bound) (known_of o.schedule o.files) 0 o.ledger
+
+    sum-arrived : sum_by count (map (known_from later) before.bounds.items) ≡ sum_by
+        (λ entry. count (known_of observed.schedule (with_file file observed.files) entry)) observed.ledger
+    sum-arrived =
+        ap (λ files. sum_by count (map (known_from files) before.bounds.items)) with
+        ∙ ap (sum_by count) (going-start file observed before is).same
+        ∙ fold-map (λ total bound. total + count bound) (known_of observed.schedule (with_file file observed.files)) 0 observed.ledger
+
+  costs-same : costs_where (λ n. is_waiting uri n before.waiting) (over before.states.schedule observed.ledger later) 0 observed.ledger
+      ≡ arrival_cost file observed
+  costs-same =
+      ap (λ (o : Observed). costs_where (λ n. is_waiting uri n before.waiting) o 0 observed.ledger) same-over
+      ∙ ap (λ (u : HashValue). costs_where (λ n. is_waiting u n before.waiting) (arrived file observed) 0 observed.ledger) named
+      ∙ costs-arrival file observed (λ n. is_waiting (uri_of file) n before.waiting) 0 observed.ledger
+      (λ at d inside. ap (λ n. is_waiting (uri_of file) n before.waiting) (let e : 0 + at ≡ at = omega arith in e)
+      ∙ waits-asked (uri_of file) observed before at d is inside)
+
+  pub arrived-few : (old new : Counts)
+      → GrewAtMost (decided_of (map (known_from later) before.bounds.items) - decided_of before.bounds.items)
+      (opened_of (map (known_from later) before.bounds.items) - opened_of before.bounds.items)
+      (costs_where (λ n. is_waiting uri n before.waiting) (over before.states.schedule observed.ledger later) 0 observed.ledger) old new
+      → GrewAtMost (decided_in (arrived file observed) - decided_in observed) (opened_in (arrived file observed) - opened_in observed)
+      (arrival_cost file observed) old new
+  arrived-few old new grew =
+      grew-more (decided_of (map (known_from later) before.bounds.items) - decided_of before.bounds.items)
+      (opened_of (map (known_from later) before.bounds.items) - opened_of before.bounds.items)
+      (costs_where (λ n. is_waiting uri n before.waiting) (over before.states.schedule observed.ledger later) 0 observed.ledger)
+      (decided_in (arrived file observed) - decided_in observed) (opened_in (arrived file observed) - opened_in observed) (arrival_cost file observed) old new
+      (omega (arith, sum-arrived decided_roles, sum-known decided_roles observed before is))
+      (omega (arith, sum-arrived opened_proofs, sum-known opened_proofs observed before is))
+      (omega (arith, costs-same)) grew
+
+  pub arrived-exact : (after : Kept) (old new : Counts) → IsGoing (over before.states.schedule observed.ledger later) (λ n. false) after
+      → ReadExactly (decided_of after.bounds.items - decided_of before.bounds.items) (opened_of after.bounds.items - opened_of before.bounds.items) old new
+      → ReadExactly (decided_in (arrived file observed) - decided_in observed) (opened_in (arrived file observed) - opened_in observed) old new
+  arrived-exact after old new going exactly =
+      let held : IsKept (arrived file observed) after = subst (λ (files : Files). IsKept (over observed.schedule observed.ledger files) after) with
+      (arrived-kept after going) in
+      let decided : decided_of after.bounds.items - decided_of before.bounds.items ≡ decided_in (arrived file observed) - decided_in observed =
+      ap (λ n. n - decided_of before.bounds.items) (sum-known decided_roles (arrived file observed) after held)
+      ∙ ap (λ n. decided_in (arrived file observed) - n) (sum-known decided_roles observed before is) in
+      let opened : opened_of after.bounds.items - opened_of before.bounds.items ≡ opened_in (arrived file observed) - opened_in observed =
+      ap (λ n. n - opened_of before.bounds.items) (sum-known opened_proofs (arrived file observed) after held)
+      ∙ ap (λ n. opened_in (arrived file observed) - n) (sum-known opened_proofs observed before is) in
+      subst (λ n. ReadExactly (decided_in (arrived file observed) - decided_in observed) n old new) opened
+      (subst (λ n. ReadExactly n (opened_of after.bounds.items - opened_of before.bounds.items) old new) decided exactly)

@@ -1,0 +1,41 @@
+-- The last entry is taken away, on the way to the first that is cut.
+--     taken-length, taken-first    what is left
+--     taken-turn, taken-waits      how it stood, and that it waits for nothing any longer
+use Rattle.std.proofs.Common.{◌≡◌, ◌∙◌, ℕ, ◌+◌, ◌-◌, ◌<◌, List, [], ◌∷◌, ◌++◌, length, take, get_or, ap, subst, sym, arith}
+use Rattle.std.proofs.lemmas.List.{length-take-le, take-take, take_more, take_all}
+use Rattle.st_anchor.specs.Known.{Known}
+use Rattle.st_anchor.specs.declared.role_state.RoleState.{RoleState}
+use Rattle.st_hash.specs.Hash.{HashValue}
+use Rattle.st_observer.specs.Kept.{WaitsAgree, no_needs, states_at}
+use Rattle.st_observer.specs.Steps.{unknown}
+use Rattle.st_observer.specs.Waiting.{TurnsTo, Waits, is_waiting}
+use Rattle.st_observer.specs.Wanted.{one_misses}
+use Rattle.st_observer.proofs.WaitsLemmas.{waits-popped}
+
+module _ (start bounds after : List Known) (left fewer : ℕ) (first : bounds ≡ take left start) (many : left ≡ length bounds) (some : 0 < left)
+    (one : fewer ≡ left - 1)
+    (rest : after ≡ take (length bounds - 1) bounds) where
+  rest-is : after ≡ take fewer bounds
+  rest-is = rest ∙ ap (λ n. take n bounds) (let e : length bounds - 1 ≡ fewer = omega (arith, many, one) in e)
+
+  pub taken-length : fewer ≡ length after
+  taken-length = omega (arith, ap length rest-is, length-take-le fewer bounds (omega (arith, many, one)))
+
+  pub taken-first : after ≡ take fewer start
+  taken-first = rest-is ∙ ap (take fewer) first ∙ take-take fewer left start (omega (arith, one))
+
+  pub taken-turn : (states : List RoleState) (waits : Waits) → states ≡ states_at (length bounds - 1) bounds → WaitsAgree bounds waits
+      → (uri : HashValue) → is_waiting uri fewer waits ≡ one_misses uri states
+  taken-turn states waits is agree uri =
+      agree.each uri fewer
+      ∙ ap (one_misses uri) (ap (λ n. states_at n bounds) (let e : fewer ≡ length bounds - 1 = omega (arith, many, one) in e) ∙ sym is)
+
+  pub taken-waits : (states : List RoleState) (old new : Waits) → states ≡ no_needs → TurnsTo fewer states old new → WaitsAgree bounds old
+      → WaitsAgree after new
+  taken-waits states old new none turns agree =
+      let whole : bounds ≡ after ++ get_or bounds fewer unknown ∷ [] =
+      sym (take_all (fewer + 1) bounds (omega (arith, many, one))) ∙ take_more bounds fewer unknown (omega (arith, many, one, some))
+      ∙ ap (λ xs. xs ++ get_or bounds fewer unknown ∷ []) (sym rest-is) in
+      waits-popped after (get_or bounds fewer unknown) fewer old new taken-length
+      (subst (λ (xs : List RoleState). TurnsTo fewer xs old new) none turns)
+      (subst (λ (xs : List Known). WaitsAgree xs old) whole agree)

@@ -1,0 +1,231 @@
+-- What is kept, as a file arrives and the entries that wait for it are looked at again.
+--     kept-length, going-length   something is known of each entry
+--     going-start      before the first of them
+--     going-settled    one of them
+--     going-end        after the last of them, it is what is kept with the file
+use Rattle.std.proofs.Common.{◌≡◌, ◌≢◌, ◌∙◌, ◌⊎◌, ⊎_elim, inl, inr, ℕ, ◌+◌, ◌<◌, ◌≤◌, ◌==◌, Bool, true, false, List, [], ◌∷◌, length, map, drop, set, get_or, refl, sym, ap, subst, arith}
+use Rattle.std.specs.List.{list_any}
+use Rattle.std.proofs.lemmas.Bool.{cases_eq, eqb-true, or_from, or_parts, true≢false}
+use Rattle.std.proofs.lemmas.List.{get_or-map, get_or-set_other, get_or-set_same, length-map, length-set, map-set, same_lists, set-get_or}
+use Rattle.st_anchor.specs.Coming.{Extends, IsUnmissed}
+use Rattle.st_anchor.specs.Known.{Known, known, known_from, known_of_text}
+use Rattle.st_anchor.specs.States.{role_state, role_states}
+use Rattle.st_anchor.specs.declared.role_state.RoleState.{RoleState}
+use Rattle.st_anchor.specs.declared.role_state.RoleState.TheVariants.{Missing}
+use Rattle.st_anchor.proofs.ComingLemmas.{known_from-unmissed, with_file-extends}
+use Rattle.st_anchor.proofs.KnownLemmas.{known_from-again}
+use Rattle.st_content.specs.Files.{Files, with_file}
+use Rattle.st_datafiles.specs.declared.role.Role.TheVariants.{Core, CoreProof, Provisional, ProvisionalProof, Chunk}
+use Rattle.st_hash.specs.Hash.{HashValue, same_hash, uri_of}
+use Rattle.st_hash.proofs.SameHash.{same_hash-itself}
+use Rattle.st_ledger.specs.declared.entry.Entry.{Entry}
+use Rattle.st_params.specs.Limits.{Limits}
+use Rattle.st_base.proofs.Lists.{next_item}
+use Rattle.st_observer.specs.Kept.{IsKept, StatesAgree, WaitsAgree, gifts}
+use Rattle.st_observer.specs.Observed.{Observed, arrived, known_of}
+use Rattle.st_observer.specs.Steps.{IsGoing, IsSettled, Settles, bound_at, is_among, unknown}
+use Rattle.st_observer.specs.Waiting.{is_waiting}
+use Rattle.st_observer.specs.Wanted.{misses, one_misses}
+use Rattle.st_observer.specs.declared.kept.Kept.{Kept}
+use Rattle.st_observer.proofs.OperationsLemmas.{agree-settled}
+use Rattle.st_observer.proofs.WaitsLemmas.{states-inside, waits-settled}
+
+-- ---- how many entries
+
+pub kept-length : (observed : Observed) (kept : Kept) → IsKept observed kept → length kept.bounds.items ≡ length observed.ledger
+kept-length observed kept is = ap length is.same ∙ length-map observed.ledger (known_of observed.schedule observed.files)
+
+pub going-length : (observed : Observed) (still : ℕ → Bool) (kept : Kept) → IsGoing observed still kept → length kept.bounds.items ≡ length observed.ledger
+going-length observed still kept going =
+    sym (length-map kept.bounds.items (known_from observed.files)) ∙ ap length going.same
+    ∙ length-map observed.ledger (known_of observed.schedule observed.files)
+
+-- ---- roles that miss a file
+
+unmissed_role : (uri : HashValue) (state : RoleState) → misses uri state ≡ false → state ≡ Missing uri → ⊥
+unmissed_role uri state none is =
+    let here : misses uri (Missing uri) ≡ false = ap (misses uri) (sym is) ∙ none in
+    let other : same_hash uri uri ≡ false = (or_parts (same_hash uri uri) false here).0 in
+    true≢false (sym (same_hash-itself uri) ∙ other)
+
+-- a file that no role of an entry misses
+pub unmissed : (uri : HashValue) (bound : Known) → one_misses uri (role_states bound) ≡ false → IsUnmissed uri bound
+unmissed uri bound none =
+    let test : RoleState → Bool = misses uri in
+    let core = or_parts (test (role_state Core bound)) (list_any test
+    (role_state CoreProof bound ∷ role_state Provisional bound ∷ role_state ProvisionalProof bound ∷ role_state Chunk bound ∷ [])) none in
+    let core_proof = or_parts (test (role_state CoreProof bound))
+    (list_any test (role_state Provisional bound ∷ role_state ProvisionalProof bound ∷ role_state Chunk bound ∷ [])) core.1 in
+    let provisional = or_parts (test (role_state Provisional bound))
+    (list_any test (role_state ProvisionalProof bound ∷ role_state Chunk bound ∷ [])) core_proof.1 in
+    let proof = or_parts (test (role_state ProvisionalProof bound)) (list_any test (role_state Chunk bound ∷ [])) provisional.1 in
+    let chunk = or_parts (test (role_state Chunk bound)) false proof.1 in
+    λ role. elim role as (λ role. role_state role bound ≡ Missing uri → ⊥) [
+      | Core ↦ unmissed_role uri (role_state Core bound) core.0
+      | CoreProof ↦ unmissed_role uri (role_state CoreProof bound) core_proof.0
+      | Provisional ↦ unmissed_role uri (role_state Provisional bound) provisional.0
+      | ProvisionalProof ↦ unmissed_role uri (role_state ProvisionalProof bound) proof.0
+      | Chunk ↦ unmissed_role uri (role_state Chunk bound) chunk.0
+    ]
+
+-- ---- more files
+
+known-later : (files later : Files) → Extends files later → (limits : Limits) (text : List ℕ)
+    → known_from later (known files limits text) ≡ known later limits text
+unfolding known
+known-later files later extends limits text = known_from-again files later extends (known_of_text limits text)
+
+known-unmissed : (file : List ℕ) (files : Files) (limits : Limits) (text : List ℕ) → IsUnmissed (uri_of file) (known files limits text)
+    → known (with_file file files) limits text ≡ known files limits text
+unfolding known
+known-unmissed file files limits text none = known_from-unmissed file files (known_of_text limits text) none
+
+-- a file that no role of an entry misses makes no more of it
+pub known_of-unmissed : (file : List ℕ) (observed : Observed) (entry : Entry)
+    → one_misses (uri_of file) (role_states (known_of observed.schedule observed.files entry)) ≡ false
+    → known_of observed.schedule (with_file file observed.files) entry ≡ known_of observed.schedule observed.files entry
+known_of-unmissed file observed entry none =
+    known-unmissed file observed.files _ entry.text (unmissed (uri_of file) (known_of observed.schedule observed.files entry) none)
+
+known_of-later : (file : List ℕ) (observed : Observed) (entry : Entry)
+    → known_from (with_file file observed.files) (known_of observed.schedule observed.files entry) ≡ known_of observed.schedule
+    (with_file file observed.files) entry
+known_of-later file observed entry = known-later observed.files (with_file file observed.files) (with_file-extends file observed.files) _ entry.text
+
+all-later : (file : List ℕ) (observed : Observed) (entries : List Entry)
+    → map (known_from (with_file file observed.files)) (map (known_of observed.schedule observed.files) entries)
+    ≡ map (known_of observed.schedule (with_file file observed.files)) entries
+all-later file observed [] = refl
+all-later file observed (entry ∷ entries) =
+    ap (λ first. first ∷ map (known_from (with_file file observed.files)) (map (known_of observed.schedule observed.files) entries))
+    (known_of-later file observed entry)
+    ∙ ap (λ rest. known_of observed.schedule (with_file file observed.files) entry ∷ rest) (all-later file observed entries)
+
+-- ---- before the first
+
+no_entry : Entry
+no_entry = record { height = 0; text = [] }
+
+-- what is known of the entry with this number
+pub bound-is : (observed : Observed) (kept : Kept) (n : ℕ) (d : Known) (entry : Entry) → IsKept observed kept → n < length kept.bounds.items
+    → get_or kept.bounds.items n d ≡ known_of observed.schedule observed.files (get_or observed.ledger n entry)
+bound-is observed kept n d entry is inside =
+    ap (λ xs. get_or xs n d) is.same
+    ∙ get_or-map (known_of observed.schedule observed.files) observed.ledger n entry d (omega (arith, inside, kept-length observed kept is))
+
+start-settled : (file : List ℕ) (observed : Observed) (kept : Kept) (n : ℕ) → IsKept observed kept → is_waiting (uri_of file) n kept.waiting ≡ false
+    → IsSettled (with_file file observed.files) kept.bounds.items n
+start-settled file observed kept n is none d inside =
+    let entry : Entry = get_or observed.ledger n no_entry in
+    let at : get_or kept.bounds.items n d ≡ known_of observed.schedule observed.files entry = bound-is observed kept n d no_entry is inside in
+    let unasked : one_misses (uri_of file) (role_states (known_of observed.schedule observed.files entry)) ≡ false =
+    ap (λ b. one_misses (uri_of file) (role_states b)) (sym at) ∙ ap (one_misses (uri_of file)) (sym (states-inside n kept.bounds.items d inside))
+    ∙ sym (is.waits.each (uri_of file) n) ∙ none in
+    ap (known_from (with_file file observed.files)) at ∙ known_of-later file observed entry ∙ known_of-unmissed file observed entry unasked ∙ sym at
+
+-- The file has come; of the entries that don't wait for it, it makes no more.
+pub going-start : (file : List ℕ) (observed : Observed) (kept : Kept) → IsKept observed kept
+    → IsGoing (arrived file observed) (λ n. is_waiting (uri_of file) n kept.waiting) kept
+going-start file observed kept is = record {
+  same = ap (map (known_from (with_file file observed.files))) is.same ∙ all-later file observed observed.ledger;
+  settled = λ n none. start-settled file observed kept n is none;
+  waits = is.waits;
+  schedule = is.schedule;
+  states = is.states;
+}
+
+-- ---- one entry
+
+pub known_from-twice : (files : Files) (bound : Known) → known_from files (known_from files bound) ≡ known_from files bound
+known_from-twice files bound = known_from-again files files (record { kept = λ uri file is. is }) bound
+
+-- the files make the same of it, whether an entry has been looked at or not
+pub map-settled : (files : Files) (bounds : List Known) (n : ℕ)
+    → map (known_from files) (set bounds n (known_from files (bound_at n bounds))) ≡ map (known_from files) bounds
+map-settled files bounds n =
+    map-set (known_from files) bounds n (known_from files (bound_at n bounds))
+    ∙ ap (set (map (known_from files) bounds) n) (known_from-twice files (bound_at n bounds))
+    ∙ sym (map-set (known_from files) bounds n (bound_at n bounds))
+    ∙ ap (map (known_from files)) (set-get_or bounds n unknown)
+
+settled-at : (files : Files) (bounds : List Known) (n m : ℕ) (d : Known) → n < length bounds → m ≡ n
+    → known_from files (get_or (set bounds n (known_from files (bound_at n bounds))) m d) ≡ get_or (set bounds n (known_from files (bound_at n bounds))) m d
+settled-at files bounds n m d inside here =
+    let more : Known = known_from files (bound_at n bounds) in
+    let at : get_or (set bounds n more) m d ≡ more = ap (λ k. get_or (set bounds n more) k d) here ∙ get_or-set_same bounds n more d inside in
+    ap (known_from files) at ∙ known_from-twice files (bound_at n bounds) ∙ sym at
+
+settled-other : (files : Files) (bounds : List Known) (n m : ℕ) (d : Known) → m ≢ n → m < length bounds → IsSettled files bounds m
+    → known_from files (get_or (set bounds n (known_from files (bound_at n bounds))) m d) ≡ get_or (set bounds n (known_from files (bound_at n bounds))) m d
+settled-other files bounds n m d other inside settled =
+    let more : Known = known_from files (bound_at n bounds) in
+    let at : get_or (set bounds n more) m d ≡ get_or bounds m d = get_or-set_other bounds n m more d other in
+    ap (known_from files) at ∙ settled d inside ∙ sym at
+
+settled-next : (files : Files) (bounds : List Known) (n m : ℕ) (still : Bool) → n < length bounds → (still ≡ false → IsSettled files bounds m)
+    → (still ≡ false) ⊎ (m ≡ n) → IsSettled files (set bounds n (known_from files (bound_at n bounds))) m
+settled-next files bounds n m still inside settled (inr here) d within = settled-at files bounds n m d inside here
+settled-next files bounds n m still inside settled (inl done) d within =
+    ⊎_elim (λ (here : m ≡ n). settled-at files bounds n m d inside here)
+    (λ (other : m ≢ n). settled-other files bounds n m d other (omega (arith, within, length-set bounds n (known_from files (bound_at n bounds))))
+    (settled done))
+    (cases_eq m n)
+
+pub going-settled : (observed : Observed) (still next : ℕ → Bool) (n : ℕ) (entry : Entry) (before after : Kept)
+    → IsGoing observed still before → Settles observed.files n entry.height before after
+    → n < length before.bounds.items → get_or observed.ledger n entry ≡ entry
+    → ((m : ℕ) → next m ≡ false → (still m ≡ false) ⊎ (m ≡ n))
+    → IsGoing observed next after
+going-settled observed still next n entry before after going step inside is left =
+    let bounds : List Known = before.bounds.items in
+    let more : Known = known_from observed.files (bound_at n bounds) in
+    record {
+      same = ap (map (known_from observed.files)) step.bounds ∙ map-settled observed.files bounds n ∙ going.same;
+      settled = λ m done.
+          subst (λ xs. IsSettled observed.files xs m) (sym step.bounds)
+          (settled-next observed.files bounds n m (still m) inside (going.settled m) (left m done));
+      waits = subst (λ xs. WaitsAgree xs after.waiting) (sym step.bounds)
+          (waits-settled bounds more n before.waiting after.waiting inside step.waits going.waits);
+      schedule = step.states.schedule ∙ going.schedule;
+      states =
+          subst (λ xs. StatesAgree (gifts observed.ledger xs) after.states) (sym step.bounds)
+          (agree-settled observed.ledger bounds entry observed.files unknown n before.states after.states
+          (going-length observed still before going) inside is going.states step.states);
+    }
+
+-- there is no entry with this number
+pub going-skipped : (observed : Observed) (still next : ℕ → Bool) (n : ℕ) (kept : Kept) → IsGoing observed still kept → length kept.bounds.items ≤ n
+    → ((m : ℕ) → next m ≡ false → (still m ≡ false) ⊎ (m ≡ n))
+    → IsGoing observed next kept
+going-skipped observed still next n kept going past left = record {
+  same = going.same;
+  settled = λ m done d inside.
+      ⊎_elim (λ (before : still m ≡ false). going.settled m before d inside) (λ (here : m ≡ n). absurd (omega (arith, here, inside, past))) (left m done);
+  waits = going.waits;
+  schedule = going.schedule;
+  states = going.states;
+}
+
+-- the number that was next is no longer among those that are left
+among-next : (n m : ℕ) (rest : List ℕ) (here : Bool) → (n == m) ≡ here → is_among rest m ≡ false → (is_among (n ∷ rest) m ≡ false) ⊎ (m ≡ n)
+among-next n m rest true here none = inr (sym (eqb-true n m here))
+among-next n m rest false here none = inl (or_from (n == m) (is_among rest m) here none)
+
+pub among-left : (entries : List ℕ) (at n : ℕ) → at < length entries → n ≡ get_or entries at n
+    → (m : ℕ) → is_among (drop (at + 1) entries) m ≡ false → (is_among (drop at entries) m ≡ false) ⊎ (m ≡ n)
+among-left entries at n inside is m none =
+    subst (λ xs. (is_among xs m ≡ false) ⊎ (m ≡ n)) (sym (next_item entries at n inside is))
+    (among-next n m (drop (at + 1) entries) (n == m) refl none)
+
+-- ---- after the last
+
+pub going-end : (observed : Observed) (still : ℕ → Bool) (kept : Kept) → ((n : ℕ) → still n ≡ false) → IsGoing observed still kept → IsKept observed kept
+going-end observed still kept none going = record {
+  same =
+      same_lists kept.bounds.items (map (known_from observed.files) kept.bounds.items) (sym (length-map kept.bounds.items (known_from observed.files)))
+      (λ n d inside. sym (going.settled n (none n) d inside) ∙ sym (get_or-map (known_from observed.files) kept.bounds.items n d d inside))
+      ∙ going.same;
+  waits = going.waits;
+  schedule = going.schedule;
+  states = going.states;
+}

@@ -1,0 +1,20 @@
+-- Private: what the calls of the observer rest on.
+mod DecodedLemmas
+mod MissedLemmas
+mod WaitingLemmas
+mod WantedLemmas
+mod StatesLemmas
+mod GiftsLemmas
+mod OperationsLemmas
+mod WaitsLemmas
+mod GoingLemmas
+mod WorkLemmas
+mod CostLemmas
+mod LookingLemmas
+mod AskedLemmas
+mod IsolationLemmas
+mod KeptLemmas
+mod SettleLemmas
+mod AppendLemmas
+mod ArriveLemmas
+mod CutLemmas

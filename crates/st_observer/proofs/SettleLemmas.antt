@@ -1,0 +1,51 @@
+-- One entry is taken out, looked at again, and put back.
+--     settles           what is kept then
+--     settle-few        what was counted, wherever it ended
+use Rattle.std.proofs.Common.{◌≡◌, ◌∙◌, ℕ, List, set, ap, subst, sym}
+use Rattle.std.proofs.lemmas.List.{set-set}
+use Rattle.st_anchor.specs.Coming.{newly_decided, newly_opened}
+use Rattle.st_anchor.specs.Gives.{given}
+use Rattle.st_anchor.specs.Known.{Known, known_from}
+use Rattle.st_anchor.specs.States.{role_states}
+use Rattle.st_anchor.specs.declared.role_state.RoleState.{RoleState}
+use Rattle.st_base.specs.Work.{Counts}
+use Rattle.st_content.specs.Files.{Files}
+use Rattle.st_observer.specs.States.{BySuffix, given_cost}
+use Rattle.st_observer.specs.Steps.{PutsGiven, Settles, bound_at}
+use Rattle.st_observer.specs.Waiting.{TurnsTo}
+use Rattle.st_observer.specs.Work.{GrewAtMost}
+use Rattle.st_observer.specs.declared.kept.Kept.{Kept}
+
+module _ (files : Files) (bounds : List Known) (n : ℕ) (start settled : Known) (out : start ≡ bound_at n bounds)
+    (settles_to : settled ≡ known_from files start) where
+  settled-is : settled ≡ known_from files (bound_at n bounds)
+  settled-is = settles_to ∙ ap (known_from files) out
+
+  pub settle-bounds : (without after : List Known) (filler : Known) → without ≡ set bounds n filler → after ≡ set without n settled
+      → after ≡ set bounds n (known_from files (bound_at n bounds))
+  settle-bounds without after filler first second =
+      second ∙ ap (λ xs. set xs n settled) first ∙ set-set bounds n filler settled ∙ ap (set bounds n) settled-is
+
+  pub settle-few : (height : ℕ) (items : BySuffix) (old new : Counts)
+      → GrewAtMost (newly_decided files start) (newly_opened files start) (given_cost n height (given settled) items) old new
+      → GrewAtMost (newly_decided files (bound_at n bounds)) (newly_opened files (bound_at n bounds))
+      (given_cost n height (given (known_from files (bound_at n bounds))) items) old new
+  settle-few height items old new grew =
+      subst (λ (b : Known). GrewAtMost (newly_decided files b) (newly_opened files b)
+      (given_cost n height (given (known_from files (bound_at n bounds))) items) old new) out
+      (subst (λ (b : Known). GrewAtMost (newly_decided files start) (newly_opened files start) (given_cost n height (given b) items) old new) settled-is grew)
+
+  pub settles : (height : ℕ) (before after : Kept) (states : List RoleState) → before.bounds.items ≡ bounds
+      → after.bounds.items ≡ set bounds n (known_from files (bound_at n bounds))
+      → states ≡ role_states settled → TurnsTo n states before.waiting after.waiting → PutsGiven n height (given settled) before.states after.states
+      → Settles files n height before after
+  settles height before after states from to stands turns puts =
+      let more : (b : List Known) → b ≡ bounds → known_from files (bound_at n b) ≡ settled = λ b same. ap (λ xs. known_from files (bound_at n xs)) same
+      ∙ sym settled-is in
+      record {
+        bounds = to ∙ ap (λ (xs : List Known). set xs n (known_from files (bound_at n xs))) (sym from);
+        waits =
+            subst (λ (xs : List RoleState). TurnsTo n xs before.waiting after.waiting) (stands ∙ ap role_states (sym (more before.bounds.items from))) turns;
+        states =
+            subst (λ (b : Known). PutsGiven n height (given b) before.states after.states) (sym (more before.bounds.items from)) puts;
+      }

@@ -1,0 +1,255 @@
+-- Lists that ascend, and which list `ascending_once` is.
+--     ascending_once-ascends   it ascends strictly by the texts
+--     ascending_once-is        a list that does, and has the same hashes, is it
+--     wanted-ascends, wanted-missed      both of the files that are wanted
+use Rattle.std.proofs.Common.{◌≡◌, ◌∙◌, Bool, true, false, List, [], ◌∷◌, Ordering, Less, Equal, Greater, is_eq, ⊎_elim, refl, sym, ap, subst}
+use Rattle.std.proofs.lemmas.Bool.{or_left, or_right, or_cases, true≢false}
+use Rattle.std.proofs.lemmas.Map.Lookups.{exact_bytes}
+use Rattle.std.specs.BTreeMap.{is_at}
+use Rattle.std.specs.BTreeSet.{insert_key}
+use Rattle.std.specs.Cmp.{Equal-is, IsTotalOrder, both_ways, tied_back, tied_itself}
+use Rattle.std.specs.List.{AllByRecursion, fold, list_any}
+use Rattle.std.specs.List.Sorted.{IsStrictlySortedBy}
+use Rattle.std.specs.Ordering.{is_lt, match_ordering, ordering_reverse}
+use Rattle.st_base.proofs.Quantifiers.{each-weaker, each-both}
+use Rattle.st_hash.specs.Hash.{HashValue, hash_text, same_hash}
+use Rattle.st_hash.proofs.SameHash.{same_hash-is, same_hash-itself}
+use Rattle.st_observer.specs.Observed.{Observed}
+use Rattle.st_observer.specs.Waiting.{IsRead, text_cmp-total}
+use Rattle.st_observer.specs.Wanted.{ascending_once, missed_files, text_cmp, wanted}
+use Rattle.st_observer.proofs.MissedLemmas.{missed-read}
+use Rattle.st_observer.proofs.WaitingLemmas.{ascends-none, text-same}
+
+-- ---- keys that are put in one by one
+
+module _ {K : Type 0} (cmp : K → K → Ordering) where
+  each_by : (P : K → Type 0) (order : Ordering) (key first : K) (keys after : List K) → AllByRecursion P (first ∷ keys) → P key
+      → AllByRecursion P after → AllByRecursion P (match_ordering order (key ∷ first ∷ keys) (first ∷ keys) (first ∷ after))
+  each_by P Less key first keys after all one later = (one, all)
+  each_by P Equal key first keys after all one later = all
+  each_by P Greater key first keys after all one later = (all.0, later)
+
+  each-put : (P : K → Type 0) (keys : List K) (key : K) → AllByRecursion P keys → P key → AllByRecursion P (insert_key cmp keys key)
+  each-put P [] key all one = (one, tt)
+  each-put P (first ∷ keys) key all one =
+      each_by P (cmp key first) key first keys (insert_key cmp keys key) all one (each-put P keys key all.1 one)
+
+  -- what holds of each key that is there, and of each that is put in, holds of all
+  each-once : (P : K → Type 0) (keys more : List K) → AllByRecursion P keys → AllByRecursion P more
+      → AllByRecursion P (fold (insert_key cmp) keys more)
+  each-once P keys [] all new = all
+  each-once P keys (key ∷ more) all new = each-once P (insert_key cmp keys key) more (each-put P keys key all new.0) new.1
+
+  any_by : (test : K → Bool) (order : Ordering) (key first : K) (keys after : List K) → list_any test (first ∷ keys) ≡ true
+      → (list_any test keys ≡ true → list_any test after ≡ true)
+      → list_any test (match_ordering order (key ∷ first ∷ keys) (first ∷ keys) (first ∷ after)) ≡ true
+  any_by test Less key first keys after any later = or_right (test key) (list_any test (first ∷ keys)) any
+  any_by test Equal key first keys after any later = any
+  any_by test Greater key first keys after any later =
+      ⊎_elim (λ here. or_left (test first) (list_any test after) here)
+      (λ there. or_right (test first) (list_any test after) (later there)) (or_cases (test first) (list_any test keys) any)
+
+  -- a key that is there stays
+  any-put : (test : K → Bool) (keys : List K) (key : K) → list_any test keys ≡ true → list_any test (insert_key cmp keys key) ≡ true
+  any-put test [] key any = absurd (true≢false (sym any))
+  any-put test (first ∷ keys) key any =
+      any_by test (cmp key first) key first keys (insert_key cmp keys key) any (any-put test keys key)
+
+  any-once : (test : K → Bool) (keys more : List K) → list_any test keys ≡ true → list_any test (fold (insert_key cmp) keys more) ≡ true
+  any-once test keys [] any = any
+  any-once test keys (key ∷ more) any = any-once test (insert_key cmp keys key) more (any-put test keys key any)
+
+module _ {K : Type 0} {cmp : K → K → Ordering} (order : IsTotalOrder cmp) where
+  -- a key that is put in is found
+  found_by : (key first : K) (keys after : List K) (rank : Ordering) → cmp key first ≡ rank → list_any (is_at (cmp key)) after ≡ true
+      → list_any (is_at (cmp key)) (match_ordering rank (key ∷ first ∷ keys) (first ∷ keys) (first ∷ after)) ≡ true
+  found_by key first keys after Less is later =
+      or_left (is_at (cmp key) key) (list_any (is_at (cmp key)) (first ∷ keys)) (ap is_eq (tied_itself order key))
+  found_by key first keys after Equal is later = or_left (is_at (cmp key) first) (list_any (is_at (cmp key)) keys) (ap is_eq is)
+  found_by key first keys after Greater is later = or_right (is_at (cmp key) first) (list_any (is_at (cmp key)) after) later
+
+  found-put : (keys : List K) (key : K) → list_any (is_at (cmp key)) (insert_key cmp keys key) ≡ true
+  found-put [] key = or_left (is_at (cmp key) key) false (ap is_eq (tied_itself order key))
+  found-put (first ∷ keys) key = found_by key first keys (insert_key cmp keys key) (cmp key first) refl (found-put keys key)
+
+  each_found : (keys more : List K) → AllByRecursion (λ key. list_any (is_at (cmp key)) (fold (insert_key cmp) keys more) ≡ true) more
+  each_found keys [] = tt
+  each_found keys (key ∷ more) =
+      (any-once cmp (is_at (cmp key)) (insert_key cmp keys key) more (found-put keys key), each_found (insert_key cmp keys key) more)
+
+  -- they ascend
+  sorted_by : (key first : K) (keys after : List K) (rank : Ordering) → cmp key first ≡ rank
+      → IsStrictlySortedBy cmp (first ∷ keys) → AllByRecursion (λ later. cmp first later ≡ Less) keys
+      → (cmp first key ≡ Less → IsStrictlySortedBy cmp (first ∷ after))
+      → IsStrictlySortedBy cmp (match_ordering rank (key ∷ first ∷ keys) (first ∷ keys) (first ∷ after))
+  unfolding IsStrictlySortedBy
+  sorted_by key first keys after Less is sorted above later =
+      ((is, each-weaker (λ later. cmp first later ≡ Less) (λ later. cmp key later ≡ Less) (λ later less. order.trans key first later is less) keys above), sorted)
+  sorted_by key first keys after Equal is sorted above later = sorted
+  sorted_by key first keys after Greater is sorted above later = later (order.antisymm first key ∙ ap ordering_reverse is)
+
+  sorted-put : (keys : List K) (key : K) → IsStrictlySortedBy cmp keys → IsStrictlySortedBy cmp (insert_key cmp keys key)
+  unfolding IsStrictlySortedBy
+  sorted-put [] key sorted = (tt, tt)
+  sorted-put (first ∷ keys) key sorted =
+      sorted_by key first keys (insert_key cmp keys key) (cmp key first) refl sorted sorted.0
+      (λ less. (each-put cmp (λ later. cmp first later ≡ Less) keys key sorted.0 less, sorted-put keys key sorted.1))
+
+  sorted-once : (keys more : List K) → IsStrictlySortedBy cmp keys → IsStrictlySortedBy cmp (fold (insert_key cmp) keys more)
+  sorted-once keys [] sorted = sorted
+  sorted-once keys (key ∷ more) sorted = sorted-once (insert_key cmp keys key) more (sorted-put keys key sorted)
+
+-- ---- lists with the same keys
+
+module _ {K : Type 0} {same : K → K → Bool} (is : (first second : K) → same first second ≡ true → first ≡ second)
+    (itself : (key : K) → same key key ≡ true) where
+  -- each key is among its list
+  each_among : (keys : List K) → AllByRecursion (λ key. list_any (same key) keys ≡ true) keys
+  each_among [] = tt
+  each_among (first ∷ keys) = (
+    or_left (same first first) (list_any (same first) keys) (itself first),
+    each-weaker (λ key. list_any (same key) keys ≡ true) (λ key. list_any (same key) (first ∷ keys) ≡ true)
+        (λ key there. or_right (same key first) (list_any (same key) keys) there) keys (each_among keys),
+  )
+
+  -- what holds of each holds of one that is among them
+  at_among : (P : K → Type 0) (key : K) (keys : List K) → AllByRecursion P keys → list_any (same key) keys ≡ true → P key
+  at_among P key [] all any = absurd (true≢false (sym any))
+  at_among P key (first ∷ keys) all any =
+      ⊎_elim (λ here. subst P (sym (is key first here)) all.0) (λ there. at_among P key keys all.1 there)
+      (or_cases (same key first) (list_any (same key) keys) any)
+
+  -- one that passes a test is among them
+  passing : (test : K → Bool) (keys : List K) → list_any test keys ≡ true → (key : K) × (test key ≡ true) × (list_any (same key) keys ≡ true)
+  passing test [] any = absurd (true≢false (sym any))
+  passing test (first ∷ keys) any =
+      ⊎_elim (λ here. (first, here, or_left (same first first) (list_any (same first) keys) (itself first)))
+      (λ there.
+      let rest = passing test keys there in
+      (rest.0, rest.1, or_right (same rest.0 first) (list_any (same rest.0) keys) rest.2))
+      (or_cases (test first) (list_any test keys) any)
+
+  module _ {cmp : K → K → Ordering} (order : IsTotalOrder cmp) where
+    not_less : (first second : K) → cmp first second ≡ Less → cmp first second ≡ Equal → ⊥
+    not_less first second less equal = true≢false (ap is_lt (sym less ∙ equal))
+
+    -- keys of an ascending list that the order doesn't tell apart are the same
+    tied-same : (first second : K) (keys : List K) → IsStrictlySortedBy cmp keys → list_any (same first) keys ≡ true
+        → list_any (same second) keys ≡ true → cmp first second ≡ Equal → first ≡ second
+    unfolding IsStrictlySortedBy
+    tied-same first second [] sorted one two equal = absurd (true≢false (sym one))
+    tied-same first second (key ∷ keys) sorted one two equal =
+        let below : (later : K) → list_any (same later) keys ≡ true → cmp key later ≡ Less =
+        λ later there. at_among (λ later. cmp key later ≡ Less) later keys sorted.0 there in
+        ⊎_elim
+        (λ here. ⊎_elim
+        (λ also. is first key here ∙ sym (is second key also))
+        (λ there. absurd (not_less key second (below second there) (subst (λ k. cmp k second ≡ Equal) (is first key here) equal)))
+        (or_cases (same second key) (list_any (same second) keys) two))
+        (λ there. ⊎_elim
+        (λ here. absurd (not_less key first (below first there) (subst (λ k. cmp k first ≡ Equal) (is second key here) (tied_back order first second equal))))
+        (λ also. tied-same first second keys sorted.1 there also equal)
+        (or_cases (same second key) (list_any (same second) keys) two))
+        (or_cases (same first key) (list_any (same first) keys) one)
+
+    -- ascending lists with the same keys are the same
+    among_rest : (first : K) (keys others : List K) → AllByRecursion (λ later. cmp first later ≡ Less) keys
+        → AllByRecursion (λ key. list_any (same key) (first ∷ others) ≡ true) keys
+        → AllByRecursion (λ key. list_any (same key) others ≡ true) keys
+    among_rest first keys others above all =
+        each-both (λ later. cmp first later ≡ Less) (λ key. list_any (same key) (first ∷ others) ≡ true) (λ key. list_any (same key) others ≡ true)
+        (λ key less any. ⊎_elim
+        (λ here. absurd (not_less first key less (subst (λ k. cmp first k ≡ Equal) (sym (is key first here)) (tied_itself order first))))
+        (λ there. there) (or_cases (same key first) (list_any (same key) others) any))
+        keys above all
+
+    same_head : (first second : K) (keys others : List K) → AllByRecursion (λ later. cmp first later ≡ Less) keys
+        → AllByRecursion (λ later. cmp second later ≡ Less) others → list_any (same first) (second ∷ others) ≡ true
+        → list_any (same second) (first ∷ keys) ≡ true → first ≡ second
+    same_head first second keys others one two here there =
+        ⊎_elim (λ e. is first second e)
+        (λ later. ⊎_elim (λ e. sym (is second first e))
+        (λ earlier.
+        let less : cmp second first ≡ Less = at_among (λ later. cmp second later ≡ Less) first others two later in
+        let more : cmp first second ≡ Less = at_among (λ later. cmp first later ≡ Less) second keys one earlier in
+        absurd (not_less first first (order.trans first second first more less) (tied_itself order first)))
+        (or_cases (same second first) (list_any (same second) keys) there))
+        (or_cases (same first second) (list_any (same first) others) here)
+
+    same_keys : (keys others : List K) → IsStrictlySortedBy cmp keys → IsStrictlySortedBy cmp others
+        → AllByRecursion (λ key. list_any (same key) others ≡ true) keys → AllByRecursion (λ key. list_any (same key) keys ≡ true) others
+        → keys ≡ others
+    unfolding IsStrictlySortedBy
+    same_keys [] [] one two there back = refl
+    same_keys [] (second ∷ others) one two there back = absurd (true≢false (sym back.0))
+    same_keys (first ∷ keys) [] one two there back = absurd (true≢false (sym there.0))
+    same_keys (first ∷ keys) (second ∷ others) one two there back =
+        let head : first ≡ second = same_head first second keys others one.0 two.0 there.0 back.0 in
+        let forth : AllByRecursion (λ key. list_any (same key) others ≡ true) keys =
+        among_rest first keys others one.0 (subst (λ k. AllByRecursion (λ key. list_any (same key) (k ∷ others) ≡ true) keys) (sym head) there.1) in
+        let home : AllByRecursion (λ key. list_any (same key) keys ≡ true) others =
+        among_rest second others keys two.0 (subst (λ k. AllByRecursion (λ key. list_any (same key) (k ∷ keys) ≡ true) others) head back.1) in
+        λ i. head i ∷ same_keys keys others one.1 two.1 forth home i
+
+    -- what was put in is among what it was put in from
+    once-among : (more : List K) → AllByRecursion (λ key. list_any (same key) more ≡ true) (fold (insert_key cmp) [] more)
+    once-among more = each-once cmp (λ key. list_any (same key) more ≡ true) [] more tt (each_among more)
+
+    -- and the other way round, where the order tells apart what is put in
+    once-has : (more : List K) (tells : (first second : K) → list_any (same first) more ≡ true → list_any (same second) more ≡ true
+        → cmp first second ≡ Equal → first ≡ second) (key : K) → list_any (same key) more ≡ true
+        → list_any (same key) (fold (insert_key cmp) [] more) ≡ true
+    once-has more tells key there =
+        let keys : List K = fold (insert_key cmp) [] more in
+        let found = passing (is_at (cmp key)) keys
+        (at_among (λ key. list_any (is_at (cmp key)) keys ≡ true) key more (each_found order [] more) there) in
+        let among : list_any (same found.0) more ≡ true =
+        at_among (λ key. list_any (same key) more ≡ true) found.0 keys (once-among more) found.2 in
+        let one : key ≡ found.0 = tells key found.0 there among ((Equal-is (cmp key found.0)).0 found.1) in
+        subst (λ k. list_any (same k) keys ≡ true) (sym one) found.2
+
+    -- so a list that ascends and has the same keys is what they make when they are put in one by one
+    once-is : (found more : List K) → IsStrictlySortedBy cmp found
+        → ((key : K) → list_any (same key) found ≡ list_any (same key) more) → found ≡ fold (insert_key cmp) [] more
+    once-is found more sorted alike =
+        let keys : List K = fold (insert_key cmp) [] more in
+        let tells : (first second : K) → list_any (same first) more ≡ true → list_any (same second) more ≡ true → cmp first second ≡ Equal → first ≡ second =
+        λ first second one two equal. tied-same first second found sorted (alike first ∙ one) (alike second ∙ two) equal in
+        same_keys found keys sorted (sorted-once order [] more (ascends-none cmp))
+        (each-weaker (λ key. list_any (same key) found ≡ true) (λ key. list_any (same key) keys ≡ true)
+        (λ key there. once-has more tells key (sym (alike key) ∙ there)) found (each_among found))
+        (each-weaker (λ key. list_any (same key) more ≡ true) (λ key. list_any (same key) found ≡ true)
+        (λ key there. alike key ∙ there) keys (once-among more))
+
+-- ---- the files that are wanted
+
+pub ascending_once-ascends : (uris : List HashValue) → IsStrictlySortedBy text_cmp (ascending_once uris)
+ascending_once-ascends uris = sorted-once text_cmp-total [] uris (ascends-none text_cmp)
+
+-- a list that ascends strictly by the texts and has the same hashes is it
+pub ascending_once-is : (found uris : List HashValue) → IsStrictlySortedBy text_cmp found
+    → ((uri : HashValue) → list_any (same_hash uri) found ≡ list_any (same_hash uri) uris) → found ≡ ascending_once uris
+ascending_once-is found uris sorted alike = once-is same_hash-is same_hash-itself text_cmp-total found uris sorted alike
+
+pub wanted-ascends : (observed : Observed) → IsStrictlySortedBy text_cmp (wanted observed)
+unfolding wanted
+wanted-ascends observed = ascending_once-ascends (missed_files observed)
+
+-- a file is wanted exactly where it is missed
+pub wanted-missed : (observed : Observed) (uri : HashValue)
+    → list_any (same_hash uri) (wanted observed) ≡ list_any (same_hash uri) (missed_files observed)
+unfolding wanted
+wanted-missed observed uri =
+    let uris : List HashValue = missed_files observed in
+    let read : AllByRecursion IsRead uris = missed-read observed in
+    let known : (hash : HashValue) → list_any (same_hash hash) uris ≡ true → IsRead hash =
+    λ hash there. at_among same_hash-is same_hash-itself IsRead hash uris read there in
+    let tells : (first second : HashValue) → list_any (same_hash first) uris ≡ true → list_any (same_hash second) uris ≡ true
+    → text_cmp first second ≡ Equal → first ≡ second =
+    λ first second one two equal.
+    text-same first second (known first one) (known second two) (exact_bytes (hash_text first) (hash_text second) equal) in
+    both_ways (list_any (same_hash uri) (ascending_once uris)) (list_any (same_hash uri) uris)
+    (λ there.
+    at_among same_hash-is same_hash-itself (λ hash. list_any (same_hash hash) uris ≡ true) uri (ascending_once uris)
+    (once-among same_hash-is same_hash-itself text_cmp-total uris) there)
+    (λ there. once-has same_hash-is same_hash-itself text_cmp-total uris tells uri there)

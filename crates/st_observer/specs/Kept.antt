@@ -1,0 +1,69 @@
+-- What is kept of the entries of a ledger, and how it agrees with what an observer has seen.
+use Rattle.std.specs.Prelude.{◌≡◌, ℕ, List, [], ◌∷◌, map, slice_index_or, Option, option_map}
+use Rattle.st_anchor.specs.Gives.{given}
+use Rattle.st_anchor.specs.Known.{Known}
+use Rattle.st_anchor.specs.States.{role_states}
+use Rattle.st_anchor.specs.declared.role_state.RoleState.{RoleState}
+use Rattle.st_anchor.specs.declared.role_state.RoleState.TheVariants.{Unneeded}
+use Rattle.st_apply.specs.Anchored.{Anchored}
+use Rattle.st_apply.specs.Numbered.{given_from}
+use Rattle.st_hash.specs.Hash.{HashValue}
+use Rattle.st_ledger.specs.declared.entry.Entry.{Entry}
+use Rattle.st_ops.specs.Operation.{PlainOperation}
+use Rattle.st_observer.specs.Observed.{Observed, given_for, known_of}
+use Rattle.st_observer.specs.States.{StatesValue, operations_in}
+use Rattle.st_observer.specs.Waiting.{Waits, is_waiting}
+use Rattle.st_observer.specs.Wanted.{one_misses}
+use Rattle.st_observer.specs.declared.kept.Kept.{Kept}
+
+-- ---- which entries wait
+
+-- for an entry that isn't there, no file is needed
+abbrev pub no_needs : List RoleState
+no_needs = Unneeded ∷ Unneeded ∷ Unneeded ∷ Unneeded ∷ Unneeded ∷ []
+
+-- how it stands with the roles of the entry with this number, by what is known of the entries
+abbrev pub states_at : ℕ → List Known → List RoleState
+states_at n bounds = slice_index_or (map role_states bounds) n no_needs
+
+-- each entry waits for exactly the files that its roles miss
+pub record WaitsAgree (bounds : List Known) (waits : Waits) : Type 0 where
+  pub each : (uri : HashValue) (n : ℕ) → is_waiting uri n waits ≡ one_misses uri (states_at n bounds)
+
+-- ---- which operations there are
+
+-- the height of an entry, and what it gives
+abbrev pub Gift : Type 0
+Gift = ℕ × List (HashValue × PlainOperation)
+
+-- of each entry, by what is known of it; there are as many of both, so the second case never comes
+abbrev pub gifts : List Entry → List Known → List Gift
+gifts [] bounds = []
+gifts (entry ∷ entries) [] = []
+gifts (entry ∷ entries) (bound ∷ bounds) = (entry.height, given bound) ∷ gifts entries bounds
+
+-- an operation at the number and the height of its entry
+abbrev pub anchored_at : ℕ → ℕ → PlainOperation → Anchored
+anchored_at number height operation = record { place = number; height = height; operation = operation }
+
+-- the operation for a suffix that the entry with this number gives
+abbrev pub anchored_in : HashValue → ℕ → Gift → Option Anchored
+anchored_in suffix number gift = option_map (anchored_at number gift.0) (given_for suffix gift.1)
+
+-- the operations for a suffix that entries give, the first of which has this number
+abbrev pub operations_from : HashValue → ℕ → List Gift → List Anchored
+operations_from suffix number gifts = given_from (anchored_in suffix) number gifts
+
+-- each identifier has the operations that the entries give for it
+pub record StatesAgree (given : List Gift) (states : StatesValue) : Type 0 where
+  pub each : (suffix : HashValue) → operations_in suffix states ≡ operations_from suffix 0 given
+
+-- ---- all of it
+
+-- What is known of each entry is what the files make of it; entries wait, and identifiers have
+-- operations, by what is known of the entries.
+pub record IsKept (observed : Observed) (kept : Kept) : Type 0 where
+  pub same : kept.bounds.items ≡ map (known_of observed.schedule observed.files) observed.ledger
+  pub waits : WaitsAgree kept.bounds.items kept.waiting
+  pub schedule : kept.states.schedule ≡ observed.schedule
+  pub states : StatesAgree (gifts observed.ledger kept.bounds.items) kept.states

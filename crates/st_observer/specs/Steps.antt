@@ -1,0 +1,93 @@
+-- The steps by which what is kept follows entries and files as they come and go. No public call speaks of
+-- them.
+use Rattle.std.specs.Prelude.{◌≡◌, ℕ, ◌+◌, ◌<◌, ◌==◌, Bool, false, if◌then◌else◌, List, [], ◌∷◌, ◌++◌, length, map, slice_index_or, slice_set, take, Option}
+use Rattle.std.specs.List.{list_any, sum_by}
+use Rattle.st_anchor.specs.Gives.{given}
+use Rattle.st_anchor.specs.Known.{Known, known_from}
+use Rattle.st_anchor.specs.States.{decided_roles, opened_proofs, role_states}
+use Rattle.st_anchor.specs.declared.part.Part.TheVariants as part_is
+use Rattle.st_content.specs.Files.{Files}
+use Rattle.st_hash.specs.Hash.{HashValue}
+use Rattle.st_ledger.specs.declared.entry.Entry.{Entry}
+use Rattle.st_ops.specs.Operation.{PlainOperation}
+use Rattle.st_params.specs.Limits.{limits_of}
+use Rattle.st_observer.specs.Kept.{StatesAgree, WaitsAgree, gifts}
+use Rattle.st_observer.specs.Observed.{Observed, given_for, known_of}
+use Rattle.st_observer.specs.States.{StatesValue, before_place, operations_in, with_given}
+use Rattle.st_observer.specs.Waiting.{TurnsTo}
+use Rattle.st_observer.specs.Work.{entry_cost}
+use Rattle.st_observer.specs.declared.kept.Kept.{Kept}
+
+-- ---- one entry
+
+-- what an entry of this number and height gives stands at its place from now on
+pub record PutsGiven (n height : ℕ) (given : List (HashValue × PlainOperation)) (old new : StatesValue) : Type 0 where
+  pub schedule : new.schedule ≡ old.schedule
+  pub operations : (suffix : HashValue) → operations_in suffix new ≡ with_given n height (given_for suffix given) (operations_in suffix old)
+
+-- an entry comes last, of which this is known
+pub record Pushes (n height : ℕ) (bound : Known) (before after : Kept) : Type 0 where
+  pub bounds : after.bounds.items ≡ before.bounds.items ++ bound ∷ []
+  pub waits : TurnsTo n (role_states bound) before.waiting after.waiting
+  pub states : PutsGiven n height (given bound) before.states after.states
+
+-- of an entry that isn't there, nothing is known
+abbrev pub unknown : Known
+unknown = record { context = record { count = 0; params = limits_of 1 }; core = part_is.Unneeded }
+
+-- what is known of the entry with this number
+abbrev pub bound_at : ℕ → List Known → Known
+bound_at n bounds = slice_index_or bounds n unknown
+
+-- an entry of this number and height is looked at again over these files
+pub record Settles (files : Files) (n height : ℕ) (before after : Kept) : Type 0 where
+  pub bounds : after.bounds.items ≡ slice_set before.bounds.items n (known_from files (bound_at n before.bounds.items))
+  pub waits : TurnsTo n (role_states (known_from files (bound_at n before.bounds.items))) before.waiting after.waiting
+  pub states : PutsGiven n height (given (known_from files (bound_at n before.bounds.items))) before.states after.states
+
+-- ---- a file arrives
+
+-- what has been seen, with these files
+abbrev pub over : Option ℕ → List Entry → Files → Observed
+over schedule ledger files = record { schedule = schedule; ledger = ledger; files = files }
+
+-- the number is among these
+abbrev pub is_among : List ℕ → ℕ → Bool
+is_among numbers n = list_any (λ m. m == n) numbers
+
+-- These files make no more of an entry than what is known of it. (Whatever stands for an entry that isn't
+-- there is never looked at.)
+abbrev pub IsSettled : Files → List Known → ℕ → Type 0
+IsSettled files bounds n = (d : Known) → n < length bounds → known_from files (slice_index_or bounds n d) ≡ slice_index_or bounds n d
+
+-- What is kept agrees with itself, and the files make the same of it as of the entries. They make more
+-- at most of the entries that are still to be looked at.
+pub record IsGoing (observed : Observed) (still : ℕ → Bool) (kept : Kept) : Type 0 where
+  pub same : map (known_from observed.files) kept.bounds.items ≡ map (known_of observed.schedule observed.files) observed.ledger
+  pub settled : (n : ℕ) → still n ≡ false → IsSettled observed.files kept.bounds.items n
+  pub waits : WaitsAgree kept.bounds.items kept.waiting
+  pub schedule : kept.states.schedule ≡ observed.schedule
+  pub states : StatesAgree (gifts observed.ledger kept.bounds.items) kept.states
+
+-- how many roles of these entries are decided
+abbrev pub decided_of : List Known → ℕ
+decided_of bounds = sum_by decided_roles bounds
+
+-- how many signed texts stand in their proof files
+abbrev pub opened_of : List Known → ℕ
+opened_of bounds = sum_by opened_proofs bounds
+
+-- what entries of a ledger that pass a test by their number may cost, of which the first has this one
+abbrev pub costs_where : (ℕ → Bool) → Observed → ℕ → List Entry → ℕ
+costs_where test observed number [] = 0
+costs_where test observed number (entry ∷ entries) =
+    (if test number then entry_cost number entry observed else 0) + costs_where test observed (number + 1) entries
+
+-- ---- entries are cut
+
+-- the entries before this number alone are kept
+pub record Cuts (n : ℕ) (before after : Kept) : Type 0 where
+  pub bounds : after.bounds.items ≡ take n before.bounds.items
+  pub waits : WaitsAgree after.bounds.items after.waiting
+  pub schedule : after.states.schedule ≡ before.states.schedule
+  pub operations : (suffix : HashValue) → operations_in suffix after.states ≡ before_place n (operations_in suffix before.states)

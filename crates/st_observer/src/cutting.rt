@@ -1,0 +1,73 @@
+ghost use Rattle.std.specs.Prelude.{◌≡◌, ◌≤◌, ◌-◌, ◌*◌, length, take, IfOk, List, OnOk};
+ghost use Rattle.st_base.specs.Work.{AppliesAtMost};
+ghost use Rattle.st_hash.specs.Hash.{HashValue};
+ghost use Rattle.st_observer.specs.Kept.{WaitsAgree, states_at};
+ghost use Rattle.st_observer.specs.States.{NamesFrom};
+ghost use Rattle.st_observer.specs.Steps.{Cuts};
+ghost use Rattle.st_observer.specs.Work.{ReadsNothing};
+
+use crate::kept::Kept;
+use crate::stands::{no_states, states_of};
+use crate::waiting::Waiting;
+use st_anchor::{Bound, RoleState};
+use st_base::{WantOfMemory, Work};
+use std::alloc::Global;
+
+impl Kept {
+    // Of the first `n` entries alone; there are `len`.
+    pub fn cut(self, alloc: Global, n: u32, len: u32, work: &mut Work) -> Result<Kept, WantOfMemory>
+        requires within { n ≤ len }
+        requires number { len ≡ length self.bounds.items }
+        requires waits { WaitsAgree self.bounds.items self.waiting }
+        ensures step { IfOk result (Cuts n self) }
+        ensures bound { (names : List HashValue) → NamesFrom n self.states.items names → AppliesAtMost (7 * length names) work.old work.new }
+        ensures reads { ReadsNothing work.old work.new }
+    {
+        let Kept {
+            mut bounds,
+            mut waiting,
+            states,
+        } = self;
+        forget_from(alloc, n, len, &mut bounds, &mut waiting)?;
+        let states = states.cut(alloc, n, work)?;
+        Ok(Kept {
+            bounds,
+            waiting,
+            states,
+        })
+    }
+}
+
+// Forgets the entries from this number on, the last of them first. They wait for nothing any longer.
+fn forget_from(
+    alloc: Global,
+    n: u32,
+    len: u32,
+    bounds: &mut Vec<Bound>,
+    waiting: &mut Waiting,
+) -> Result<(), WantOfMemory>
+    requires within { n ≤ len }
+    requires number { len ≡ length bounds.old.items }
+    requires waits { WaitsAgree bounds.old.items waiting.old }
+    ensures bounds { OnOk result (bounds.new.items ≡ take n bounds.old.items) }
+    ensures waits { OnOk result (WaitsAgree bounds.new.items waiting.new) }
+{
+    let mut left = len;
+    'forgetting: while left > n {
+        left -= 1;
+        let states = take_last(bounds);
+        waiting.turn(alloc, left, &states, &no_states())?;
+    }
+    Ok(())
+}
+
+// Takes the last entry away, and says how it stood with its roles.
+fn take_last(bounds: &mut Vec<Bound>) -> [RoleState; 5]
+    ensures states { result ≡ states_at (length bounds.old.items - 1) bounds.old.items }
+    ensures rest { bounds.new.items ≡ take (length bounds.old.items - 1) bounds.old.items }
+{
+    match bounds.pop() {
+        Some(bound) => states_of(&bound),
+        None => no_states(),
+    }
+}

@@ -1,0 +1,251 @@
+ghost use Rattle.std.specs.Prelude.{◌≡◌, ◌≤◌, ◌-◌, ◌*◌, ◌↔◌, List, length, map, IfOk, IsOk, IsSome, IsTrue, OnOk};
+ghost use Rattle.std.specs.List.{list_any};
+ghost use Rattle.std.specs.List.Sorted.{IsStrictlySortedBy};
+ghost use Rattle.st_anchor.specs.Coming.{newly_decided, newly_opened};
+ghost use Rattle.st_anchor.specs.Known.{known_of_text};
+ghost use Rattle.st_anchor.specs.States.{decided_roles, opened_proofs};
+ghost use Rattle.st_apply.specs.Anchored.{place_of};
+ghost use Rattle.st_apply.specs.Laws.{PlacesAscend};
+ghost use Rattle.st_base.specs.Work.{AppliesAtMost};
+ghost use Rattle.st_content.specs.Files.{file_at};
+ghost use Rattle.st_hash.specs.Hash.{HashValue, same_hash, uri_of};
+ghost use Rattle.st_ledger.specs.Ledger.{admitted};
+ghost use Rattle.st_params.specs.Schedule.{params_at};
+ghost use Rattle.st_observer.specs.Observed.{appended, arrived, cut_to, known_of, nothing_yet, operations, report, state_of};
+ghost use Rattle.st_observer.specs.States.{plain_held};
+ghost use Rattle.st_observer.specs.Wanted.{IsMissed, text_cmp, wanted};
+ghost use Rattle.st_observer.specs.Work.{GrewAtMost, NamesLosing, ReadExactly, ReadsNothing, arrival_cost, decided_in, entry_cost, opened_in};
+
+use crate::arriving::settle_waiting;
+use crate::kept::Kept;
+use crate::stands::states_of;
+use crate::states::Held;
+use st_anchor::{Bound, RoleState};
+use st_apply::DidState;
+use st_base::{Bytes, List, WantOfMemory, Work};
+use st_content::{Content, Put};
+use st_hash::Hash;
+use st_ledger::Ledger;
+use st_params::Schedule;
+use std::alloc::Global;
+use std::marker::Model;
+
+/// A ledger and the files that have come, under a schedule of limits, with what is known of each
+/// entry, which files are wanted, and the operations and the state of each identifier. Contracts see
+/// the schedule, the entries and the files; all else follows from them.
+#[derive(Drop)]
+pub struct Observer {
+    schedule: Schedule,
+    ledger: Ledger,
+    content: Content,
+    kept: Kept,
+}
+
+impl Model for Observer {
+    ghost use Rattle.st_observer.specs.Kept.{IsKept};
+    ghost use Rattle.st_observer.specs.Observed.{Observed};
+
+    ghost Value = { Observed };
+
+    ghost view = { λ o. record { schedule = o.schedule; ledger = o.ledger; files = o.content } };
+
+    ghost invariant = { λ o. IsKept (record { schedule = o.schedule; ledger = o.ledger; files = o.content }) o.kept };
+}
+
+impl Observer {
+    /// An observer under this schedule of limits, before anything has come.
+    pub fn new(alloc: Global, schedule: Schedule) -> Result<Observer, WantOfMemory>
+        ensures { IfOk result (λ observer. observer ≡ nothing_yet schedule) }
+    {
+        let kept = Kept::new(alloc, schedule)?;
+        Ok(Observer {
+            schedule,
+            ledger: Ledger::new(alloc),
+            content: Content::new(alloc),
+            kept,
+        })
+    }
+
+    /// The schedule of limits that it was given.
+    pub fn schedule(&self) -> &Schedule
+        ensures { result.now ≡ self.now.schedule }
+    {
+        &self.schedule
+    }
+
+    /// The entries that have come.
+    pub fn ledger(&self) -> &Ledger
+        ensures { result.now ≡ self.now.ledger }
+    {
+        &self.ledger
+    }
+
+    /// The files that have come.
+    pub fn content(&self) -> &Content
+        ensures { result.now ≡ self.now.files }
+    {
+        &self.content
+    }
+
+    /// Appends an entry, and gives its number. The files that have come are read for it at once, and
+    /// from then on it stands once under each URI that its roles miss.
+    ///
+    /// At most so many files are read as roles of the entry are decided, and so many signed texts
+    /// opened as stand in its proof files that are read. For each identifier for which it gives an
+    /// operation at most 8 are applied.
+    pub fn append(
+        self,
+        alloc: Global,
+        height: u32,
+        text: Bytes,
+        work: &mut Work,
+    ) -> Result<(Observer, u32), WantOfMemory>
+        requires { IsOk (admitted self.ledger height) }
+        ensures state { IfOk result (λ done. done.0 ≡ appended (record { height = height; text = text }) self) }
+        ensures number { IfOk result (λ done. done.1 ≡ length self.ledger) }
+        // Each role whose file is read counts as one file.
+        ensures exact { OnOk result (ReadExactly
+            (newly_decided self.files (known_of_text (params_at self.schedule height) text))
+            (newly_opened self.files (known_of_text (params_at self.schedule height) text))
+            work.old work.new) }
+        ensures bound { GrewAtMost
+            (decided_roles (known_of self.schedule self.files (record { height = height; text = text })))
+            (opened_proofs (known_of self.schedule self.files (record { height = height; text = text })))
+            (entry_cost (length self.ledger) (record { height = height; text = text }) (appended (record { height = height; text = text }) self))
+            work.old work.new }
+    {
+        let Observer {
+            schedule,
+            mut ledger,
+            content,
+            kept,
+        } = self;
+        let anchored = Bound::new(alloc, text.as_slice(), &schedule.at(height))?;
+        let bound = anchored.settle(alloc, &content, work)?;
+        let kept = kept.push(alloc, ledger.len(), height, bound, work)?;
+        let number = ledger.append(alloc, height, text)?;
+        let observer = Observer {
+            schedule,
+            ledger,
+            content,
+            kept,
+        };
+        Ok((observer, number))
+    }
+
+    /// Keeps the first `n` entries alone, and gives how many were cut. The files stay, and none is
+    /// read. For each identifier that loses an operation at most 7 are applied.
+    pub fn cut(
+        self,
+        alloc: Global,
+        n: u32,
+        work: &mut Work,
+    ) -> Result<(Observer, u32), WantOfMemory>
+        requires { n ≤ length self.ledger }
+        ensures state { IfOk result (λ done. done.0 ≡ cut_to n self) }
+        ensures removed { IfOk result (λ done. done.1 ≡ length self.ledger - n) }
+        ensures bound { (names : List HashValue) → NamesLosing n self names → AppliesAtMost (7 * length names) work.old work.new }
+        ensures reads { ReadsNothing work.old work.new }
+    {
+        let Observer {
+            schedule,
+            mut ledger,
+            content,
+            kept,
+        } = self;
+        let kept = kept.cut(alloc, n, ledger.len(), work)?;
+        let removed = ledger.cut(n);
+        let observer = Observer {
+            schedule,
+            ledger,
+            content,
+            kept,
+        };
+        Ok((observer, removed))
+    }
+
+    /// Takes a file in, and gives its URI. Only the entries that wait for it are looked at. `Had`
+    /// comes exactly where a file of this URI was there; then nothing changes.
+    ///
+    /// At most so many files are read as roles are newly decided, and so many signed texts opened as
+    /// stand in proof files that are newly read. For each identifier for which an entry that missed the
+    /// file gives an operation, at most 7 are applied, and one for each of its operations at the
+    /// entry's place or later.
+    pub fn arrive(
+        self,
+        alloc: Global,
+        bytes: Bytes,
+        work: &mut Work,
+    ) -> Result<(Observer, Hash, Put), WantOfMemory>
+        ensures state { IfOk result (λ done. done.0 ≡ arrived bytes self) }
+        ensures uri { IfOk result (λ done. done.1 ≡ uri_of bytes) }
+        ensures had { IfOk result (λ done. (done.2 ≡ Put.Had) ↔ IsSome (file_at (uri_of bytes) self.files)) }
+        // Each role that is newly decided counts as one file.
+        ensures exact { OnOk result (ReadExactly
+            (decided_in (arrived bytes self) - decided_in self)
+            (opened_in (arrived bytes self) - opened_in self)
+            work.old work.new) }
+        ensures bound { GrewAtMost
+            (decided_in (arrived bytes self) - decided_in self)
+            (opened_in (arrived bytes self) - opened_in self)
+            (arrival_cost bytes self)
+            work.old work.new }
+    {
+        let Observer {
+            schedule,
+            ledger,
+            mut content,
+            kept,
+        } = self;
+        let (uri, put) = content.put(alloc, bytes)?;
+        // No entry waits for a file that was there.
+        let kept = settle_waiting(alloc, kept, &uri, &ledger, &content, work)?;
+        let observer = Observer {
+            schedule,
+            ledger,
+            content,
+            kept,
+        };
+        Ok((observer, uri, put))
+    }
+
+    /// The state of an identifier, by its suffix: its operations, resolved from nothing. It stands
+    /// here, and nothing is applied.
+    pub fn state(&self, suffix: &Hash) -> &DidState
+        ensures { result.now ≡ state_of suffix.now self.now }
+    {
+        self.kept.states.state(suffix)
+    }
+
+    /// The operations of an identifier, by its suffix, in the order of the ledger. They share proofs
+    /// and deltas with those that are kept.
+    pub fn items(&self, alloc: Global, suffix: &Hash) -> Result<List<Held>, WantOfMemory>
+        ensures items { IfOk result (λ items. map plain_held items ≡ operations suffix.now self.now) }
+        ensures ascend { PlacesAscend place_of (operations suffix.now self.now) }
+    {
+        let items = self.kept.states.items(alloc, suffix)?;
+        Ok(items)
+    }
+
+    /// The URIs of the files that some entry misses, each once, ascending by the bytes of their texts.
+    pub fn wanted(&self, alloc: Global) -> Result<List<Hash>, WantOfMemory>
+        ensures value { IfOk result (λ uris. uris ≡ wanted self.now) }
+        ensures ordered { IfOk result (IsStrictlySortedBy text_cmp) }
+        // A URI is among them exactly where some role of some entry misses its file.
+        ensures missed { IfOk result (λ uris. (uri : HashValue) → IsTrue (list_any (same_hash uri) uris) ↔ IsMissed uri self.now) }
+    {
+        let uris = self.kept.waiting.uris(alloc)?;
+        Ok(uris)
+    }
+
+    /// How it stands with the five roles of an entry, in their order. None comes exactly where there
+    /// is no entry with this number.
+    pub fn report(&self, n: u32) -> Option<[RoleState; 5]>
+        ensures { result ≡ report n self.now }
+    {
+        match self.kept.bounds.get(n as usize) {
+            Some(bound) => Some(states_of(bound)),
+            None => None,
+        }
+    }
+}

@@ -1,0 +1,32 @@
+ghost use Rattle.std.specs.Prelude.{◌≡◌};
+ghost use Rattle.st_anchor.specs.States.{role_states};
+ghost use Rattle.st_observer.specs.Kept.{no_needs};
+
+use st_anchor::{Bound, RoleState};
+use st_datafiles::Role;
+
+// How it stands with the five roles of an entry, in their order.
+pub fn states_of(bound: &Bound) -> [RoleState; 5]
+    ensures { result ≡ role_states bound.now }
+{
+    [
+        bound.state(Role::Core),
+        bound.state(Role::CoreProof),
+        bound.state(Role::Provisional),
+        bound.state(Role::ProvisionalProof),
+        bound.state(Role::Chunk),
+    ]
+}
+
+// How it stands with them where there is no entry.
+pub fn no_states() -> [RoleState; 5]
+    ensures { result ≡ no_needs }
+{
+    [
+        RoleState::Unneeded,
+        RoleState::Unneeded,
+        RoleState::Unneeded,
+        RoleState::Unneeded,
+        RoleState::Unneeded,
+    ]
+}

@@ -1,0 +1,5 @@
+mod files;
+mod observing;
+mod orders;
+mod states;
+mod waiting;

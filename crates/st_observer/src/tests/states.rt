@@ -1,0 +1,127 @@
+ghost use Rattle.std.specs.Prelude.{◌≡◌, [], ◌∷◌, IfOk, map};
+ghost use Rattle.st_anchor.specs.Gives.{plain_given, suffixes_given};
+
+use crate::states::States;
+use st_anchor::Given;
+use st_apply::StateParts;
+use st_base::{List, WantOfMemory, Work};
+use st_hash::{Hash, hash256};
+use st_indexfiles::SuffixData;
+use st_ops::Operation;
+use st_params::Schedule;
+use std::alloc::Global;
+use std::test::Fail;
+
+fn hash_of(text: &str) -> Hash {
+    hash256(text.as_bytes())
+}
+
+// A create for a suffix. Of what it says only the recovery commitment is looked at.
+fn created(suffix: Hash, recovery: &str) -> Given
+    ensures { result.suffix ≡ suffix }
+{
+    let suffix_data = SuffixData {
+        delta_hash: hash_of("delta"),
+        recovery_commitment: hash_of(recovery),
+    };
+    let operation = Operation::Create {
+        suffix_data,
+        delta: None,
+    };
+    Given { suffix, operation }
+}
+
+fn two(
+    alloc: Global,
+    first: Hash,
+    second: Hash,
+    recovery: &str,
+) -> Result<List<Given>, WantOfMemory>
+    ensures { IfOk result (λ given. suffixes_given (map plain_given given) ≡ first ∷ second ∷ []) }
+{
+    let mut given = List::new(alloc);
+    given.push(alloc, created(first, recovery))?;
+    given.push(alloc, created(second, recovery))?;
+    Ok(given)
+}
+
+// The entry of this place creates these two names.
+fn with_two(
+    alloc: Global,
+    states: States,
+    place: u32,
+    first: &str,
+    second: &str,
+    recovery: &str,
+    work: &mut Work,
+) -> Result<States, Fail> {
+    let first = hash_of(first);
+    let second = hash_of(second);
+    if first == second {
+        return Err(Fail::from("one name twice"));
+    }
+    let given = two(alloc, first, second, recovery)?;
+    Ok(states.put(alloc, place, 100, given, work)?)
+}
+
+// After three puts, the last of which replaces what the second put.
+fn three_puts(alloc: Global, work: &mut Work) -> Result<States, Fail> {
+    let states = States::new(alloc, Schedule::new())?;
+    let states = with_two(alloc, states, 3, "a", "b", "late", work)?;
+    let states = with_two(alloc, states, 1, "c", "a", "early", work)?;
+    with_two(alloc, states, 1, "a", "c", "again", work)
+}
+
+// The recovery commitment that stands for a name is this one.
+fn commits(states: &States, name: &str, recovery: &str) -> bool {
+    match states.state(&hash_of(name)).parts() {
+        StateParts::Active { recovery: is, .. } => is == hash_of(recovery),
+        _ => false,
+    }
+}
+
+// The operations of a name stand at these places.
+fn stands_at(alloc: Global, states: &States, name: &str, places: &[u32]) -> bool {
+    match states.items(alloc, &hash_of(name)) {
+        Ok(items) => items
+            .as_slice()
+            .iter()
+            .map(|held| held.place)
+            .eq(places.iter().copied()),
+        Err(_) => false,
+    }
+}
+
+fn shows_puts(alloc: Global, work: &mut Work) -> Result<bool, Fail> {
+    let states = three_puts(alloc, work)?;
+    Ok(
+        commits(&states, "a", "again")
+            && commits(&states, "b", "late")
+            && stands_at(alloc, &states, "a", &[1, 3]),
+    )
+}
+
+fn shows_cut(alloc: Global, work: &mut Work) -> Result<bool, Fail> {
+    let states = three_puts(alloc, work)?;
+    let states = states.cut(alloc, 3, work)?;
+    Ok(
+        commits(&states, "a", "again")
+            && !commits(&states, "b", "late")
+            && stands_at(alloc, &states, "a", &[1])
+            && stands_at(alloc, &states, "b", &[]),
+    )
+}
+
+#[test]
+fn the_first_create_stands_wherever_it_was_put(rt: HostRuntime) -> Result<(), Fail> {
+    let mut work = Work::new(&rt);
+    assert!(rt; shows_puts(rt.alloc(), &mut work)?);
+    Ok(())
+}
+
+#[test]
+fn a_cut_takes_the_later_operations(rt: HostRuntime) -> Result<(), Fail> {
+    let mut work = Work::new(&rt);
+    assert!(rt; shows_cut(rt.alloc(), &mut work)?);
+    Ok(())
+}
