@@ -1,24 +1,16 @@
-#!/usr/bin/env python3
 """Reading of the files of a batch: the time for a core index of 5,000 creates and for a chunk of
 10,000,000 bytes, beside the bare reading of the same bytes by the kit's `serde_json`.
 
-usage: bench/files.py
-
 The program is bench/programs/files_cost.txt.
 """
-import base64
-import hashlib
-import json
 import os
 import subprocess
-import tempfile
+
+from formats import canonical, hash_text
+from measuring import build
 
 COUNT = 5_000
 MOST = 10_000_000
-
-
-def hash_text(data):
-    return base64.urlsafe_b64encode(b"\x12\x20" + hashlib.sha256(data).digest()).rstrip(b"=").decode()
 
 
 def core_index():
@@ -34,29 +26,20 @@ def chunk():
         return {"patches": [{"action": "add-services", "services": [
             {"id": "s%04d" % n, "serviceEndpoint": "https://example.com/" + filler, "type": "T"}]}],
             "updateCommitment": hash_text(b"%d" % n)}
-    frame = len(json.dumps(delta(0, ""), separators=(",", ":")))
+    frame = len(canonical(delta(0, "")))
     filler = "x" * ((MOST - 13) // COUNT - frame - 1)
     return {"deltas": [delta(n, filler) for n in range(COUNT)]}
 
 
-def measure(program, given):
-    """Prints a line for each file, which it writes to the path `given`."""
+def measure(folder):
+    """Prints a line for each file."""
+    given = os.path.join(folder, "given")
+    (program,) = build(folder, ["files_cost"])
     for what, value in (("a core index of %d creates" % COUNT, core_index()), ("a chunk of %d deltas" % COUNT, chunk())):
-        with open(given, "w") as file:
-            json.dump(value, file, separators=(",", ":"))
+        with open(given, "wb") as file:
+            file.write(canonical(value))
         with open(given, "rb") as source:
             lines = subprocess.run([program], stdin=source, stdout=subprocess.PIPE, check=True).stdout.decode()
         ours, bare = (min(times) for times in zip(*(map(int, line.split()) for line in lines.splitlines())))
         print("%s, %d bytes: read in %.2f ms, %.2f times the bare reading of its JSON (%.2f ms)"
               % (what, os.path.getsize(given), ours / 1e6, ours / bare, bare / 1e6), flush=True)
-
-
-def main():
-    import run
-    run.PROGRAMS = {"files_cost": "st_base st_datafiles st_indexfiles st_params serde_json anyhow"}
-    with tempfile.TemporaryDirectory() as folder:
-        measure(run.build(folder)["files_cost"], os.path.join(folder, "given"))
-
-
-if __name__ == "__main__":
-    main()
