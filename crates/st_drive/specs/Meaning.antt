@@ -3,6 +3,7 @@
 -- full length.
 use Rattle.std.specs.Prelude.{◌≡◌, ◌<◌, ◌^◌, ℕ, List, [], ◌∷◌, ◌++◌, length, take}
 
+-- what a machine of type M with a context of type C means
 pub record Meaning (M C : Type 0) : Type 1 where
   -- all that it replies to these lines, in order
   pub answers : M → List (List ℕ) → List ℕ

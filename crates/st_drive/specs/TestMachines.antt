@@ -9,6 +9,7 @@ use Rattle.st_drive.specs.Meaning.{Meaning, Laws}
 abbrev pub numbered_reply : ℕ → List ℕ → List ℕ
 numbered_reply digit line = (48 + digit) ∷ (take 4 line ++ 10 ∷ [])
 
+-- the replies to lines, numbered by digits from this one on
 abbrev pub numbered : ℕ → List (List ℕ) → List ℕ
 numbered digit [] = []
 numbered digit (line ∷ lines) = numbered_reply digit line ++ numbered ((digit + 1) % 10) lines
@@ -26,6 +27,7 @@ pub record Spends (m : ℕ) (c : Allowance) (lines : List (List ℕ)) (n : ℕ) 
 pub record SpendsLess (m : ℕ) (c : Allowance) (lines : List (List ℕ)) (d : Allowance) : Type 0 where
   pub spent : d.left + length lines ≡ c.left + 1
 
+-- what the machine that numbers its replies means
 abbrev pub numbered_meaning : Meaning ℕ Allowance
 numbered_meaning = record { answers = numbered; ran = Spends; gave_up = SpendsLess }
 
