@@ -16,6 +16,7 @@ pub record RanLines (machine : Machine) (work : Counts) (lines : List (List ℕ)
   pub came : next ≡ after machine lines
   pub due : DueOver machine lines work counted
 
+-- What a node means to a run: it replies as the reference machine does, and counts no more than was due.
 abbrev pub node_meaning : Meaning Machine Counts
 node_meaning = record {
   answers = replies;
