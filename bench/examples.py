@@ -11,8 +11,8 @@ import sys
 
 sys.dont_write_bytecode = True
 import lms
-from formats import (Batch, add_keys, add_services, anchor_line, batch, canonical, content_line, create,
-                     deactivate, delta, hash_text, key_of, long_form, recover, service, short_form, update)
+from formats import (Batch, add_keys, add_services, anchor_line, batch, canonical, content_line, create, deactivate,
+                     delta, hash_text, key_of, long_form, recover, service, short_form, submit_line, update)
 
 EXAMPLES = os.path.join(os.path.dirname(os.path.dirname(os.path.abspath(__file__))), "examples")
 HOME = service("home", "https://example.com/")
@@ -117,6 +117,24 @@ def names():
             "rollback 1", anchor_line(100, second), "report 1", short]
 
 
+def whole():
+    """From requests to results: two creates in a batch, then an update and a recover in another, which is
+    rolled back and anchored again."""
+    gina, hugo = Person("Gina"), Person("Hugo")
+    one, other = gina.create(add_services(HOME)), hugo.create()
+    creates = batch([one, other])
+    operations = [gina.update(one.suffix, 0, add_services(SHOP)), hugo.recover(other.suffix, 0, add_services(HOME))]
+    changes = batch(operations)
+    asked = ["resolve " + short_form(one), "resolve " + short_form(other)]
+    return [
+        "flush", submit_line(one), submit_line(other), submit_line(one), "flush", "flush", *asked,
+        anchor_line(30, creates), "wanted", "report 0", *asked,
+        *map(submit_line, operations), "flush", asked[0],
+        anchor_line(31, changes), "report 1", *asked,
+        "rollback 1", *asked,
+        anchor_line(32, changes), *asked]
+
+
 def folder(path):
     """Two identifiers in three batches: their files, the list of entries, the identifiers."""
     people = [Person("Erin"), Person("Frank")]
@@ -137,7 +155,8 @@ def write(path, data):
 
 
 def main():
-    for name, make in (("life", life), ("recovery", recovery), ("rejected", rejected), ("names", names)):
+    for name, make in (("life", life), ("recovery", recovery), ("rejected", rejected), ("names", names),
+                       ("whole", whole)):
         write(os.path.join(EXAMPLES, name + ".in"), "".join(line + "\n" for line in make()).encode())
     folder(os.path.join(EXAMPLES, "folder"))
 

@@ -91,6 +91,16 @@ def deactivate(suffix, key, number):
     return _signed("deactivate", suffix, key, number, {"recoveryKey": key.json(), "didSuffix": suffix}, None)
 
 
+def request(operation):
+    """The text that asks for an operation."""
+    members = {"type": operation.kind, **operation.entry}
+    if operation.signed is not None:
+        members["signedData"] = operation.signed
+    if operation.delta is not None:
+        members["delta"] = operation.delta
+    return canonical(members).decode()
+
+
 def short_form(operation):
     return "did:sidetree:" + operation.suffix
 
@@ -147,6 +157,10 @@ def content_line(file):
 
 def anchor_line(height, made):
     return "anchor %d %s" % (height, made.anchor)
+
+
+def submit_line(operation):
+    return "submit " + request(operation)
 
 
 def service(name, endpoint):

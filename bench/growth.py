@@ -89,6 +89,16 @@ def same_entry(entries):
     yield content_line(made.files["chunk"])
 
 
+def one_late_create(entries):
+    """One create that is anchored again and again, and whose chunk comes last: each entry gives the same
+    identifier, and what stands behind each is folded again."""
+    made = batch([made_create(0, delta([load.new_service(0)], key_of(load.secret(3), "u")))])
+    yield content_line(made.files["core"])
+    yield content_line(made.files["provisional"])
+    yield from (anchor_line(1, made) for _ in range(entries))
+    yield content_line(made.files["chunk"])
+
+
 def to_nothing_and_back(times):
     """Ten entries that are rolled back and anchored again."""
     chains, batches = load.rounds(2, 9)
@@ -122,6 +132,7 @@ HOSTILE = (("entries that name one missing core index file", 10_000, one_missing
            ("entries that name one missing provisional index file", 10_000, one_missing_provisional_file),
            ("entries that share one chunk file", 1_000, shared_chunk),
            ("anchors of one batch whose chunk comes last", 1_000, same_entry),
+           ("entries of one create whose chunk comes last", 8_000, one_late_create),
            ("rollbacks to nothing and back", 1_000, to_nothing_and_back),
            ("rollbacks of the last of a thousand entries", 10_000, last_entry_again),
            ("missing files, listed ten times", 100_000, many_missing))

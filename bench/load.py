@@ -48,16 +48,17 @@ def same_service(n):
     return add_services(service("s", "https://example.com/%06d" % n))
 
 
+def full_create(number):
+    """A create with a key and a service."""
+    key = {"id": "k", "type": "JsonWebKey2020", "publicKeyJwk": key_of(secret(3), "k%d" % number).json(),
+           "purposes": ["authentication", "assertionMethod"]}
+    made = delta([add_keys(key), new_service(number)], key_of(secret(3), "u%d" % number))
+    return create(key_of(secret(3), "r%d" % number), made)
+
+
 def creates(count=8_000, size=1_000, asked=800):
     """Creates with a key and a service, in batches with their chunks, then resolves."""
-    def patch(number):
-        key = {"id": "k", "type": "JsonWebKey2020", "publicKeyJwk": key_of(secret(3), "k%d" % number).json(),
-               "purposes": ["authentication", "assertionMethod"]}
-        return add_keys(key), new_service(number)
-
-    def made(number):
-        return create(key_of(secret(3), "r%d" % number), delta(list(patch(number)), key_of(secret(3), "u%d" % number)))
-    all_made = [made(number) for number in range(count)]
+    all_made = [full_create(number) for number in range(count)]
     for height in range(0, count // size):
         one = batch(all_made[height * size:(height + 1) * size])
         yield from contents(one)

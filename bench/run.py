@@ -10,6 +10,8 @@ NAME is one of
     resolves   a resolve behind small and great ledgers and histories
     hostile    streams that are made to be costly, against ones of an eighth of the size
     reading    great files of a batch, against the bare reading of their JSON
+    submit     requests and their batches, against the bare reading and hashing of the requests; a great flush
+               against small ones
     json, signatures, index, patches    single libraries
 
 and without one all are measured. --from FOLDER measures the streams NAME.in or NAME.in.xz of a folder in
@@ -27,6 +29,7 @@ import growth
 import libraries
 import reading
 import streams
+import submitting
 
 
 def main():
@@ -38,6 +41,7 @@ def main():
     measures = {"content": lambda folder: content.measure(folder, options.instructions),
                 "streams": lambda folder: streams.measure(folder, options.origin),
                 "resolves": growth.resolves, "hostile": growth.hostile, "reading": reading.measure,
+                "submit": submitting.measure,
                 "json": libraries.json, "signatures": libraries.signatures, "index": libraries.index,
                 "patches": libraries.patches}
     for name in options.names or measures:

@@ -23,3 +23,19 @@ mod ReadBackLemmas
 mod FirstSizeLemmas
 mod FirstTakenLemmas
 mod TakesTheFirstLemmas
+-- What a flush takes of a queue, by kind, and what it leaves.
+mod FlushLemmas
+mod GatheredLemmas
+mod GroupingLemmas
+mod WrittenLemmas
+-- How long files are, by what stands in them, and how many operations go into a batch by that.
+mod ExactSizeLemmas
+mod HashSizeLemmas
+mod MemberSizeLemmas
+mod EntrySizeLemmas
+mod OperationSizeLemmas
+mod FileSizeLemmas
+mod MoreSizeLemmas
+mod SaturatedSizeLemmas
+mod PrefixSizeLemmas
+mod CountingLemmas

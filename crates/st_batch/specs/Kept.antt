@@ -9,7 +9,7 @@ use Rattle.st_ops.specs.KnownHashes.{HasHashes}
 use Rattle.st_ops.specs.Operation.{PlainOperation, plain_operation, suffix_of}
 use Rattle.st_ops.specs.RequestText.{delta_there}
 use Rattle.st_ops.specs.declared.operation.Operation.{Operation}
-use Rattle.st_params.specs.Limits.{Limits}
+use Rattle.st_params.specs.Limits.{Limits, limits_of}
 use Rattle.st_batch.specs.Fits.{Fits}
 use Rattle.st_batch.specs.Groups.{signed_text_in}
 
@@ -36,10 +36,12 @@ pub record IsFormed (operation : PlainOperation) : Type 0 where
   pub signed : IfSome (signed_text_in operation) IsUtf8
   pub delta : IfSome (delta_there operation) IsProper
 
--- It has what each operation has, and it fitted some limits, those that it was submitted at.
+-- It has what each operation has, and it fitted the limits of some version, those that it was submitted
+-- at.
 pub record IsQueued (operation : PlainOperation) : Type 0 where
   pub formed : IsFormed operation
   pub limits : Limits
+  pub versioned : limits ≡ limits_of limits.version
   pub fitted : Fits limits operation
 
 -- each entry stands under the suffix of its operation, they are no more than may be queued, and each

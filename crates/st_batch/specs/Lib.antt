@@ -1,9 +1,14 @@
 pub mod Codes
 pub mod Groups
+pub mod Grouping
 pub mod BatchFiles
 pub mod Prefix
 pub mod Fits
+pub mod Flushed
 pub mod Submitted
 pub mod Kept
 pub mod ReadBack
 pub mod BatchLaws
+pub mod FileSizes
+pub mod Sums
+pub mod OperationSizes

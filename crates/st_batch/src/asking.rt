@@ -8,9 +8,10 @@ ghost use Rattle.st_batch.specs.declared.refused.SubmitRefused.TheVariants.{BadD
 ghost use Rattle.st_canon.specs.Proper.{IsProper};
 ghost use Rattle.st_ops.specs.Operation.{plain_operation};
 ghost use Rattle.st_ops.specs.RequestText.{delta_there};
+ghost use Rattle.st_params.specs.Limits.{limits_of};
 
 use crate::delta_checking::has_right_delta;
-use crate::knowing::know_operation;
+use crate::knowing::{know_limits, know_operation};
 use crate::refused::SubmitRefused;
 use st_base::Work;
 use st_ops::{Operation, read_request};
@@ -28,8 +29,10 @@ pub(crate) fn ask(
     ensures value { GivesAs plain_operation refusal_of (asked_rightly params.now bytes.now) result }
     ensures fits { IfOk result (λ operation. Fits params.now (plain_operation operation)) }
     ensures formed { IfOk result (λ operation. IsFormed (plain_operation operation)) }
+    ensures versioned { OnOk result (params.now ≡ limits_of params.now.version) }
     ensures counted { ProofsAtMost 1 work.old work.new }
 {
+    know_limits(params)?;
     let operation = read_request(alloc, bytes, params, work)?;
     want_right_delta(alloc, &operation, params)?;
     know_operation(&operation);

@@ -1,12 +1,15 @@
-ghost use Rattle.std.specs.Prelude.{◌≡◌, ◌≤◌, [], length, OnErr, OnOk};
+ghost use Rattle.std.specs.Prelude.{◌≡◌, ◌≤◌, [], length, IfErr, IfOk, OnErr, OnOk};
 ghost use Rattle.st_base.specs.Answers.{GivesAs};
 ghost use Rattle.st_base.specs.Work.{ProofsAtMost};
+ghost use Rattle.st_batch.specs.Flushed.{IsFlushed, RefusesToFlush};
 ghost use Rattle.st_batch.specs.Kept.{AreDifferent, most_queued};
 ghost use Rattle.st_batch.specs.Submitted.{AddsFitting, refusal_of, submitted};
 
 use crate::asking::ask;
+use crate::batch::Batch;
 use crate::entries::{Entries, put};
-use crate::refused::SubmitRefused;
+use crate::flushing::flush;
+use crate::refused::{FlushRefused, SubmitRefused};
 use st_base::Work;
 use st_hash::Hash;
 use st_params::Params;
@@ -75,5 +78,26 @@ impl Queue {
     {
         let operation = ask(alloc, bytes, params, work)?;
         put(&mut self.queued, alloc, operation)
+    }
+
+    /// Makes a batch of the first operations, as many as go into one at these limits: no more than a
+    /// batch may declare, and none of its files longer than it may be. It gives what stays queued, in
+    /// order, and the batch. No file is read and nothing is counted.
+    ///
+    /// Wherever the files of the batch are known, an entry with its anchor string, at a height with
+    /// these limits, gives exactly the operations that were taken, if each of them fits these limits.
+    ///
+    /// `Nothing` comes exactly where no operation is queued; a queue that is not empty gives a batch of
+    /// at least one.
+    pub fn flush(self, alloc: Global, params: &Params) -> Result<(Queue, Batch), FlushRefused>
+        ensures flushed { IfOk result (λ done. IsFlushed params.now self done.0 done.1) }
+        ensures refused { IfErr result (RefusesToFlush self) }
+    {
+        if self.queued.is_empty() {
+            return Err(FlushRefused::Nothing(self));
+        }
+        let Queue { queued } = self;
+        let (rest, batch) = flush(alloc, queued, params)?;
+        Ok((Queue { queued: rest }, batch))
     }
 }

@@ -1,3 +1,4 @@
+use crate::queue::Queue;
 use st_base::WantOfMemory;
 use st_ops::RequestRefused;
 use thiserror::Error;
@@ -62,5 +63,25 @@ impl From<RequestRefused> for SubmitRefused {
             RequestRefused::BadProof => SubmitRefused::BadProof,
             RequestRefused::WantOfMemory => SubmitRefused::WantOfMemory,
         }
+    }
+}
+
+/// Why a queue gives no batch.
+#[derive(Drop)]
+pub enum FlushRefused {
+    /// No operation is queued. The queue is handed back.
+    Nothing(Queue),
+    /// Memory could not be had, and the queue is gone.
+    WantOfMemory,
+}
+
+impl From<WantOfMemory> for FlushRefused {
+    ghost use Rattle.std.specs.Prelude.{◌≡◌};
+    ghost use Rattle.st_batch.specs.declared.refused.FlushRefused.TheVariants.{WantOfMemory};
+
+    ghost from_gives = { λ _ refused. refused ≡ WantOfMemory };
+
+    fn from(_want: WantOfMemory) -> FlushRefused {
+        FlushRefused::WantOfMemory
     }
 }

@@ -1,3 +1,6 @@
+mod counts;
+mod flushing;
+mod making;
 mod samples;
 
 use crate::tests::samples::{
@@ -11,7 +14,11 @@ use std::alloc::Global;
 use std::test::Fail;
 
 // A queue to which these requests were submitted at the limits of version 1, and the last answer.
-fn after(alloc: Global, requests: &[&str], work: &mut Work) -> (Queue, Result<(), SubmitRefused>) {
+pub(crate) fn after(
+    alloc: Global,
+    requests: &[&str],
+    work: &mut Work,
+) -> (Queue, Result<(), SubmitRefused>) {
     let params = Schedule::new().at(0);
     let mut queue = Queue::new(alloc);
     let mut answer = Ok(());

@@ -12,7 +12,6 @@ mod spelling;
 use crate::{Json, Object, is_text_if_there, read, some_list, write};
 use st_base::{List, WantOfMemory};
 use std::alloc::Global;
-use std::test::Fail;
 
 // An object of fixed members, which are put in another order than they are listed.
 #[tactic(auto, unfolding(crate::proofs::OnLiterals::names_on_literals))]
@@ -61,20 +60,25 @@ fn moved(alloc: Global, object: &mut Object, value: Json) -> Result<(), WantOfMe
     Ok(())
 }
 
-fn json(rt: &HostRuntime, text: &str) -> Result<Json, Fail> {
-    match read(rt.alloc(), text.as_bytes()) {
-        Ok(json) => Ok(json),
-        Err(_) => Err(Fail::from("not read")),
+fn is_written(alloc: Global, json: &Json, text: &str) -> bool {
+    match write(alloc, json) {
+        Ok(written) => written.as_slice() == text.as_bytes(),
+        Err(_) => false,
     }
 }
 
-fn object(rt: &HostRuntime, text: &str) -> Result<Object, Fail> {
-    match json(rt, text)? {
-        Json::Object(object) => Ok(object),
-        _ => Err(Fail::from("no object")),
+// Whether a text is read, and what was read is written so.
+fn is_respelled(alloc: Global, text: &str, canonical: &str) -> bool {
+    match read(alloc, text.as_bytes()) {
+        Ok(json) => is_written(alloc, &json, canonical),
+        Err(_) => false,
     }
 }
 
-fn is_written(rt: &HostRuntime, json: &Json, text: &str) -> Result<bool, Fail> {
-    Ok(write(rt.alloc(), json)?.as_slice() == text.as_bytes())
+// The object that is read from a text.
+fn object(alloc: Global, text: &str) -> Option<Object> {
+    match read(alloc, text.as_bytes()) {
+        Ok(Json::Object(object)) => Some(object),
+        _ => None,
+    }
 }

@@ -13,29 +13,31 @@ use Rattle.st_drive.specs.Tables.{Answered, EndsEarly}
 use Rattle.st_drive.proofs.Ends.{whole_first}
 use Rattle.st_node.proofs.RunLemmas.{entries-append, run_counts}
 use Rattle.st_node.specs.Machine.{Machine, after}
-use Rattle.st_node.specs.Work.{DueOver, RunCounts, declared_count, entries_of}
+use Rattle.st_node.specs.Work.{DueOver, RunCounts, declared_count, entries_of, submitted_by_line, submitted_in}
 use Rattle.st_cli.specs.declared.form.NodeOptions.{NodeOptions}
-use Rattle.st_cli.specs.Node.{NodeTable, InputCounts, new_node, node_replies}
+use Rattle.st_cli.specs.Node.{NodeTable, InputCounts, LinesCount, new_node, node_replies}
 use Rattle.st_cli.specs.NodeLines.{node_meaning}
 use Rattle.st_cli.specs.Status.{is_end}
 
 -- what is bounded over some lines is bounded over more
 over_more : (schedule : Option ℕ) (machine : Machine) (lines more : List (List ℕ)) (old new : Counts)
-    → RunCounts schedule (entries_of machine lines) old new → RunCounts schedule (entries_of machine (lines ++ more)) old new
+    → RunCounts schedule (entries_of machine lines) (submitted_in lines) old new
+    → RunCounts schedule (entries_of machine (lines ++ more)) (submitted_in (lines ++ more)) old new
 over_more schedule machine lines more old new counts =
     let first = entries_of machine lines in
     let then = entries_of (after machine lines) more in
     let declared = declared_count schedule in
-    let both : RunCounts schedule (first ++ then) old new = record {
+    let submissions = submitted_in (lines ++ more) in
+    let both : RunCounts schedule (first ++ then) submissions old new = record {
       files = omega (arith, length-append first then, counts.files);
-      proofs = omega (arith, sum_by-append declared first then, counts.proofs);
+      proofs = omega (arith, sum_by-append declared first then, sum_by-append submitted_by_line lines more, counts.proofs);
     } in
-    subst (λ entries. RunCounts schedule entries old new) (sym (entries-append machine lines more)) both
+    subst (λ entries. RunCounts schedule entries submissions old new) (sym (entries-append machine lines more)) both
 
 module _ (options : NodeOptions) (work counted : Counts) where
   -- the bound over these lines, from the beginning on
   abbrev Within : List (List ℕ) → Type 0
-  Within lines = RunCounts options.schedule (entries_of (new_node options) lines) work counted
+  Within lines = LinesCount options lines work counted
 
   within_more : (lines more : List (List ℕ)) → Within lines → Within (lines ++ more)
   within_more lines more within = over_more options.schedule (new_node options) lines more work counted within

@@ -6,7 +6,7 @@ use Rattle.st_base.specs.Work.{Counts}
 use Rattle.st_drive.specs.Lines.{all_lines}
 use Rattle.st_drive.specs.Runs.{RanOver, GaveUpOver}
 use Rattle.st_node.specs.Machine.{Machine, new_machine, replies}
-use Rattle.st_node.specs.Work.{RunCounts, entries_of}
+use Rattle.st_node.specs.Work.{RunCounts, entries_of, submitted_in}
 use Rattle.st_cli.specs.declared.form.NodeOptions.{NodeOptions}
 use Rattle.st_cli.specs.NodeLines.{node_meaning}
 use Rattle.st_cli.specs.Status.{StatusTable}
@@ -28,7 +28,12 @@ abbrev pub NodeTable : NodeOptions → (work counted : Counts) → (had left hel
 NodeTable options work counted =
     StatusTable (node_replies options) (RanOver node_meaning (new_node options) work counted) (GaveUpOver node_meaning (new_node options) work counted) options.limit
 
+-- what a run over these lines may count, from the beginning on: by the entries that come of them, and by
+-- how many of them are `submit` lines
+abbrev pub LinesCount : NodeOptions → List (List ℕ) → (work counted : Counts) → Type 0
+LinesCount options lines = RunCounts options.schedule (entries_of (new_node options) lines) (submitted_in lines)
+
 -- Over an input at most five files are read for each anchor that is accepted among its lines, and at most
--- as many signed texts opened as these declare operations.
+-- as many signed texts opened as these declare operations, and one more for each `submit` line.
 abbrev pub InputCounts : NodeOptions → List ℕ → (work counted : Counts) → Type 0
-InputCounts options input = RunCounts options.schedule (entries_of (new_node options) (all_lines input))
+InputCounts options input = LinesCount options (all_lines input)

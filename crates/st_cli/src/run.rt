@@ -34,8 +34,9 @@ use std::alloc::Global;
 ///
 /// At most 24,000,001 bytes of a line are kept, which tells that it is too long, and the rest is
 /// skipped. Whatever the status, at most five files are read for each anchor that was accepted among
-/// the bytes taken, and at most as many signed texts opened as these declare operations. That a
-/// `resolve` reads and opens nothing, and applies at most one operation, is a clause of `Node::answer`.
+/// the bytes taken, and at most as many signed texts opened as these declare operations, and one more
+/// for each `submit` line among those bytes. That a `resolve` reads and opens nothing, and applies at
+/// most one operation, is a clause of `Node::answer`.
 pub fn run<S: Source, K: Sink>(
     alloc: Global,
     words: &[Text],
@@ -73,7 +74,8 @@ pub fn run<S: Source, K: Sink>(
         → ¬ Rose (K.faults sink.old) (K.faults sink.new)
         → (result ≡ 0) ⊎ (result ≡ 6)) }
 
-    // The work that was counted is bounded by the anchors that were accepted in what was taken.
+    // The work that was counted is bounded by the anchors that were accepted in what was taken, and by
+    // its `submit` lines.
     ensures work { IfNode (form_of words.now) (λ options. IfSome (S.left source.old) (λ input.
         (taken : List ℕ) → Consumes (Some input) (S.left source.new) taken
         → InputCounts options taken work.old work.new)) }

@@ -14,3 +14,5 @@ mod support;
 mod verdict_files;
 mod verdicts;
 mod words;
+mod written;
+mod written_files;

@@ -1,9 +1,10 @@
 mod AnchorLemmas
+mod ArrivingLemmas
 mod CountsLemmas
 mod DueLemmas
 mod EntryLemmas
+mod FlushLemmas
 mod IsolationLemmas
-mod LosingLemmas
 mod SumLemmas
 mod TellingLemmas
 pub mod LineLemmas

@@ -4,14 +4,16 @@
 --     cut_replies       the replies to it and to the lines behind it
 --     cut_after         the machine that it leaves
 --     cut_entries       the entry that comes of it
+--     cut_submitted     whether it submits a request
 use Rattle.std.proofs.Common.{◌≡◌, ◌∙◌, ℕ, ◌+◌, ◌≤◌, Bool, true, false, nat_le, List, ◌∷◌, ◌++◌, length, take, Result, Err, refl, sym, ap, arith, length-take, take_all}
 use Rattle.std.proofs.lemmas.Bool.Decides.{nat_tests}
+use Rattle.std.proofs.lemmas.List.Sums.{sum_by-cons}
 use Rattle.st_base.specs.Answers.{◌>>◌, holds_or}
 use Rattle.st_ledger.specs.declared.entry.Entry.{Entry}
 use Rattle.st_node.specs.Command.{command_of, command_of_words, longest_line, space}
 use Rattle.st_node.specs.Machine.{Answered, Machine, after, answered, answered_read, replies}
 use Rattle.st_node.specs.Words.{first_word, other_words}
-use Rattle.st_node.specs.Work.{entries_of, entry_of_line, entry_of_read}
+use Rattle.st_node.specs.Work.{entries_of, entry_of_line, entry_of_read, submitted_by_line, submitted_by_read, submitted_in}
 use Rattle.st_node.specs.declared.command.Command.{Command}
 use Rattle.st_node.specs.declared.command.LineCause.{LineCause}
 use Rattle.st_node.specs.declared.command.LineCause.TheVariants as line_is
@@ -60,3 +62,9 @@ module _ (machine : Machine) (line : List ℕ) where
   cut_entries more =
       ap (λ (entries : List Entry). entries ++ entries_of (answered machine (take (longest_line + 1) line)).next more) cut_entry
       ∙ ap (λ (answer : Answered). entry_of_line machine line ++ entries_of answer.next more) cut_answered
+
+  pub cut_submitted : (more : List (List ℕ)) → submitted_in (take (longest_line + 1) line ∷ more) ≡ submitted_in (line ∷ more)
+  cut_submitted more =
+      sum_by-cons submitted_by_line (take (longest_line + 1) line) more
+      ∙ ap (λ read. submitted_by_read read + submitted_in more) (cut_command line)
+      ∙ sym (sum_by-cons submitted_by_line line more)

@@ -6,20 +6,24 @@
 --     cut_due        over a line that is cut behind its first byte too many, what the line says
 --     after-append   the machine behind some lines and then more
 use Rattle.std.proofs.Common.{◌≡◌, ◌∙◌, ℕ, ◌+◌, Bool, true, false, nat_le, List, [], ◌∷◌, ◌++◌, length, take, sum_by, Option, Some, None, Result, Ok, Err, refl, sym, ap, subst, arith, append_assoc, append-nil, length-append, if◌then◌else◌, codes}
-use Rattle.std.proofs.lemmas.List.Sums.{sum_by-append}
+use Rattle.std.proofs.lemmas.List.Sums.{sum_by-append, sum_by-cons}
 use Rattle.st_anchor.specs.declared.role_state.RoleState.{RoleState}
 use Rattle.st_base.specs.Work.{Counts}
+use Rattle.st_batch.specs.Prefix.{batch_of, rest_of}
+use Rattle.st_batch.specs.declared.batch.Batch.{Batch}
 use Rattle.st_ledger.specs.Ledger.{admitted}
 use Rattle.st_ledger.specs.declared.entry.Entry.{Entry}
 use Rattle.st_ledger.specs.declared.refused.LedgerRefused.{LedgerRefused}
-use Rattle.st_node.proofs.LineLemmas.{cut_after, cut_entries}
+use Rattle.st_node.proofs.ArrivingLemmas.{arrivals_schedule}
+use Rattle.st_node.proofs.LineLemmas.{cut_after, cut_entries, cut_submitted}
 use Rattle.st_node.specs.Command.{command_of, longest_line}
-use Rattle.st_node.specs.Machine.{Machine, after, answered, answered_admitted, answered_command, answered_read, new_machine, refused, reported, rolled_back}
-use Rattle.st_node.specs.Work.{DueOver, RunCounts, StaysDue, declared_count, entries_of, entry_of_line}
+use Rattle.st_node.specs.Machine.{Machine, after, answered, answered_admitted, answered_batch, answered_command, answered_read, limits_now, new_machine, refused, reported, rolled_back}
+use Rattle.st_node.specs.Work.{DueOver, RunCounts, StaysDue, declared_count, entries_of, entry_of_line, submitted_by_line, submitted_in}
 use Rattle.st_node.specs.declared.command.Command.{Command}
-use Rattle.st_node.specs.declared.command.Command.TheVariants.{Content, Anchor, Rollback, Resolve, Wanted, Report}
+use Rattle.st_node.specs.declared.command.Command.TheVariants.{Content, Anchor, Rollback, Resolve, Wanted, Report, Submit, Flush}
 use Rattle.st_node.specs.declared.command.LineCause.{LineCause}
 use Rattle.st_observer.specs.Observed.{Observed, report}
+use Rattle.st_ops.specs.Operation.{PlainOperation}
 
 -- ---- the schedule stays
 
@@ -41,6 +45,11 @@ module _ (machine : Machine) where
   schedule-reported (Some states) = refl
   schedule-reported None = refl
 
+  schedule-flush : (queued : Bool) (batch : Batch) (rest : List PlainOperation)
+      → schedule_of (if queued then answered_batch machine batch rest else refused machine (codes "nothing")).next ≡ schedule_of machine
+  schedule-flush true batch rest = arrivals_schedule batch.files machine.observed
+  schedule-flush false batch rest = refl
+
   schedule-command : (command : Command) → schedule_of (answered_command machine command).next ≡ schedule_of machine
   schedule-command (Content bytes) = refl
   schedule-command (Anchor height text) =
@@ -49,6 +58,10 @@ module _ (machine : Machine) where
   schedule-command (Resolve did) = refl
   schedule-command Wanted = refl
   schedule-command (Report n) = schedule-reported (report n machine.observed)
+  schedule-command (Submit request) = refl
+  schedule-command Flush =
+      schedule-flush (nat_le 1 (length machine.queue)) (batch_of (limits_now machine.observed) machine.queue)
+      (rest_of (limits_now machine.observed) machine.queue)
 
   schedule-read : (read : Result Command LineCause) → schedule_of (answered_read machine read).next ≡ schedule_of machine
   schedule-read (Ok command) = schedule-command command
@@ -72,10 +85,10 @@ entries-append machine (line ∷ lines) more =
     ap (λ (entries : List Entry). entry_of_line machine line ++ entries) (entries-append (answered machine line).next lines more)
     ∙ sym (append_assoc (entry_of_line machine line) (entries_of (answered machine line).next lines) (entries_of (after machine (line ∷ lines)) more))
 
--- entries that were paid for, and then more
-stays_then : {before between last : Observed} {entries more : List Entry} {old mid new : Counts}
-    → between.schedule ≡ before.schedule → StaysDue before between entries old mid → StaysDue between last more mid new
-    → StaysDue before last (entries ++ more) old new
+-- lines that were paid for, and then more
+stays_then : {before between last : Observed} {entries more : List Entry} {some others : ℕ} {old mid new : Counts}
+    → between.schedule ≡ before.schedule → StaysDue before between entries some old mid → StaysDue between last more others mid new
+    → StaysDue before last (entries ++ more) (some + others) old new
 stays_then {before = before} {between = between} {entries = entries} {more = more} same first second =
     let counts : sum_by (declared_count between.schedule) more ≡ sum_by (declared_count before.schedule) more = ap (λ schedule. sum_by (declared_count schedule) more) same in
     record {
@@ -83,32 +96,40 @@ stays_then {before = before} {between = between} {entries = entries} {more = mor
       proofs = omega (arith, first.proofs, second.proofs, sum_by-append (declared_count before.schedule) entries more, counts);
     }
 
+-- the same of as many submissions
+stays_as : {before last : Observed} {entries : List Entry} {some others : ℕ} {old new : Counts}
+    → some ≡ others → StaysDue before last entries some old new → StaysDue before last entries others old new
+stays_as {before = before} {last = last} {entries = entries} {old = old} {new = new} same due =
+    subst (λ submissions. StaysDue before last entries submissions old new) same due
+
 pub due_none : (machine : Machine) (work : Counts) → DueOver machine [] work work
 due_none machine work = record { files = omega arith; proofs = omega arith }
 
 pub due_one : (machine : Machine) (line : List ℕ) (old new : Counts)
-    → StaysDue machine.observed (answered machine line).next.observed (entry_of_line machine line) old new
+    → StaysDue machine.observed (answered machine line).next.observed (entry_of_line machine line) (submitted_by_line line) old new
     → DueOver machine (line ∷ []) old new
 due_one machine line old new due =
-    subst (λ (entries : List Entry). StaysDue machine.observed (answered machine line).next.observed entries old new)
-    (sym (append-nil (entry_of_line machine line))) due
+    let one : submitted_by_line line ≡ submitted_in (line ∷ []) = omega (arith, sum_by-cons submitted_by_line line []) in
+    subst (λ (entries : List Entry). StaysDue machine.observed (answered machine line).next.observed entries (submitted_in (line ∷ [])) old new)
+    (sym (append-nil (entry_of_line machine line))) (stays_as one due)
 
 pub due_more : (machine : Machine) (lines more : List (List ℕ)) (old mid new : Counts)
     → DueOver machine lines old mid → DueOver (after machine lines) more mid new → DueOver machine (lines ++ more) old new
 due_more machine lines more old mid new first second =
-    let both : StaysDue machine.observed (after (after machine lines) more).observed (entries_of machine lines ++ entries_of (after machine lines) more) old new = stays_then (schedule-after machine lines) first second in
-    subst (λ (last : Machine). StaysDue machine.observed last.observed (entries_of machine (lines ++ more)) old new) (sym (after-append machine lines more))
-    (subst (λ (entries : List Entry). StaysDue machine.observed (after (after machine lines) more).observed entries old new)
-    (sym (entries-append machine lines more)) both)
+    let last = after (after machine lines) more in
+    let all : StaysDue machine.observed last.observed (entries_of machine lines ++ entries_of (after machine lines) more) (submitted_in (lines ++ more)) old new = stays_as (sym (sum_by-append submitted_by_line lines more)) (stays_then (schedule-after machine lines) first second) in
+    subst (λ (last : Machine). StaysDue machine.observed last.observed (entries_of machine (lines ++ more)) (submitted_in (lines ++ more)) old new) (sym (after-append machine lines more))
+    (subst (λ (entries : List Entry). StaysDue machine.observed last.observed entries (submitted_in (lines ++ more)) old new)
+    (sym (entries-append machine lines more)) all)
 
 pub cut_due : (machine : Machine) (line : List ℕ) (old new : Counts)
     → DueOver machine (take (longest_line + 1) line ∷ []) old new → DueOver machine (line ∷ []) old new
 cut_due machine line old new due =
-    subst (λ (last : Machine). StaysDue machine.observed last.observed (entries_of machine (line ∷ [])) old new) (cut_after machine line [])
-    (subst (λ (entries : List Entry). StaysDue machine.observed (after machine (take (longest_line + 1) line ∷ [])).observed entries old new)
-    (cut_entries machine line []) due)
+    subst (λ (last : Machine). StaysDue machine.observed last.observed (entries_of machine (line ∷ [])) (submitted_in (line ∷ [])) old new) (cut_after machine line [])
+    (subst (λ (entries : List Entry). StaysDue machine.observed (after machine (take (longest_line + 1) line ∷ [])).observed entries (submitted_in (line ∷ [])) old new)
+    (cut_entries machine line []) (stays_as (cut_submitted machine line []) due))
 
 -- before anything has come nothing is due
 pub run_counts : (schedule : Option ℕ) (lines : List (List ℕ)) (old new : Counts) → DueOver (new_machine schedule) lines old new
-    → RunCounts schedule (entries_of (new_machine schedule) lines) old new
+    → RunCounts schedule (entries_of (new_machine schedule) lines) (submitted_in lines) old new
 run_counts schedule lines old new due = record { files = omega (arith, due.files); proofs = omega (arith, due.proofs) }

@@ -6,7 +6,7 @@ use Rattle.st_base.specs.Words.{cut_at, number_of}
 use Rattle.st_hash.specs.Base64url.{bytes_of_text}
 use Rattle.st_node.specs.Words.{first_word, other_words}
 use Rattle.st_node.specs.declared.command.Command.{Command}
-use Rattle.st_node.specs.declared.command.Command.TheVariants.{Content, Anchor, Rollback, Resolve, Wanted, Report}
+use Rattle.st_node.specs.declared.command.Command.TheVariants.{Content, Anchor, Rollback, Resolve, Wanted, Report, Submit, Flush}
 use Rattle.st_node.specs.declared.command.LineCause.{LineCause}
 use Rattle.st_node.specs.declared.command.LineCause.TheVariants as cause
 use Rattle.st_node.specs.declared.command.LineRefused.{LineRefused}
@@ -67,6 +67,18 @@ report_of behind = do
   n ← ok_or (number_in rest) cause.Number
   Ok (Report n)
 
+-- `submit <request>`: the request is all the rest
+abbrev pub submit_of : Option (List ℕ) → Result Command LineCause
+submit_of behind = do
+  request ← ok_or behind cause.Words
+  Ok (Submit request)
+
+-- `flush`, and no space behind it
+abbrev pub flush_of : Option (List ℕ) → Result Command LineCause
+flush_of behind = do
+  holds_or (is_none behind) cause.Words
+  Ok Flush
+
 -- ---- lines
 
 -- by the command word
@@ -78,6 +90,8 @@ command_of_words word behind =
     else if bytes_eq word (codes "resolve") then resolve_of behind
     else if bytes_eq word (codes "wanted") then wanted_of behind
     else if bytes_eq word (codes "report") then report_of behind
+    else if bytes_eq word (codes "submit") then submit_of behind
+    else if bytes_eq word (codes "flush") then flush_of behind
     else Err cause.Command
 
 -- The command of a line, or the first cause for which it is none. The command word is what stands

@@ -21,9 +21,9 @@ pub record AgreeOn (suffix : HashValue) (first second : Machine) : Type 0 where
   pub same_operations : operations suffix first.observed ≡ operations suffix second.observed
 
 -- Two machines that know the same operations of a suffix reply alike to each line that asks to resolve
--- an identifier of it. So no entry that gives no operation for it, no cut of such entries, no file that
--- leaves its operations and nothing in the queue changes a reply for it (by `isolation_law` of
--- st_observer).
+-- an identifier of it. So no entry that gives no operation for it, no cut of such entries and no file
+-- that leaves its operations changes a reply for it (by `isolation_law` of st_observer), and neither does
+-- what is queued: no submission, and of a flush nothing but its files.
 abbrev pub IsolatesIdentifiers : Type 0
 IsolatesIdentifiers = (suffix : HashValue) (first second : Machine) (line : List ℕ) → AgreeOn suffix first second
     → AsksFor first suffix line → (answered first line).reply ≡ (answered second line).reply

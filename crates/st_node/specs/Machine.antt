@@ -1,29 +1,38 @@
 -- The reference machine: what a node answers to a line, and what it is then. Nothing is kept but the
 -- ledger, the files and the queue; each answer is said from these, from nothing.
-use Rattle.std.specs.Prelude.{◌≡◌, ℕ, ◌-◌, nat_le, List, [], ◌∷◌, ◌++◌, codes, length, map, is_some, if◌then◌else◌, Option, Some, None, Result, Ok, Err}
+use Rattle.std.specs.Prelude.{◌≡◌, ℕ, ◌-◌, nat_le, List, [], ◌∷◌, ◌++◌, codes, flat_map, length, map, is_some, if◌then◌else◌, Option, Some, None, Result, Ok, Err}
 use Rattle.std.specs.Fmt.{decimal}
 use Rattle.st_anchor.specs.RuleNames.{rule_name}
 use Rattle.st_anchor.specs.declared.role_state.RoleState.{RoleState}
 use Rattle.st_anchor.specs.declared.role_state.RoleState.TheVariants as role_is
 use Rattle.st_base.specs.Answers.{◌>>=◌}
+use Rattle.st_batch.specs.Prefix.{batch_of, rest_of}
+use Rattle.st_batch.specs.Submitted.{submitted}
+use Rattle.st_batch.specs.declared.batch.Batch.{Batch}
+use Rattle.st_batch.specs.declared.batch.BatchFile.{BatchFile}
+use Rattle.st_batch.specs.declared.refused.SubmitRefused.{SubmitRefused}
+use Rattle.st_batch.specs.declared.refused.SubmitRefused.TheVariants as submit_is
 use Rattle.st_canon.specs.Canonical.{canonical}
 use Rattle.st_canon.specs.Plain.{Plain}
 use Rattle.st_content.specs.Files.{Files, file_at}
+use Rattle.st_datafiles.specs.declared.role.Role.{Role}
+use Rattle.st_datafiles.specs.declared.role.Role.TheVariants.{Core, CoreProof, Provisional, ProvisionalProof, Chunk}
+use Rattle.st_hash.specs.Base64url.{base64url}
 use Rattle.st_hash.specs.Hash.{HashValue, hash_text, uri_of}
-use Rattle.st_ledger.specs.Ledger.{admitted}
+use Rattle.st_ledger.specs.Ledger.{admitted, last_height}
 use Rattle.st_ledger.specs.declared.entry.Entry.{Entry}
 use Rattle.st_ledger.specs.declared.refused.LedgerRefused.{LedgerRefused}
 use Rattle.st_ledger.specs.declared.refused.LedgerRefused.TheVariants.{HeightFalls, LedgerFull}
 use Rattle.st_node.specs.Command.{command_of}
 use Rattle.st_node.specs.declared.command.Command.{Command}
-use Rattle.st_node.specs.declared.command.Command.TheVariants.{Content, Anchor, Rollback, Resolve, Wanted, Report}
+use Rattle.st_node.specs.declared.command.Command.TheVariants.{Content, Anchor, Rollback, Resolve, Wanted, Report, Submit, Flush}
 use Rattle.st_node.specs.declared.command.LineCause.{LineCause}
 use Rattle.st_node.specs.declared.command.LineCause.TheVariants as line_is
 use Rattle.st_observer.specs.Observed.{Observed, appended, arrived, cut_to, nothing_yet, report, state_of}
 use Rattle.st_observer.specs.Wanted.{wanted}
 use Rattle.st_ops.specs.Operation.{PlainOperation}
 use Rattle.st_params.specs.Limits.{Limits}
-use Rattle.st_params.specs.Schedule.{newest_of}
+use Rattle.st_params.specs.Schedule.{newest_of, params_at}
 use Rattle.st_resolve.specs.Identifier.{PlainDid, did_of}
 use Rattle.st_resolve.specs.Result.{result_of}
 use Rattle.st_resolve.specs.declared.refused.DidRefused.{DidRefused}
@@ -179,6 +188,88 @@ reported machine None = refused machine (codes "range")
 abbrev pub answered_report : Machine → ℕ → Answered
 answered_report machine n = reported machine (report n machine.observed)
 
+-- ---- `submit`: the operation of a request comes last in the queue
+
+-- the limits at the height of the last entry, or at height 0 where there is none
+abbrev pub limits_now : Observed → Limits
+limits_now observed = params_at observed.schedule (last_height observed.ledger)
+
+-- why a request is refused; that memory is wanting is never said here
+abbrev pub submit_word : SubmitRefused → List ℕ
+submit_word submit_is.NotJson = codes "notJson"
+submit_word submit_is.NotWhole = codes "notWhole"
+submit_word submit_is.BadForm = codes "badForm"
+submit_word submit_is.BadHash = codes "badHash"
+submit_word submit_is.BadProof = codes "badProof"
+submit_word submit_is.BadDelta = codes "badDelta"
+submit_word submit_is.AlreadyQueued = codes "alreadyQueued"
+submit_word submit_is.QueueFull = codes "full"
+submit_word submit_is.WantOfMemory = []
+
+-- the queue with an operation more, or as it was
+abbrev pub queue_after : List PlainOperation → Result (List PlainOperation × HashValue) SubmitRefused → List PlainOperation
+queue_after queue (Ok done) = done.0
+queue_after queue (Err cause) = queue
+
+-- the suffix that is queued, or the cause
+abbrev pub submit_reply : Result (List PlainOperation × HashValue) SubmitRefused → List ℕ
+submit_reply (Ok done) = reply (codes "queued ") (hash_text done.1)
+submit_reply (Err cause) = reply (codes "refused ") (submit_word cause)
+
+-- what submitting left, with the reply
+abbrev pub answered_submitted : Machine → Result (List PlainOperation × HashValue) SubmitRefused → Answered
+answered_submitted machine done = record {
+  next = record machine { queue = queue_after machine.queue done };
+  reply = submit_reply done;
+}
+
+-- a request at the limits of now
+abbrev pub answered_submit : Machine → List ℕ → Answered
+answered_submit machine request =
+    answered_submitted machine (submitted (limits_now machine.observed) machine.queue request)
+
+-- ---- `flush`: a batch of the first operations of the queue, whose files come as by `content`
+
+-- what a file is to the entry of its batch
+abbrev pub role_word : Role → List ℕ
+role_word Core = codes "core"
+role_word CoreProof = codes "coreProof"
+role_word Provisional = codes "provisional"
+role_word ProvisionalProof = codes "provisionalProof"
+role_word Chunk = codes "chunk"
+
+-- a line for a file: its role, its URI, its bytes
+abbrev pub file_line : BatchFile → List ℕ
+file_line file =
+    reply (codes "file") (spaced (role_word file.role ∷ hash_text file.uri ∷ base64url file.bytes ∷ []))
+
+-- a line for a batch: its anchor string, and how many files it has
+abbrev pub batch_line : List ℕ → ℕ → List ℕ
+batch_line anchor files = reply (codes "batch") (spaced (anchor ∷ decimal files ∷ []))
+
+-- the line for the batch, then a line for each file
+abbrev pub batch_reply : Batch → List ℕ
+batch_reply batch = batch_line batch.anchor (length batch.files) ++ flat_map file_line batch.files
+
+-- once these files have come, one after the other
+abbrev pub all_arrived : List BatchFile → Observed → Observed
+all_arrived [] observed = observed
+all_arrived (file ∷ files) observed = all_arrived files (arrived file.bytes observed)
+
+-- a batch, and what stays queued
+abbrev pub answered_batch : Machine → Batch → List PlainOperation → Answered
+answered_batch machine batch rest = record {
+  next = record { observed = all_arrived batch.files machine.observed; queue = rest };
+  reply = batch_reply batch;
+}
+
+-- where something is queued, a batch of the queue at the limits of now
+abbrev pub answered_flush : Machine → Answered
+answered_flush machine =
+    if nat_le 1 (length machine.queue)
+    then answered_batch machine (batch_of (limits_now machine.observed) machine.queue) (rest_of (limits_now machine.observed) machine.queue)
+    else refused machine (codes "nothing")
+
 -- ---- commands
 
 -- by the command
@@ -189,6 +280,8 @@ answered_command machine (Rollback n) = answered_rollback machine n
 answered_command machine (Resolve did) = answered_resolve machine did
 answered_command machine Wanted = answered_wanted machine
 answered_command machine (Report n) = answered_report machine n
+answered_command machine (Submit request) = answered_submit machine request
+answered_command machine Flush = answered_flush machine
 
 -- ---- lines
 

@@ -1,16 +1,18 @@
 -- Bounds on the work that is counted: of one line, and of a run of lines.
 use Rattle.std.specs.Prelude.{◌≡◌, ℕ, ◌+◌, ◌-◌, ◌*◌, ◌≤◌, nat_le, Bool, true, false, List, [], ◌∷◌, ◌++◌, length, sum_by, Option, option_map, unwrap_or, Result, Ok, Err}
 use Rattle.st_anchor.specs.States.{decided_roles, opened_proofs}
-use Rattle.st_base.specs.Work.{Counts, AppliesAtMost}
+use Rattle.st_base.specs.Work.{Counts, AppliesAtMost, ProofsAtMost}
+use Rattle.st_batch.specs.Prefix.{batch_of}
+use Rattle.st_batch.specs.declared.batch.BatchFile.{BatchFile}
 use Rattle.st_hash.specs.Hash.{HashValue}
 use Rattle.st_ledger.specs.Anchor.{anchor_of}
 use Rattle.st_ledger.specs.Ledger.{admitted}
 use Rattle.st_ledger.specs.declared.entry.Entry.{Entry}
 use Rattle.st_ledger.specs.declared.refused.LedgerRefused.{LedgerRefused}
 use Rattle.st_node.specs.Command.{command_of}
-use Rattle.st_node.specs.Machine.{Machine, after, answered}
+use Rattle.st_node.specs.Machine.{Machine, after, all_arrived, answered, limits_now}
 use Rattle.st_node.specs.declared.command.Command.{Command}
-use Rattle.st_node.specs.declared.command.Command.TheVariants.{Content, Anchor, Rollback, Resolve, Wanted, Report}
+use Rattle.st_node.specs.declared.command.Command.TheVariants.{Content, Anchor, Rollback, Resolve, Wanted, Report, Submit, Flush}
 use Rattle.st_node.specs.declared.command.LineCause.{LineCause}
 use Rattle.st_observer.specs.Observed.{Observed, appended, arrived, known_of}
 use Rattle.st_observer.specs.Work.{GrewAtMost, NamesLosing, arrival_cost, decided_in, entry_cost, opened_in}
@@ -58,8 +60,34 @@ FittingCounts observed n false old new = new ≡ old
 abbrev pub RollbackCounts : Observed → ℕ → Counts → Counts → Type 0
 RollbackCounts observed n old new = FittingCounts observed n (nat_le n (length observed.ledger)) old new
 
+-- what files may cost as they come, one after the other
+abbrev pub arrivals_cost : List BatchFile → Observed → ℕ
+arrivals_cost [] observed = 0
+arrivals_cost (file ∷ files) observed = arrival_cost file.bytes observed + arrivals_cost files (arrived file.bytes observed)
+
+-- Files that come one after the other cost one reading for each role that they decide together, and
+-- one opening for each signed text in the proof files that are read now.
+abbrev pub ArrivalsCounts : Observed → List BatchFile → Counts → Counts → Type 0
+ArrivalsCounts observed files old new =
+    GrewAtMost
+    (decided_in (all_arrived files observed) - decided_in observed)
+    (opened_in (all_arrived files observed) - opened_in observed)
+    (arrivals_cost files observed)
+    old new
+
+-- nothing is counted where nothing is queued
+abbrev pub QueueCounts : Machine → Bool → Counts → Counts → Type 0
+QueueCounts machine true old new =
+    ArrivalsCounts machine.observed (batch_of (limits_now machine.observed) machine.queue).files old new
+QueueCounts machine false old new = new ≡ old
+
+-- A flush costs what the files of its batch cost; making them costs nothing.
+abbrev pub FlushCounts : Machine → Counts → Counts → Type 0
+FlushCounts machine old new = QueueCounts machine (nat_le 1 (length machine.queue)) old new
+
 -- What is counted while a command is carried out. An identifier is resolved without a reading, and with
--- one applied operation at most; what asks how things stand costs nothing.
+-- one applied operation at most; for a request that is submitted, one signed text is opened at most,
+-- also where it is refused; what asks how things stand costs nothing.
 abbrev pub CommandCounts : Machine → Command → Counts → Counts → Type 0
 CommandCounts machine (Content bytes) old new = ArrivalCounts machine.observed bytes old new
 CommandCounts machine (Anchor height text) old new =
@@ -68,6 +96,8 @@ CommandCounts machine (Rollback n) old new = RollbackCounts machine.observed n o
 CommandCounts machine (Resolve did) old new = AppliesAtMost 1 old new
 CommandCounts machine Wanted old new = new ≡ old
 CommandCounts machine (Report n) old new = new ≡ old
+CommandCounts machine (Submit request) old new = ProofsAtMost 1 old new
+CommandCounts machine Flush old new = FlushCounts machine old new
 
 -- and while a line is answered: nothing is counted of one that is no command
 abbrev pub LineCounts : Machine → Result Command LineCause → Counts → Counts → Type 0
@@ -125,18 +155,38 @@ abbrev pub entries_of : Machine → List (List ℕ) → List Entry
 entries_of machine [] = []
 entries_of machine (line ∷ lines) = entry_of_line machine line ++ entries_of (answered machine line).next lines
 
--- What was counted, with what is due afterwards, is no more than what was due before and what these
--- entries bring: each five files, and as many signed texts as it declares operations.
-pub record StaysDue (before later : Observed) (entries : List Entry) (old new : Counts) : Type 0 where
+-- how many requests a command submits: one, where it is a `submit`
+abbrev pub submitted_by : Command → ℕ
+submitted_by (Submit request) = 1
+submitted_by command = 0
+
+-- a line that was read
+abbrev pub submitted_by_read : Result Command LineCause → ℕ
+submitted_by_read (Ok command) = submitted_by command
+submitted_by_read (Err cause) = 0
+
+-- a line
+abbrev pub submitted_by_line : List ℕ → ℕ
+submitted_by_line line = submitted_by_read (command_of line)
+
+-- how many `submit` lines there are among lines
+abbrev pub submitted_in : List (List ℕ) → ℕ
+submitted_in lines = sum_by submitted_by_line lines
+
+-- What was counted, with what is due afterwards, is no more than what was due before and what came:
+-- these entries bring each five files, and as many signed texts as it declares operations, and each of
+-- so many submissions brings one signed text.
+pub record StaysDue (before later : Observed) (entries : List Entry) (submissions : ℕ) (old new : Counts) : Type 0 where
   pub files : new.files + files_due later ≤ old.files + files_due before + 5 * length entries
-  pub proofs : new.proofs + proofs_due later ≤ old.proofs + proofs_due before + sum_by (declared_count before.schedule) entries
+  pub proofs : new.proofs + proofs_due later ≤ old.proofs + proofs_due before + sum_by (declared_count before.schedule) entries + submissions
 
 -- the same over a run of lines
 abbrev pub DueOver : Machine → List (List ℕ) → Counts → Counts → Type 0
-DueOver machine lines old new = StaysDue machine.observed (after machine lines).observed (entries_of machine lines) old new
+DueOver machine lines old new =
+    StaysDue machine.observed (after machine lines).observed (entries_of machine lines) (submitted_in lines) old new
 
 -- A run of lines from the beginning on reads at most five files for each anchor that is accepted, and
--- opens at most as many signed texts as these declare operations.
-pub record RunCounts (schedule : Option ℕ) (entries : List Entry) (old new : Counts) : Type 0 where
+-- opens at most as many signed texts as these declare operations, and one for each `submit` line.
+pub record RunCounts (schedule : Option ℕ) (entries : List Entry) (submissions : ℕ) (old new : Counts) : Type 0 where
   pub files : new.files ≤ old.files + 5 * length entries
-  pub proofs : new.proofs ≤ old.proofs + sum_by (declared_count schedule) entries
+  pub proofs : new.proofs ≤ old.proofs + sum_by (declared_count schedule) entries + submissions

@@ -1,6 +1,6 @@
 ghost use Rattle.std.specs.Option.{option_copied};
 ghost use Rattle.st_base.specs.Answers.{Gives};
-ghost use Rattle.st_node.specs.Command.{anchor_of, cause_of, command_of, command_of_words, content_of, report_of, resolve_of, rollback_of, wanted_of};
+ghost use Rattle.st_node.specs.Command.{anchor_of, cause_of, command_of, command_of_words, content_of, flush_of, report_of, resolve_of, rollback_of, submit_of, wanted_of};
 
 use crate::words::cut_word;
 use st_base::{Bytes, Copied, WantOfMemory, cut_at, read_number};
@@ -23,6 +23,10 @@ const WANTED: &[u8] = b"wanted";
 
 const REPORT: &[u8] = b"report";
 
+const SUBMIT: &[u8] = b"submit";
+
+const FLUSH: &[u8] = b"flush";
+
 /// What a line asks for.
 #[derive(Debug, Drop)]
 pub enum Command {
@@ -38,6 +42,10 @@ pub enum Command {
     Wanted,
     /// `report <n>`: how does it stand with the five roles of this entry?
     Report(u32),
+    /// `submit <request>`: queue the operation that this request asks for.
+    Submit(Bytes),
+    /// `flush`: make a batch of what is queued.
+    Flush,
 }
 
 impl Copied for Command {
@@ -52,6 +60,8 @@ impl Copied for Command {
             Command::Resolve(did) => Ok(Command::Resolve(did.copy(alloc)?)),
             Command::Wanted => Ok(Command::Wanted),
             Command::Report(n) => Ok(Command::Report(*n)),
+            Command::Submit(request) => Ok(Command::Submit(request.copy(alloc)?)),
+            Command::Flush => Ok(Command::Flush),
         }
     }
 }
@@ -63,7 +73,7 @@ pub enum LineCause {
     Long,
     /// The command word is unknown. It is what stands before the first space, or the whole line.
     Command,
-    /// A space is missing, or stands behind `wanted`.
+    /// A space is missing, or stands behind `wanted` or `flush`.
     Words,
     /// A number is not decimal from 0 to 4,294,967,295 without a leading zero.
     Number,
@@ -122,6 +132,10 @@ fn read_words(alloc: Global, word: &[u8], behind: Option<&[u8]>) -> Result<Comma
         read_wanted(behind)
     } else if word == REPORT {
         read_report(behind)
+    } else if word == SUBMIT {
+        read_submit(alloc, behind)
+    } else if word == FLUSH {
+        read_flush(behind)
     } else {
         Err(LineRefused::BadLine(LineCause::Command))
     }
@@ -197,4 +211,23 @@ fn read_report(behind: Option<&[u8]>) -> Result<Command, LineRefused>
         return Err(LineRefused::BadLine(LineCause::Number));
     };
     Ok(Command::Report(n))
+}
+
+fn read_submit(alloc: Global, behind: Option<&[u8]>) -> Result<Command, LineRefused>
+    ensures { Gives cause_of (submit_of (option_copied behind.entry)) result }
+{
+    let Some(request) = behind else {
+        return Err(LineRefused::BadLine(LineCause::Words));
+    };
+    let request = Bytes::from_slice(alloc, request)?;
+    Ok(Command::Submit(request))
+}
+
+fn read_flush(behind: Option<&[u8]>) -> Result<Command, LineRefused>
+    ensures { Gives cause_of (flush_of (option_copied behind.entry)) result }
+{
+    match behind {
+        Some(_) => Err(LineRefused::BadLine(LineCause::Words)),
+        None => Ok(Command::Flush),
+    }
 }

@@ -1,12 +1,15 @@
 //! The node as a machine of lines: it takes files and ledger entries, goes back on entries, resolves
-//! identifiers, and tells which files are wanted and how it stands with an entry.
+//! identifiers, tells which files are wanted and how it stands with an entry, and makes batches of the
+//! requests that are submitted to it.
 #![tactic(auto)]
 
 mod command;
+mod flushing;
 mod laws;
 mod node;
 mod reply;
 mod resolving;
+mod submitting;
 mod telling;
 #[cfg(test)]
 mod tests;

@@ -1,15 +1,19 @@
 ghost use Rattle.std.specs.Prelude.{◌≡◌, ◌≤◌, IfOk, length};
+ghost use Rattle.st_base.specs.Work.{ProofsAtMost};
 ghost use Rattle.st_node.specs.Command.{command_of};
-ghost use Rattle.st_node.specs.Machine.{AnswersWith, answered, answered_anchor, answered_command, answered_content, answered_report, answered_rollback, answered_wanted, new_machine};
-ghost use Rattle.st_node.specs.Work.{AdmittedCounts, ArrivalCounts, CommandCounts, LineCounts, RollbackCounts, StaysDue, entry_of_command, entry_of_line};
+ghost use Rattle.st_node.specs.Machine.{AnswersWith, answered, answered_anchor, answered_command, answered_content, answered_flush, answered_report, answered_rollback, answered_submit, answered_wanted, new_machine};
+ghost use Rattle.st_node.specs.Work.{AdmittedCounts, ArrivalCounts, CommandCounts, FlushCounts, LineCounts, RollbackCounts, StaysDue, entry_of_command, entry_of_line, submitted_by, submitted_by_line};
 ghost use Rattle.st_ledger.specs.Ledger.{admitted};
 
 use crate::command::{Command, LineRefused, read_command};
+use crate::flushing::{take_files, tell_batch};
 use crate::reply::{cause_word, ledger_word, reply};
 use crate::resolving::resolve;
+use crate::submitting::{limits_now, submit};
 use crate::telling::{tell_states, tell_wanted};
 use itoa::Buffer;
 use st_base::{Bytes, WantOfMemory, Work};
+use st_batch::{Batch, FlushRefused, Queue};
 use st_content::Put;
 use st_hash::hash_text;
 use st_observer::Observer;
@@ -18,14 +22,14 @@ use std::alloc::Global;
 use std::marker::Model;
 
 /// A node. Contracts see the reference machine: its schedule of limits, its ledger and its files, and
-/// an empty queue.
+/// the operations that wait for a batch.
 #[derive(Drop)]
 pub struct Node {
     observer: Observer,
+    queue: Queue,
 }
 
 impl Model for Node {
-    ghost use Rattle.std.specs.Prelude.{[]};
     ghost use Rattle.st_node.specs.Codes.{coded_machine};
     ghost use Rattle.st_node.specs.Machine.{Machine};
 
@@ -33,7 +37,7 @@ impl Model for Node {
 
     ghost coded = { coded_machine };
 
-    ghost view = { λ n. record { observed = n.observer; queue = [] } };
+    ghost view = { λ n. record { observed = n.observer; queue = n.queue } };
 }
 
 impl Node {
@@ -42,7 +46,10 @@ impl Node {
         ensures { IfOk result (λ node. node ≡ new_machine schedule) }
     {
         let observer = Observer::new(alloc, schedule)?;
-        Ok(Node { observer })
+        Ok(Node {
+            observer,
+            queue: Queue::new(alloc),
+        })
     }
 
     /// What it has seen: its ledger and its files, and what follows from them.
@@ -52,11 +59,18 @@ impl Node {
         &self.observer
     }
 
+    /// How many operations wait for a batch.
+    pub fn queued(&self) -> usize
+        ensures { result ≡ length self.now.queue }
+    {
+        self.queue.len()
+    }
+
     /// Answers a line, which comes without its line feed. The reply has its line end.
     ///
     /// What is counted is bounded by the line's command, and nothing is counted of a line that is no
     /// command. Over all lines, at most five files are read for each anchor that is accepted, and at
-    /// most as many signed texts opened as these declare operations.
+    /// most as many signed texts opened as these declare operations, and one for each `submit`.
     pub fn answer(
         self,
         alloc: Global,
@@ -66,7 +80,7 @@ impl Node {
         ensures answer { IfOk result (AnswersWith (answered self line.now)) }
         ensures counts { LineCounts self (command_of line.now) work.old work.new }
         ensures due { StaysDue self.observed (answered self line.now).next.observed
-            (entry_of_line self line.now) work.old work.new }
+            (entry_of_line self line.now) (submitted_by_line line.now) work.old work.new }
     {
         match read_command(alloc, line) {
             Ok(command) => self.step(alloc, command, work),
@@ -82,7 +96,9 @@ impl Node {
     ///
     /// A `content` and an `anchor` read at most one file for each role that they decide, and open at
     /// most the signed texts of the proof files that they read; a `rollback` reads and opens nothing; a
-    /// `resolve` does neither, and applies one operation at most; `wanted` and `report` count nothing.
+    /// `resolve` does neither, and applies one operation at most; `wanted` and `report` count nothing. A
+    /// `submit` opens one signed text at most, also where it is refused; a `flush` counts as its files do
+    /// when they come one after the other, and nothing where nothing is queued.
     pub fn step(
         self,
         alloc: Global,
@@ -92,7 +108,7 @@ impl Node {
         ensures answer { IfOk result (AnswersWith (answered_command self command)) }
         ensures counts { CommandCounts self command work.old work.new }
         ensures due { StaysDue self.observed (answered_command self command).next.observed
-            (entry_of_command self command) work.old work.new }
+            (entry_of_command self command) (submitted_by command) work.old work.new }
     {
         // In two steps, so that what is due is proved once, from what is counted.
         match self.carry_out(alloc, command, work) {
@@ -120,6 +136,8 @@ impl Node {
             }
             Command::Wanted => self.wanted(alloc),
             Command::Report(n) => self.report(alloc, n),
+            Command::Submit(request) => self.submit(alloc, request, work),
+            Command::Flush => self.flush(alloc, work),
         }
     }
 
@@ -133,7 +151,7 @@ impl Node {
         ensures answer { IfOk result (AnswersWith (answered_content self bytes)) }
         ensures counts { ArrivalCounts self.observed bytes work.old work.new }
     {
-        let Node { observer } = self;
+        let Node { observer, queue } = self;
         let (observer, uri, put) = observer.arrive(alloc, bytes, work)?;
         let uri = hash_text(alloc, &uri)?;
         let word = match put {
@@ -141,7 +159,7 @@ impl Node {
             Put::Had => "had ",
         };
         let text = reply(alloc, word, uri.as_str().as_bytes())?;
-        Ok((Node { observer }, text))
+        Ok((Node { observer, queue }, text))
     }
 
     // `anchor`
@@ -160,10 +178,10 @@ impl Node {
             let text = reply(alloc, "refused ", ledger_word(refused).as_bytes())?;
             return Ok((self, text));
         }
-        let Node { observer } = self;
+        let Node { observer, queue } = self;
         let (observer, number) = observer.append(alloc, height, text, work)?;
         let text = reply(alloc, "anchored ", Buffer::new().format(number).as_bytes())?;
-        Ok((Node { observer }, text))
+        Ok((Node { observer, queue }, text))
     }
 
     // `rollback`
@@ -175,10 +193,10 @@ impl Node {
             let text = reply(alloc, "refused ", b"range")?;
             return Ok((self, text));
         }
-        let Node { observer } = self;
+        let Node { observer, queue } = self;
         let (observer, removed) = observer.cut(alloc, n, work)?;
         let text = reply(alloc, "cut ", Buffer::new().format(removed).as_bytes())?;
-        Ok((Node { observer }, text))
+        Ok((Node { observer, queue }, text))
     }
 
     // `wanted`
@@ -199,5 +217,46 @@ impl Node {
             None => reply(alloc, "refused ", b"range")?,
         };
         Ok((self, text))
+    }
+
+    // `submit`
+    fn submit(
+        self,
+        alloc: Global,
+        request: Bytes,
+        work: &mut Work,
+    ) -> Result<(Node, Bytes), WantOfMemory>
+        ensures answer { IfOk result (AnswersWith (answered_submit self request)) }
+        ensures counts { ProofsAtMost 1 work.old work.new }
+    {
+        let Node {
+            observer,
+            mut queue,
+        } = self;
+        let params = limits_now(&observer);
+        let text = submit(alloc, &mut queue, request.as_slice(), &params, work)?;
+        Ok((Node { observer, queue }, text))
+    }
+
+    // `flush`
+    fn flush(self, alloc: Global, work: &mut Work) -> Result<(Node, Bytes), WantOfMemory>
+        ensures answer { IfOk result (AnswersWith (answered_flush self)) }
+        ensures counts { FlushCounts self work.old work.new }
+    {
+        let Node { observer, queue } = self;
+        let params = limits_now(&observer);
+        match queue.flush(alloc, &params) {
+            Ok((queue, batch)) => {
+                let text = tell_batch(alloc, &batch)?;
+                let Batch { files, .. } = batch;
+                let observer = take_files(alloc, observer, files, work)?;
+                Ok((Node { observer, queue }, text))
+            }
+            Err(FlushRefused::Nothing(queue)) => {
+                let text = reply(alloc, "refused ", b"nothing")?;
+                Ok((Node { observer, queue }, text))
+            }
+            Err(FlushRefused::WantOfMemory) => Err(WantOfMemory),
+        }
     }
 }

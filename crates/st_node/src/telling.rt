@@ -34,7 +34,7 @@ pub fn tell_states(alloc: Global, states: &[RoleState; 5]) -> Result<Bytes, Want
 }
 
 // Puts a space and the word behind the text.
-fn push_word(text: &mut Vec<u8>, word: &str) -> Result<(), WantOfMemory>
+pub fn push_word(text: &mut Vec<u8>, word: &str) -> Result<(), WantOfMemory>
     ensures { OnOk result (text.new.items ≡ text.old.items ++ (codes " " ++ word.now)) }
 {
     text.push(b' ')?;

@@ -5,8 +5,9 @@ use std::alloc::Global;
 use std::test::Fail;
 
 // A core index file with one create, its URI, the suffix of that create, and the long form that has its
-// delta, each computed by Python's hashlib and base64. Version 2, in which a batch may declare more than
-// 1,000 operations, begins at height 10. Each line stands before its reply.
+// delta, then the request for another create and what its batch says, each computed by Python's hashlib,
+// base64 and json. Version 2, in which a batch may declare more than 1,000 operations, begins at height
+// 10. Each line stands before its reply; BATCH stands for the reply of that name.
 const SESSION: &str = "\
 anchor 9 1001.EiDdm4nmM3a--pujoWQeY8rkmIKAWTB8tXpAJAg2HC128g
 anchored 0
@@ -51,21 +52,66 @@ refused line number
 wanted 
 refused line words
 flush
+refused nothing
+submit {
+refused notJson
+submit {\"delta\":{\"patches\":[],\"updateCommitment\":\"EiDjsMRCmPwcFJr79MiZb7kkJ65B5GSbk0yklZkbeFK4VQ\"},\"suffixData\":{\"deltaHash\":\"EiBNHNlO-0eRfvDE-fNCBUxpL9nvDZmBJZLNcubQR4qsnQ\",\"recoveryCommitment\":\"EiC6eBa_jwHP6kFBQN5driIjsANho5YXepy0EP9h8gAVrQ\"},\"type\":\"create\"}
+queued EiATVLsbLfdR25X6OuwLpHYrA7MGDT2v_aCVNxmthtKGmw
+submit {\"delta\":{\"patches\":[],\"updateCommitment\":\"EiDjsMRCmPwcFJr79MiZb7kkJ65B5GSbk0yklZkbeFK4VQ\"},\"suffixData\":{\"deltaHash\":\"EiBNHNlO-0eRfvDE-fNCBUxpL9nvDZmBJZLNcubQR4qsnQ\",\"recoveryCommitment\":\"EiC6eBa_jwHP6kFBQN5driIjsANho5YXepy0EP9h8gAVrQ\"},\"type\":\"create\"}
+refused alreadyQueued
+resolve did:sidetree:EiATVLsbLfdR25X6OuwLpHYrA7MGDT2v_aCVNxmthtKGmw
+unresolved notFound
+flush
+BATCH
+flush
+refused nothing
+content eyJvcGVyYXRpb25zIjp7ImNyZWF0ZSI6W3sic3VmZml4RGF0YSI6eyJkZWx0YUhhc2giOiJFaUJOSE5sTy0wZVJmdkRFLWZOQ0JVeHBMOW52RFptQkpaTE5jdWJRUjRxc25RIiwicmVjb3ZlcnlDb21taXRtZW50IjoiRWlDNmVCYV9qd0hQNmtGQlFONWRyaUlqc0FOaG81WVhlcHkwRVA5aDhnQVZyUSJ9fV19LCJwcm92aXNpb25hbEluZGV4RmlsZVVyaSI6IkVpQ3RVZGs3bVJLQnpHbFBqS3ZYRWJaNERMTTBOcXRKbkE2TFYtcGVwVUQwOWcifQ
+had EiB8mMGl7eGVHIh_r5IZavALhbNZi3lA9-fEQRERB82cYQ
+content eyJjaHVua3MiOlt7ImNodW5rRmlsZVVyaSI6IkVpQXA2cXJobjNQcXVJSVh6a2VyXzR4LU1MMDZQQXhla1cxQnlOQjF0MnpTNWcifV19
+had EiCtUdk7mRKBzGlPjKvXEbZ4DLM0NqtJnA6LV-pepUD09g
+content eyJkZWx0YXMiOlt7InBhdGNoZXMiOltdLCJ1cGRhdGVDb21taXRtZW50IjoiRWlEanNNUkNtUHdjRkpyNzlNaVpiN2trSjY1QjVHU2JrMHlrbFprYmVGSzRWUSJ9XX0
+had EiAp6qrhn3PquIIXzker_4x-ML06PAxekW1ByNB1t2zS5g
+anchor 9 1.EiB8mMGl7eGVHIh_r5IZavALhbNZi3lA9-fEQRERB82cYQ
+anchored 1
+report 1
+report read unneeded read unneeded read
+resolve did:sidetree:EiATVLsbLfdR25X6OuwLpHYrA7MGDT2v_aCVNxmthtKGmw
+resolved {\"didDocument\":{\"id\":\"did:sidetree:EiATVLsbLfdR25X6OuwLpHYrA7MGDT2v_aCVNxmthtKGmw\"},\"didDocumentMetadata\":{\"canonicalId\":\"did:sidetree:EiATVLsbLfdR25X6OuwLpHYrA7MGDT2v_aCVNxmthtKGmw\",\"method\":{\"published\":true,\"recoveryCommitment\":\"EiC6eBa_jwHP6kFBQN5driIjsANho5YXepy0EP9h8gAVrQ\",\"updateCommitment\":\"EiDjsMRCmPwcFJr79MiZb7kkJ65B5GSbk0yklZkbeFK4VQ\"}}}
+submit {\"delta\":{\"patches\":[],\"updateCommitment\":\"EiDjsMRCmPwcFJr79MiZb7kkJ65B5GSbk0yklZkbeFK4VQ\"},\"suffixData\":{\"deltaHash\":\"EiBNHNlO-0eRfvDE-fNCBUxpL9nvDZmBJZLNcubQR4qsnQ\",\"recoveryCommitment\":\"EiC6eBa_jwHP6kFBQN5driIjsANho5YXepy0EP9h8gAVrQ\"},\"type\":\"create\"}
+queued EiATVLsbLfdR25X6OuwLpHYrA7MGDT2v_aCVNxmthtKGmw
+submit
+refused line words
+flush 
+refused line words
+Flush
 refused line command
 ";
+
+// The reply to the flush of that session, which has several lines, without the last line feed.
+const BATCH: &str = "\
+batch 1.EiB8mMGl7eGVHIh_r5IZavALhbNZi3lA9-fEQRERB82cYQ 3
+file core EiB8mMGl7eGVHIh_r5IZavALhbNZi3lA9-fEQRERB82cYQ eyJvcGVyYXRpb25zIjp7ImNyZWF0ZSI6W3sic3VmZml4RGF0YSI6eyJkZWx0YUhhc2giOiJFaUJOSE5sTy0wZVJmdkRFLWZOQ0JVeHBMOW52RFptQkpaTE5jdWJRUjRxc25RIiwicmVjb3ZlcnlDb21taXRtZW50IjoiRWlDNmVCYV9qd0hQNmtGQlFONWRyaUlqc0FOaG81WVhlcHkwRVA5aDhnQVZyUSJ9fV19LCJwcm92aXNpb25hbEluZGV4RmlsZVVyaSI6IkVpQ3RVZGs3bVJLQnpHbFBqS3ZYRWJaNERMTTBOcXRKbkE2TFYtcGVwVUQwOWcifQ
+file provisional EiCtUdk7mRKBzGlPjKvXEbZ4DLM0NqtJnA6LV-pepUD09g eyJjaHVua3MiOlt7ImNodW5rRmlsZVVyaSI6IkVpQXA2cXJobjNQcXVJSVh6a2VyXzR4LU1MMDZQQXhla1cxQnlOQjF0MnpTNWcifV19
+file chunk EiAp6qrhn3PquIIXzker_4x-ML06PAxekW1ByNB1t2zS5g eyJkZWx0YXMiOlt7InBhdGNoZXMiOltdLCJ1cGRhdGVDb21taXRtZW50IjoiRWlEanNNUkNtUHdjRkpyNzlNaVpiN2trSjY1QjVHU2JrMHlrbFprYmVGSzRWUSJ9XX0";
 
 #[test]
 fn each_line_has_its_reply(rt: HostRuntime) -> Result<(), Fail> {
     let mut work = Work::new(&rt);
-    assert!(rt; replies_as(rt.alloc(), SESSION, &mut work)?);
-    // The file was read for the one entry whose anchor string passes.
-    assert_eq!(rt; work.files(), 1);
+    // The last request waits for a batch.
+    assert_eq!(rt; queued_behind(rt.alloc(), SESSION, &mut work)?, Some(1));
+    // One file was read for the first entry whose anchor string passes, and three for that of the batch.
+    assert_eq!(rt; work.files(), 4);
     assert_eq!(rt; work.proofs(), 0);
     Ok(())
 }
 
-// Whether a new node gives each line the reply that stands behind it.
-fn replies_as(alloc: Global, session: &str, work: &mut Work) -> Result<bool, WantOfMemory> {
+// How many operations are queued at the end, where a new node gives each line the reply that stands
+// behind it.
+fn queued_behind(
+    alloc: Global,
+    session: &str,
+    work: &mut Work,
+) -> Result<Option<usize>, WantOfMemory> {
     let mut node = Node::new(alloc, Schedule::with_second(10))?;
     let mut lines = session.lines();
     while let Some(line) = lines.next() {
@@ -73,13 +119,14 @@ fn replies_as(alloc: Global, session: &str, work: &mut Work) -> Result<bool, Wan
         let (next, reply) = node.answer(alloc, line.as_bytes(), work)?;
         node = next;
         if !is_reply(&reply, expected) {
-            return Ok(false);
+            return Ok(None);
         }
     }
-    Ok(true)
+    Ok(Some(node.queued()))
 }
 
 fn is_reply(reply: &Bytes, expected: &str) -> bool {
+    let expected = if expected == "BATCH" { BATCH } else { expected };
     let reply = str::from_utf8(reply.as_slice()).unwrap_or("");
     reply.strip_suffix('\n') == Some(expected)
 }

@@ -1,7 +1,7 @@
 -- An entry is appended: what is kept, and what was counted.
 --     appended-known    what is known of it
 --     appended-kept, appended-few, appended-wanting
-use Rattle.std.proofs.Common.{◌≡◌, ◌∙◌, ℕ, ◌-◌, ◌≤◌, List, length, ap, refl, subst, sym, arith}
+use Rattle.std.proofs.Common.{◌≡◌, ◌∙◌, ℕ, ◌≤◌, List, length, ap, refl, subst, sym, arith}
 use Rattle.st_anchor.specs.Coming.{newly_decided, newly_opened}
 use Rattle.st_anchor.specs.Counting.{WorkedAtMost}
 use Rattle.st_anchor.specs.Gives.{given}

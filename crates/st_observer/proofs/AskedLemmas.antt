@@ -1,7 +1,7 @@
 -- A file is missed exactly where some entry waits for it.
 --     asked-missed      what is missed is what entries wait for
 --     asked-by          and what the reports of entries say
-use Rattle.std.proofs.Common.{◌≡◌, ◌∙◌, ◌⊎◌, ⊎_elim, ℕ, ◌<◌, ◌≤◌, ◌↔◌, Bool, true, false, ◌||◌, List, [], ◌∷◌, length, map, get_or, slice_get, Some, option_map, refl, sym, ap, arith}
+use Rattle.std.proofs.Common.{◌≡◌, ◌∙◌, ⊎_elim, ℕ, ◌<◌, ◌≤◌, ◌↔◌, Bool, true, false, ◌||◌, List, [], ◌∷◌, length, map, get_or, slice_get, Some, option_map, refl, sym, ap, arith}
 use Rattle.std.specs.Cmp.{both_ways}
 use Rattle.std.specs.List.{flat_map, list_any}
 use Rattle.std.specs.List.Sorted.{IsStrictlySortedBy}

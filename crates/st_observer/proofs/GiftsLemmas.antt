@@ -2,8 +2,7 @@
 --     given_from-append     of two lists of entries, one after the other
 --     operations-put        an entry gives for the suffix, at its place, where it gave nothing else or less
 --     operations-before     of the first entries alone
---     operations-grow       more is given, so at least as many stand at a place or later
-use Rattle.std.proofs.Common.{◌≡◌, ◌∙◌, ℕ, suc, ◌+◌, ◌<◌, ◌≤◌, Bool, true, false, cond, nat_le, nat_lt, List, [], ◌∷◌, ◌++◌, length, filter, Option, Some, None, option_map, refl, sym, ap, arith, append-nil}
+use Rattle.std.proofs.Common.{◌≡◌, ◌∙◌, ℕ, suc, ◌+◌, ◌<◌, ◌≤◌, Bool, true, false, nat_lt, List, [], ◌∷◌, ◌++◌, length, filter, Option, Some, None, option_map, refl, sym, ap, arith, append-nil}
 use Rattle.std.specs.List.{cons_option}
 use Rattle.std.proofs.lemmas.Bool.{lt-ltb, le-ltb}
 use Rattle.std.proofs.lemmas.List.Elements.{filter-append}
@@ -14,7 +13,6 @@ use Rattle.st_ops.specs.Operation.{PlainOperation}
 use Rattle.st_observer.specs.Kept.{Gift, anchored_at, anchored_in, operations_from}
 use Rattle.st_observer.specs.Observed.{given_for}
 use Rattle.st_observer.specs.States.{after_place, before_place, with_given}
-use Rattle.st_observer.specs.Work.{from_place}
 
 cons_option-append : {Item : Type 0} (first : Option Item) (xs ys : List Item) → cons_option first (xs ++ ys) ≡ cons_option first xs ++ ys
 cons_option-append None xs ys = refl
@@ -118,42 +116,3 @@ module _ (suffix : HashValue) where
   operations-put height xs ys old new n many stays =
       put-found height xs ys old n (given_for suffix old.1) (given_for suffix new) many refl stays
       ∙ sym (given_from-both (anchored_in suffix) xs ((height, new) ∷ ys) n many)
-
--- ---- more is given
-
--- each entry of the one list gives for the suffix where that of the other does
-abbrev pub GiveMore : HashValue → List Gift → List Gift → Type 0
-GiveMore suffix [] [] = Unit {0}
-GiveMore suffix [] (gift ∷ more) = ⊥
-GiveMore suffix (gift ∷ gifts) [] = ⊥
-GiveMore suffix (gift ∷ gifts) (other ∷ more) = (given_for suffix other.1 ≡ None → given_for suffix gift.1 ≡ None) × GiveMore suffix gifts more
-
-one-more : (place number height other : ℕ) (was is : Option PlainOperation) (xs ys : List Anchored) → (is ≡ None → was ≡ None)
-    → length (from_place place xs) ≤ length (from_place place ys)
-    → length (from_place place (cons_option (option_map (anchored_at number height) was) xs))
-    ≤ length (from_place place (cons_option (option_map (anchored_at number other) is) ys))
-one-more place number height other None None xs ys stays le = le
-one-more place number height other (Some operation) None xs ys stays le = let wrong : Some operation ≡ None = stays refl in cc
-one-more place number height other None (Some later) xs ys stays le =
-    elim (nat_le place number) as (λ at. length (from_place place xs) ≤ length
-    (cond at (anchored_at number other later ∷ from_place place ys) (from_place place ys))) [
-      | true ↦ omega (arith, le)
-      | false ↦ le
-    ]
-one-more place number height other (Some operation) (Some later) xs ys stays le =
-    elim (nat_le place number) as (λ at. length (cond at (anchored_at number height operation ∷ from_place place xs) (from_place place xs)) ≤ length
-    (cond at (anchored_at number other later ∷ from_place place ys) (from_place place ys))) [
-      | true ↦ omega (arith, le)
-      | false ↦ le
-    ]
-
--- So at least as many operations for the suffix stand at a place or later.
-pub operations-grow : (suffix : HashValue) (place number : ℕ) (gifts more : List Gift) → GiveMore suffix gifts more
-    → length (from_place place (operations_from suffix number gifts)) ≤ length (from_place place (operations_from suffix number more))
-operations-grow suffix place number [] [] grows = omega arith
-operations-grow suffix place number [] (gift ∷ more) grows = absurd grows
-operations-grow suffix place number (gift ∷ gifts) [] grows = absurd grows
-operations-grow suffix place number (gift ∷ gifts) (other ∷ more) grows =
-    one-more place number gift.0 other.0 (given_for suffix gift.1) (given_for suffix other.1)
-    (operations_from suffix (number + 1) gifts) (operations_from suffix (number + 1) more) grows.0
-    (operations-grow suffix place (number + 1) gifts more grows.1)

@@ -9,6 +9,7 @@ mod OperationsLemmas
 mod WaitsLemmas
 mod GoingLemmas
 mod WorkLemmas
+mod ClosingLemmas
 mod CostLemmas
 mod LookingLemmas
 mod AskedLemmas

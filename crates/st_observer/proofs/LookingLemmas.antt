@@ -2,136 +2,23 @@
 --     looking-next, looking-skipped     after one, and after one that isn't there
 --     looking-few, looking-wanting      what was counted at the end, and where memory ran out
 use Rattle.std.proofs.Common.{◌≡◌, ◌∙◌, inl, inr, ℕ, zero, suc, ◌+◌, ◌-◌, ◌<◌, ◌≤◌, ◌==◌, true, ◌||◌, List, [], ◌∷◌, length, map, drop, take, get_or, slice_get, Some, None, refl, sym, ap, subst, arith}
-use Rattle.std.specs.List.Sorted.{IsStrictlySortedBy}
-use Rattle.std.specs.Ordering.{nat_cmp}
 use Rattle.std.proofs.lemmas.Bool.{eq-eqb, false≢true, or_cases, or_left, or_right}
-use Rattle.std.proofs.lemmas.List.{get_or_default, take_all}
+use Rattle.std.proofs.lemmas.List.{get_or-map, get_or_default, length-map}
 use Rattle.std.proofs.lemmas.Option.{get_or_from_slice_get, slice_get_within}
 use Rattle.std.proofs.lemmas.List.Folds.{list_any_more}
 use Rattle.st_anchor.specs.Coming.{newly_decided, newly_opened}
-use Rattle.st_anchor.specs.Gives.{given}
-use Rattle.st_anchor.specs.Known.{known_from}
+use Rattle.st_anchor.specs.Gives.{given, suffixes_given}
+use Rattle.st_anchor.specs.Known.{Known, known_from}
 use Rattle.st_base.specs.Work.{Counts}
+use Rattle.st_hash.specs.Hash.{HashValue, hash_cmp}
 use Rattle.st_ledger.specs.declared.entry.Entry.{Entry}
-use Rattle.st_observer.specs.Observed.{Observed}
-use Rattle.st_observer.specs.States.{given_cost}
-use Rattle.st_observer.specs.Steps.{IsGoing, Settles, bound_at, costs_where, decided_of, is_among, opened_of}
-use Rattle.st_observer.specs.Work.{GrewAtMost, ReadExactly, entry_cost}
-use Rattle.st_observer.specs.declared.kept.Kept.{Kept}
-use Rattle.st_observer.proofs.CostLemmas.{costs-le, costs-more, not_among, settled-cost}
+use Rattle.st_observer.specs.Observed.{Observed, known_of}
+use Rattle.st_observer.specs.Steps.{IsGoing, NamesWhere, Settles, bound_at, decided_of, is_among, kept_of, opened_of, unknown}
+use Rattle.st_observer.specs.Work.{AreNamedAt, GrewAtMost, ReadExactly}
+use Rattle.st_observer.specs.declared.going.Going.{Going}
 use Rattle.st_observer.proofs.GoingLemmas.{among-left, going-length, going-settled, going-skipped}
-use Rattle.st_observer.proofs.WorkLemmas.{Reading, reading-few, reading-more, reading-settled, reading-wanting}
-
--- what the entries with these numbers cost
-abbrev costs : Observed → List ℕ → ℕ
-costs observed numbers = costs_where (is_among numbers) observed 0 observed.ledger
-
--- The first of the entries with these numbers have been looked at, so many of them.
-pub record Looking (observed : Observed) (entries : List ℕ) (at : ℕ) (start now : Kept) (old new : Counts) : Type 0 where
-  pub going : IsGoing observed (is_among (drop at entries)) now
-  pub same : map (known_from observed.files) now.bounds.items ≡ map (known_from observed.files) start.bounds.items
-  pub reading : Reading start.bounds.items now.bounds.items (costs observed (take at entries)) old new
-
--- a number among the first is among all
-among-taken : (xs : List ℕ) (many m : ℕ) → is_among (take many xs) m ≡ true → is_among xs m ≡ true
-among-taken xs zero m there = absurd (false≢true there)
-among-taken [] (suc many) m there = there
-among-taken (x ∷ xs) (suc many) m there = elim (or_cases (x == m) (is_among (take many xs) m) there) [
-  | inl here ↦ or_left (x == m) (is_among xs m) here
-  | inr later ↦ or_right (x == m) (is_among xs m) (among-taken xs many m later)
-]
-
--- one number more
-module _ (entries : List ℕ) (at n : ℕ) (inside : at < length entries) (is : n ≡ get_or entries at n) where
-  more-among : (m : ℕ) → is_among (take (at + 1) entries) m ≡ (is_among (take at entries) m || (n == m))
-  more-among m = list_any_more (λ k. k == m) entries at n inside ∙ ap (λ k. is_among (take at entries) m || (k == m)) (sym is)
-
-  kept-among : (m : ℕ) → is_among (take at entries) m ≡ true → is_among (take (at + 1) entries) m ≡ true
-  kept-among m there = more-among m ∙ or_left (is_among (take at entries) m) (n == m) there
-
-  new-among : is_among (take (at + 1) entries) n ≡ true
-  new-among = more-among n ∙ or_right (is_among (take at entries) n) (n == n) (eq-eqb n n refl)
-
-  -- it costs what its entry does
-  costs-next : (observed : Observed) (entry : Entry) → IsStrictlySortedBy nat_cmp entries → n < length observed.ledger → get_or observed.ledger n entry ≡ entry
-      → costs observed (take at entries) + entry_cost n entry observed ≤ costs observed (take (at + 1) entries)
-  costs-next observed entry sorted within there =
-      subst (λ (e : Entry). costs observed (take at entries) + entry_cost n e observed ≤ costs observed (take (at + 1) entries)) there
-      (costs-more observed (is_among (take at entries)) (is_among (take (at + 1) entries)) kept-among 0 n n observed.ledger entry within
-      (let e : 0 + n ≡ n = omega arith in e)
-      (not_among entries at n sorted inside (sym is)) new-among)
-
-  costs-skip : (observed : Observed) → costs observed (take at entries) ≤ costs observed (take (at + 1) entries)
-  costs-skip observed = costs-le observed (is_among (take at entries)) (is_among (take (at + 1) entries)) kept-among 0 observed.ledger
-
-  -- the costs of all
-  costs-all : (observed : Observed) → costs observed (take (at + 1) entries) ≤ costs observed entries
-  costs-all observed =
-      costs-le observed (is_among (take (at + 1) entries)) (is_among entries) (λ m there. among-taken entries (at + 1) m there) 0 observed.ledger
-
-  pub looking-inside : (observed : Observed) (start now : Kept) (entry : Entry) (old mid : Counts) → Looking observed entries at start now old mid
-      → n < length observed.ledger → n < length now.bounds.items
-  looking-inside observed start now entry old mid looking within = omega (arith, within, going-length observed (is_among (drop at entries)) now looking.going)
-
-  -- the entry with this number is looked at again
-  pub looking-next : (observed : Observed) (start now after : Kept) (entry : Entry) (old mid new : Counts) → Looking observed entries at start now old mid
-      → IsStrictlySortedBy nat_cmp entries → n < length observed.ledger → get_or observed.ledger n entry ≡ entry
-      → Settles observed.files n entry.height now after
-      → ReadExactly (newly_decided observed.files (bound_at n now.bounds.items)) (newly_opened observed.files (bound_at n now.bounds.items)) mid new
-      → GrewAtMost (newly_decided observed.files (bound_at n now.bounds.items)) (newly_opened observed.files (bound_at n now.bounds.items))
-      (given_cost n entry.height (given (known_from observed.files (bound_at n now.bounds.items))) now.states.items) mid new
-      → Looking observed entries (at + 1) start after old new
-  looking-next observed start now after entry old mid new looking sorted within there step exactly grew =
-      let room : n < length now.bounds.items = looking-inside observed start now entry old mid looking within in
-      let fits : given_cost n entry.height (given (known_from observed.files (bound_at n now.bounds.items))) now.states.items ≤ entry_cost n entry observed =
-      settled-cost observed now.bounds.items entry n now.states looking.going.same room there looking.going.states in
-      let going : IsGoing observed (is_among (drop (at + 1) entries)) after =
-      going-settled observed (is_among (drop at entries)) (is_among (drop (at + 1) entries)) n entry now after looking.going step room there
-      (among-left entries at n inside is) in
-      record {
-        going = going;
-        same = going.same ∙ sym looking.going.same ∙ looking.same;
-        reading =
-            reading-settled observed.files start.bounds.items now.bounds.items after.bounds.items n (costs observed (take at entries))
-            (entry_cost n entry observed) (costs observed (take (at + 1) entries)) old mid new
-            room step.bounds looking.reading exactly (omega (arith, grew.applied, fits)) (costs-next observed entry sorted within there);
-      }
-
-  pub looking-skipped : (observed : Observed) (start now : Kept) (old new : Counts) → Looking observed entries at start now old new → length observed.ledger ≤ n
-      → Looking observed entries (at + 1) start now old new
-  looking-skipped observed start now old new looking past = record {
-    going =
-        going-skipped observed (is_among (drop at entries)) (is_among (drop (at + 1) entries)) n now looking.going
-        (omega (arith, past, going-length observed (is_among (drop at entries)) now looking.going)) (among-left entries at n inside is);
-    same = looking.same;
-    reading = reading-more start.bounds.items now.bounds.items (costs observed (take at entries)) (costs observed (take (at + 1) entries)) old new
-        (costs-skip observed) looking.reading;
-  }
-
-  -- memory ran out at this entry
-  pub looking-wanting : (observed : Observed) (start now : Kept) (entry : Entry) (old mid new : Counts) → Looking observed entries at start now old mid
-      → IsStrictlySortedBy nat_cmp entries → n < length observed.ledger → get_or observed.ledger n entry ≡ entry
-      → GrewAtMost (newly_decided observed.files (bound_at n now.bounds.items)) (newly_opened observed.files (bound_at n now.bounds.items))
-      (given_cost n entry.height (given (known_from observed.files (bound_at n now.bounds.items))) now.states.items) mid new
-      → GrewAtMost (decided_of (map (known_from observed.files) start.bounds.items) - decided_of start.bounds.items)
-      (opened_of (map (known_from observed.files) start.bounds.items) - opened_of start.bounds.items) (costs observed entries) old new
-  looking-wanting observed start now entry old mid new looking sorted within there grew =
-      let room : n < length now.bounds.items = looking-inside observed start now entry old mid looking within in
-      let fits : given_cost n entry.height (given (known_from observed.files (bound_at n now.bounds.items))) now.states.items ≤ entry_cost n entry observed =
-      settled-cost observed now.bounds.items entry n now.states looking.going.same room there looking.going.states in
-      reading-wanting observed.files start.bounds.items now.bounds.items n (costs observed (take at entries))
-      (given_cost n entry.height (given (known_from observed.files (bound_at n now.bounds.items))) now.states.items) (costs observed entries) old mid new
-      room looking.same looking.reading grew (omega (arith, fits, costs-next observed entry sorted within there, costs-all observed))
-
--- ---- at the end
-
-module _ (observed : Observed) (entries : List ℕ) (at : ℕ) (start now : Kept) (old new : Counts) where
-  pub looking-few : Looking observed entries at start now old new → length entries ≤ at
-      → GrewAtMost (decided_of (map (known_from observed.files) start.bounds.items) - decided_of start.bounds.items)
-      (opened_of (map (known_from observed.files) start.bounds.items) - opened_of start.bounds.items) (costs observed entries) old new
-  looking-few looking past =
-      reading-few observed.files start.bounds.items now.bounds.items (costs observed (take at entries)) (costs observed entries) old new looking.same
-      (let all : take at entries ≡ entries = take_all at entries past in omega (arith, ap (costs observed) all)) looking.reading
+use Rattle.st_observer.proofs.WorkLemmas.{Reading, reading-few, reading-settled, reading-wanting}
+use Rattle.st_opindex.specs.Changed.{AreNamed}
 
 -- ---- as the code finds the numbers and their entries
 
@@ -148,3 +35,106 @@ pub entry-past : (ledger : List Entry) (n : ℕ) → None ≡ slice_get ledger n
 entry-past [] n none = omega arith
 entry-past (entry ∷ ledger) zero none = cc
 entry-past (entry ∷ ledger) (suc n) none = let rest : length ledger ≤ n = entry-past ledger n none in omega (arith, rest)
+
+-- ---- on the way
+
+-- The first of the entries with these numbers have been looked at, so many of them. Nothing is applied, and
+-- names of what all of them give name what is changed.
+pub record Looking (observed : Observed) (entries : List ℕ) (at : ℕ) (start now : Going) (old new : Counts) : Type 0 where
+  pub going : IsGoing observed (is_among (drop at entries)) (kept_of now)
+  pub same : map (known_from observed.files) now.bounds.items ≡ map (known_from observed.files) start.bounds.items
+  pub reading : Reading start.bounds.items now.bounds.items 0 old new
+  pub named : (names : List (HashValue × ℕ)) → AreNamed hash_cmp start.states.changes names → NamesWhere (is_among entries) observed names
+      → AreNamed hash_cmp now.states.changes names
+
+-- more is known of an entry that is looked at again
+more-known : (observed : Observed) (bounds : List Known) (entry : Entry) (n : ℕ)
+    → map (known_from observed.files) bounds ≡ map (known_of observed.schedule observed.files) observed.ledger
+    → n < length bounds → get_or observed.ledger n entry ≡ entry
+    → known_from observed.files (bound_at n bounds) ≡ known_of observed.schedule observed.files entry
+more-known observed bounds entry n same inside is =
+    let many : length bounds ≡ length observed.ledger =
+    sym (length-map bounds (known_from observed.files)) ∙ ap length same ∙ length-map observed.ledger (known_of observed.schedule observed.files) in
+    sym (get_or-map (known_from observed.files) bounds n unknown unknown inside) ∙ ap (λ xs. get_or xs n unknown) same
+    ∙ get_or-map (known_of observed.schedule observed.files) observed.ledger n entry unknown (omega (arith, inside, many))
+    ∙ ap (known_of observed.schedule observed.files) is
+
+-- a number among the first is among all
+among-taken : (xs : List ℕ) (many m : ℕ) → is_among (take many xs) m ≡ true → is_among xs m ≡ true
+among-taken xs zero m there = absurd (false≢true there)
+among-taken [] (suc many) m there = there
+among-taken (x ∷ xs) (suc many) m there = elim (or_cases (x == m) (is_among (take many xs) m) there) [
+  | inl here ↦ or_left (x == m) (is_among xs m) here
+  | inr later ↦ or_right (x == m) (is_among xs m) (among-taken xs many m later)
+]
+
+-- one number more
+module _ (entries : List ℕ) (at n : ℕ) (inside : at < length entries) (is : n ≡ get_or entries at n) where
+  more-among : (m : ℕ) → is_among (take (at + 1) entries) m ≡ (is_among (take at entries) m || (n == m))
+  more-among m = list_any_more (λ k. k == m) entries at n inside ∙ ap (λ k. is_among (take at entries) m || (k == m)) (sym is)
+
+  all-among : is_among entries n ≡ true
+  all-among = among-taken entries (at + 1) n (more-among n ∙ or_right (is_among (take at entries) n) (n == n) (eq-eqb n n refl))
+
+  pub looking-inside : (observed : Observed) (start now : Going) (entry : Entry) (old mid : Counts) → Looking observed entries at start now old mid
+      → n < length observed.ledger → n < length now.bounds.items
+  looking-inside observed start now entry old mid looking within =
+      omega (arith, within, going-length observed (is_among (drop at entries)) (kept_of now) looking.going)
+
+  -- the entry with this number is looked at again
+  pub looking-next : (observed : Observed) (start now after : Going) (entry : Entry) (old mid new : Counts) → Looking observed entries at start now old mid
+      → Some entry ≡ slice_get observed.ledger n
+      → Settles observed.files n entry.height (kept_of now) (kept_of after)
+      → ReadExactly (newly_decided observed.files (bound_at n now.bounds.items)) (newly_opened observed.files (bound_at n now.bounds.items)) mid new
+      → GrewAtMost (newly_decided observed.files (bound_at n now.bounds.items)) (newly_opened observed.files (bound_at n now.bounds.items)) 0 mid new
+      → ((names : List (HashValue × ℕ)) → AreNamed hash_cmp now.states.changes names
+      → AreNamedAt n (suffixes_given (given (known_from observed.files (bound_at n now.bounds.items)))) names → AreNamed hash_cmp after.states.changes names)
+      → Looking observed entries (at + 1) start after old new
+  looking-next observed start now after entry old mid new looking found step exactly grew changes =
+      let within : n < length observed.ledger = entry-inside observed.ledger n entry found in
+      let there : get_or observed.ledger n entry ≡ entry = entry-at observed.ledger n entry found in
+      let room : n < length now.bounds.items = looking-inside observed start now entry old mid looking within in
+      let going : IsGoing observed (is_among (drop (at + 1) entries)) (kept_of after) =
+      going-settled observed (is_among (drop at entries)) (is_among (drop (at + 1) entries)) n entry (kept_of now) (kept_of after) looking.going step room there
+      (among-left entries at n inside is) in
+      record {
+        going = going;
+        same = going.same ∙ sym looking.going.same ∙ looking.same;
+        reading =
+            reading-settled observed.files start.bounds.items now.bounds.items after.bounds.items n 0 0 0 old mid new
+            room step.bounds looking.reading exactly (omega (arith, grew.applied)) (omega arith);
+        named = λ names first where_given.
+            changes names (looking.named names first where_given)
+            (subst (λ (b : Known). AreNamedAt n (suffixes_given (given b)) names) (sym (more-known observed now.bounds.items entry n looking.going.same room there))
+            (where_given n entry found all-among));
+      }
+
+  pub looking-skipped : (observed : Observed) (start now : Going) (old new : Counts) → Looking observed entries at start now old new → length observed.ledger ≤ n
+      → Looking observed entries (at + 1) start now old new
+  looking-skipped observed start now old new looking past = record {
+    going =
+        going-skipped observed (is_among (drop at entries)) (is_among (drop (at + 1) entries)) n (kept_of now) looking.going
+        (omega (arith, past, going-length observed (is_among (drop at entries)) (kept_of now) looking.going)) (among-left entries at n inside is);
+    same = looking.same;
+    reading = looking.reading;
+    named = looking.named;
+  }
+
+  -- memory ran out at this entry
+  pub looking-wanting : (observed : Observed) (start now : Going) (entry : Entry) (old mid new : Counts) → Looking observed entries at start now old mid
+      → Some entry ≡ slice_get observed.ledger n
+      → GrewAtMost (newly_decided observed.files (bound_at n now.bounds.items)) (newly_opened observed.files (bound_at n now.bounds.items)) 0 mid new
+      → GrewAtMost (decided_of (map (known_from observed.files) start.bounds.items) - decided_of start.bounds.items)
+      (opened_of (map (known_from observed.files) start.bounds.items) - opened_of start.bounds.items) 0 old new
+  looking-wanting observed start now entry old mid new looking found grew =
+      let room : n < length now.bounds.items = looking-inside observed start now entry old mid looking (entry-inside observed.ledger n entry found) in
+      reading-wanting observed.files start.bounds.items now.bounds.items n 0 0 0 old mid new room looking.same looking.reading grew (omega arith)
+
+-- ---- at the end
+
+module _ (observed : Observed) (entries : List ℕ) (at : ℕ) (start now : Going) (old new : Counts) where
+  pub looking-few : Looking observed entries at start now old new
+      → GrewAtMost (decided_of (map (known_from observed.files) start.bounds.items) - decided_of start.bounds.items)
+      (opened_of (map (known_from observed.files) start.bounds.items) - opened_of start.bounds.items) 0 old new
+  looking-few looking =
+      reading-few observed.files start.bounds.items now.bounds.items 0 0 old new looking.same (omega arith) looking.reading

@@ -4,7 +4,6 @@
 --     given-stays         a suffix that is given is given over more files too
 --     operations-pushed, operations-settled   once an entry comes, and once more is known of one
 --     agree-pushed, agree-settled, agree-cut  the states go on agreeing with what is known
---     gifts-more          over more files more is given
 use Rattle.std.proofs.Common.{◌≡◌, ◌∙◌, ℕ, zero, suc, ◌+◌, ◌<◌, ◌≤◌, Bool, true, false, ◌||◌, cond, List, [], ◌∷◌, ◌++◌, length, map, take, drop, set, get_or, Option, Some, None, is_some, refl, sym, ap, arith}
 use Rattle.std.specs.List.{cons_option, list_any}
 use Rattle.std.proofs.lemmas.Bool.{false≢true}
@@ -21,7 +20,7 @@ use Rattle.st_observer.specs.Kept.{Gift, StatesAgree, anchored_in, gifts, operat
 use Rattle.st_observer.specs.Observed.{Observed, anchored_for, given_for, known_of, operations}
 use Rattle.st_observer.specs.States.{StatesValue, before_place, operations_in, with_given}
 use Rattle.st_observer.specs.Steps.{PutsGiven}
-use Rattle.st_observer.proofs.GiftsLemmas.{GiveMore, operations-first, operations-put}
+use Rattle.st_observer.proofs.GiftsLemmas.{operations-first, operations-put}
 
 -- ---- what entries give, as lists
 
@@ -191,12 +190,3 @@ agree-cut entries bounds n old new many within agree before = record {
       ∙ operations-first suffix (take n all) (drop n all) n (length-take-le n all (omega (arith, within, gifts-length entries bounds many)))
       ∙ ap (operations_from suffix 0) (sym (gifts-take n entries bounds));
 }
-
--- ---- more files
-
--- over more files each entry gives for a suffix for which it gave before
-pub gifts-more : (suffix : HashValue) (files : Files) (entries : List Entry) (bounds : List Known)
-    → GiveMore suffix (gifts entries bounds) (gifts entries (map (known_from files) bounds))
-gifts-more suffix files [] bounds = tt
-gifts-more suffix files (entry ∷ entries) [] = tt
-gifts-more suffix files (entry ∷ entries) (bound ∷ bounds) = (given-stays suffix files bound, gifts-more suffix files entries bounds)

@@ -4,16 +4,16 @@
 use Rattle.std.proofs.Common.{◌≡◌, ◌∙◌, ℕ, List, set, ap, subst, sym}
 use Rattle.std.proofs.lemmas.List.{set-set}
 use Rattle.st_anchor.specs.Coming.{newly_decided, newly_opened}
-use Rattle.st_anchor.specs.Gives.{given}
+use Rattle.st_anchor.specs.Gives.{given, suffixes_given}
 use Rattle.st_anchor.specs.Known.{Known, known_from}
 use Rattle.st_anchor.specs.States.{role_states}
 use Rattle.st_anchor.specs.declared.role_state.RoleState.{RoleState}
 use Rattle.st_base.specs.Work.{Counts}
 use Rattle.st_content.specs.Files.{Files}
-use Rattle.st_observer.specs.States.{BySuffix, given_cost}
+use Rattle.st_hash.specs.Hash.{HashValue}
 use Rattle.st_observer.specs.Steps.{PutsGiven, Settles, bound_at}
 use Rattle.st_observer.specs.Waiting.{TurnsTo}
-use Rattle.st_observer.specs.Work.{GrewAtMost}
+use Rattle.st_observer.specs.Work.{AreNamedAt, GrewAtMost}
 use Rattle.st_observer.specs.declared.kept.Kept.{Kept}
 
 module _ (files : Files) (bounds : List Known) (n : ℕ) (start settled : Known) (out : start ≡ bound_at n bounds)
@@ -26,14 +26,14 @@ module _ (files : Files) (bounds : List Known) (n : ℕ) (start settled : Known)
   settle-bounds without after filler first second =
       second ∙ ap (λ xs. set xs n settled) first ∙ set-set bounds n filler settled ∙ ap (set bounds n) settled-is
 
-  pub settle-few : (height : ℕ) (items : BySuffix) (old new : Counts)
-      → GrewAtMost (newly_decided files start) (newly_opened files start) (given_cost n height (given settled) items) old new
-      → GrewAtMost (newly_decided files (bound_at n bounds)) (newly_opened files (bound_at n bounds))
-      (given_cost n height (given (known_from files (bound_at n bounds))) items) old new
-  settle-few height items old new grew =
-      subst (λ (b : Known). GrewAtMost (newly_decided files b) (newly_opened files b)
-      (given_cost n height (given (known_from files (bound_at n bounds))) items) old new) out
-      (subst (λ (b : Known). GrewAtMost (newly_decided files start) (newly_opened files start) (given_cost n height (given b) items) old new) settled-is grew)
+  pub settle-few : (old new : Counts) → GrewAtMost (newly_decided files start) (newly_opened files start) 0 old new
+      → GrewAtMost (newly_decided files (bound_at n bounds)) (newly_opened files (bound_at n bounds)) 0 old new
+  settle-few old new grew = subst (λ (b : Known). GrewAtMost (newly_decided files b) (newly_opened files b) 0 old new) out grew
+
+  -- what names all that was changed, and what the entry gives, names what is changed then
+  pub settle-names : {changed : Type 0} (names : List (HashValue × ℕ)) → (AreNamedAt n (suffixes_given (given settled)) names → changed)
+      → AreNamedAt n (suffixes_given (given (known_from files (bound_at n bounds)))) names → changed
+  settle-names names named there = named (subst (λ (b : Known). AreNamedAt n (suffixes_given (given b)) names) (sym settled-is) there)
 
   pub settles : (height : ℕ) (before after : Kept) (states : List RoleState) → before.bounds.items ≡ bounds
       → after.bounds.items ≡ set bounds n (known_from files (bound_at n bounds))

@@ -2,16 +2,17 @@
 --     ascend-before, ascend-with_given        the places ascend as before
 --     put_operations, cut_operations          what a put and a cut of the index leave of each identifier
 --     state_resolved                          what the index folds is what the operations resolve to
---     goes_on, pays                           given operations, put one after another
+--     goes_on, naming_more                    given operations, put one after another
+--     cost-named, cost-there                  what names may cost
 use Rattle.std.proofs.Common.{◌≡◌, ◌∙◌, ℕ, ◌+◌, ◌<◌, ◌≤◌, Bool, true, false, cond, ltb, leb, List, [], ◌∷◌, ◌++◌, length, filter, sym, ap, subst, refl, arith, inl, inr}
-use Rattle.std.specs.Prelude.{map, sum, Option, Some, None, ◌||◌}
+use Rattle.std.specs.Prelude.{map, Option, Some, None, ◌||◌, ◌&&◌}
 use Rattle.std.specs.BTreeMap.{is_at}
-use Rattle.std.specs.List.{AllByRecursion, list_any}
+use Rattle.std.specs.List.{AllByRecursion, list_any, sum_by}
 use Rattle.std.specs.Map.{lookup}
-use Rattle.std.proofs.lemmas.Bool.{lt-ltb, le-ltb, cases_Bool, cases_lt, cond_both, false≢true, ltb-true, or_parts}
+use Rattle.std.proofs.lemmas.Bool.{lt-ltb, le-leb, le-ltb, cases_Bool, cases_lt, cond_both, false≢true, ltb-true, or_left, or_parts, or_right}
 use Rattle.std.proofs.lemmas.List.{length-map, map-append, map_push}
 use Rattle.std.proofs.lemmas.List.Folds.{fold-map, list_any-append}
-use Rattle.std.proofs.lemmas.List.Sums.{fold_push}
+use Rattle.std.proofs.lemmas.List.Sums.{sum-map, sum_by-le-sum_by}
 use Rattle.st_anchor.specs.Gives.{suffixes_given}
 use Rattle.st_anchor.proofs.OnceLemmas.{has_twice-front}
 use Rattle.st_apply.specs.Anchored.{Anchored, place_of, resolved}
@@ -20,14 +21,14 @@ use Rattle.st_apply.specs.Applied.{applied}
 use Rattle.st_apply.specs.Seen.{absent}
 use Rattle.st_apply.proofs.ResolvedLemmas.{resolved_fold}
 use Rattle.st_base.specs.Twice.{has_twice}
-use Rattle.st_base.specs.Work.{Counts, AppliesAtMost}
 use Rattle.st_base.proofs.Quantifiers.{each-weaker, each-filter, each-append, each-passes, filter_none}
 use Rattle.st_hash.specs.Hash.{HashValue, hash_cmp, same_hash}
 use Rattle.st_hash.specs.Order.{same_hash-equivalence, same_hash-ties}
 use Rattle.st_hash.proofs.SameHash.{same_hash-is, same_hash-itself}
 use Rattle.st_observer.specs.Observed.{given_for}
-use Rattle.st_observer.specs.States.{BySuffix, NamesFrom, AllAscend, after_place, anchored_item, before_place, cost_from, operations_at, stepped, with_given}
-use Rattle.st_observer.specs.Work.{from_place}
+use Rattle.st_observer.specs.States.{BySuffix, NamesFrom, AllAscend, after_place, anchored_item, before_place, cost_from, given_cost, kept_cost, operations_at, stepped, with_given}
+use Rattle.st_observer.specs.Work.{AreNamedAt, from_place}
+use Rattle.st_opindex.specs.Changed.{AreNamed, IsNamed, names_cost}
 use Rattle.st_opindex.specs.ByKey.{ChangesAt, NamesLosing, items_at}
 use Rattle.st_opindex.specs.Items.{Held, before, from, after, with_item, folded}
 use Rattle.st_ops.specs.Operation.{PlainOperation, plain_operation}
@@ -125,6 +126,10 @@ module _ (place : ℕ) (items : List (Held Item)) where
   with-items height operation =
       map-append anchored_item (before place items) ((place, (height, operation)) ∷ after place items) ∙ rw (before-items, after-items) refl
 
+-- a suffix ties with itself
+tied : (suffix : HashValue) → is_at (hash_cmp suffix) suffix ≡ true
+tied suffix = sym (same_hash-ties suffix suffix) ∙ same_hash-itself suffix
+
 -- an order that is a tie is sameness
 same-at : (key other : HashValue) → is_at (hash_cmp key) other ≡ same_hash other key
 same-at key other = sym (same_hash-ties key other) ∙ same_hash-equivalence.symm key other
@@ -145,16 +150,6 @@ module _ (place height : ℕ) (key : HashValue) (operation : Operation) where
       ∙ ap (λ b. map anchored_item (cond b (with_item place (height, operation) items) items)) (same-at key suffix)
       ∙ choose (same_hash suffix key) items
 
-  -- and what it may cost
-  pub put_cost : (items : BySuffix) → length (from place (with_item place (height, operation) (items_at hash_cmp key items)))
-      ≡ length (from_place place (with_given place height (Some (plain_operation operation)) (operations_at key items)))
-  unfolding operations_at
-  put_cost items =
-      let put = with_item place (height, operation) (items_at hash_cmp key items) in
-      sym (length-map (from place put) anchored_item)
-      ∙ ap length (sym (from-items place put))
-      ∙ ap (λ operations. length (from_place place operations)) (with-items place (items_at hash_cmp key items) height operation)
-
 -- the items of a suffix are its operations
 pub kept_operations : (suffix : HashValue) (items : BySuffix) → map anchored_item (items_at hash_cmp suffix items) ≡ operations_at suffix items
 unfolding operations_at
@@ -168,6 +163,12 @@ none_at suffix = refl
 pub none_ascend : AllAscend []
 unfolding operations_at
 none_ascend = record { each = λ suffix. tt }
+
+-- an identifier with the same items has the same operations
+pub same_operations : (suffix : HashValue) (old new : BySuffix) → items_at hash_cmp suffix new ≡ items_at hash_cmp suffix old
+    → operations_at suffix new ≡ operations_at suffix old
+unfolding operations_at
+same_operations suffix old new same = ap (map anchored_item) same
 
 -- what a cut leaves of an identifier
 pub cut_operations : (place : ℕ) (suffix : HashValue) (old new : BySuffix) → items_at hash_cmp suffix new ≡ before place (items_at hash_cmp suffix old)
@@ -243,16 +244,31 @@ pub record IsOnWay (place height : ℕ) (all left : Givens) (first now : BySuffi
   pub leads : (suffix : HashValue) → with_given place height (given_for suffix left) (operations_at suffix now)
       ≡ with_given place height (given_for suffix all) (operations_at suffix first)
 
--- this much is paid, and that may still be
-pub record IsPaid (all left : ℕ) (old new : Counts) : Type 0 where
-  pub files : new.files ≡ old.files
-  pub proofs : new.proofs ≡ old.proofs
-  pub applies : new.applies + left ≤ old.applies + all
+-- names of what was changed at first, and of all that is given, name what is changed now, and what is left
+pub record IsNaming (place : ℕ) (all left : Givens) (first now : List (HashValue × ℕ)) : Type 0 where
+  pub names : (names : List (HashValue × ℕ)) → AreNamed hash_cmp first names → AreNamedAt place (suffixes_given all) names
+      → AreNamed hash_cmp now names × AreNamedAt place (suffixes_given left) names
 
--- what is left may cost this, by what stands there in the end
-abbrev pub left_cost : ℕ → ℕ → Givens → Givens → BySuffix → ℕ
-left_cost place height all left first =
-    sum (map (λ suffix. cost_from place (with_given place height (given_for suffix all) (operations_at suffix first))) (suffixes_given left))
+pub naming_start : (place : ℕ) (all : Givens) (first : List (HashValue × ℕ)) → IsNaming place all all first first
+naming_start place all first = record { names = λ names named given. (named, given) }
+
+-- what holds of each holds of the last, and of those before it
+each-last : {X : Type 0} (P : X → Type 0) (xs : List X) (x : X) → AllByRecursion P (xs ++ x ∷ []) → AllByRecursion P xs × P x
+each-last P [] x all = (tt, all.0)
+each-last P (y ∷ xs) x all = let rest = each-last P xs x all.1 in ((all.0, rest.0), rest.1)
+
+pub naming_more : {place : ℕ} {all whole : Givens} {first now new : List (HashValue × ℕ)} (left : Givens) (last : HashValue × PlainOperation)
+    → whole ≡ left ++ last ∷ [] → IsNaming place all whole first now → new ≡ now ++ (last.0, place) ∷ [] → IsNaming place all left first new
+naming_more {place} {all} {whole} {first} {now} left last split naming is = record {
+  names = λ names named given.
+      let both = naming.names names named given in
+      let parts = each-last (λ suffix. IsNamed hash_cmp names suffix place) (suffixes_given left) last.0
+      (subst (λ suffixes. AreNamedAt place suffixes names) (ap suffixes_given split ∙ map_push (λ entry. entry.0) left last) both.1) in (
+        subst (λ changes. AreNamed hash_cmp changes names) (sym is)
+            (each-append (λ change. IsNamed hash_cmp names change.0 change.1) now ((last.0, place) ∷ []) both.0 (parts.1, tt)),
+        parts.0,
+      );
+}
 
 -- the last of those that are left is put
 module _ {place height : ℕ} {all whole : Givens} {first now : BySuffix} (left : Givens) (last : HashValue × PlainOperation)
@@ -291,30 +307,74 @@ module _ {place height : ℕ} {all whole : Givens} {first now : BySuffix} (left 
           ∙ ap (λ given. with_given place height given (operations_at last.0 now)) (lookup-last (same_hash last.0) [] last refl (same_hash-itself last.0))
           ∙ last_leads
 
-  cost_last : left_cost place height all whole first
-      ≡ left_cost place height all left first + cost_from place (with_given place height (Some last.1) (operations_at last.0 now))
-  cost_last =
-      let cost : HashValue → ℕ = λ suffix. cost_from place (with_given place height (given_for suffix all) (operations_at suffix first)) in
-      ap (λ given. left_cost place height all given first) split
-      ∙ ap (λ suffixes. sum (map cost suffixes)) (map_push (λ entry. entry.0) left last)
-      ∙ ap sum (map_push cost (suffixes_given left) last.0)
-      ∙ fold_push (λ total number. total + number) 0 (map cost (suffixes_given left)) (cost last.0)
-      ∙ ap (λ operations. left_cost place height all left first + cost_from place operations) (sym last_leads)
+-- ---- what names may cost
 
-  module _ {most : ℕ} {old work new : Counts} (paid : IsPaid most (left_cost place height all whole first) old work)
-      (bound : AppliesAtMost (cost_from place (with_given place height (Some last.1) (operations_at last.0 now))) work new) where
-    -- it is paid,
-    pub pays : IsPaid most (left_cost place height all left first) old new
-    pays = record {
-      files = bound.files ∙ paid.files;
-      proofs = bound.proofs ∙ paid.proofs;
-      applies = omega (arith, cost_last, paid.applies, bound.applies);
-    }
+module _ (items : BySuffix) where
+  -- the same by items and by operations
+  pub cost-named : (names : List (HashValue × ℕ)) → names_cost hash_cmp items names ≤ kept_cost items names
+  unfolding operations_at
+  cost-named names =
+      sum_by-le-sum_by (λ name. 7 + length (from name.1 (items_at hash_cmp name.0 items))) (λ name. cost_from name.1 (operations_at name.0 items)) names
+      (λ name. omega (
+        arith,
+        length-map (from name.1 (items_at hash_cmp name.0 items)) anchored_item,
+        ap length (from-items name.1 (items_at hash_cmp name.0 items)),
+      ))
 
-    -- also where its put is the end
-    pub pays_at_end : AppliesAtMost most old new
-    pays_at_end = record {
-      files = bound.files ∙ paid.files;
-      proofs = bound.proofs ∙ paid.proofs;
-      applies = omega (arith, cost_last, paid.applies, bound.applies);
-    }
+-- changes name themselves
+pub named-itself : (changes : List (HashValue × ℕ)) → AreNamed hash_cmp changes changes
+named-itself [] = tt
+named-itself (change ∷ changes) =
+    let here : (is_at (hash_cmp change.0) change.0 && leb change.1 change.1) ≡ true = rw (tied change.0, le-leb change.1 change.1 (omega arith)) refl in (
+      or_left (is_at (hash_cmp change.0) change.0 && leb change.1 change.1) (list_any (λ name. is_at (hash_cmp change.0) name.0 && leb name.1 change.1) changes) here,
+      each-weaker (λ later. IsNamed hash_cmp changes later.0 later.1) (λ later. IsNamed hash_cmp (change ∷ changes) later.0 later.1)
+          (λ later is. or_right (is_at (hash_cmp later.0) change.0 && leb change.1 later.1) (list_any (λ name. is_at (hash_cmp later.0) name.0 && leb name.1 later.1) changes) is)
+          changes (named-itself changes),
+    )
+
+-- what stands among some names stands among more
+module _ (place : ℕ) (suffixes : List HashValue) (front back : List (HashValue × ℕ)) where
+  pub named-before : AreNamedAt place suffixes front → AreNamedAt place suffixes (front ++ back)
+  named-before named =
+      each-weaker (λ suffix. IsNamed hash_cmp front suffix place) (λ suffix. IsNamed hash_cmp (front ++ back) suffix place)
+      (λ suffix is. list_any-append (λ name. is_at (hash_cmp suffix) name.0 && leb name.1 place) front back
+      ∙ or_left (list_any (λ name. is_at (hash_cmp suffix) name.0 && leb name.1 place) front) (list_any (λ name. is_at (hash_cmp suffix) name.0 && leb name.1 place) back) is)
+      suffixes named
+
+  pub named-behind : AreNamedAt place suffixes back → AreNamedAt place suffixes (front ++ back)
+  named-behind named =
+      each-weaker (λ suffix. IsNamed hash_cmp back suffix place) (λ suffix. IsNamed hash_cmp (front ++ back) suffix place)
+      (λ suffix is. list_any-append (λ name. is_at (hash_cmp suffix) name.0 && leb name.1 place) front back
+      ∙ or_right (list_any (λ name. is_at (hash_cmp suffix) name.0 && leb name.1 place) front) (list_any (λ name. is_at (hash_cmp suffix) name.0 && leb name.1 place) back) is)
+      suffixes named
+
+module _ (place : ℕ) where
+  -- suffixes at one place
+  abbrev pub at_place : List HashValue → List (HashValue × ℕ)
+  at_place suffixes = map (λ suffix. (suffix, place)) suffixes
+
+  -- name themselves there
+  pub named-there : (suffixes : List HashValue) → AreNamedAt place suffixes (at_place suffixes)
+  named-there [] = tt
+  named-there (suffix ∷ suffixes) =
+      let here : (is_at (hash_cmp suffix) suffix && leb place place) ≡ true = rw (tied suffix, le-leb place place (omega arith)) refl in (
+        or_left (is_at (hash_cmp suffix) suffix && leb place place) (list_any (λ name. is_at (hash_cmp suffix) name.0 && leb name.1 place) (at_place suffixes)) here,
+        each-weaker (λ later. IsNamed hash_cmp (at_place suffixes) later place) (λ later. IsNamed hash_cmp ((suffix, place) ∷ at_place suffixes) later place)
+            (λ later is. or_right (is_at (hash_cmp later) suffix && leb place place) (list_any (λ name. is_at (hash_cmp later) name.0 && leb name.1 place) (at_place suffixes)) is)
+            suffixes (named-there suffixes),
+      )
+
+  -- what they cost is what an entry of this place costs that gives for them
+  pub cost-there : (height : ℕ) (given : Givens) (old new : BySuffix)
+      → ((suffix : HashValue) → operations_at suffix new ≡ with_given place height (given_for suffix given) (operations_at suffix old))
+      → kept_cost new (at_place (suffixes_given given)) ≤ given_cost place height given old
+  cost-there height given old new puts =
+      let cost : HashValue → ℕ = λ suffix. cost_from place (with_given place height (given_for suffix given) (operations_at suffix old)) in
+      let along : kept_cost new (at_place (suffixes_given given)) ≡ sum_by (λ suffix. cost_from place (operations_at suffix new)) (suffixes_given given) =
+      fold-map (λ total name. total + cost_from name.1 (operations_at name.0 new)) (λ suffix. (suffix, place)) 0 (suffixes_given given) in
+      omega (
+        arith,
+        along,
+        sum-map cost (suffixes_given given),
+        sum_by-le-sum_by (λ suffix. cost_from place (operations_at suffix new)) cost (suffixes_given given) (λ suffix. omega (arith, ap (cost_from place) (puts suffix))),
+      )

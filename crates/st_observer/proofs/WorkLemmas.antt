@@ -51,6 +51,15 @@ grew-more files proofs applies more_files more_proofs more old new fits_files fi
   applied = omega (arith, grew.applied, fits);
 }
 
+-- and operations that were applied after all was read
+pub grew-then : (files proofs applies most : ℕ) (old mid new : Counts) → GrewAtMost files proofs 0 old mid → AppliesAtMost applies mid new → applies ≤ most
+    → GrewAtMost files proofs most old new
+grew-then files proofs applies most old mid new grew applied fits = record {
+  read = omega (arith, applied.files, grew.read);
+  opened = omega (arith, applied.proofs, grew.opened);
+  applied = omega (arith, applied.applies, grew.applied, fits);
+}
+
 -- ---- several entries
 
 -- a count of what is known of an entry, which more files never lower
@@ -115,17 +124,6 @@ reading-settled files start bounds after n cost applied total old mid new inside
           reading.opens (opened_proofs-up files bound) opened reading.proofs exactly.opened;
       applies = omega (arith, reading.applies, few, fits);
     }
-
--- the same after an entry that isn't there
-pub reading-more : (start bounds : List Known) (cost total : ℕ) (old new : Counts) → cost ≤ total → Reading start bounds cost old new
-    → Reading start bounds total old new
-reading-more start bounds cost total old new fits reading = record {
-  decides = reading.decides;
-  opens = reading.opens;
-  files = reading.files;
-  proofs = reading.proofs;
-  applies = omega (arith, reading.applies, fits);
-}
 
 few-counted : (start now all old new : ℕ) → start ≤ now → now ≤ all → new ≡ counted_more (now - start) old → new ≤ old + (all - start)
 few-counted start now all old new up most counts = omega (arith, up, most, counts, counted_more-few (now - start) old)

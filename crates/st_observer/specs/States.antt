@@ -1,7 +1,7 @@
 -- The operations of identifiers at their places, as they are kept.
 use Rattle.std.specs.Prelude.{ℕ, ◌+◌, ◌≤◌, ◌≡◌, nat_lt, true, List, ◌∷◌, ◌++◌, filter, length, map, sum, Option, Some, None, refl}
 use Rattle.std.specs.Coded.{Coded, code_by, coded×, coded_list, coded_option, coded_ℕ}
-use Rattle.std.specs.List.{list_any}
+use Rattle.std.specs.List.{list_any, sum_by}
 use Rattle.st_anchor.specs.Gives.{suffixes_given}
 use Rattle.st_apply.specs.Anchored.{Anchored, place_of}
 use Rattle.st_apply.specs.Applied.{applied}
@@ -38,6 +38,17 @@ states_code =
     (coded× (coded_option coded_ℕ)
     (coded_list (coded× hash_code (coded_list (coded× coded_ℕ (coded× coded_ℕ operation_row.the_row.coded))))))
     (λ states. (states.schedule, states.items)) (λ fields. record { schedule = fields.0; items = fields.1 }) (λ _. refl)
+
+-- what states that are being changed are seen as: the states, and the changes, of each the suffix and the place
+pub record OpenValue : Type 0 where
+  pub states : StatesValue
+  pub changes : List (HashValue × ℕ)
+
+-- they are stored as both
+abbrev pub open_code : Coded OpenValue
+open_code =
+    code_by (StatesValue × List (HashValue × ℕ)) (coded× states_code (coded_list (coded× hash_code coded_ℕ)))
+    (λ changing. (changing.states, changing.changes)) (λ fields. record { states = fields.0; changes = fields.1 }) (λ _. refl)
 
 -- ---- the operations of an identifier
 
@@ -100,3 +111,7 @@ given_cost place height given items =
 abbrev pub NamesFrom : ℕ → BySuffix → List HashValue → Type 0
 NamesFrom place items names = (suffix : HashValue) → 1 ≤ length (from_place place (operations_at suffix items))
     → list_any (same_hash suffix) names ≡ true
+
+-- what names, each with a place, may cost: for each 7, and one for each of its operations at its place or later
+abbrev pub kept_cost : BySuffix → List (HashValue × ℕ) → ℕ
+kept_cost items names = sum_by (λ name. cost_from name.1 (operations_at name.0 items)) names

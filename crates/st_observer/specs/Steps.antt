@@ -1,8 +1,8 @@
 -- The steps by which what is kept follows entries and files as they come and go. No public call speaks of
 -- them.
-use Rattle.std.specs.Prelude.{◌≡◌, ℕ, ◌+◌, ◌<◌, ◌==◌, Bool, false, if◌then◌else◌, List, [], ◌∷◌, ◌++◌, length, map, slice_index_or, slice_set, take, Option}
+use Rattle.std.specs.Prelude.{◌≡◌, ℕ, ◌<◌, ◌==◌, Bool, true, false, List, [], ◌∷◌, ◌++◌, length, map, slice_get, slice_index_or, slice_set, take, Option, Some}
 use Rattle.std.specs.List.{list_any, sum_by}
-use Rattle.st_anchor.specs.Gives.{given}
+use Rattle.st_anchor.specs.Gives.{given, suffixes_given}
 use Rattle.st_anchor.specs.Known.{Known, known_from}
 use Rattle.st_anchor.specs.States.{decided_roles, opened_proofs, role_states}
 use Rattle.st_anchor.specs.declared.part.Part.TheVariants as part_is
@@ -12,10 +12,11 @@ use Rattle.st_ledger.specs.declared.entry.Entry.{Entry}
 use Rattle.st_ops.specs.Operation.{PlainOperation}
 use Rattle.st_params.specs.Limits.{limits_of}
 use Rattle.st_observer.specs.Kept.{StatesAgree, WaitsAgree, gifts}
-use Rattle.st_observer.specs.Observed.{Observed, given_for, known_of}
+use Rattle.st_observer.specs.Observed.{Observed, given_for, gives_of, known_of}
 use Rattle.st_observer.specs.States.{StatesValue, before_place, operations_in, with_given}
 use Rattle.st_observer.specs.Waiting.{TurnsTo}
-use Rattle.st_observer.specs.Work.{entry_cost}
+use Rattle.st_observer.specs.Work.{AreNamedAt}
+use Rattle.st_observer.specs.declared.going.Going.{Going}
 use Rattle.st_observer.specs.declared.kept.Kept.{Kept}
 
 -- ---- one entry
@@ -77,11 +78,19 @@ decided_of bounds = sum_by decided_roles bounds
 abbrev pub opened_of : List Known → ℕ
 opened_of bounds = sum_by opened_proofs bounds
 
--- what entries of a ledger that pass a test by their number may cost, of which the first has this one
-abbrev pub costs_where : (ℕ → Bool) → Observed → ℕ → List Entry → ℕ
-costs_where test observed number [] = 0
-costs_where test observed number (entry ∷ entries) =
-    (if test number then entry_cost number entry observed else 0) + costs_where test observed (number + 1) entries
+-- What is kept while a file arrives, but for the changes that are not folded yet.
+abbrev pub kept_of : Going → Kept
+kept_of going = record { bounds = going.bounds; waiting = going.waiting; states = going.states.states }
+
+-- what is kept, opened for changes
+abbrev pub opened : Kept → Going
+opened kept = record { bounds = kept.bounds; waiting = kept.waiting; states = record { states = kept.states; changes = [] } }
+
+-- Among these names, each with a place, is every identifier for which an entry that passes a test by its
+-- number gives an operation, at that number or before.
+abbrev pub NamesWhere : (ℕ → Bool) → Observed → List (HashValue × ℕ) → Type 0
+NamesWhere test observed names = (n : ℕ) (entry : Entry) → Some entry ≡ slice_get observed.ledger n → test n ≡ true
+    → AreNamedAt n (suffixes_given (gives_of observed.schedule observed.files entry)) names
 
 -- ---- entries are cut
 

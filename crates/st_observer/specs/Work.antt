@@ -1,15 +1,17 @@
 -- Bounds on the work that is counted while entries and files come and go.
-use Rattle.std.specs.Prelude.{◌≡◌, ℕ, ◌+◌, ◌≤◌, nat_le, Bool, true, if◌then◌else◌, List, [], ◌∷◌, filter, length}
-use Rattle.std.specs.List.{list_any, sum_by}
+use Rattle.std.specs.Prelude.{◌≡◌, ℕ, ◌+◌, ◌≤◌, nat_le, Bool, true, if◌then◌else◌, List, [], ◌∷◌, filter, length, slice_get, Some}
+use Rattle.std.specs.List.{AllByRecursion, list_any, sum_by}
 use Rattle.st_anchor.specs.Counting.{counted_more}
 use Rattle.st_anchor.specs.Gives.{suffixes_given}
 use Rattle.st_anchor.specs.States.{decided_roles, opened_proofs}
 use Rattle.st_apply.specs.Anchored.{Anchored}
 use Rattle.st_base.specs.Work.{Counts}
-use Rattle.st_hash.specs.Hash.{HashValue, same_hash, uri_of}
+use Rattle.st_content.specs.Files.{with_file}
+use Rattle.st_hash.specs.Hash.{HashValue, hash_cmp, same_hash, uri_of}
 use Rattle.st_ledger.specs.declared.entry.Entry.{Entry}
 use Rattle.st_observer.specs.Observed.{Observed, arrived, gives_of, known_of, operations, verdicts_on}
 use Rattle.st_observer.specs.Wanted.{one_misses}
+use Rattle.st_opindex.specs.Changed.{IsNamed}
 
 -- at most so many files were read, signed texts opened and operations applied
 pub record GrewAtMost (files proofs applies : ℕ) (old new : Counts) : Type 0 where
@@ -69,3 +71,19 @@ arrival_cost file observed = costs_from 0 file observed observed.ledger
 abbrev pub NamesLosing : ℕ → Observed → List HashValue → Type 0
 NamesLosing n observed names = (suffix : HashValue) → 1 ≤ length (from_place n (operations suffix observed))
     → list_any (same_hash suffix) names ≡ true
+
+-- ---- a file that several entries missed
+
+-- each of these suffixes stands among the names, at this place or before
+abbrev pub AreNamedAt : ℕ → List HashValue → List (HashValue × ℕ) → Type 0
+AreNamedAt place suffixes names = AllByRecursion (λ suffix. IsNamed hash_cmp names suffix place) suffixes
+
+-- Among these names, each with a place, is every identifier for which some entry that missed the file gives
+-- an operation once it has come, at the place of that entry or before.
+abbrev pub NamesLate : List ℕ → Observed → List (HashValue × ℕ) → Type 0
+NamesLate file observed names = (n : ℕ) (entry : Entry) → Some entry ≡ slice_get observed.ledger n → is_missed_by file observed entry ≡ true
+    → AreNamedAt n (suffixes_given (gives_of observed.schedule (with_file file observed.files) entry)) names
+
+-- what names may cost: for each 7, and one for each of its operations at its place or later
+abbrev pub named_cost : Observed → List (HashValue × ℕ) → ℕ
+named_cost observed names = sum_by (λ name. suffix_cost name.1 observed name.0) names

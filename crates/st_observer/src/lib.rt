@@ -6,6 +6,7 @@
 
 mod arriving;
 mod cutting;
+mod going;
 mod kept;
 mod laws;
 mod observer;

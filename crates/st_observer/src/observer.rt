@@ -1,4 +1,4 @@
-ghost use Rattle.std.specs.Prelude.{◌≡◌, ◌≤◌, ◌-◌, ◌*◌, ◌↔◌, List, length, map, IfOk, IsOk, IsSome, IsTrue, OnOk};
+ghost use Rattle.std.specs.Prelude.{◌≡◌, ℕ, ◌+◌, ◌≤◌, ◌-◌, ◌*◌, ◌↔◌, List, length, map, IfOk, IsOk, IsSome, IsTrue, OnOk};
 ghost use Rattle.std.specs.List.{list_any};
 ghost use Rattle.std.specs.List.Sorted.{IsStrictlySortedBy};
 ghost use Rattle.st_anchor.specs.Coming.{newly_decided, newly_opened};
@@ -14,7 +14,7 @@ ghost use Rattle.st_params.specs.Schedule.{params_at};
 ghost use Rattle.st_observer.specs.Observed.{appended, arrived, cut_to, known_of, nothing_yet, operations, report, state_of};
 ghost use Rattle.st_observer.specs.States.{plain_held};
 ghost use Rattle.st_observer.specs.Wanted.{IsMissed, text_cmp, wanted};
-ghost use Rattle.st_observer.specs.Work.{GrewAtMost, NamesLosing, ReadExactly, ReadsNothing, arrival_cost, decided_in, entry_cost, opened_in};
+ghost use Rattle.st_observer.specs.Work.{GrewAtMost, NamesLate, NamesLosing, ReadExactly, ReadsNothing, arrival_cost, decided_in, entry_cost, named_cost, opened_in};
 
 use crate::arriving::settle_waiting;
 use crate::kept::Kept;
@@ -190,6 +190,12 @@ impl Observer {
             (opened_in (arrived bytes self) - opened_in self)
             (arrival_cost bytes self)
             work.old work.new }
+        // An identifier for which several of those entries give operations is folded once: by any list of
+        // names with places among which all such identifiers are, each at the first such entry's place or
+        // before, at most 7 operations are applied for each name, and one for each of its operations at
+        // its place or later.
+        ensures once { (names : List (HashValue × ℕ)) → NamesLate bytes self names
+            → work.new.applies ≤ work.old.applies + named_cost (arrived bytes self) names }
     {
         let Observer {
             schedule,

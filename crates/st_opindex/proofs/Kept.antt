@@ -2,8 +2,9 @@
 use Rattle.std.proofs.Common.{◌≡◌, ◌∙◌, ℕ, ◌+◌, ◌-◌, ◌*◌, ◌/◌, ◌<◌, ◌≤◌, List, length, take, get_or, sym, ap, refl, arith, ⊎_elim, length-take, get_or-take}
 use Rattle.std.proofs.lemmas.Bool.{cases_lt}
 use Rattle.std.proofs.lemmas.List.{take-take, take_all}
+use Rattle.st_opindex.specs.declared.row.Row.{Row}
 use Rattle.st_opindex.specs.Items.{Held, folded}
-use Rattle.st_opindex.specs.Kept.{Reached, IsKeptBefore, IsRow}
+use Rattle.st_opindex.specs.Kept.{IsFolded, IsKeptBefore, IsRow, Reached}
 
 -- the first items are the same in a list that begins alike
 take_alike : {X : Type 0} (items other : List X) (n at : ℕ) → n ≤ at → take at other ≡ take at items → take n items ≡ take n other
@@ -19,16 +20,21 @@ module _ {State Item : Type 0} {next : State → Item → State} {start : State}
     now = reached.now ∙ ap (folded next start) (take_alike items other done done (omega arith) alike);
   }
 
-  -- the last state of a row is what its items fold to
-  pub row_folds : {items : List (Held Item)} {kept : List State} {last : State} → IsRow next start items kept last → last ≡ folded next start items
-  row_folds {items} row = row.reached.now ∙ ap (folded next start) (take_all (length items) items (omega arith))
+  -- what a row keeps is kept for a list that begins like its items
+  pub row_alike : {row : Row Item State} → IsRow next start row → (other : List (Held Item)) (at : ℕ) → row.done ≤ at → take at other ≡ take at row.items.items
+      → Reached next start other row.done row.kept.items row.last
+  row_alike {row} is other at within alike = reached_alike other (sym (take_alike row.items.items other row.done at within alike)) is.reached
+
+  -- where all are folded, the last state of a row is what its items fold to
+  pub row_folds : {row : Row Item State} → IsFolded next start row → row.last ≡ folded next start row.items.items
+  row_folds {row} folds = folds.is.reached.now ∙ ap (folded next start) (take_all row.done row.items.items (omega (arith, folds.all)))
 
   -- what a row keeps is kept before a place in a list that begins alike
-  pub kept_before : {items : List (Held Item)} {kept : List State} {last : State} → IsRow next start items kept last
-      → (other : List (Held Item)) (at : ℕ) → at ≤ length items → take at other ≡ take at items → IsKeptBefore next start other at kept
-  kept_before {items} row other at within alike = record {
-    enough = omega (arith, row.reached.count);
-    each = λ i d below. row.reached.each i d (omega (arith, row.reached.count, below)) ∙ ap (folded next start) (take_alike items other (8 * (i + 1)) at (omega (arith, below)) alike);
+  pub kept_before : {row : Row Item State} → IsRow next start row
+      → (other : List (Held Item)) (at : ℕ) → at ≤ row.done → take at other ≡ take at row.items.items → IsKeptBefore next start other at row.kept.items
+  kept_before {row} is other at within alike = record {
+    enough = omega (arith, is.reached.count, within);
+    each = λ i d below. is.reached.each i d (omega (arith, is.reached.count, below, within)) ∙ ap (folded next start) (take_alike row.items.items other (8 * (i + 1)) at (omega (arith, below)) alike);
   }
 
   -- the last of these states is what the items up to it reach

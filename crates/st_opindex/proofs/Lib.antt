@@ -1,8 +1,10 @@
 mod Ascending
 mod Cutting
+mod Folding
 mod Kept
 mod Keyed
 mod Losing
+mod Owing
 mod Placed
 mod Splits
 pub mod WithItem

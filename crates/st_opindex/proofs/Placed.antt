@@ -45,6 +45,11 @@ module _ {K Item : Type 0} {cmp : K → K → Ordering} {old : List (ℕ × K)} 
             | inr apart ↦ rw (changes other, apart) rest
           ]
 
+-- where each key has the items that it had, they are placed as they were
+pub placed_alike : {K Item : Type 0} {cmp : K → K → Ordering} {places : List (ℕ × K)} {old : ByKey K Item} → AllPlaced cmp places old
+    → (new : ByKey K Item) → ((key : K) → items_at cmp key new ≡ items_at cmp key old) → AllPlaced cmp places new
+placed_alike placed new same = record { each = λ key. rw (same key) (placed.each key) }
+
 -- ---- what is taken out from the end
 
 -- what is placed equally stands at the same place, with an equal key

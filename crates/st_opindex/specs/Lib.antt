@@ -1,4 +1,5 @@
 pub mod ByKey
+pub mod Changed
 pub mod Items
 pub mod Kept
 pub mod Placed

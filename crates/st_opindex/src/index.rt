@@ -1,12 +1,13 @@
-ghost use Rattle.std.specs.Prelude.{◌≡◌, ◌+◌, ◌*◌, List, [], length, IfOk};
+ghost use Rattle.std.specs.Prelude.{◌≡◌, ℕ, ◌+◌, ◌++◌, ◌*◌, List, [], ◌∷◌, length, IfOk};
 ghost use Rattle.st_base.specs.Work.{AppliesAtMost};
 ghost use Rattle.st_opindex.specs.Items.{folded, with_item, before, from, Ascend};
 ghost use Rattle.st_opindex.specs.ByKey.{items_at, ChangesAt, NamesLosing, losing_count};
+ghost use Rattle.st_opindex.specs.Changed.{AreNamed, names_cost};
 ghost use Rattle.st_opindex.specs.Seen.{seen_items};
 
 use crate::folder::Folder;
 use crate::places::take_late;
-use crate::rows::{Rows, cut_keys, put_item};
+use crate::rows::{Rows, cut_keys, fold_keys, put_item};
 use st_base::{WantOfMemory, Work};
 use std::alloc::Global;
 use std::collections::{BTreeMap, BTreeSet};
@@ -66,20 +67,28 @@ impl<K: Copy + Ord, F: Folder> Index<K, F> {
         ensures items { IfOk result (λ index. ChangesAt K.cmp key (with_item place item) self.items index.items) }
         ensures bound { AppliesAtMost (7 + length (from place (with_item place item (items_at K.cmp key self.items)))) work.old work.new }
     {
+        let changing = self.open(alloc).put(alloc, key, place, item)?;
+        let index = changing.settle(alloc, work)?;
+        Ok(index)
+    }
+
+    /// Opens the index for changes.
+    pub fn open(self, alloc: Global) -> Changing<K, F>
+        ensures { result ≡ record { folder = self.folder; items = self.items; changes = [] } }
+    {
         let Index {
-            folder,
-            start,
-            mut rows,
-            mut placed,
-        } = self;
-        put_item(alloc, &folder, &mut rows, key, place, item, work)?;
-        placed.insert((place, key))?;
-        Ok(Index {
             folder,
             start,
             rows,
             placed,
-        })
+        } = self;
+        Changing {
+            folder,
+            start,
+            rows,
+            placed,
+            changes: Vec::new(alloc),
+        }
     }
 
     /// Drops all items at this place or later. At most 7 operations are applied for each key that
@@ -139,5 +148,86 @@ impl<K: Copy + Ord, F: Folder> Index<K, F> {
             Some(row) => row.items.as_slice(),
             None => &[],
         }
+    }
+}
+
+/// An index that is being changed: items come to places of keys, and nothing is folded before all have
+/// come. Contracts see what folds the items, the items, and the changes.
+#[derive(Drop)]
+pub struct Changing<K: Copy + Ord, F: Folder> {
+    folder: F,
+    start: F::State,
+    rows: Rows<K, F>,
+    placed: BTreeSet<(u32, K)>,
+
+    // The key and the place of each change.
+    changes: Vec<(K, u32)>,
+}
+
+impl<K: Copy + Ord, F: Folder> Model for Changing<K, F> {
+    ghost use Rattle.st_opindex.specs.Changed.{Changed};
+    ghost use Rattle.st_opindex.specs.Seen.{IsChanging, seen_items};
+
+    ghost Value = { Changed K F F.Item };
+
+    ghost view = { λ a. record { folder = a.folder; items = seen_items a.rows.entries; changes = a.changes.items } };
+
+    ghost invariant = { λ a. IsChanging K.cmp (F.next a.folder) (F.first a.folder) a.start a.rows.entries a.placed.keys a.changes.items };
+}
+
+impl<K: Copy + Ord, F: Folder> Changing<K, F> {
+    /// Inserts the item at this place of the key, or replaces the one there. Nothing is applied.
+    pub fn put(
+        self,
+        alloc: Global,
+        key: K,
+        place: u32,
+        item: F::Item,
+    ) -> Result<Changing<K, F>, WantOfMemory>
+        ensures folder { IfOk result (λ changing. changing.folder ≡ self.folder) }
+        ensures items { IfOk result (λ changing. ChangesAt K.cmp key (with_item place item) self.items changing.items) }
+        ensures changes { IfOk result (λ changing. changing.changes ≡ self.changes ++ (key, place) ∷ []) }
+    {
+        let Changing {
+            folder,
+            start,
+            mut rows,
+            mut placed,
+            mut changes,
+        } = self;
+        put_item(alloc, &folder, &mut rows, key, place, item)?;
+        placed.insert((place, key))?;
+        changes.push((key, place))?;
+        Ok(Changing {
+            folder,
+            start,
+            rows,
+            placed,
+            changes,
+        })
+    }
+
+    /// Folds the items of the keys that were changed, each key once, and closes the index. By any names
+    /// among which are these keys, each at the lowest place of its changes or before: for each name at
+    /// most 7 operations are applied, and one for each of its items at its place or later.
+    pub fn settle(self, alloc: Global, work: &mut Work) -> Result<Index<K, F>, WantOfMemory>
+        ensures folder { IfOk result (λ index. index.folder ≡ self.folder) }
+        ensures items { IfOk result (λ index. (key : K) → items_at K.cmp key index.items ≡ items_at K.cmp key self.items) }
+        ensures bound { (names : List (K × ℕ)) → AreNamed K.cmp self.changes names → AppliesAtMost (names_cost K.cmp self.items names) work.old work.new }
+    {
+        let Changing {
+            folder,
+            start,
+            mut rows,
+            placed,
+            changes,
+        } = self;
+        fold_keys(alloc, &folder, &mut rows, changes.as_slice(), work)?;
+        Ok(Index {
+            folder,
+            start,
+            rows,
+            placed,
+        })
     }
 }

@@ -1,5 +1,6 @@
 //! Items by key and place, each key with the state that its items fold to. The state stands in the
-//! index: each change brings it up to date by few steps, and reading it takes none.
+//! index: once changes are settled it is up to date, by few steps for each key that was changed, and
+//! reading it takes none.
 #![tactic(auto)]
 
 mod folder;
@@ -11,4 +12,4 @@ mod rows;
 mod tests;
 
 pub use folder::Folder;
-pub use index::Index;
+pub use index::{Changing, Index};

@@ -1,7 +1,8 @@
-ghost use Rattle.std.specs.Prelude.{◌≡◌, ◌+◌, ◌-◌, ◌≤◌, ◌<◌, length, slice_index_or, IfOk, if◌then◌else◌, []};
+ghost use Rattle.std.specs.Prelude.{◌≡◌, ◌+◌, ◌-◌, ◌≤◌, ◌<◌, ◌⊎◌, length, slice_index_or, IfOk, if◌then◌else◌, []};
 ghost use Rattle.st_base.specs.Work.{AppliesAtMost};
 ghost use Rattle.st_opindex.specs.Items.{Ascend, SplitsAt, before, from, with_item, reaches};
-ghost use Rattle.st_opindex.specs.Kept.{Reached, IsKeptBefore, IsRow};
+ghost use Rattle.st_opindex.specs.Kept.{IsFolded, IsKeptBefore, IsRow};
+ghost use Rattle.st_opindex.specs.Seen.{left_of};
 
 use crate::folder::Folder;
 use st_base::{WantOfMemory, Work};
@@ -10,11 +11,12 @@ use std::alloc::Global;
 // A state is kept after each so many items.
 const STRIDE: usize = 8;
 
-/// What stands for one key: its items in order of place, the state after every eighth of them, and
-/// the state after all.
+/// What stands for one key: its items in order of place, how many of the first of them are folded, the
+/// state after every eighth of these, and the state after all of these.
 #[derive(Drop)]
 pub struct Row<I, S> {
     pub items: Vec<(u32, I)>,
+    pub done: usize,
     pub kept: Vec<S>,
     pub last: S,
 }
@@ -25,37 +27,49 @@ pub fn empty_row<F: Folder>(
     folder: &F,
 ) -> Result<Row<F::Item, F::State>, WantOfMemory>
     ensures items { IfOk result (λ row. row.items.items ≡ []) }
-    ensures row { IfOk result (λ row. IsRow (F.next folder.now) (F.first folder.now) row.items.items row.kept.items row.last) }
+    ensures row { IfOk result (IsRow (F.next folder.now) (F.first folder.now)) }
+    ensures left { IfOk result (λ row. left_of row ≡ 0) }
 {
     Ok(Row {
         items: Vec::new(alloc),
+        done: 0,
         kept: Vec::new(alloc),
         last: folder.start(alloc)?,
     })
 }
 
-// Inserts the item at its place, or replaces the one there, and folds what follows anew.
+// Inserts the item at its place, or replaces the one there. Where items were folded that stand there or
+// later, the row goes back to the last state that was kept before them. Nothing is applied.
 pub fn put_row<F: Folder>(
     alloc: Global,
     folder: &F,
     row: Row<F::Item, F::State>,
     place: u32,
     item: F::Item,
-    work: &mut Work,
 ) -> Result<Row<F::Item, F::State>, WantOfMemory>
-    requires { IsRow (F.next folder.now) (F.first folder.now) row.items.items row.kept.items row.last }
+    requires { IsRow (F.next folder.now) (F.first folder.now) row }
     ensures items { IfOk result (λ put. put.items.items ≡ with_item place item row.items.items) }
-    ensures row { IfOk result (λ put. IsRow (F.next folder.now) (F.first folder.now) put.items.items put.kept.items put.last) }
-    ensures bound { AppliesAtMost (7 + length (from place (with_item place item row.items.items))) work.old work.new }
+    ensures row { IfOk result (IsRow (F.next folder.now) (F.first folder.now)) }
+    ensures left { IfOk result (λ put. (put.done ≡ row.done) ⊎ (left_of put ≤ 7 + length (from place put.items.items))) }
 {
-    let Row { items, kept, last } = row;
-    let count = items.len();
+    let Row {
+        items,
+        done,
+        kept,
+        last,
+    } = row;
     let at = count_before(items.as_slice(), place);
     let items = set_item(items, at, place, item)?;
-    if at == count {
-        return go_on(alloc, folder, items, at, kept, last, work);
+    if at >= done {
+        return Ok(Row {
+            items,
+            done,
+            kept,
+            last,
+        });
     }
-    fold_from(alloc, folder, items, at, kept, work)
+    let row = go_back(alloc, folder, items, at, kept)?;
+    Ok(row)
 }
 
 // Drops the items at this place or later. Where there are none, nothing is folded.
@@ -66,9 +80,9 @@ pub fn cut_row<F: Folder>(
     place: u32,
     work: &mut Work,
 ) -> Result<Row<F::Item, F::State>, WantOfMemory>
-    requires { IsRow (F.next folder.now) (F.first folder.now) row.items.items row.kept.items row.last }
+    requires { IsFolded (F.next folder.now) (F.first folder.now) row }
     ensures items { IfOk result (λ cut. cut.items.items ≡ before place row.items.items) }
-    ensures row { IfOk result (λ cut. IsRow (F.next folder.now) (F.first folder.now) cut.items.items cut.kept.items cut.last) }
+    ensures folded { IfOk result (IsFolded (F.next folder.now) (F.first folder.now)) }
     ensures bound { AppliesAtMost (if reaches place row.items.items then 7 else 0) work.old work.new }
 {
     let at = count_before(row.items.as_slice(), place);
@@ -77,11 +91,14 @@ pub fn cut_row<F: Folder>(
     }
     let Row {
         mut items,
+        done: _,
         kept,
         last: _,
     } = row;
     items.truncate(at);
-    fold_from(alloc, folder, items, at, kept, work)
+    let back = go_back(alloc, folder, items, at, kept)?;
+    let row = fold_row(alloc, folder, back, work)?;
+    Ok(row)
 }
 
 // How many items stand before this place.
@@ -110,26 +127,30 @@ fn set_item<I: Drop>(
     Ok(items)
 }
 
-// Folds what stands from `at` on anew, from the last state that was kept before it.
-fn fold_from<F: Folder>(
+// Goes back to the last state that was kept before `at`. What stands from it on is to be folded again.
+fn go_back<F: Folder>(
     alloc: Global,
     folder: &F,
     items: Vec<(u32, F::Item)>,
     at: usize,
     mut kept: Vec<F::State>,
-    work: &mut Work,
 ) -> Result<Row<F::Item, F::State>, WantOfMemory>
     requires ascends { Ascend items.items }
     requires at { at ≤ length items.items }
     requires kept { IsKeptBefore (F.next folder.now) (F.first folder.now) items.items at kept.items }
     ensures items { IfOk result (λ row. row.items.items ≡ items.items) }
-    ensures row { IfOk result (λ row. IsRow (F.next folder.now) (F.first folder.now) row.items.items row.kept.items row.last) }
-    ensures bound { AppliesAtMost (7 + (length items.items - at)) work.old work.new }
+    ensures row { IfOk result (IsRow (F.next folder.now) (F.first folder.now)) }
+    ensures left { IfOk result (λ row. left_of row ≤ 7 + (length items.items - at)) }
 {
     let states = at / STRIDE;
     kept.truncate(states);
     let last = last_kept(alloc, folder, kept.as_slice())?;
-    go_on(alloc, folder, items, states * STRIDE, kept, last, work)
+    Ok(Row {
+        items,
+        done: states * STRIDE,
+        kept,
+        last,
+    })
 }
 
 // The last of these states, or the start where there is none.
@@ -147,29 +168,35 @@ fn last_kept<F: Folder>(
     }
 }
 
-// Goes on from the state after the first `done` items to the state after all, and keeps every
-// eighth on the way.
-fn go_on<F: Folder>(
+// Folds the items that are not folded yet, and keeps the state after every eighth on the way.
+pub fn fold_row<F: Folder>(
     alloc: Global,
     folder: &F,
-    items: Vec<(u32, F::Item)>,
-    done: usize,
-    mut kept: Vec<F::State>,
-    mut last: F::State,
+    row: Row<F::Item, F::State>,
     work: &mut Work,
 ) -> Result<Row<F::Item, F::State>, WantOfMemory>
-    requires ascends { Ascend items.items }
-    requires done { done ≤ length items.items }
-    requires reached { Reached (F.next folder.now) (F.first folder.now) items.items done kept.items last }
-    ensures items { IfOk result (λ row. row.items.items ≡ items.items) }
-    ensures row { IfOk result (λ row. IsRow (F.next folder.now) (F.first folder.now) row.items.items row.kept.items row.last) }
-    ensures bound { AppliesAtMost (length items.items - done) work.old work.new }
+    requires { IsRow (F.next folder.now) (F.first folder.now) row }
+    ensures items { IfOk result (λ folded. folded.items.items ≡ row.items.items) }
+    ensures folded { IfOk result (IsFolded (F.next folder.now) (F.first folder.now)) }
+    ensures bound { AppliesAtMost (left_of row) work.old work.new }
 {
+    let Row {
+        items,
+        done,
+        mut kept,
+        mut last,
+    } = row;
+    let all = items.len();
     for at in done..items.len() {
         last = folder.step(alloc, &last, &items[at].1, work)?;
         if (at + 1) % STRIDE == 0 {
             kept.push(folder.copy_state(alloc, &last)?)?;
         }
     }
-    Ok(Row { items, kept, last })
+    Ok(Row {
+        items,
+        done: all,
+        kept,
+        last,
+    })
 }

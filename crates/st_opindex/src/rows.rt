@@ -1,12 +1,13 @@
-ghost use Rattle.std.specs.Prelude.{◌≡◌, ◌+◌, ◌*◌, List, [], length, IfOk, OnOk, if◌then◌else◌};
+ghost use Rattle.std.specs.Prelude.{◌≡◌, ℕ, ◌*◌, List, [], length, IfOk, OnOk, if◌then◌else◌};
 ghost use Rattle.st_base.specs.Work.{AppliesAtMost};
-ghost use Rattle.st_opindex.specs.Items.{with_item, before, from, reaches};
+ghost use Rattle.st_opindex.specs.Items.{with_item, before, reaches};
 ghost use Rattle.st_opindex.specs.ByKey.{items_at, ChangesAt, NamesLosing, AreCut};
+ghost use Rattle.st_opindex.specs.Changed.{AreNamed, names_cost};
 ghost use Rattle.st_opindex.specs.Kept.{IsRow};
-ghost use Rattle.st_opindex.specs.Seen.{AreRows, seen_items};
+ghost use Rattle.st_opindex.specs.Seen.{AreFolded, AreOwed, AreRows, FoldsKey, LeavesMore, left_at, left_of, seen_items};
 
 use crate::folder::Folder;
-use crate::row::{Row, cut_row, empty_row, put_row};
+use crate::row::{Row, cut_row, empty_row, fold_row, put_row};
 use st_base::{WantOfMemory, Work};
 use std::alloc::Global;
 use std::collections::BTreeMap;
@@ -14,7 +15,7 @@ use std::collections::BTreeMap;
 /// The row of each key that has one.
 pub type Rows<K, F> = BTreeMap<K, Row<<F as Folder>::Item, <F as Folder>::State>>;
 
-// Inserts the item at this place of the key, or replaces the one there.
+// Inserts the item at this place of the key, or replaces the one there. Nothing is applied.
 pub fn put_item<K: Copy + Ord, F: Folder>(
     alloc: Global,
     folder: &F,
@@ -22,15 +23,14 @@ pub fn put_item<K: Copy + Ord, F: Folder>(
     key: K,
     place: u32,
     item: F::Item,
-    work: &mut Work,
 ) -> Result<(), WantOfMemory>
     requires { AreRows K.cmp (F.next folder.now) (F.first folder.now) rows.old.entries }
     ensures rows { OnOk result (AreRows K.cmp (F.next folder.now) (F.first folder.now) rows.new.entries) }
     ensures items { OnOk result (ChangesAt K.cmp key (with_item place item) (seen_items rows.old.entries) (seen_items rows.new.entries)) }
-    ensures bound { AppliesAtMost (7 + length (from place (with_item place item (items_at K.cmp key (seen_items rows.old.entries))))) work.old work.new }
+    ensures left { OnOk result (LeavesMore K.cmp key place rows.old.entries rows.new.entries) }
 {
     let row = take_row(alloc, folder, rows, key)?;
-    let row = put_row(alloc, folder, row, place, item, work)?;
+    let row = put_row(alloc, folder, row, place, item)?;
     rows.insert(key, row)?;
     Ok(())
 }
@@ -43,15 +43,60 @@ fn take_row<K: Copy + Ord, F: Folder>(
     key: K,
 ) -> Result<Row<F::Item, F::State>, WantOfMemory>
     requires { AreRows K.cmp (F.next folder.now) (F.first folder.now) rows.old.entries }
-    ensures row { IfOk result (λ row. IsRow (F.next folder.now) (F.first folder.now) row.items.items row.kept.items row.last) }
+    ensures row { IfOk result (IsRow (F.next folder.now) (F.first folder.now)) }
     ensures items { IfOk result (λ row. row.items.items ≡ items_at K.cmp key (seen_items rows.old.entries)) }
+    ensures left { IfOk result (λ row. left_of row ≡ left_at K.cmp key rows.old.entries) }
     ensures rows { AreRows K.cmp (F.next folder.now) (F.first folder.now) rows.new.entries }
     ensures rest { ChangesAt K.cmp key (λ _. []) (seen_items rows.old.entries) (seen_items rows.new.entries) }
+    ensures folds { FoldsKey K.cmp key rows.old.entries rows.new.entries }
 {
     match rows.remove(&key) {
         Some(row) => Ok(row),
         None => empty_row(alloc, folder),
     }
+}
+
+// Folds what is left to be folded of the keys of these changes.
+pub fn fold_keys<K: Copy + Ord, F: Folder>(
+    alloc: Global,
+    folder: &F,
+    rows: &mut Rows<K, F>,
+    changes: &[(K, u32)],
+    work: &mut Work,
+) -> Result<(), WantOfMemory>
+    requires rows { AreRows K.cmp (F.next folder.now) (F.first folder.now) rows.old.entries }
+    requires owed { AreOwed K.cmp changes.now rows.old.entries }
+    ensures rows { OnOk result (AreFolded K.cmp (F.next folder.now) (F.first folder.now) rows.new.entries) }
+    ensures items { OnOk result ((key : K) → items_at K.cmp key (seen_items rows.new.entries) ≡ items_at K.cmp key (seen_items rows.old.entries)) }
+    ensures bound { (names : List (K × ℕ)) → AreNamed K.cmp changes.now names
+        → AppliesAtMost (names_cost K.cmp (seen_items rows.old.entries) names) work.old work.new }
+{
+    'changes: for change in changes {
+        fold_key(alloc, folder, rows, change.0, work)?;
+    }
+    Ok(())
+}
+
+// Folds what is left to be folded of the key.
+fn fold_key<K: Copy + Ord, F: Folder>(
+    alloc: Global,
+    folder: &F,
+    rows: &mut Rows<K, F>,
+    key: K,
+    work: &mut Work,
+) -> Result<(), WantOfMemory>
+    requires { AreRows K.cmp (F.next folder.now) (F.first folder.now) rows.old.entries }
+    ensures rows { OnOk result (AreRows K.cmp (F.next folder.now) (F.first folder.now) rows.new.entries) }
+    ensures items { OnOk result (ChangesAt K.cmp key (λ items. items) (seen_items rows.old.entries) (seen_items rows.new.entries)) }
+    ensures folds { OnOk result (FoldsKey K.cmp key rows.old.entries rows.new.entries) }
+    ensures bound { AppliesAtMost (left_at K.cmp key rows.old.entries) work.old work.new }
+{
+    let Some(row) = rows.remove(&key) else {
+        return Ok(());
+    };
+    let row = fold_row(alloc, folder, row, work)?;
+    rows.insert(key, row)?;
+    Ok(())
 }
 
 // Drops the items of these keys at this place or later.
@@ -63,8 +108,8 @@ pub fn cut_keys<K: Copy + Ord, F: Folder>(
     place: u32,
     work: &mut Work,
 ) -> Result<(), WantOfMemory>
-    requires { AreRows K.cmp (F.next folder.now) (F.first folder.now) rows.old.entries }
-    ensures rows { OnOk result (AreRows K.cmp (F.next folder.now) (F.first folder.now) rows.new.entries) }
+    requires { AreFolded K.cmp (F.next folder.now) (F.first folder.now) rows.old.entries }
+    ensures rows { OnOk result (AreFolded K.cmp (F.next folder.now) (F.first folder.now) rows.new.entries) }
     ensures items { OnOk result (AreCut K.cmp place keys.now (seen_items rows.old.entries) (seen_items rows.new.entries)) }
     ensures bound { (names : List K) → NamesLosing K.cmp place (seen_items rows.old.entries) names → AppliesAtMost (7 * length names) work.old work.new }
 {
@@ -83,8 +128,8 @@ fn cut_key<K: Copy + Ord, F: Folder>(
     place: u32,
     work: &mut Work,
 ) -> Result<(), WantOfMemory>
-    requires { AreRows K.cmp (F.next folder.now) (F.first folder.now) rows.old.entries }
-    ensures rows { OnOk result (AreRows K.cmp (F.next folder.now) (F.first folder.now) rows.new.entries) }
+    requires { AreFolded K.cmp (F.next folder.now) (F.first folder.now) rows.old.entries }
+    ensures rows { OnOk result (AreFolded K.cmp (F.next folder.now) (F.first folder.now) rows.new.entries) }
     ensures items { OnOk result (ChangesAt K.cmp key (before place) (seen_items rows.old.entries) (seen_items rows.new.entries)) }
     ensures bound { AppliesAtMost (if reaches place (items_at K.cmp key (seen_items rows.old.entries)) then 7 else 0) work.old work.new }
 {

@@ -94,6 +94,31 @@ fn a_change_folds_on_from_a_kept_state(rt: HostRuntime) -> Result<(), Fail> {
 }
 
 #[test]
+fn many_changes_of_a_key_are_folded_once(rt: HostRuntime) -> Result<(), Fail> {
+    let alloc = rt.alloc();
+    let mut work = Work::new(&rt);
+    let index: Index<u64, Adds> = Index::new(alloc, Adds)?;
+    let mut changing = index.open(alloc);
+    for place in 0..40u32 {
+        changing = changing.put(alloc, 5, place, 1)?;
+    }
+    let index = changing.settle(alloc, &mut work)?;
+    assert_eq!(rt; *index.state(&5), 40);
+    assert!(rt; work.applies() <= 47);
+    let before_changes = work.applies();
+    let mut changing = index.open(alloc);
+    for place in 10..40u32 {
+        changing = changing.put(alloc, 5, place, 2)?;
+    }
+    changing = changing.put(alloc, 6, 3, 7)?;
+    let index = changing.settle(alloc, &mut work)?;
+    assert_eq!(rt; *index.state(&5), 70);
+    assert_eq!(rt; *index.state(&6), 7);
+    assert!(rt; work.applies() <= before_changes.saturating_add(37 + 8));
+    Ok(())
+}
+
+#[test]
 fn a_state_may_own_memory(rt: HostRuntime) -> Result<(), Fail> {
     let alloc = rt.alloc();
     let mut work = Work::new(&rt);

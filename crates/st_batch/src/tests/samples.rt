@@ -134,3 +134,79 @@ pub(crate) const OTHER_SUFFIX: &str =
     PE4Bvhmn0gIE9bZND1L7U-gUO6UVR7PKra1yRZdMPfavhvwg9eLp6yhsi9_4pOifvTV4nuX25myuq76fL-j7P4qy63\
     b033Z-spNog1rHSR7XOneNOz0FfIRgROyxX7Or5kA-rpyrH3DoVV06cxPJHWZpz5zJuiA_l31wP3mq5NmidS48S1sl\
     DguBeLEinJw6udHstz26NGrUA\",\"type\":\"deactivate\"}";
+
+/// A delta that changes nothing.
+pub(crate) const SHORT_DELTA: &str =
+    "{\"patches\":[],\"updateCommitment\":\"EiDGwcmpyFQ_HkzZgAZM8WJe62GpBwOyRk__A58haCUIsw\"}";
+
+/// A delta of 2,000 bytes.
+pub(crate) const LONG_DELTA: &str =
+    "{\"patches\":[{\"action\":\"remove-services\",\"ids\":[\"kkkkkkkkkkkkkkkkkkkkkkkkkkkkkkkk\
+    kkkkkkkkkkkkkkkkkk\",\"kkkkkkkkkkkkkkkkkkkkkkkkkkkkkkkkkkkkkkkkkkkkkkkkkk\",\"kkkkkkkkkkkk\
+    kkkkkkkkkkkkkkkkkkkkkkkkkkkkkkkkkkkkkk\",\"kkkkkkkkkkkkkkkkkkkkkkkkkkkkkkkkkkkkkkkkkkkkkkk\
+    kkk\",\"kkkkkkkkkkkkkkkkkkkkkkkkkkkkkkkkkkkkkkkkkkkkkkkkkk\",\"kkkkkkkkkkkkkkkkkkkkkkkkkkk\
+    kkkkkkkkkkkkkkkkkkkkkkk\",\"kkkkkkkkkkkkkkkkkkkkkkkkkkkkkkkkkkkkkkkkkkkkkkkkkk\",\"kkkkkkk\
+    kkkkkkkkkkkkkkkkkkkkkkkkkkkkkkkkkkkkkkkkkkk\",\"kkkkkkkkkkkkkkkkkkkkkkkkkkkkkkkkkkkkkkkkkk\
+    kkkkkkkk\",\"kkkkkkkkkkkkkkkkkkkkkkkkkkkkkkkkkkkkkkkkkkkkkkkkkk\",\"kkkkkkkkkkkkkkkkkkkkkk\
+    kkkkkkkkkkkkkkkkkkkkkkkkkkkk\",\"kkkkkkkkkkkkkkkkkkkkkkkkkkkkkkkkkkkkkkkkkkkkkkkkkk\",\"kk\
+    kkkkkkkkkkkkkkkkkkkkkkkkkkkkkkkkkkkkkkkkkkkkkkkk\",\"kkkkkkkkkkkkkkkkkkkkkkkkkkkkkkkkkkkkk\
+    kkkkkkkkkkkkk\",\"kkkkkkkkkkkkkkkkkkkkkkkkkkkkkkkkkkkkkkkkkkkkkkkkkk\",\"kkkkkkkkkkkkkkkkk\
+    kkkkkkkkkkkkkkkkkkkkkkkkkkkkkkkkk\",\"kkkkkkkkkkkkkkkkkkkkkkkkkkkkkkkkkkkkkkkkkkkkkkkkkk\"\
+    ,\"kkkkkkkkkkkkkkkkkkkkkkkkkkkkkkkkkkkkkkkkkkkkkkkkkk\",\"kkkkkkkkkkkkkkkkkkkkkkkkkkkkkkkk\
+    kkkkkkkkkkkkkkkkkk\",\"kkkkkkkkkkkkkkkkkkkkkkkkkkkkkkkkkkkkkkkkkkkkkkkkkk\",\"kkkkkkkkkkkk\
+    kkkkkkkkkkkkkkkkkkkkkkkkkkkkkkkkkkkkkk\",\"kkkkkkkkkkkkkkkkkkkkkkkkkkkkkkkkkkkkkkkkkkkkkkk\
+    kkk\",\"kkkkkkkkkkkkkkkkkkkkkkkkkkkkkkkkkkkkkkkkkkkkkkkkkk\",\"kkkkkkkkkkkkkkkkkkkkkkkkkkk\
+    kkkkkkkkkkkkkkkkkkkkkkk\",\"kkkkkkkkkkkkkkkkkkkkkkkkkkkkkkkkkkkkkkkkkkkkkkkkkk\",\"kkkkkkk\
+    kkkkkkkkkkkkkkkkkkkkkkkkkkkkkkkkkkkkkkkkkkk\",\"kkkkkkkkkkkkkkkkkkkkkkkkkkkkkkkkkkkkkkkkkk\
+    kkkkkkkk\",\"kkkkkkkkkkkkkkkkkkkkkkkkkkkkkkkkkkkkkkkkkkkkkkkkkk\",\"kkkkkkkkkkkkkkkkkkkkkk\
+    kkkkkkkkkkkkkkkkkkkkkkkkkkkk\",\"kkkkkkkkkkkkkkkkkkkkkkkkkkkkkkkkkkkkkkkkkkkkkkkkkk\",\"kk\
+    kkkkkkkkkkkkkkkkkkkkkkkkkkkkkkkkkkkkkkkkkkkkkkkk\",\"kkkkkkkkkkkkkkkkkkkkkkkkkkkkkkkkkkkkk\
+    kkkkkkkkkkkkk\",\"kkkkkkkkkkkkkkkkkkkkkkkkkkkkkkkkkkkkkkkkkkkkkkkkkk\",\"kkkkkkkkkkkkkkkkk\
+    kkkkkkkkkkkkkkkkkkkkkkkkkkkkkkkkk\",\"kkkkkkkkkkkkkkkkkkkkkkkkkkkkkkkkkkkkkkkkkkkkkkkkkk\"\
+    ,\"llllllllllllllllllllllll\"]}],\"updateCommitment\":\"EiD8ZvAhxn0GTBSQoStaTU0vUWfKaSoWyh\
+    Lx86TNoppvqQ\"}";
+
+/// An update whose suffix is left open, a star: what is signed does not name it. Its key is of the
+/// types 3 and 5, whose signatures are longer.
+pub(crate) const SIGNED_UPDATE: &str =
+    "{\"delta\":{\"patches\":[],\"updateCommitment\":\"EiDGwcmpyFQ_HkzZgAZM8WJe62GpBwOyRk__A58\
+    haCUIsw\"},\"didSuffix\":\"*\",\"revealValue\":\"EiABoc3vYDS-R6hgvM6C1FS-7dghQ-QPv6PQ_w-2I\
+    e6alw\",\"signedData\":\"eyJhbGciOiJMTVMifQ.eyJkZWx0YUhhc2giOiJFaUFuQ2d2S0MydkFFNzRqeFM4bW\
+    5TZ1FjZnVnLXlyUFZ1WWwzSWZzQTVkeDhBIiwidXBkYXRlS2V5Ijp7ImFsZyI6IkxNUyIsImt0eSI6IkxNUyIsInB1\
+    YiI6IkFBQUFCUUFBQUFNQUFRSURCQVVHQndnSkNnc01EUTRQTnREQTZSNXJCVGlfWVJpckMzOUxBYXFWTnU3QVNFVD\
+    ZuVi1xRDRTY2ZKVSJ9fQ.AAAAAwAAAAPx3WM4i8qAoVHuQX66VISNMbmNlDCT5r277VdNukSfCKr9w8mTzvKUB5HhI\
+    q92jSV5LBBbq5qUjUKTU66YHT_IejldwuG4dpGFd5Uq9axvsB1vwARl9bHXTDRWe_y_D1Wv6O1S8AW4CxTcip6X0H0\
+    TuSDbqMLDXEg3Npa-kJjK4HhAmV0BnLyoDoTj_0qdLnmV2xQOOdXOAP0gb4fPAhDcuysBaGkl4rCG9_QYRfUjuYsm4\
+    V0hI3Emj2-7KASo_mxVFc-i70gFyhlMsIJWHj6UVMdTPAjaZ24yGDfk7shYJQRnTHU7V-GDiga0IS5tTsoGyDYcdTV\
+    fGUsL-WaI178Jsih2SaZo8gWFwe8O1DkS_QOqGOIyxzT8krrZDYhsqe3s1ysE039CxiTfSzNEYF4DOQCl5g8MEPatu\
+    xOcmvm2caeOuKXZCB5v5GZSqEcoFSyUb_VP0ElA0ixna6YWCnFdpATg57dBYla5s4IYQbzxyoVo1flcsGNWD52y8CA\
+    YH-bN2DyjROA1TbAeTPTfOfrK2IazG8TS-Si64zNlex9yjHi5j-PT_b-5A9LszMEZ2SPD9FsCB0RthjHyjwOU5QDAW\
+    LratHeztGmP--EX1UbBQiRo71r8c3asSITbkN5wzgfQE96ZsruDIQZ_rK1R-iEB4RRcsi7d35VIB0n6QZRM67wTEZF\
+    3Gi-Q3oTQseuL9u-7djOzoO_Q2UCI7F_xOkThCURwe9QCj6Vad-Aw2y2rmyQbC3-Gai4gZpUXOlre9RSLcD59MAHAb\
+    8v9vIlaTg9MUhJlzhxcK2RKUKLb7v__a0sHSx7lYZo6vspOq_eqMil78fETwacw_2uNg9pnq_tTWSZ-Dqma7lzfNas\
+    RRBs50NwjrY2jk4X84VQtFPY-AxtvFVT9_Dc24zSS8hR8dlhuN3iIi2KYz2VE5s6JRKO1_YdTqI_CdPY-rHbk04PBC\
+    253AVVDhBWYZV77o-s8K9Wxr-0CGr77yFs1kUxs_P2kS4HxUylFVt0_EA0eQ_k-kXnW2QReUKihaMYbLJriY1EptC5\
+    _Xt9pQpGJr8WQPwb7RgXVHX9bztXY7YhTsyzecHye6MbbniO298z9L6odFKKGgDbJQdhIGX7-s4QmDMWMzkxEKIHzk\
+    5jhgSigCsitQgSccf5pmIbPtSOJBsBrQPYS30CVJY7NJ_T0juTju5nt188Yr5Xv2PddJnAEmCEPoPF4p2aFXe58IdV\
+    JXxuElhL-QQqek8AplObVqcRIwX-hACua2LtAk6tSl-4p6N5i1TPEY5oQ3cx5mkun5kKkF1V6jXMxd7fJ7O42hHqDV\
+    WzI3oIKwyOTKIWstr08DTpiy_E9eXO8tdWdh3CHousAKMc3FRGu1Rq4S-W7-c707wMK1hW-_7Q0T4sgcYarZRJyX_8\
+    n5Hyx24XL8lDdoXx171uxg2l3Z0eqxWWXwuwkLpYhV-o2r_J5WNp3dVA-5n4y9-cuq9nyXFN-tu7t5j7yRGvlGhsCn\
+    hmUmtcBlmLL2_VTkDJ01ohL0x8iFyxReY9tDHryugd6m2AeUrGrbLQPWc9oVJb1Kp0yIl0QV-rM6mjoVkDv3dZwc4A\
+    bkUrVI9TC_P9OuPhb-y5QEXCOQKw9MDriH_Wr-byqWlGsSz9fEsjdJKdDKE80q22Oeq0VGDzQ9BElMNeCVbgpvXYib\
+    bAD84Z1DJ8AU-jMPmbIJIOzXprqKsnj4oQQaa61YHaFYnBTId3VTpl6thBOVEHYc8zWWf8_brmKHDFpYwOnab-wYDw\
+    tKog44a2NTwA_R18_o2thYGCqYuJXB7-ta0XsghfuIna5Enlz-jEj19oimQUuCA1CVyunfEvyVUm8oE8hGYpElol47\
+    pzAZNz6NCmUbylsIDlN640d4wv3uaH0YhrxdtjzGDO3Pi5OEK2Qi_sc76Ys-tH7s11jnL8nTsl44VWhpC1ciVFCDDN\
+    z9pJLlLXLbplcLiv1ETOFBNsEbey05vqi5fLh8n2ZuNItnzfBCnzBryfqwSPZHQwN1qlV_CTExu-ddIiXyXL_6V8lF\
+    n2aUrss8vl_WHEtq-wR4lGSVEsFE8v7o2yjmPl8j7QwfShJ4pXK8zqi2M5vc44r0BmQpndug_Wo3sCvTy0o2_errtZ\
+    eAl3rf_q8ZhFIO2iDYA95ABwGFlQhuoDKH7wFIf7n4sAg55DVcoID8YAcXtjHqGReNnKDaN_7uCyjzC__TPclb4h2n\
+    oSrYtcfJWIFCFB5qrEtGCIbBV5Ie0kZMoNCd2_3GCwK1APbYXIkQqo0gcEnDs2AcV4Boi1470taxtWgluuUD6fBqQE\
+    PQRfhrBsEvrj_ZvfIFcsJ8DNthyftlWUKmfJmr_Jwijs8OuEsYmdzmrSb5L22URDJ-nbm7zWe4UezpZj2JN3g0Saae\
+    4kFTcrAN1lIbiSZGbfeHQJE1Z5zDK5M8AbMy3NesI3cOUgFLY8rcnpnLHMbKvG3TVxxdV3pM5Y46jo63t0AVCb7NiU\
+    dzEx_zKn7kZSwukUpEbwA869ni1M3xAunyvmVtaKWFUmNhYcbzU_CrN0u9SFeNeaPTfTOSgdCLEj7rar1tUqtrdpdb\
+    fXRpdum8BLcq3GvDXpa4uCDYyWUlNpHgQGpS0b5kVMAXWKQs2RUy8Q1R3BR1RhUgU65CWpimn5w3nPnNjlC6GLcyCb\
+    kk2WWjSBSUyOEBXc30XwWe4blN1aIFeDeMaEp-DcJN-mOM1Z_Kf7Ons8FGD6ZP2EoDeAZKibZoNxndvF_yfFituRVH\
+    vFimcFpBEoIhUwAhXivakWbzG4Z4C96ueMv50BVcqw-yrhNUT9RaVX-nrg1jSG591D4nZ_vLU5FfctAMtZ9k8lAs1_\
+    TravwdPXoWXtLzBMRNzeFT5EvojqSSxpWQdIjsDn5rpiln1WmjT95AAAABf1a_kK_Z_ZujPLSrRfBTkR4b2cZqoQZO\
+    rtSh-Cr0wxMCdRX7738Nlh6XUcezjTCfnvCM_GfZ87jZvXAtzzSGOHkUGFryrjx0I0PrzGVrZTlJjNxK_H599ly5fe\
+    MvUAflDVs3OSizCYi2XXbk_yKcXddR8ZZlNbtydc9L-r1W9OEw5U64xjIImIRwF05ZMOxGmomiR6TcvER9K5yOgWu_\
+    AY\",\"type\":\"update\"}";

@@ -1,5 +1,7 @@
-use super::{is_written, json};
+use super::is_respelled;
 use crate::{ReadRefused, read, write};
+use st_base::{Bytes, WantOfMemory};
+use std::alloc::Global;
 use std::test::Fail;
 
 // A text and its canonical text, two spaces apart. The first line is the sample of RFC 8785, section
@@ -12,24 +14,36 @@ const SPELLINGS: &str =
 {"a":1,"a":2}  {"a":2}
 {"a":1.5,"a":2}  {"a":2}"#;
 
-// Gives the first line that is written otherwise.
-fn first_other<'a>(rt: &HostRuntime, spellings: &'a str) -> Result<Option<&'a str>, Fail> {
-    for line in spellings.lines() {
-        let (text, canonical) = line.split_once("  ").ok_or("no text")?;
-        if !is_written(rt, &json(rt, text)?, canonical)? {
-            return Ok(Some(line));
+fn is_line(alloc: Global, line: &str) -> bool {
+    match line.split_once("  ") {
+        Some((text, canonical)) => is_respelled(alloc, text, canonical),
+        None => false,
+    }
+}
+
+fn first_other(alloc: Global) -> Option<&'static str> {
+    for line in SPELLINGS.lines() {
+        if !is_line(alloc, line) {
+            return Some(line);
         }
     }
-    Ok(None)
+    None
+}
+
+const SPACED: &str = " [ 1 , -2 ,\ttrue,\nnull , { } , [ ] ]\r\n";
+
+fn are_respelled(alloc: Global) -> bool {
+    is_respelled(alloc, SPACED, "[1,-2,true,null,{},[]]")
+        && is_respelled(alloc, "\"\\u007f\"", "\"\u{7f}\"")
 }
 
 #[test]
 fn each_spelling_has_one_text(rt: HostRuntime) -> Result<(), Fail> {
-    assert_eq!(rt; first_other(&rt, SPELLINGS)?, None);
-    let spaced = json(&rt, " [ 1 , -2 ,\ttrue,\nnull , { } , [ ] ]\r\n")?;
-    assert!(rt; is_written(&rt, &spaced, "[1,-2,true,null,{},[]]")?);
-    assert!(rt; is_written(&rt, &json(&rt, "\"\\u007f\"")?, "\"\u{7f}\"")?);
-    Ok(())
+    assert!(rt; are_respelled(rt.alloc()));
+    match first_other(rt.alloc()) {
+        Some(line) => Err(Fail::from(line)),
+        None => Ok(()),
+    }
 }
 
 // The sample of RFC 8785, section 3.2.3.
@@ -39,37 +53,36 @@ const UNSORTED: &str =
 const SORTED: &str =
     "{\"\\r\":\"Carriage Return\",\"1\":\"One\",\"\u{80}\":\"Control\",\"\u{f6}\":\"Latin Small Letter O With Diaeresis\",\"\u{20ac}\":\"Euro Sign\",\"\u{1f600}\":\"Emoji: Grinning Face\",\"\u{fb33}\":\"Hebrew Letter Dalet With Dagesh\"}";
 
+// The text of {"\u{fb33}":1,"\u{1f600}":2}, in bytes.
+const PAIR: [u8; 18] = [
+    0x7b, 0x22, 0xf0, 0x9f, 0x98, 0x80, 0x22, 0x3a, 0x32, 0x2c, 0x22, 0xef, 0xac, 0xb3, 0x22, 0x3a,
+    0x31, 0x7d,
+];
+
+fn is_pair_written(alloc: Global) -> bool {
+    match read(alloc, "{\"\u{fb33}\":1,\"\u{1f600}\":2}".as_bytes()) {
+        Ok(pair) => match write(alloc, &pair) {
+            Ok(written) => written.as_slice() == PAIR.as_slice(),
+            Err(_) => false,
+        },
+        Err(_) => false,
+    }
+}
+
 #[test]
 fn names_are_sorted_by_utf16(rt: HostRuntime) -> Result<(), Fail> {
-    assert!(rt; is_written(&rt, &json(&rt, UNSORTED)?, SORTED)?);
-    let bytes = [
-        0x7b, 0x22, 0xf0, 0x9f, 0x98, 0x80, 0x22, 0x3a, 0x32, 0x2c, 0x22, 0xef, 0xac, 0xb3, 0x22,
-        0x3a, 0x31, 0x7d,
-    ];
-    let pair = json(&rt, "{\"\u{fb33}\":1,\"\u{1f600}\":2}")?;
-    assert_eq!(rt; write(rt.alloc(), &pair)?.as_slice(), bytes.as_slice());
+    assert!(rt; is_respelled(rt.alloc(), UNSORTED, SORTED) && is_pair_written(rt.alloc()));
     Ok(())
 }
 
-fn is_refused(rt: &HostRuntime, text: &[u8], refused: ReadRefused) -> bool {
-    match read(rt.alloc(), text) {
-        Ok(_) => false,
-        Err(e) => e == refused,
+// Whether a text is read or refused, in a word.
+fn refusal(alloc: Global, text: &[u8]) -> &'static str {
+    match read(alloc, text) {
+        Ok(_) => "read",
+        Err(ReadRefused::NotJson) => "no JSON",
+        Err(ReadRefused::NotWhole) => "not whole",
+        Err(_) => "another",
     }
-}
-
-// Gives the first line that is read, or refused for something else.
-fn first_not_refused<'a>(
-    rt: &HostRuntime,
-    texts: &'a str,
-    refused: ReadRefused,
-) -> Option<&'a str> {
-    for text in texts.lines() {
-        if !is_refused(rt, text.as_bytes(), refused) {
-            return Some(text);
-        }
-    }
-    None
 }
 
 const NOT_JSON: &str = r#"
@@ -99,34 +112,67 @@ const NOT_WHOLE: &str = r#"1.5
 {"a":[0.1]}
 1e-400"#;
 
-#[test]
-fn what_is_no_json_or_not_whole_is_refused(rt: HostRuntime) -> Result<(), Fail> {
-    assert_eq!(rt;
-        first_not_refused(&rt, NOT_JSON, ReadRefused::NotJson),
-        None
-    );
-    assert_eq!(rt;
-        first_not_refused(&rt, NOT_WHOLE, ReadRefused::NotWhole),
-        None
-    );
-    for bytes in [
-        b"\"\t\"".as_slice(),
-        b"\"\xff\"",
-        b"\"\xed\xa0\x80\"",
-        b"\xef\xbb\xbf1",
-    ] {
-        assert!(rt; is_refused(&rt, bytes, ReadRefused::NotJson));
+const NO_BYTES_OF_JSON: [&[u8]; 4] = [
+    b"\"\t\"",
+    b"\"\xff\"",
+    b"\"\xed\xa0\x80\"",
+    b"\xef\xbb\xbf1",
+];
+
+// The first text that is not refused so.
+fn first_not_refused(alloc: Global, texts: &'static str, refused: &str) -> Option<&'static str> {
+    for text in texts.lines() {
+        if refusal(alloc, text.as_bytes()) != refused {
+            return Some(text);
+        }
     }
-    Ok(())
+    None
+}
+
+fn are_no_json(alloc: Global) -> bool {
+    for bytes in NO_BYTES_OF_JSON {
+        if refusal(alloc, bytes) != "no JSON" {
+            return false;
+        }
+    }
+    true
+}
+
+#[test]
+fn what_is_no_json_is_refused(rt: HostRuntime) -> Result<(), Fail> {
+    assert!(rt; are_no_json(rt.alloc()));
+    match first_not_refused(rt.alloc(), NOT_JSON, "no JSON") {
+        Some(text) => Err(Fail::from(text)),
+        None => Ok(()),
+    }
+}
+
+#[test]
+fn what_is_not_whole_is_refused(rt: HostRuntime) -> Result<(), Fail> {
+    match first_not_refused(rt.alloc(), NOT_WHOLE, "not whole") {
+        Some(text) => Err(Fail::from(text)),
+        None => Ok(()),
+    }
+}
+
+// Whether so many nested lists are read or refused.
+fn nested(alloc: Global, deep: usize) -> Result<&'static str, WantOfMemory> {
+    let mut text = Bytes::new(alloc);
+    for _ in 0..deep {
+        text.push_all(alloc, b"[")?;
+    }
+    for _ in 0..deep {
+        text.push_all(alloc, b"]")?;
+    }
+    Ok(refusal(alloc, text.as_slice()))
+}
+
+fn ends_at_127(alloc: Global) -> Result<bool, WantOfMemory> {
+    Ok(nested(alloc, 127)? == "read" && nested(alloc, 128)? == "no JSON")
 }
 
 #[test]
 fn the_brackets_nest_127_deep_at_most(rt: HostRuntime) -> Result<(), Fail> {
-    let mut text = Vec::from_slice(rt.alloc(), [b'['; 127].as_slice())?;
-    text.extend_from_slice([b']'; 127].as_slice())?;
-    assert!(rt; read(rt.alloc(), text.as_slice()).is_ok());
-    text.insert(0, b'[')?;
-    text.push(b']')?;
-    assert!(rt; is_refused(&rt, text.as_slice(), ReadRefused::NotJson));
+    assert!(rt; ends_at_127(rt.alloc())?);
     Ok(())
 }

@@ -134,6 +134,23 @@ fn an_anchor_string_is_judged_by_its_rules(rt: HostRuntime) -> Result<(), Fail> 
     Ok(())
 }
 
+// Twenty entries with one create wait for its file. Once it has come, each create is applied once.
+#[test]
+fn what_many_entries_give_is_applied_once(rt: HostRuntime) -> Result<(), Fail> {
+    let alloc = rt.alloc();
+    let mut work = Work::new(&rt);
+    let entry = format!(in alloc; "+{CREATED_TEXT}")?;
+    let mut observer = Observer::new(alloc, Schedule::new())?;
+    for _ in 0..20u32 {
+        observer = stepped(alloc, observer, entry.as_str(), &mut work)?;
+    }
+    assert_eq!(rt; work.applies(), 0);
+    let observer = stepped(alloc, observer, CREATED, &mut work)?;
+    assert_eq!(rt; observer.items(alloc, &suffix()?)?.len(), 20);
+    assert!(rt; work.applies() <= 27);
+    Ok(())
+}
+
 // A cut drops what entries asked for, and keeps the content.
 #[test]
 fn an_identifier_follows_entries_and_files(rt: HostRuntime) -> Result<(), Fail> {

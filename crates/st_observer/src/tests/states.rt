@@ -61,7 +61,8 @@ fn with_two(
         return Err(Fail::from("one name twice"));
     }
     let given = two(alloc, first, second, recovery)?;
-    Ok(states.put(alloc, place, 100, given, work)?)
+    let changing = states.open(alloc).put(alloc, place, 100, given)?;
+    Ok(changing.settle(alloc, work)?)
 }
 
 // After three puts, the last of which replaces what the second put.

@@ -1,8 +1,7 @@
 use Rattle.std.proofs.Common.{◌≡◌, vec_len}
 use Rattle.std.specs.Prelude.{map}
 use Rattle.st_anchor.specs.Gives.{plain_given}
-use Rattle.st_observer.specs.States.{given_cost}
-use Rattle.st_observer.proofs.StatesLemmas.{IsOnWay, IsPaid, left_cost}
+use Rattle.st_observer.proofs.StatesLemmas.{IsNaming, IsOnWay}
 use Rattle.st_observer.proofs.states.put_all.Given as goal
 
 abbrev pub invariant-puts : goal.invariant-puts
@@ -12,7 +11,7 @@ invariant-puts l =
     record {
       schedule : l.done.folder.schedule ≡ l.fn.index.folder.schedule;
       way : IsOnWay l.place l.height all left l.fn.index.items l.done.items;
-      paid : IsPaid (given_cost l.place l.height all l.fn.index.items) (left_cost l.place l.height all left l.fn.index.items) l.fn.work l.work;
+      naming : IsNaming l.place all left l.fn.index.changes l.done.changes;
     }
 
 abbrev pub decreases-puts : goal.decreases-puts

@@ -50,7 +50,7 @@ returns g c =
     let found = seen_found g.K.Ord.cmp c.args.key old (Some c.in-Some.row) c.in-Some.ensures.value in
     record {
       rows = rows_updated (rows_updated c.requires c.args.key None taken c.in-Some.ensures.updates.0 tt) c.args.key (Some c.in_ok-row.row) c.insert.new.self.entries
-          c.in_ok-insert.ensures.updates.0 c.in_ok-row.ensures.row;
+          c.in_ok-insert.ensures.updates.0 c.in_ok-row.ensures.folded;
       items = seen_changed order c.args.key old taken (seen_taken order c.args.key old taken c.in-Some.ensures.updates.0) (before place)
           c.in_ok-row.row c.insert.new.self.entries (c.in_ok-row.ensures.items ∙ ap (before place) (sym found)) c.in_ok-insert.ensures.updates.0;
       bound = rw found c.cut_row.ensures.bound;

@@ -1,6 +1,6 @@
-use Rattle.std.proofs.Common.{◌∙◌, ap, Some}
+use Rattle.std.proofs.Common.{◌∙◌, ap, length, Some, arith, inl, inr}
 use Rattle.st_opindex.specs.Items.{with_item}
-use Rattle.st_opindex.proofs.Keyed.{seen_changed, rows_updated}
+use Rattle.st_opindex.proofs.Keyed.{left_more, rows_updated, seen_changed}
 use Rattle.st_opindex.proofs.rows.put_item.Goals as goal
 
 pub returns-clause-rows : goal.returns-clause-rows
@@ -12,5 +12,18 @@ returns-clause-items g c =
     seen_changed g.met.K.Ord.total c.args.key c.args.rows.now.entries c.take_row.new.rows.entries c.take_row.ensures.rest (with_item c.args.place c.args.item)
     c.in_ok-row-2.row c.insert.new.self.entries (c.in_ok-row-2.ensures.items ∙ ap (with_item c.args.place c.args.item) c.in_ok-row.ensures.items) c.in_ok-insert.ensures.updates.0
 
-pub returns-clause-bound : goal.returns-clause-bound
-returns-clause-bound g c = rw (← c.in_ok-row.ensures.items) c.put_row.ensures.bound
+pub returns-clause-left : goal.returns-clause-left
+returns-clause-left g c =
+    left_more g.K.Ord.cmp c.args.key c.args.rows.now.entries c.take_row.new.rows.entries c.take_row.ensures.folds c.in_ok-row-2.row c.insert.new.self.entries
+    c.in_ok-insert.ensures.updates.0 g.met.K.Ord.total c.args.place
+    (elim c.in_ok-row-2.ensures.left [
+      | inl same ↦ inl (omega (
+        arith,
+        same,
+        c.in_ok-row.ensures.row.within,
+        c.in_ok-row-2.ensures.row.within,
+        ap length c.in_ok-row.ensures.items,
+        c.in_ok-row.ensures.left,
+      ))
+      | inr few ↦ inr few
+    ])

@@ -8,7 +8,7 @@ returns-in-Some g c =
     let found = c.in-Some.ensures.value in
     record {
       value = rw (← c.self.view_is) (c.as_slice.ensures.value ∙ sym (seen_found g.K.Ord.cmp c.args.key.now c.self.inside.rows.entries (Some row) found));
-      ascend = rw c.as_slice.ensures.value (row_found c.self.invariant.rows c.args.key.now row found).ascends;
+      ascend = rw c.as_slice.ensures.value (row_found c.self.invariant.rows c.args.key.now row found).is.ascends;
     }
 
 pub returns-in-None-clause-value : goal.returns-in-None-clause-value

@@ -1,0 +1,201 @@
+-- How long the files of operations are, by the sums of their entries.
+use Rattle.std.proofs.Common.{◌≡◌, ◌≢◌, ◌∙◌, ℕ, ◌+◌, ◌≤◌, ◌&&◌, Bool, true, nat_le, List, [], ◌∷◌, ◌++◌, codes, length, map, Option, Some, option_map, refl, ap, sym, arith}
+use Rattle.std.specs.List.{filter_map, list_all, sum_by}
+use Rattle.std.proofs.Math.Bool.{and-true}
+use Rattle.std.proofs.lemmas.Bool.{ne_eqb}
+use Rattle.std.proofs.lemmas.Bool.Decides.{nat_tests}
+use Rattle.std.proofs.lemmas.List.Folds.{list_all-append}
+use Rattle.st_canon.specs.Canonical.{canonical, escape}
+use Rattle.st_canon.specs.Measure.{size_of}
+use Rattle.st_canon.specs.Objects.{some_list, some_listed, some_object}
+use Rattle.st_canon.specs.Plain.{Plain, Members, no_members, member}
+use Rattle.st_datafiles.specs.ProofFiles.{core_proof_json, proof_json, provisional_proof_json, signed_json}
+use Rattle.st_datafiles.specs.declared.role.Role.{Role}
+use Rattle.st_datafiles.specs.declared.role.Role.TheVariants.{Core, CoreProof, Provisional, ProvisionalProof, Chunk}
+use Rattle.st_hash.specs.Hash.{uri_of}
+use Rattle.st_indexfiles.specs.CoreIndex.{core_operations}
+use Rattle.st_indexfiles.specs.Hashes.{hash_json}
+use Rattle.st_indexfiles.specs.ProvisionalIndex.{chunk_json as chunk_entry_json, provisional_json, provisional_operations}
+use Rattle.st_indexfiles.specs.SuffixData.{create_json}
+use Rattle.st_indexfiles.specs.Target.{target_json}
+use Rattle.st_indexfiles.specs.declared.core_index.CoreIndex.{CoreIndex}
+use Rattle.st_ops.specs.Operation.{PlainOperation}
+use Rattle.st_ops.specs.RequestText.{delta_there}
+use Rattle.st_params.specs.Limits.{Limits}
+use Rattle.st_batch.specs.BatchFiles.{chunk_file, chunk_text, core_file, core_index, core_proof_file, filed, files_of, if_any, provisional_file, provisional_index, provisional_proof_file}
+use Rattle.st_batch.specs.FileSizes.{are_sizes_small, chunk_size, core_proof_size, core_size, in_brackets, member_size, provisional_proof_size, provisional_size, uri_size, where_any, with_core_proof_size, with_delta_size}
+use Rattle.st_batch.specs.Groups.{Grouped, grouped, signed_text_in, with_core_proof, with_delta}
+use Rattle.st_batch.specs.OperationSizes.{create_size, deactivate_proof_size, deactivate_size, delta_size, recover_proof_size, recover_size, sizes_of, update_proof_size, update_size}
+use Rattle.st_batch.specs.Prefix.{are_files_small, is_small, most_bytes}
+use Rattle.st_batch.proofs.AgainHashLemmas.{uri_is_hash}
+use Rattle.st_batch.proofs.ExactSizeLemmas.{IsBare, entries_weight, list_there, object_size, object_there}
+use Rattle.st_batch.proofs.FirstSizeLemmas.{member_weight, weight, weight_there}
+use Rattle.st_batch.proofs.HashSizeLemmas.{hash_size}
+use Rattle.st_batch.proofs.MemberSizeLemmas.{core_kinds, core_members, one_member, proof_kinds, provisional_members}
+use Rattle.st_batch.proofs.OperationSizeLemmas.{IsAnyBy, any_update, any_with_core_proof, any_with_delta, creates_sum, deactivate_proofs_sum, deactivates_sum, deltas_sum, recover_proofs_sum, recovers_sum, update_proofs_sum, updates_sum}
+
+-- ---- parts of files
+
+-- a URI under a bare name
+uri_weight : (name bytes : List ℕ) → IsBare name → member_weight name (hash_json (uri_of bytes)) ≡ length name + 52
+uri_weight name bytes bare = omega (arith, bare, hash_size (uri_of bytes) (uri_is_hash bytes))
+
+any_some : (entries size : ℕ) → 1 ≤ entries → where_any entries size ≡ size
+any_some entries size some = let other : entries ≢ 0 = omega (arith, some) in rw (ne_eqb entries 0 other) refl
+
+-- the URI of a file that is there where there are operations
+uri_there : (operations : List PlainOperation) (entries : ℕ) (name said : List ℕ) → IsAnyBy operations entries → IsBare name
+    → weight_there name (option_map hash_json (option_map uri_of (if_any operations said))) ≡ uri_size name entries
+uri_there [] entries name said any bare = rw any refl
+uri_there (operation ∷ operations) entries name said any bare = omega (arith, uri_weight name said bare, any_some entries (length name + 52) any)
+
+list_of : (name : List ℕ) (entries : List Plain) (size : ℕ) → IsBare name → entries_weight entries ≡ size
+    → weight_there name (some_list entries) ≡ member_size name size
+list_of name entries size bare is = list_there name entries bare ∙ ap (member_size name) is
+
+zero_passes : (most : ℕ) → nat_le 0 most ≡ true
+zero_passes most = grind (arith, nat_tests)
+
+-- whether a file that is there where there are operations is small
+filed_test : (limits : Limits) (role : Role) (operations : List PlainOperation) (entries size : ℕ) (said : List ℕ) → IsAnyBy operations entries → length said ≡ size
+    → list_all (is_small limits) (filed role (if_any operations said)) ≡ nat_le (where_any entries size) (most_bytes limits role)
+filed_test limits role [] entries size said any long = rw any (sym (zero_passes (most_bytes limits role)))
+filed_test limits role (operation ∷ operations) entries size said any long =
+    and-true (nat_le (length said) (most_bytes limits role)) ∙ ap (λ n. nat_le n (most_bytes limits role)) (long ∙ sym (any_some entries size any))
+
+-- ---- all of several lists
+
+five_tests : {Item : Type 0} (test : Item → Bool) (a b c d e : List Item)
+    → list_all test (a ++ b ++ c ++ d ++ e) ≡ (list_all test a && list_all test b && list_all test c && list_all test d && list_all test e)
+five_tests test a b c d e =
+    rw (list_all-append test (a ++ b ++ c ++ d) e, list_all-append test (a ++ b ++ c) d, list_all-append test (a ++ b) c, list_all-append test a b) refl
+
+five_same : {a b c d e f g h i j : Bool} → a ≡ f → b ≡ g → c ≡ h → d ≡ i → e ≡ j → (a && b && c && d && e) ≡ (f && g && h && i && j)
+five_same one two three four five = cc
+
+-- ---- files
+
+-- what a core proof file says
+abbrev core_proof_text : Grouped → List ℕ
+core_proof_text groups = canonical (core_proof_json (record {
+  recovers = filter_map signed_text_in groups.recovers;
+  deactivates = filter_map signed_text_in groups.deactivates;
+}))
+
+-- the members of a core index file
+abbrev index_members : CoreIndex → Members
+index_members index = some_listed
+    ((codes "coreProofFileUri", option_map hash_json index.core_proof)
+    ∷ (codes "provisionalIndexFileUri", option_map hash_json index.provisional)
+    ∷ (codes "operations", some_object (core_operations index)) ∷ [])
+
+-- a proof file, by what stands in `operations`
+proofs_long : (kinds : Members) → size_of (proof_json kinds) ≡ in_brackets (member_size (codes "operations") (weight kinds))
+unfolding escape
+proofs_long kinds =
+    let pairs : List (List ℕ × Option Plain) = (codes "operations", some_object kinds) ∷ [] in
+    object_size (some_listed pairs) ∙ ap in_brackets (one_member (codes "operations") (some_object kinds) ∙ object_there (codes "operations") kinds refl)
+
+module _ (operations : List PlainOperation) where
+  abbrev groups : Grouped
+  groups = grouped operations
+
+  core_long : length (core_file groups) ≡ core_size (sizes_of operations)
+  unfolding core_file core_index core_proof_file provisional_file grouped core_size escape
+  core_long =
+      let index = core_index groups in
+      let create = list_of (codes "create") (map create_json index.creates) (sum_by create_size operations) refl (creates_sum operations) in
+      let recover = list_of (codes "recover") (map target_json index.recovers) (sum_by recover_size operations) refl (recovers_sum operations) in
+      let deactivate = list_of (codes "deactivate") (map target_json index.deactivates) (sum_by deactivate_size operations) refl (deactivates_sum operations) in
+      let kinds = core_kinds (some_list (map create_json index.creates)) (some_list (map target_json index.recovers)) (some_list (map target_json index.deactivates)) in
+      let inside : weight (core_operations index) ≡ member_size (codes "create") (sum_by create_size operations)
+      + member_size (codes "recover") (sum_by recover_size operations) + member_size (codes "deactivate") (sum_by deactivate_size operations) =
+      omega (arith, create, recover, deactivate, kinds) in
+      let third = object_there (codes "operations") (core_operations index) refl ∙ ap (member_size (codes "operations")) inside in
+      let first = uri_there (with_core_proof groups) (with_core_proof_size (sizes_of operations)) (codes "coreProofFileUri") (core_proof_text groups) (any_with_core_proof operations) refl in
+      let second = uri_there (with_delta groups) (with_delta_size (sizes_of operations)) (codes "provisionalIndexFileUri") (canonical (provisional_json (provisional_index groups)))
+      (any_with_delta operations) refl in
+      let members = core_members (option_map hash_json index.core_proof) (option_map hash_json index.provisional) (some_object (core_operations index)) in
+      object_size (index_members index) ∙ ap in_brackets (omega (arith, members, first, second, third))
+
+  core_proof_long : length (core_proof_text groups) ≡ in_brackets (member_size (codes "operations")
+      (member_size (codes "recover") (sum_by recover_proof_size operations) + member_size (codes "deactivate") (sum_by deactivate_proof_size operations)))
+  unfolding grouped escape
+  core_proof_long =
+      let recovers = map signed_json (filter_map signed_text_in groups.recovers) in
+      let deactivates = map signed_json (filter_map signed_text_in groups.deactivates) in
+      let recover = list_of (codes "recover") recovers (sum_by recover_proof_size operations) refl (recover_proofs_sum operations) in
+      let deactivate = list_of (codes "deactivate") deactivates (sum_by deactivate_proof_size operations) refl (deactivate_proofs_sum operations) in
+      let kinds = proof_kinds (some_list recovers) (some_list deactivates) in
+      let pairs : List (List ℕ × Option Plain) = (codes "recover", some_list recovers) ∷ (codes "deactivate", some_list deactivates) ∷ [] in
+      let inside : weight (some_listed pairs) ≡ member_size (codes "recover") (sum_by recover_proof_size operations)
+      + member_size (codes "deactivate") (sum_by deactivate_proof_size operations) = omega (arith, recover, deactivate, kinds) in
+      proofs_long (some_listed pairs) ∙ ap (λ n. in_brackets (member_size (codes "operations") n)) inside
+
+  provisional_proof_long : length (canonical (provisional_proof_json (filter_map signed_text_in groups.updates)))
+      ≡ in_brackets (member_size (codes "operations") (member_size (codes "update") (sum_by update_proof_size operations)))
+  unfolding grouped escape
+  provisional_proof_long =
+      let updates = map signed_json (filter_map signed_text_in groups.updates) in
+      let update = list_of (codes "update") updates (sum_by update_proof_size operations) refl (update_proofs_sum operations) in
+      let pairs : List (List ℕ × Option Plain) = (codes "update", some_list updates) ∷ [] in
+      let inside : weight (some_listed pairs) ≡ member_size (codes "update") (sum_by update_proof_size operations) =
+      one_member (codes "update") (some_list updates) ∙ update in
+      proofs_long (some_listed pairs) ∙ ap (λ n. in_brackets (member_size (codes "operations") n)) inside
+
+  chunk_long : length (chunk_text groups) ≡ in_brackets (member_size (codes "deltas") (sum_by delta_size operations))
+  unfolding chunk_text escape
+  chunk_long =
+      let deltas = filter_map delta_there (with_delta groups) in
+      let pairs : List (List ℕ × Option Plain) = (codes "deltas", some_list deltas) ∷ [] in
+      object_size (some_listed pairs)
+      ∙ ap in_brackets (one_member (codes "deltas") (some_list deltas) ∙ list_of (codes "deltas") deltas (sum_by delta_size operations) refl (deltas_sum operations))
+
+  chunk_entry_long : size_of (chunk_entry_json (uri_of (chunk_text groups))) ≡ in_brackets (uri_size (codes "chunkFileUri") 1)
+  unfolding escape
+  chunk_entry_long =
+      let uri = uri_weight (codes "chunkFileUri") (chunk_text groups) refl in
+      let only : Members = member (codes "chunkFileUri") (hash_json (uri_of (chunk_text groups))) no_members in
+      let inside : weight only ≡ uri_size (codes "chunkFileUri") 1 = omega (arith, uri) in
+      object_size only ∙ ap in_brackets inside
+
+  provisional_long : length (canonical (provisional_json (provisional_index groups))) ≡ in_brackets (
+      uri_size (codes "provisionalProofFileUri") (sum_by update_size operations)
+      + member_size (codes "chunks") (in_brackets (uri_size (codes "chunkFileUri") 1) + 1)
+      + member_size (codes "operations") (member_size (codes "update") (sum_by update_size operations)))
+  unfolding provisional_index provisional_proof_file grouped escape
+  provisional_long =
+      let index = provisional_index groups in
+      let updates = map target_json index.updates in
+      let chunks = chunk_entry_json index.chunk ∷ [] in
+      let update = list_of (codes "update") updates (sum_by update_size operations) refl (updates_sum operations) in
+      let inside = one_member (codes "update") (some_list updates) ∙ update in
+      let third = object_there (codes "operations") (provisional_operations index) refl ∙ ap (member_size (codes "operations")) inside in
+      let second = list_of (codes "chunks") chunks (in_brackets (uri_size (codes "chunkFileUri") 1) + 1) refl (omega (arith, chunk_entry_long)) in
+      let first = uri_there groups.updates (sum_by update_size operations) (codes "provisionalProofFileUri")
+      (canonical (provisional_proof_json (filter_map signed_text_in groups.updates))) (any_update operations) refl in
+      let members = provisional_members (option_map hash_json index.proof) (some_list chunks) (some_object (provisional_operations index)) in
+      let pairs : List (List ℕ × Option Plain) =
+      (codes "provisionalProofFileUri", option_map hash_json index.proof) ∷ (codes "chunks", some_list chunks)
+      ∷ (codes "operations", some_object (provisional_operations index)) ∷ [] in
+      object_size (some_listed pairs) ∙ ap in_brackets (omega (arith, members, first, second, third))
+
+  -- no file of the operations is longer than it may be, if and only if the sums of their entries are so small
+  pub files_small : (limits : Limits) → are_files_small limits operations ≡ are_sizes_small limits (sizes_of operations)
+  unfolding are_files_small files_of core_proof_file provisional_file provisional_proof_file core_proof_size provisional_size provisional_proof_size chunk_size grouped
+  files_small limits =
+      let test = is_small limits in
+      let sizes = sizes_of operations in
+      let core = filed Core (Some (core_file groups)) in
+      let core_proof = filed CoreProof (core_proof_file groups) in
+      let provisional = filed Provisional (provisional_file groups) in
+      let provisional_proof = filed ProvisionalProof (provisional_proof_file groups) in
+      let chunk = filed Chunk (chunk_file groups) in
+      let one = and-true (nat_le (length (core_file groups)) limits.max_index) ∙ ap (λ n. nat_le n limits.max_index) core_long in
+      let two = filed_test limits CoreProof (with_core_proof groups) (with_core_proof_size sizes) _ (core_proof_text groups) (any_with_core_proof operations) core_proof_long in
+      let three = filed_test limits Provisional (with_delta groups) (with_delta_size sizes) _ (canonical (provisional_json (provisional_index groups))) (any_with_delta operations)
+      provisional_long in
+      let four = filed_test limits ProvisionalProof groups.updates sizes.updates _ (canonical (provisional_proof_json (filter_map signed_text_in groups.updates)))
+      (any_update operations) provisional_proof_long in
+      let five = filed_test limits Chunk (with_delta groups) (with_delta_size sizes) _ (chunk_text groups) (any_with_delta operations) chunk_long in
+      five_tests test core core_proof provisional provisional_proof chunk ∙ five_same one two three four five

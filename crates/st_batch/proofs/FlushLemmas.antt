@@ -1,0 +1,104 @@
+-- What is flushed of a queue that is kept, and that what stays is kept.
+use Rattle.std.proofs.Common.{◌≡◌, ◌∙◌, ℕ, zero, suc, ◌<◌, ◌≤◌, ◌^◌, List, [], ◌∷◌, length, map, take, drop, refl, sym, ap, subst, arith}
+use Rattle.std.specs.List.{AllByRecursion, IsDistinct}
+use Rattle.std.proofs.lemmas.List.{drop-map, length-take-le, take-map}
+use Rattle.st_base.proofs.Quantifiers.{each-weaker}
+use Rattle.st_hash.specs.Hash.{same_hash}
+use Rattle.st_ops.specs.Operation.{PlainOperation, plain_operation}
+use Rattle.st_params.specs.Limits.{Limits, limits_of}
+use Rattle.st_batch.specs.BatchFiles.{batch_of_groups, batch_with}
+use Rattle.st_batch.specs.BatchLaws.{AreBatched}
+use Rattle.st_batch.specs.Fits.{Fits}
+use Rattle.st_batch.specs.Flushed.{IsFlushed}
+use Rattle.st_batch.specs.Groups.{Grouped, grouped}
+use Rattle.st_batch.specs.Kept.{IsFormed, IsKept, IsQueued, operations_of}
+use Rattle.st_batch.specs.Prefix.{batch_count, batch_of, batched}
+use Rattle.st_batch.specs.ReadBack.{IsReadBack}
+use Rattle.st_batch.specs.declared.batch.Batch.{Batch}
+use Rattle.st_batch.proofs.GivenPrefixLemmas.{batch_longest, prefix_batched}
+use Rattle.st_batch.proofs.QueueLemmas.{Entry, different, length_operations}
+use Rattle.st_batch.proofs.ReadBackLemmas.{batch_is_read_back}
+use Rattle.st_batch.proofs.TakesTheFirstLemmas.{takes_the_first}
+
+-- ---- parts of entries
+
+taken_operations : (count : ℕ) (entries : List Entry) → operations_of (take count entries) ≡ take count (operations_of entries)
+taken_operations count entries = sym (take-map (λ entry. plain_operation entry.1) count entries)
+
+left_operations : (count : ℕ) (entries : List Entry) → operations_of (drop count entries) ≡ drop count (operations_of entries)
+left_operations count entries = sym (drop-map (λ entry. plain_operation entry.1) count entries)
+
+each_left : (P : PlainOperation → Type 0) (count : ℕ) (operations : List PlainOperation) → AllByRecursion P operations → AllByRecursion P (drop count operations)
+each_left P zero operations all = all
+each_left P (suc count) [] all = tt
+each_left P (suc count) (operation ∷ operations) all = each_left P count operations all.1
+
+-- what is left of entries that are kept is kept
+pub kept_left : (count : ℕ) (entries : List Entry) → IsKept entries → IsKept (drop count entries)
+kept_left zero entries kept = kept
+kept_left (suc count) [] kept = kept
+kept_left (suc count) (entry ∷ entries) kept = kept_left count entries (record {
+  named = ap (drop 1) kept.named;
+  few = omega (arith, kept.few);
+  queued = kept.queued.1;
+})
+
+-- ---- what is flushed
+
+-- what is known of entries at limits, of which at least one is there
+pub record MayFlush (limits : Limits) (entries : List Entry) : Type 0 where
+  pub kept : IsKept entries
+  pub some : 1 ≤ length entries
+  pub apart : IsDistinct same_hash (map (λ entry. entry.0) entries)
+  pub versioned : limits ≡ limits_of limits.version
+
+few_operations : (entries : List Entry) → IsKept entries → length (operations_of entries) < 2 ^ 64
+few_operations entries kept = omega (arith, kept.few, length_operations entries)
+
+-- no more are taken than there are
+pub count_within : (limits : Limits) (entries : List Entry) → batch_count limits (operations_of entries) ≤ length entries
+count_within limits entries =
+    let within = (batch_longest limits (operations_of entries)).within in
+    omega (arith, within, length_operations entries)
+
+some_taken : (limits : Limits) (entries : List Entry) → MayFlush limits entries → 1 ≤ batch_count limits (operations_of entries)
+some_taken limits [] may = absurd (omega (arith, may.some))
+some_taken limits (entry ∷ entries) may =
+    let first = may.kept.queued.0 in
+    subst (λ these. 1 ≤ batch_count these (operations_of (entry ∷ entries))) (sym may.versioned)
+    (takes_the_first first.limits.version limits.version (plain_operation entry.1) (operations_of entries) first.formed.hashes
+    (subst (λ these. Fits these (plain_operation entry.1)) first.versioned first.fitted))
+
+these_batched : (limits : Limits) (entries : List Entry) → MayFlush limits entries → AreBatched limits (batched limits (operations_of entries))
+these_batched limits entries may =
+    prefix_batched limits (operations_of entries) (different entries may.kept may.apart)
+    (each-weaker IsQueued IsFormed (λ operation is. is.formed) (operations_of entries) may.kept.queued) (few_operations entries may.kept)
+
+-- the batch of the first entries, so many as a batch takes, is that of the queue
+batch_is : (limits : Limits) (entries : List Entry)
+    → batch_of_groups (batch_count limits (operations_of entries)) (grouped (operations_of (take (batch_count limits (operations_of entries)) entries)))
+    ≡ batch_of limits (operations_of entries)
+unfolding batch_with
+batch_is limits entries =
+    let count = batch_count limits (operations_of entries) in
+    let taken : length (take count (operations_of entries)) ≡ count =
+    length-take-le count (operations_of entries) (batch_longest limits (operations_of entries)).within in
+    rw (taken_operations count entries, taken) refl
+
+-- the first entries, so many as a batch takes, are made a batch of, and the others are left
+pub flushed : (limits : Limits) (entries : List Entry) → MayFlush limits entries
+    → {count : ℕ} {taken left : List Entry} {groups : Grouped} {made : Batch} → count ≡ batch_count limits (operations_of entries)
+    → taken ≡ take count entries → left ≡ drop count entries → groups ≡ grouped (operations_of taken) → made ≡ batch_of_groups count groups
+    → IsFlushed limits (operations_of entries) (operations_of left) made
+flushed limits entries may {count} {taken} {left} {groups} {made} counted first others by_kind written =
+    let are = these_batched limits entries may in
+    let is : made ≡ batch_of limits (operations_of entries) =
+    written ∙ (ap (batch_of_groups count) (by_kind ∙ ap (λ these. grouped (operations_of these)) first)
+    ∙ (ap (λ many. batch_of_groups many (grouped (operations_of (take many entries)))) counted ∙ batch_is limits entries)) in
+    record {
+      batch = is;
+      rest = ap operations_of (others ∙ ap (λ many. drop many entries) counted) ∙ left_operations (batch_count limits (operations_of entries)) entries;
+      some = some_taken limits entries may;
+      read_back = subst (λ batch. IsReadBack limits batch (batched limits (operations_of entries))) (sym is)
+          (batch_is_read_back limits (batched limits (operations_of entries)) are are.few);
+    }

@@ -1,0 +1,29 @@
+-- Operations that are put into groups, one after the other. No public call speaks of them.
+use Rattle.std.specs.Prelude.{[], ◌∷◌, ◌++◌, map}
+use Rattle.st_ops.specs.Operation.{PlainOperation, creating, updating, recovering, deactivating, plain_operation}
+use Rattle.st_batch.specs.Groups.{Grouped}
+use Rattle.st_batch.specs.declared.grouping.Groups.{Groups}
+
+-- the plain operations of groups
+abbrev pub plain_groups : Groups → Grouped
+plain_groups groups = record {
+  creates = map plain_operation groups.creates;
+  recovers = map plain_operation groups.recovers;
+  deactivates = map plain_operation groups.deactivates;
+  updates = map plain_operation groups.updates;
+}
+
+-- groups without operations
+abbrev pub no_groups : Grouped
+no_groups = record { creates = []; recovers = []; deactivates = []; updates = [] }
+
+-- groups with one operation more, the last of its kind
+abbrev pub with_operation : Grouped → PlainOperation → Grouped
+with_operation groups (creating suffix_data delta) =
+    record { creates = groups.creates ++ creating suffix_data delta ∷ []; recovers = groups.recovers; deactivates = groups.deactivates; updates = groups.updates }
+with_operation groups (recovering target proof delta) =
+    record { creates = groups.creates; recovers = groups.recovers ++ recovering target proof delta ∷ []; deactivates = groups.deactivates; updates = groups.updates }
+with_operation groups (deactivating target proof) =
+    record { creates = groups.creates; recovers = groups.recovers; deactivates = groups.deactivates ++ deactivating target proof ∷ []; updates = groups.updates }
+with_operation groups (updating target proof delta) =
+    record { creates = groups.creates; recovers = groups.recovers; deactivates = groups.deactivates; updates = groups.updates ++ updating target proof delta ∷ [] }

@@ -1,0 +1,88 @@
+ghost use Rattle.std.specs.Prelude.{◌≡◌, ◌++◌, IfOk, OnOk, flat_map};
+ghost use Rattle.st_node.specs.Machine.{all_arrived, batch_line, batch_reply, file_line, role_word};
+ghost use Rattle.st_node.specs.Work.{ArrivalsCounts};
+
+use crate::telling::push_word;
+use itoa::Buffer;
+use st_base::{Bytes, List, WantOfMemory, Work};
+use st_batch::{Batch, BatchFile};
+use st_datafiles::Role;
+use st_hash::{enc, hash_text};
+use st_observer::Observer;
+use std::alloc::Global;
+
+// The reply to a flush: the anchor string and how many files there are, and a line for each file.
+pub fn tell_batch(alloc: Global, batch: &Batch) -> Result<Bytes, WantOfMemory>
+    ensures { IfOk result (λ text. text ≡ batch_reply batch.now) }
+{
+    let mut text = Vec::new(alloc);
+    push_batch(&mut text, batch.anchor.as_str(), batch.files.len())?;
+    push_files(alloc, &mut text, batch.files.as_slice())?;
+    Ok(Bytes::from_vec(text))
+}
+
+// Puts the line of an anchor string and a number of files behind the text.
+fn push_batch(text: &mut Vec<u8>, anchor: &str, files: usize) -> Result<(), WantOfMemory>
+    ensures { OnOk result (text.new.items ≡ text.old.items ++ batch_line anchor.now files) }
+{
+    text.extend_from_slice(b"batch")?;
+    push_word(text, anchor)?;
+    push_word(text, Buffer::new().format(files))?;
+    text.push(b'\n')?;
+    Ok(())
+}
+
+// Puts a line for each file behind the text.
+fn push_files(alloc: Global, text: &mut Vec<u8>, files: &[BatchFile]) -> Result<(), WantOfMemory>
+    ensures { OnOk result (text.new.items ≡ text.old.items ++ flat_map file_line files.now) }
+{
+    for file in files {
+        push_file(alloc, text, file)?;
+    }
+    Ok(())
+}
+
+// Puts the line of a file behind the text: its role, its URI and its bytes.
+fn push_file(alloc: Global, text: &mut Vec<u8>, file: &BatchFile) -> Result<(), WantOfMemory>
+    ensures { OnOk result (text.new.items ≡ text.old.items ++ file_line file.now) }
+{
+    let uri = hash_text(alloc, &file.uri)?;
+    let bytes = enc(alloc, file.bytes.as_slice())?;
+    text.extend_from_slice(b"file")?;
+    push_word(text, role_word(file.role))?;
+    push_word(text, uri.as_str())?;
+    push_word(text, bytes.as_str())?;
+    text.push(b'\n')?;
+    Ok(())
+}
+
+// What a file is to the entry of its batch, as it stands in replies.
+fn role_word(role: Role) -> &'static str
+    ensures { result.now ≡ role_word role }
+{
+    match role {
+        Role::Core => "core",
+        Role::CoreProof => "coreProof",
+        Role::Provisional => "provisional",
+        Role::ProvisionalProof => "provisionalProof",
+        Role::Chunk => "chunk",
+    }
+}
+
+// Hands the files to the observer, in the order in which they are listed, without a copy.
+pub fn take_files(
+    alloc: Global,
+    observer: Observer,
+    files: List<BatchFile>,
+    work: &mut Work,
+) -> Result<Observer, WantOfMemory>
+    ensures state { IfOk result (λ taken. taken ≡ all_arrived files observer) }
+    ensures counts { ArrivalsCounts observer files work.old work.new }
+{
+    let mut taken = observer;
+    for file in files.into_vec() {
+        let (next, _uri, _put) = taken.arrive(alloc, file.bytes, work)?;
+        taken = next;
+    }
+    Ok(taken)
+}

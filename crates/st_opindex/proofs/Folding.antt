@@ -1,0 +1,229 @@
+-- Keys that were changed are folded one after another.
+use Rattle.std.proofs.Common.{◌==◌, ◌≡◌, ◌∙◌, ◌+◌, ◌<◌, ◌≤◌, ℕ, Bool, true, false, cond, leb, List, [], ◌∷◌, ◌++◌, ◌&&◌, length, min, Option, Some, None, sym, ap, refl, arith, Ordering, inl, inr}
+use Rattle.std.proofs.lemmas.Bool.{and_parts, cases_Bool, cases_lt, eqb-true, false≢true, leb-true, or_cases, or_left, or_right}
+use Rattle.std.proofs.lemmas.List.Sums.{sum_by-cons, sum_by-le-sum_by}
+use Rattle.std.specs.BTreeMap.{is_at}
+use Rattle.std.specs.Cmp.{IsTotalOrder, eq_by_cmp_equiv}
+use Rattle.std.specs.List.{AllByRecursion, list_any, sum_by}
+use Rattle.std.specs.Map.{lookup}
+use Rattle.std.specs.Option.{IfSome}
+use Rattle.st_base.specs.Work.{AppliesAtMost, Counts}
+use Rattle.st_base.proofs.Quantifiers.{any_push}
+use Rattle.st_opindex.specs.declared.row.Row.{Row}
+use Rattle.st_opindex.specs.Items.{from}
+use Rattle.st_opindex.specs.ByKey.{ByKey, ChangesAt, items_at}
+use Rattle.st_opindex.specs.Changed.{AreNamed, names_cost}
+use Rattle.st_opindex.specs.Kept.{IsFolded, IsRow}
+use Rattle.st_opindex.specs.Seen.{AreFolded, AreOwed, AreRows, FoldsKey, left_at, left_of, seen_items}
+use Rattle.st_opindex.proofs.Keyed.{items_at-same, left_at-same, left_in}
+use Rattle.st_opindex.proofs.Owing.{from-falls}
+
+-- ---- rows of which nothing is left to be folded
+
+module _ {State Item : Type 0} (next : State → Item → State) (start : State) where
+  found_folded : (found : Option (Row Item State)) → IfSome found (IsRow next start) → left_in found ≡ 0 → IfSome found (IsFolded next start)
+  found_folded None is none = tt
+  found_folded (Some row) is none = record { is = is; all = omega (arith, is.within, none) }
+
+  found_row : (found : Option (Row Item State)) → IfSome found (IsFolded next start) → IfSome found (IsRow next start)
+  found_row None folds = tt
+  found_row (Some row) folds = folds.is
+
+  found_none : (found : Option (Row Item State)) → IfSome found (IsFolded next start) → left_in found ≡ 0
+  found_none None folds = refl
+  found_none (Some row) folds = let none : left_of row ≡ 0 = omega (arith, folds.all) in none
+
+module _ {K State Item : Type 0} {cmp : K → K → Ordering} {next : State → Item → State} {start : State} {entries : List (K × Row Item State)} where
+  -- rows are folded where nothing is left,
+  folded_all : AreRows cmp next start entries → ((key : K) → left_at cmp key entries ≡ 0) → AreFolded cmp next start entries
+  folded_all rows none = record { each = λ key. found_folded next start (lookup (is_at (cmp key)) entries) (rows.each key) (none key) }
+
+  -- and nothing is left of those that are,
+  pub folded_rows : AreFolded cmp next start entries → AreRows cmp next start entries
+  folded_rows folds = record { each = λ key. found_row next start (lookup (is_at (cmp key)) entries) (folds.each key) }
+
+  -- so no change has to account for it
+  pub folded_owed : AreFolded cmp next start entries → AreOwed cmp [] entries
+  folded_owed folds = record {
+    each = λ key some. let none : left_at cmp key entries ≡ 0 = found_none next start (lookup (is_at (cmp key)) entries) (folds.each key) in absurd (omega (arith, none, some));
+  }
+
+-- ---- sums
+
+-- where no term grows, and some term falls by this much, so does the sum
+sum_by-lt : {X : Type 0} (f g : X → ℕ) → ((x : X) → g x ≤ f x) → (some : X → Bool) (fall : ℕ) → ((x : X) → some x ≡ true → g x + fall ≤ f x)
+    → (xs : List X) → list_any some xs ≡ true → sum_by g xs + fall ≤ sum_by f xs
+sum_by-lt f g fewer some fall apart [] any = absurd (false≢true any)
+sum_by-lt f g fewer some fall apart (x ∷ xs) any = elim (or_cases (some x) (list_any some xs) any) [
+  | inl here ↦ omega (arith, sum_by-cons f x xs, sum_by-cons g x xs, apart x here, sum_by-le-sum_by g f xs fewer)
+  | inr later ↦ omega (arith, sum_by-cons f x xs, sum_by-cons g x xs, fewer x, sum_by-lt f g fewer some fall apart xs later)
+]
+
+-- of some item that passes a test holds what holds of each
+some_item : {X : Type 0} (P : X → Type 0) (test : X → Bool) (xs : List X) → AllByRecursion P xs → list_any test xs ≡ true → (x : X) × P x × (test x ≡ true)
+some_item P test [] all any = absurd (false≢true any)
+some_item P test (x ∷ xs) all any = elim (or_cases (test x) (list_any test xs) any) [
+  | inl here ↦ (x, all.0, here)
+  | inr later ↦ some_item P test xs all.1 later
+]
+
+-- ---- on the way
+
+-- of the keys of these changes nothing is left to be folded, and of any other as much as at first
+pub record IsFolding {K State Item : Type 0} (cmp : K → K → Ordering) (changes : List (K × ℕ)) (old now : List (K × Row Item State)) : Type 0 where
+  pub left : (key : K) → left_at cmp key now ≡ cond (list_any (λ change. is_at (cmp change.0) key) changes) 0 (left_at cmp key old)
+  pub items : (key : K) → items_at cmp key (seen_items now) ≡ items_at cmp key (seen_items old)
+
+-- what a name may pay for
+abbrev name_cost : {K Item : Type 0} → (K → K → Ordering) → ByKey K Item → K × ℕ → ℕ
+name_cost cmp items name = 7 + length (from name.1 (items_at cmp name.0 items))
+
+module _ {K State Item : Type 0} (cmp : K → K → Ordering) where
+  -- what names are still to pay for
+  abbrev pub owing : ByKey K Item → List (K × Row Item State) → List (K × ℕ) → ℕ
+  owing items now names = sum_by (λ name. min (left_at cmp name.0 now) (name_cost cmp items name)) names
+
+  -- at most so many operations were applied as the names have paid for
+  pub record HasPaid (names : List (K × ℕ)) (old now : List (K × Row Item State)) (first work : Counts) : Type 0 where
+    pub files : work.files ≡ first.files
+    pub proofs : work.proofs ≡ first.proofs
+    pub applies : work.applies + owing (seen_items old) now names ≤ first.applies + names_cost cmp (seen_items old) names
+
+module _ {K State Item : Type 0} {cmp : K → K → Ordering} where
+  pub folding_start : (old : List (K × Row Item State)) → IsFolding cmp [] old old
+  folding_start old = record { left = λ key. refl; items = λ key. refl }
+
+  pub paid_start : (names : List (K × ℕ)) (old : List (K × Row Item State)) (first : Counts) → HasPaid cmp names old old first first
+  paid_start names old first = record {
+    files = refl;
+    proofs = refl;
+    applies = omega (
+      arith,
+      sum_by-le-sum_by (λ name. min (left_at cmp name.0 old) (name_cost cmp (seen_items old) name)) (name_cost cmp (seen_items old)) names (λ name. omega arith),
+    );
+  }
+
+  pub paid_folded : {names : List (K × ℕ)} {old now : List (K × Row Item State)} {first work : Counts} → HasPaid cmp names old now first work
+      → AppliesAtMost (names_cost cmp (seen_items old) names) first work
+  paid_folded paid = record { files = paid.files; proofs = paid.proofs; applies = omega (arith, paid.applies) }
+
+-- the next key is folded
+module _ {K State Item : Type 0} {cmp : K → K → Ordering} (order : IsTotalOrder cmp) {taken : List (K × ℕ)} {old now : List (K × Row Item State)}
+    (folding : IsFolding cmp taken old now) (key : K) where
+  module _ {all : List (K × ℕ)} (owed : AreOwed cmp all old) (names : List (K × ℕ)) (named : AreNamed cmp all names) where
+    -- what is left of it was left at the start
+    left_first : 0 < left_at cmp key now → left_at cmp key now ≡ left_at cmp key old
+    left_first some = elim (cases_Bool (list_any (λ change. is_at (cmp change.0) key) taken)) [
+      | inl was ↦ let none : left_at cmp key now ≡ 0 = folding.left key ∙ rw was refl in absurd (omega (arith, none, some))
+      | inr not ↦ folding.left key ∙ rw not refl
+    ]
+
+    -- a name pays for it
+    pays : (rest : K × ℕ → ℕ) → ((name : K × ℕ) → rest name ≤ min (left_at cmp name.0 now) (name_cost cmp (seen_items old) name))
+        → ((name : K × ℕ) → is_at (cmp key) name.0 ≡ true → rest name ≡ 0)
+        → sum_by rest names + left_at cmp key now ≤ owing cmp (seen_items old) now names
+    pays rest fewer gone = elim (cases_lt 0 (left_at cmp key now)) [
+      | inr none ↦ omega (arith, none, sum_by-le-sum_by rest (λ name. min (left_at cmp name.0 now) (name_cost cmp (seen_items old) name)) names fewer)
+      | inl some ↦
+          let first = left_first some in
+          let account = owed.each key (omega (arith, first, some)) in
+          let change = some_item _ (λ change. is_at (cmp change.0) key && (change.1 == account.place)) all named account.changed in
+          let parts = and_parts (is_at (cmp change.0.0) key) (change.0.1 == account.place) change.2 in
+          let place = eqb-true change.0.1 account.place parts.1 in
+          sum_by-lt (λ name. min (left_at cmp name.0 now) (name_cost cmp (seen_items old) name)) rest fewer
+          (λ name. is_at (cmp change.0.0) name.0 && leb name.1 change.0.1) (left_at cmp key now)
+          (λ name is.
+          let halves = and_parts (is_at (cmp change.0.0) name.0) (leb name.1 change.0.1) is in
+          let same : is_at (cmp key) name.0 ≡ true = sym ((eq_by_cmp_equiv order).congr change.0.0 key name.0 parts.0) ∙ halves.0 in
+          let upto : name.1 ≤ account.place = omega (arith, leb-true name.1 change.0.1 halves.1, place) in
+          omega (
+            arith,
+            gone name same,
+            left_at-same order key name.0 now same,
+            ap (λ items. length (from name.1 items)) (items_at-same order key name.0 (seen_items old) same),
+            from-falls name.1 account.place (items_at cmp key (seen_items old)) upto,
+            account.few,
+            first,
+          ))
+          names change.1
+    ]
+
+    module _ {first work after : Counts} (paid : HasPaid cmp names old now first work) (step : AppliesAtMost (left_at cmp key now) work after) where
+      -- where memory is wanting on the way
+      pub fold_stopped : AppliesAtMost (names_cost cmp (seen_items old) names) first after
+      fold_stopped = record {
+        files = step.files ∙ paid.files;
+        proofs = step.proofs ∙ paid.proofs;
+        applies = omega (arith, step.applies, paid.applies, pays (λ name. 0) (λ name. omega arith) (λ name same. refl));
+      }
+
+      -- and where it is not
+      pub fold_paid : (new : List (K × Row Item State)) → FoldsKey cmp key now new → HasPaid cmp names old new first after
+      fold_paid new folds = record {
+        files = step.files ∙ paid.files;
+        proofs = step.proofs ∙ paid.proofs;
+        applies = omega (
+          arith,
+          step.applies,
+          paid.applies,
+          pays (λ name. min (left_at cmp name.0 new) (name_cost cmp (seen_items old) name)) fewer
+              (λ name same. let none : left_at cmp name.0 new ≡ 0 = folds name.0 ∙ rw same refl in omega (arith, none)),
+        );
+      }
+        where
+          fewer : (name : K × ℕ) → min (left_at cmp name.0 new) (name_cost cmp (seen_items old) name) ≤ min (left_at cmp name.0 now) (name_cost cmp (seen_items old) name)
+          fewer name = elim (cases_Bool (is_at (cmp key) name.0)) [
+            | inl same ↦ let none : left_at cmp name.0 new ≡ 0 = folds name.0 ∙ rw same refl in omega (arith, none)
+            | inr apart ↦ let stays : left_at cmp name.0 new ≡ left_at cmp name.0 now = folds name.0 ∙ rw apart refl in omega (arith, stays)
+          ]
+
+  -- one key more is folded
+  pub folding_more : (place : ℕ) (new : List (K × Row Item State)) → FoldsKey cmp key now new → ChangesAt cmp key (λ items. items) (seen_items now) (seen_items new)
+      → IsFolding cmp (taken ++ (key, place) ∷ []) old new
+  folding_more place new folds stays = record {
+    left = left;
+    items = λ other. stays other ∙ either (is_at (cmp key) other) (items_at cmp other (seen_items now)) ∙ folding.items other;
+  }
+    where
+      either : {X : Type 0} (b : Bool) (x : X) → cond b x x ≡ x
+      either true x = refl
+      either false x = refl
+
+      left : (other : K) → left_at cmp other new ≡ cond (list_any (λ change. is_at (cmp change.0) other) (taken ++ (key, place) ∷ [])) 0 (left_at cmp other old)
+      left other = elim (cases_Bool (is_at (cmp key) other)) [
+        | inl same ↦
+            let here : left_at cmp other new ≡ 0 = folds other ∙ rw same refl in
+            rw (any_push (λ change. is_at (cmp change.0) other) taken (key, place), or_right (list_any (λ change. is_at (cmp change.0) other) taken) (is_at (cmp key) other) same) here
+        | inr apart ↦
+            let here : left_at cmp other new ≡ left_at cmp other now = folds other ∙ rw apart refl in
+            elim (cases_Bool (list_any (λ change. is_at (cmp change.0) other) taken)) [
+              | inl was ↦ rw (any_push (λ change. is_at (cmp change.0) other) taken (key, place), was) (here ∙ folding.left other ∙ rw was refl)
+              | inr was ↦ rw (any_push (λ change. is_at (cmp change.0) other) taken (key, place), was, apart) (here ∙ folding.left other ∙ rw was refl)
+            ]
+      ]
+
+-- once the keys of all changes are folded, all keys are
+module _ {K State Item : Type 0} {cmp : K → K → Ordering} {all : List (K × ℕ)}
+    {old now : List (K × Row Item State)} (owed : AreOwed cmp all old) (folding : IsFolding cmp all old now) where
+  none_left : (key : K) → left_at cmp key now ≡ 0
+  none_left key = elim (cases_Bool (list_any (λ change. is_at (cmp change.0) key) all)) [
+    | inl was ↦ folding.left key ∙ rw was refl
+    | inr not ↦
+        let same : left_at cmp key now ≡ left_at cmp key old = folding.left key ∙ rw not refl in
+        elim (cases_lt 0 (left_at cmp key old)) [
+          | inr none ↦ omega (arith, same, none)
+          | inl some ↦
+              let account = owed.each key some in
+              absurd (false≢true (sym not ∙ any_first (λ change. is_at (cmp change.0) key) (λ change. change.1 == account.place) all account.changed))
+        ]
+  ]
+    where
+      any_first : {X : Type 0} (test other : X → Bool) (xs : List X) → list_any (λ x. test x && other x) xs ≡ true → list_any test xs ≡ true
+      any_first test other [] any = any
+      any_first test other (x ∷ xs) any = elim (or_cases (test x && other x) (list_any (λ x. test x && other x) xs) any) [
+        | inl here ↦ or_left (test x) (list_any test xs) (and_parts (test x) (other x) here).0
+        | inr later ↦ or_right (test x) (list_any test xs) (any_first test other xs later)
+      ]
+
+  pub all_folded : {next : State → Item → State} {start : State} → AreRows cmp next start now → AreFolded cmp next start now
+  all_folded rows = folded_all rows none_left

@@ -1,0 +1,14 @@
+use Rattle.std.proofs.Common.{List, take, ℕ}
+use Rattle.st_opindex.specs.Changed.{AreNamed}
+use Rattle.st_opindex.specs.Seen.{AreRows}
+use Rattle.st_opindex.proofs.Folding.{HasPaid, IsFolding}
+use Rattle.st_opindex.proofs.rows.fold_keys.Given as goal
+
+abbrev pub invariant-changes : goal.invariant-changes
+invariant-changes g l =
+    let cmp = g.K.Ord.cmp in
+    record {
+      rows : AreRows cmp (g.F.Folder.next l.folder) (g.F.Folder.first l.folder) l.rows.entries;
+      folding : IsFolding cmp (take l.change-index l.changes) l.fn.rows.entries l.rows.entries;
+      paid : (names : List (_ × ℕ)) → AreNamed cmp l.changes names → HasPaid cmp names l.fn.rows.entries l.rows.entries l.fn.work l.work;
+    }
