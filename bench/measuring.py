@@ -5,6 +5,7 @@ import resource
 import shutil
 import subprocess
 import sys
+import time
 
 TOP = os.path.dirname(os.path.dirname(os.path.abspath(__file__)))
 # The programs of bench/programs, and what each stands on.
@@ -12,7 +13,7 @@ PROGRAMS = {"bare_cost": "base64 memchr sha2", "compress_cost": "sha2 anyhow", "
             "lms_cost": "st_base st_lms sha2 anyhow", "index_cost": "st_base st_opindex anyhow",
             "patch_cost": "st_base st_canon st_doc st_params anyhow",
             "files_cost": "st_base st_datafiles st_indexfiles st_params serde_json anyhow",
-            "submit_cost": "serde_json sha2 anyhow"}
+            "submit_cost": "serde_json sha2 anyhow", "least_cost": "base64 serde_json sha2 anyhow"}
 
 
 def node():
@@ -62,11 +63,19 @@ def best_times(runs, rounds=3):
 
 
 def peak(command, given=os.devnull):
-    """The most memory of the command, in bytes."""
-    code = ("import resource,subprocess,sys;"
-            "subprocess.run(sys.argv[2:],stdin=open(sys.argv[1],'rb'),stdout=subprocess.DEVNULL,check=True);"
-            "print(resource.getrusage(resource.RUSAGE_CHILDREN).ru_maxrss*1024)")
-    return int(subprocess.run([sys.executable, "-c", code, given, *command], stdout=subprocess.PIPE, check=True).stdout)
+    """The most memory of the command, in bytes, looked at every millisecond. (What the system reports of a
+    child that has ended is never less than this interpreter had.)"""
+    most = 0
+    with open(given, "rb") as source:
+        run = subprocess.Popen(command, stdin=source, stdout=subprocess.DEVNULL)
+    while run.poll() is None:
+        with open("/proc/%d/status" % run.pid) as file:
+            found = re.search(r"VmHWM:\s+(\d+) kB", file.read())
+        most = max(most, int(found.group(1)) * 1024 if found else 0)
+        time.sleep(0.001)
+    if run.returncode:
+        raise subprocess.CalledProcessError(run.returncode, command)
+    return most
 
 
 def instructions(command, given):

@@ -1,7 +1,9 @@
 """Whole streams: the processor time of a node, beside the bare cost of hashing the bytes of all its files
-once and of as many compressions of SHA-256 as its signatures take; and its memory beside its files.
+once and of as many compressions of SHA-256 as its signatures take; beside the least that it comes to with the
+kit's reader of JSON, which also reads each file once and hashes as many bytes once more; and its memory beside
+its files.
 
-The bare programs are bench/programs/bare_cost.txt and compress_cost.txt, over the same kit crates.
+The bare programs are bench/programs/bare_cost.txt, least_cost.txt and compress_cost.txt, over the same kit crates.
 """
 import functools
 import json
@@ -66,7 +68,7 @@ class Files:
 def measure(folder, origin=None):
     """Prints a line for each stream: those of the folder `origin`, or else generated ones."""
     given = os.path.join(folder, "given")
-    ours, (bare, compress) = node(), build(folder, ["bare_cost", "compress_cost"])
+    ours, (bare, least, compress) = node(), build(folder, ["bare_cost", "least_cost", "compress_cost"])
     one = min(row[0] for row in rows(compress)) / 1e12
     for name, lines in from_folder(origin) if origin else generated():
         if any(line.startswith(b"submit ") for line in lines):
@@ -74,9 +76,10 @@ def measure(folder, origin=None):
         files = Files(lines)
         count = sum(files.compressions(line.rpartition(b".")[2].decode()) for line in lines if line.startswith(b"anchor "))
         write_lines(given, lines)
-        time, hashing = best_times([(ours, given), ([bare], given)])
-        base = hashing + count * one
+        time, hashing, reading = best_times([(ours, given), ([bare], given), ([least], given)])
+        signing = count * one
         memory = peak(ours, given)
-        print("%s: %.2f s of processor time, %.2f times the bare cost (%.2f s for its bytes, %.2f s for %d compressions); "
-              "%d MiB, %.1f times its files of %.1f MiB" % (name, time, time / base, hashing, count * one, count,
-                                                           memory >> 20, memory / files.size, files.size / 2 ** 20), flush=True)
+        print("%s: %.2f s of processor time, %.2f times the bare cost (%.2f s for its bytes, %.2f s for %d compressions), "
+              "%.2f times the least with its JSON read (%.2f s); %d MiB, %.1f times its files of %.1f MiB"
+              % (name, time, time / (hashing + signing), hashing, signing, count, time / (reading + signing), reading + signing,
+                 memory >> 20, memory / files.size, files.size / 2 ** 20), flush=True)
