@@ -21,7 +21,7 @@ pub struct Row<I, S> {
     pub last: S,
 }
 
-// No items: the start.
+// No items: the start. There is room for the one item that most keys have.
 pub fn empty_row<F: Folder>(
     alloc: Global,
     folder: &F,
@@ -31,7 +31,7 @@ pub fn empty_row<F: Folder>(
     ensures left { IfOk result (λ row. left_of row ≡ 0) }
 {
     Ok(Row {
-        items: Vec::new(alloc),
+        items: Vec::with_capacity(alloc, 1)?,
         done: 0,
         kept: Vec::new(alloc),
         last: folder.start(alloc)?,
