@@ -25,7 +25,7 @@ same_escape : (b : ℕ) → escape b ≡ print.escape_byte b
 unfolding escape print.escape_byte
 same_escape b = grind (arith, nat_tests)
 
-same_escapes : (t : List ℕ) → flat_map escape t ≡ print.escape t
+pub same_escapes : (t : List ℕ) → flat_map escape t ≡ print.escape t
 same_escapes [] = refl
 same_escapes (b ∷ t) = rw (same_escape b, same_escapes t) refl
 

@@ -9,6 +9,7 @@ ghost use Rattle.st_canon.specs.declared.refused.ReadRefused.TheVariants.{NotWho
 
 use crate::members::Members;
 use crate::refused::ReadRefused;
+use crate::room::room_for;
 use crate::value::{Json, Object};
 use crate::whole::Whole;
 use serde_json::{Map, Number, Value};
@@ -39,7 +40,7 @@ fn convert_items(alloc: Global, items: Vec<Value>) -> Result<List<Json>, ReadRef
     ensures value { GivesAs plain_items refusal_of (ok_or (whole_items (items_view items.items)) NotWhole) result }
     ensures proper { IfOk result (λ items. ItemsAreProper (plain_items items)) }
 {
-    let mut found = List::new(alloc);
+    let mut found = room_for(alloc, items.len())?;
     for item in items {
         let json = convert(alloc, item)?;
         found.push(alloc, json)?;
@@ -52,7 +53,7 @@ fn convert_members(alloc: Global, members: Map<String, Value>) -> Result<Object,
     ensures value { GivesAs plain_members refusal_of (ok_or (whole_members (members_view members.entries)) NotWhole) result }
     ensures proper { IfOk result (λ members. MembersAreProper (plain_members members)) }
 {
-    let mut pairs = List::new(alloc);
+    let mut pairs = room_for(alloc, members.len())?;
     for (key, member) in members {
         let json = convert(alloc, member)?;
         pairs.push(alloc, (text_of(key), json))?;

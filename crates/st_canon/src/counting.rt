@@ -7,6 +7,7 @@ ghost use Rattle.st_canon.specs.Measure.{saturated, size_of};
 ghost use Rattle.st_canon.specs.Proper.{IsProper, ItemsAreProper, MembersAreProper};
 ghost use Rattle.st_canon.specs.View.{plain, plain_items, plain_members};
 
+use crate::runs::split_run;
 use crate::value::{Json, Object};
 use itoa::Buffer;
 use st_base::List;
@@ -75,9 +76,14 @@ fn add_text(so_far: u64, text: &str) -> u64
 fn add_bytes(so_far: u64, bytes: &[u8]) -> u64
     ensures { result ≡ saturated (so_far + length (flat_map escape bytes.now)) }
 {
-    let mut size = so_far;
-    for byte in bytes {
-        size = size.saturating_add(escape_size(*byte));
+    let (run, mut rest) = split_run(bytes);
+    let mut size = so_far.saturating_add(run.len() as u64);
+    while let Some((byte, behind)) = rest.split_first() {
+        let (run, after) = split_run(behind);
+        size = size
+            .saturating_add(escape_size(*byte))
+            .saturating_add(run.len() as u64);
+        rest = after;
     }
     size
 }

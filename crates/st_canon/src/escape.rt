@@ -3,6 +3,7 @@ ghost use Rattle.std.specs.List.{flat_map};
 ghost use Rattle.std.specs.Str.{IsUtf8};
 ghost use Rattle.st_canon.specs.Canonical.{escape, quoted, hex_digit};
 
+use crate::runs::split_run;
 use st_base::{Bytes, WantOfMemory};
 use std::alloc::Global;
 
@@ -16,11 +17,17 @@ pub(crate) fn append_text(alloc: Global, out: &mut Bytes, text: &str) -> Result<
     out.push_all(alloc, b"\"")
 }
 
+// What stands between two bytes that are escaped is put in at once.
 fn append_escaped(alloc: Global, out: &mut Bytes, bytes: &[u8]) -> Result<(), WantOfMemory>
     ensures { OnOk result (out.new ≡ out.old ++ flat_map escape bytes.now) }
 {
-    for byte in bytes {
+    let (run, mut rest) = split_run(bytes);
+    out.push_all(alloc, run)?;
+    while let Some((byte, behind)) = rest.split_first() {
+        let (run, after) = split_run(behind);
         append_byte(alloc, out, *byte)?;
+        out.push_all(alloc, run)?;
+        rest = after;
     }
     Ok(())
 }

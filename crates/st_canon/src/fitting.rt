@@ -6,6 +6,7 @@ ghost use Rattle.st_canon.specs.Measure.{fits, less, room_after, size_of};
 ghost use Rattle.st_canon.specs.View.{plain, plain_items, plain_members};
 
 use crate::counting::{digits, escape_size};
+use crate::runs::split_run;
 use crate::value::{Json, Object};
 use st_base::List;
 
@@ -80,9 +81,14 @@ fn less_text(room: u64, text: &str) -> Option<u64>
 fn less_bytes(room: u64, bytes: &[u8]) -> Option<u64>
     ensures { result ≡ less room (length (flat_map escape bytes.now)) }
 {
-    let mut left = room;
-    for byte in bytes {
-        left = left.checked_sub(escape_size(*byte))?;
+    let (run, mut rest) = split_run(bytes);
+    let mut left = room.checked_sub(run.len() as u64)?;
+    while let Some((byte, behind)) = rest.split_first() {
+        let (run, after) = split_run(behind);
+        left = left
+            .checked_sub(escape_size(*byte))?
+            .checked_sub(run.len() as u64)?;
+        rest = after;
     }
     Some(left)
 }

@@ -16,6 +16,8 @@ mod object;
 mod place;
 mod reading;
 mod refused;
+mod room;
+mod runs;
 mod shapes;
 mod some;
 #[cfg(test)]

@@ -1,7 +1,10 @@
-use Rattle.std.proofs.Common.{◌≡◌, ◌++◌, take}
+use Rattle.std.proofs.Common.{◌≡◌, ◌++◌, length}
 use Rattle.std.specs.List.{flat_map}
 use Rattle.st_canon.specs.Canonical.{escape}
 use Rattle.st_canon.proofs.escape.append_escaped.Given as goal
 
 abbrev pub invariant-loop-byte : goal.invariant-loop-byte
-invariant-loop-byte l = l.out ≡ l.initial.out ++ flat_map escape (take l.byte-index l.bytes)
+invariant-loop-byte l = l.initial.out ++ flat_map escape l.initial.rest ≡ l.out ++ flat_map escape l.rest
+
+abbrev pub decreases-loop-byte : goal.decreases-loop-byte
+decreases-loop-byte l = length l.rest

@@ -1,4 +1,4 @@
-use Rattle.std.proofs.Common.{◌≡◌, drop, length}
+use Rattle.std.proofs.Common.{◌≡◌, length}
 use Rattle.std.specs.List.{flat_map}
 use Rattle.st_canon.specs.Canonical.{escape}
 use Rattle.st_canon.specs.Measure.{less}
@@ -6,4 +6,7 @@ use Rattle.st_canon.proofs.fitting.less_bytes.Given as goal
 
 abbrev pub invariant-loop-byte : goal.invariant-loop-byte
 invariant-loop-byte l =
-    less l.initial.left (length (flat_map escape l.bytes)) ≡ less l.left (length (flat_map escape (drop l.byte-index l.bytes)))
+    less l.initial.left (length (flat_map escape l.initial.rest)) ≡ less l.left (length (flat_map escape l.rest))
+
+abbrev pub decreases-loop-byte : goal.decreases-loop-byte
+decreases-loop-byte l = length l.rest
