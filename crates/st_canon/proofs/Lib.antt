@@ -1,4 +1,5 @@
 -- Private: what the answers of this crate cite.
+mod AsciiNames
 mod Compact
 mod Compared
 mod Converting
