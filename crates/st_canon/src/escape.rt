@@ -22,14 +22,25 @@ fn append_escaped(alloc: Global, out: &mut Bytes, bytes: &[u8]) -> Result<(), Wa
     ensures { OnOk result (out.new ≡ out.old ++ flat_map escape bytes.now) }
 {
     let (run, mut rest) = split_run(bytes);
-    out.push_all(alloc, run)?;
+    append_run(alloc, out, run)?;
     while let Some((byte, behind)) = rest.split_first() {
         let (run, after) = split_run(behind);
         append_byte(alloc, out, *byte)?;
-        out.push_all(alloc, run)?;
+        append_run(alloc, out, run)?;
         rest = after;
     }
     Ok(())
+}
+
+// Between two escapes there is often nothing.
+fn append_run(alloc: Global, out: &mut Bytes, run: &[u8]) -> Result<(), WantOfMemory>
+    ensures { OnOk result (out.new ≡ out.old ++ run.now) }
+{
+    if run.is_empty() {
+        Ok(())
+    } else {
+        out.push_all(alloc, run)
+    }
 }
 
 #[tactic(auto, unfolding(crate::specs::Canonical::escape))]

@@ -22,6 +22,9 @@ fn run_length(bytes: &[u8]) -> usize
     ensures within { result ≤ length bytes.now }
     ensures plain { PlainBetween bytes.now 0 result }
 {
+    if !bytes.is_empty() && !is_unescaped(bytes[0]) {
+        return 0;
+    }
     if bytes.len() < 16 {
         return short_run(bytes);
     }
