@@ -1,5 +1,10 @@
 mod files;
+mod late;
 mod observing;
 mod orders;
+mod seen;
+mod signed;
+mod signed_files;
 mod states;
+mod steps;
 mod waiting;

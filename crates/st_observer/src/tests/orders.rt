@@ -1,89 +1,85 @@
 //! The files of one entry in every order.
-use super::observing::{after, reported};
+use super::seen::{has_items, reports, wants};
+use super::steps::{after, then};
+use crate::Observer;
 use st_base::Work;
-use st_hash::read_hash;
 use std::test::Fail;
 
-// An entry with one operation of each kind, and its five files. Their URIs and the suffixes were
-// computed by another program.
-const ENTRY: &str = "+4.EiCb6kwOArFSToi3aWJeYzbWl3niUdUXxIaRUwt1qKD7yw";
+// The suffixes of the create, the recover, the deactivate and the update, computed by another program.
+const SUFFIXES: &str = "EiATdX8Q5MV_plJJmuNAF_0nOfwoAX70r-tP5eSOPf86vA
+EiDsORX1QuD4y2wYMvuwOJoBH-SLaoLjf3lA4nS_IwIHdg
+EiBbB6xA9TNJPIAK9uA8bOPqQ1mchWW_qMlXczcQgnkndg
+EiApNwE_IYGBBgayp5mwW9ooSfPjaaIJgqQTjw4KVZhM5A";
 
-const FILES: [&str; 5] = [
-    r#"{"coreProofFileUri":"EiBZq6hqGd_l3g56gvman46yC5_n2e2Ere_jEx9DkRLD4Q","operations":{"create":[{"suffixData":{"deltaHash":"EiC6eBa_jwHP6kFBQN5driIjsANho5YXepy0EP9h8gAVrQ","recoveryCommitment":"EiDjsMRCmPwcFJr79MiZb7kkJ65B5GSbk0yklZkbeFK4VQ"}}],"deactivate":[{"didSuffix":"EiBbB6xA9TNJPIAK9uA8bOPqQ1mchWW_qMlXczcQgnkndg","revealValue":"EiC6eBa_jwHP6kFBQN5driIjsANho5YXepy0EP9h8gAVrQ"}],"recover":[{"didSuffix":"EiDsORX1QuD4y2wYMvuwOJoBH-SLaoLjf3lA4nS_IwIHdg","revealValue":"EiC6eBa_jwHP6kFBQN5driIjsANho5YXepy0EP9h8gAVrQ"}]},"provisionalIndexFileUri":"EiC-1r3MBg_m09ggTCSpAMRWgHqttVDseB6RI0OpXB6aDg"}"#,
-    r#"{"operations":{"deactivate":[{"signedData":"y"}],"recover":[{"signedData":"x"}]}}"#,
-    r#"{"chunks":[{"chunkFileUri":"EiDF16zp_FbmanodV2G2qCreogrbYT8HlI1qrMK0lLpVoA"}],"operations":{"update":[{"didSuffix":"EiApNwE_IYGBBgayp5mwW9ooSfPjaaIJgqQTjw4KVZhM5A","revealValue":"EiC6eBa_jwHP6kFBQN5driIjsANho5YXepy0EP9h8gAVrQ"}]},"provisionalProofFileUri":"EiDuVY_SnH29ELeP6OxRbXleh9uunscGEYqbpjLipgcXag"}"#,
-    r#"{"operations":{"update":[{"signedData":"z"}]}}"#,
-    r#"{"deltas":[1,2,3]}"#,
-];
+// The hundred and twenty orders of the five files, listed by another program.
+const ORDERS: &str =
+    "A B C D E|A B C E D|A B D C E|A B D E C|A B E C D|A B E D C|A C B D E|A C B E D|A C D B E|A C D E B|
+A C E B D|A C E D B|A D B C E|A D B E C|A D C B E|A D C E B|A D E B C|A D E C B|A E B C D|A E B D C|
+A E C B D|A E C D B|A E D B C|A E D C B|B A C D E|B A C E D|B A D C E|B A D E C|B A E C D|B A E D C|
+B C A D E|B C A E D|B C D A E|B C D E A|B C E A D|B C E D A|B D A C E|B D A E C|B D C A E|B D C E A|
+B D E A C|B D E C A|B E A C D|B E A D C|B E C A D|B E C D A|B E D A C|B E D C A|C A B D E|C A B E D|
+C A D B E|C A D E B|C A E B D|C A E D B|C B A D E|C B A E D|C B D A E|C B D E A|C B E A D|C B E D A|
+C D A B E|C D A E B|C D B A E|C D B E A|C D E A B|C D E B A|C E A B D|C E A D B|C E B A D|C E B D A|
+C E D A B|C E D B A|D A B C E|D A B E C|D A C B E|D A C E B|D A E B C|D A E C B|D B A C E|D B A E C|
+D B C A E|D B C E A|D B E A C|D B E C A|D C A B E|D C A E B|D C B A E|D C B E A|D C E A B|D C E B A|
+D E A B C|D E A C B|D E B A C|D E B C A|D E C A B|D E C B A|E A B C D|E A B D C|E A C B D|E A C D B|
+E A D B C|E A D C B|E B A C D|E B A D C|E B C A D|E B C D A|E B D A C|E B D C A|E C A B D|E C A D B|
+E C B A D|E C B D A|E C D A B|E C D B A|E D A B C|E D A C B|E D B A C|E D B C A|E D C A B|E D C B A";
 
-// The suffixes of the create, the recover, the deactivate and the update.
-const SUFFIXES: [&str; 4] = [
-    "EiATdX8Q5MV_plJJmuNAF_0nOfwoAX70r-tP5eSOPf86vA",
-    "EiDsORX1QuD4y2wYMvuwOJoBH-SLaoLjf3lA4nS_IwIHdg",
-    "EiBbB6xA9TNJPIAK9uA8bOPqQ1mchWW_qMlXczcQgnkndg",
-    "EiApNwE_IYGBBgayp5mwW9ooSfPjaaIJgqQTjw4KVZhM5A",
-];
-
-// Whether after these steps all files are read, none is wanted, and each suffix has its operation.
-fn all_is_known(rt: &HostRuntime, steps: &[&str]) -> Result<bool, Fail> {
-    let alloc = rt.alloc();
-    let observer = after(alloc, steps, &mut Work::new(rt))?;
-    let words = reported(alloc, &observer, 0)?;
-    let wanted = observer.wanted(alloc)?.len();
-    for suffix in SUFFIXES {
-        let Ok(suffix) = read_hash(suffix.as_bytes()) else {
-            return Ok(false);
-        };
-        if observer.items(alloc, &suffix)?.len() != 1 {
-            return Ok(false);
+fn has_each(rt: &HostRuntime, observer: &Observer) -> bool {
+    for suffix in SUFFIXES.lines() {
+        if !has_items(rt.alloc(), observer, suffix, "1") {
+            return false;
         }
     }
-    Ok(words.as_str() == "read read read read read " && wanted == 0)
+    true
 }
 
-// The file with this number.
-fn file(number: usize) -> &'static str {
-    FILES[number % 5]
+// All files are read, none is wanted, and each suffix has its operation.
+fn knows_all(rt: &HostRuntime, observer: &Observer) -> bool {
+    reports(observer, 0, "read read read read read")
+        && wants(rt.alloc(), observer, "none")
+        && has_each(rt, observer)
 }
 
-// Whether these are five different numbers.
-fn is_order(order: [usize; 5]) -> bool {
-    let mut seen = [false; 5];
-    for number in order {
-        seen[number % 5] = true;
+// The files in this order, behind the entry.
+fn behind(rt: &HostRuntime, order: &str) -> Option<Observer> {
+    let mut work = Work::new(rt);
+    let observer = after(rt.alloc(), "+each", &mut work)?;
+    then(rt.alloc(), observer, order, &mut work)
+}
+
+fn is_known_behind(rt: &HostRuntime, order: &str) -> bool {
+    match behind(rt, order) {
+        Some(observer) => knows_all(rt, &observer),
+        None => false,
     }
-    seen == [true; 5]
 }
 
-// The files come in this order, behind the entry.
-fn come_so(rt: &HostRuntime, order: [usize; 5]) -> Result<bool, Fail> {
-    let [first, second, third, fourth, fifth] = order;
-    let steps = [
-        ENTRY,
-        file(first),
-        file(second),
-        file(third),
-        file(fourth),
-        file(fifth),
-    ];
-    all_is_known(rt, &steps)
-}
-
-fn come_in_every_order(rt: &HostRuntime) -> Result<bool, Fail> {
-    for n in 0..3125usize {
-        let order = [n % 5, n / 5 % 5, n / 25 % 5, n / 125 % 5, n / 625 % 5];
-        if is_order(order) && !come_so(rt, order)? {
-            return Ok(false);
+// The first order in which the files come otherwise.
+fn first_other(rt: &HostRuntime) -> Option<&'static str> {
+    for order in ORDERS.split('|') {
+        if !is_known_behind(rt, order) {
+            return Some(order);
         }
     }
-    Ok(true)
+    None
 }
 
-// In whatever order the files come, as where all are there before the entry, which is how it is defined.
+// Which is how it is defined.
+fn is_known_before(rt: &HostRuntime) -> bool {
+    match after(rt.alloc(), "A B C D E +each", &mut Work::new(rt)) {
+        Some(observer) => knows_all(rt, &observer),
+        None => false,
+    }
+}
+
+// In whatever order the files come, as where all are there before the entry.
 #[test]
 fn files_may_come_in_every_order(rt: HostRuntime) -> Result<(), Fail> {
-    let [core, proofs, provisional, updates, deltas] = FILES;
-    assert!(rt; all_is_known(&rt, &[core, proofs, provisional, updates, deltas, ENTRY])?);
-    assert!(rt; come_in_every_order(&rt)?);
-    Ok(())
+    assert!(rt; is_known_before(&rt));
+    match first_other(&rt) {
+        Some(order) => Err(Fail::from(order)),
+        None => Ok(()),
+    }
 }

@@ -1,7 +1,7 @@
 use crate::waiting::Waiting;
 use st_anchor::{RoleState, Rule};
 use st_base::WantOfMemory;
-use st_hash::{Hash, SHA_512, hash_text, hash_with, hash256};
+use st_hash::{Hash, SHA_512, hash_with, hash256, read_hash_at};
 use st_ledger::AnchorRule;
 use std::alloc::Global;
 use std::test::Fail;
@@ -14,6 +14,10 @@ const B: &str = "EiAbaxD8caPNHUZ7vvhcTFW8spj_oQRUGz3FsTgMJTK96Q";
 
 const C: &str = "EiA0DEN7KpqCqnY7X31XwDQsWE1NIaGXlizxR6Cv7rq0BQ";
 
+const D: &str =
+    "E0DdrzWhk2F6usxBc0muIEExEub6TompfqIKnu7mS1XTmiGSmSonT8GoNro8I6P-671FTUQjZDzoDiqayU-lTKSf";
+
+// The URI of a letter, as it is computed here.
 fn uri(letter: u8) -> Option<Hash> {
     match letter {
         b'a' => Some(hash256(b"file 238")),
@@ -24,15 +28,19 @@ fn uri(letter: u8) -> Option<Hash> {
     }
 }
 
-fn letter(text: &str) -> char {
-    if text == A {
-        'a'
-    } else if text == B {
-        'b'
-    } else if text == C {
-        'c'
-    } else {
-        'd'
+fn text(letter: &str) -> &'static str {
+    match letter {
+        "a" => A,
+        "b" => B,
+        "c" => C,
+        _ => D,
+    }
+}
+
+fn is_of(uri: &Hash, letter: &str) -> bool {
+    match read_hash_at(text(letter).as_bytes(), 2) {
+        Ok(read) => *uri == read,
+        Err(_) => false,
     }
 }
 
@@ -71,46 +79,89 @@ fn turned(
     Ok(waiting)
 }
 
-// The letter of each URI in turn, with the numbers of the entries that wait for its file.
-fn shown(alloc: Global, waiting: &Waiting) -> Result<String, Fail> {
-    let mut shown = String::new(alloc);
-    for uri in waiting.uris(alloc)?.as_slice() {
-        let text = hash_text(alloc, uri)?;
-        shown.push(' ')?;
-        shown.push(letter(text.as_str()))?;
-        for n in waiting.entries(alloc, uri)?.as_slice() {
-            shown.push(if *n == 1 { '1' } else { '2' })?;
-        }
-    }
-    Ok(shown)
+fn numeral(n: &u32) -> u8 {
+    if *n == 1 { b'1' } else { b'2' }
 }
 
-fn waits_so(alloc: Global, case: &str) -> Result<bool, Fail> {
-    let Some((roles, wanted)) = case.split_once('|') else {
-        return Ok(false);
+// Exactly the entries with these numbers wait for the file of this URI.
+fn wait_for(alloc: Global, waiting: &Waiting, uri: &Hash, numbers: &str) -> bool {
+    match waiting.entries(alloc, uri) {
+        Ok(entries) => entries.as_slice().iter().map(numeral).eq(numbers.bytes()),
+        Err(_) => false,
+    }
+}
+
+// The URI is that of the letter before the colon, and the entries behind it wait for its file.
+fn is_shown(alloc: Global, waiting: &Waiting, uri: &Hash, word: &str) -> bool {
+    match word.split_once(':') {
+        Some((letter, numbers)) => { is_of(uri, letter) && wait_for(alloc, waiting, uri, numbers) }
+        None => false,
+    }
+}
+
+// The URIs are these in turn.
+fn are_shown(alloc: Global, waiting: &Waiting, uris: &[Hash], words: &str) -> bool {
+    let mut words = words.split_whitespace();
+    for uri in uris {
+        match words.next() {
+            Some(word) => {
+                if !is_shown(alloc, waiting, uri, word) {
+                    return false;
+                }
+            }
+            None => return false,
+        }
+    }
+    words.next().is_none()
+}
+
+fn shows(alloc: Global, waiting: &Waiting, words: &str) -> bool {
+    match waiting.uris(alloc) {
+        Ok(uris) => are_shown(alloc, waiting, uris.as_slice(), words),
+        Err(_) => false,
+    }
+}
+
+fn waits_so(alloc: Global, case: &str) -> bool {
+    let Some((roles, words)) = case.split_once('|') else {
+        return false;
     };
     let Some((first, roles)) = roles.split_once(' ') else {
-        return Ok(false);
+        return false;
     };
     let Some((second, third)) = roles.split_once(' ') else {
-        return Ok(false);
+        return false;
     };
-    let waiting = turned(alloc, &states(first), &states(second), &states(third))?;
-    let shown = shown(alloc, &waiting)?;
-    Ok(shown.as_str() == wanted)
+    match turned(alloc, &states(first), &states(second), &states(third)) {
+        Ok(waiting) => shows(alloc, &waiting, words),
+        Err(_) => false,
+    }
+}
+
+// The roles of the first entry, of the second, and of the first again; then each URI in turn, with the
+// entries that wait for its file.
+const CASES: &str = "a.... ..... a....|a:1
+a.... b.... rc...|c:1 b:2
+abcd. d.... rabcd|d:12 c:1 a:1 b:1
+ab.cx c.... r.bb.|c:2 b:1
+b.a.. a.b.. .....|a:2 b:2
+aaaaa a.... r....|a:2
+..... ..... xrrrr|";
+
+// The first case in which they wait otherwise.
+fn first_other(alloc: Global) -> Option<&'static str> {
+    for case in CASES.lines() {
+        if !waits_so(alloc, case) {
+            return Some(case);
+        }
+    }
+    None
 }
 
 #[test]
 fn entries_wait_for_the_files_that_their_roles_miss(rt: HostRuntime) -> Result<(), Fail> {
-    let cases = "a.... ..... a....| a1
-a.... b.... rc...| c1 b2
-abcd. d.... rabcd| d12 c1 a1 b1
-ab.cx c.... r.bb.| c2 b1
-b.a.. a.b.. .....| a2 b2
-aaaaa a.... r....| a2
-..... ..... xrrrr|";
-    for case in cases.lines() {
-        assert!(rt; waits_so(rt.alloc(), case)?, "{case}");
+    match first_other(rt.alloc()) {
+        Some(case) => Err(Fail::from(case)),
+        None => Ok(()),
     }
-    Ok(())
 }
