@@ -127,8 +127,9 @@ fn on_update(
     match counted_delta(alloc, params, delta_hash, delta)? {
         None => Ok(None),
         Some(delta) => {
-            let document = changed_document(alloc, params, &active.document, &delta)?;
-            Ok(Some(DidState::active(active.recovery, Some(delta.update), document)))
+            let update = delta.update;
+            let document = changed_document(alloc, params, &active.document, delta)?;
+            Ok(Some(DidState::active(active.recovery, Some(update), document)))
         }
     }
 }
@@ -148,8 +149,9 @@ fn begin(
     match counted_delta(alloc, params, delta_hash, delta)? {
         None => Ok(DidState::active(*recovery, None, empty)),
         Some(delta) => {
-            let document = changed_document(alloc, params, &empty, &delta)?;
-            Ok(DidState::active(*recovery, Some(delta.update), document))
+            let update = delta.update;
+            let document = changed_document(alloc, params, &empty, delta)?;
+            Ok(DidState::active(*recovery, Some(update), document))
         }
     }
 }

@@ -44,10 +44,10 @@ pub(crate) fn changed_document(
     alloc: Global,
     params: &Params,
     document: &Shared<Document>,
-    delta: &Delta,
+    delta: Delta,
 ) -> Result<Shared<Document>, WantOfMemory>
     ensures { IfOk result (λ after. plain_document after
-        ≡ changed (plain_document document.now) (change_by params.now (plain_delta delta.now))) }
+        ≡ changed (plain_document document.now) (change_by params.now (plain_delta delta))) }
 {
     match apply_all(alloc, document.get(), delta, params) {
         Ok(after) => Shared::new(alloc, after),

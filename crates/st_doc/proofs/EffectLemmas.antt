@@ -1,10 +1,12 @@
 -- Lists of entries that are filtered, or changed one after another.
-use Rattle.std.proofs.Common.{◌≡◌, ℕ, zero, suc, ◌+◌, ◌<◌, Bool, true, false, cond, List, [], ◌∷◌, ◌++◌, length, take, drop, set, get_or, map, filter, refl, ap, sym, ◌∙◌, add-one, arith}
+use Rattle.std.proofs.Common.{◌≡◌, ℕ, zero, suc, ◌+◌, ◌<◌, nat_eq, Bool, true, false, cond, List, [], ◌∷◌, ◌++◌, length, take, drop, set, get_or, map, filter, refl, ap, sym, ◌∙◌, add-one, arith}
+use Rattle.std.proofs.lemmas.Bool.Decides.{nat_tests}
 use Rattle.std.proofs.lemmas.List.{map-set, take-map, drop-map, length-map}
 use Rattle.std.proofs.Math.ListN.{get_or-map as get_or-plain}
 use Rattle.st_canon.specs.Plain.{Plain}
 use Rattle.st_canon.specs.View.{plain}
 use Rattle.st_canon.specs.declared.value.Json.{Json}
+use Rattle.st_doc.specs.Effects.{added}
 
 -- the plain values of those that are kept are the plain values that are kept
 pub filter-plain : (keep : Plain → Bool) (values : List Json)
@@ -16,6 +18,17 @@ filter-plain keep (value ∷ values) =
       | true ↦ ap (λ rest. plain value ∷ rest) (filter-plain keep values)
       | false ↦ filter-plain keep values
     ]
+
+-- what all are kept of
+all_kept : (values : List Plain) → filter (λ value. true) values ≡ values
+all_kept [] = refl
+all_kept (value ∷ values) = ap (λ rest. value ∷ rest) (all_kept values)
+
+-- what is added to no entries stands alone
+pub added_to_none : (new : List Plain) (entries : List Json) → nat_eq (length entries) 0 ≡ true → new ≡ added new (map plain entries)
+unfolding added
+added_to_none new [] none = sym (all_kept new)
+added_to_none new (entry ∷ entries) none = absurd (grind (arith, nat_tests))
 
 -- the first not yet changed is what stood there at the start
 seam : (change : Plain → Plain) (start : List Plain) (at : ℕ) (none : Plain) → at < length start

@@ -20,25 +20,29 @@ use st_jsonpatch::{Step, StepsRefused, apply_steps};
 use st_params::Params;
 use std::alloc::Global;
 
-/// The document after the patches of the delta.
+/// The document after the patches of the delta, which it takes over: a document that replaces another,
+/// and entries that are added where there were none, are moved and not copied.
 ///
 /// `PatchFailed(i)` comes exactly where patch `i`, counted from 0, is the first that fails: where its
 /// result is no document at these parameters, or a step of it fails.
 pub fn apply_all(
     alloc: Global,
     document: &Document,
-    delta: &Delta,
+    delta: Delta,
     params: &Params,
 ) -> Result<Document, PatchRefused>
-    ensures { let says = patched params.now 0 (map plain_patch delta.now.patches) (plain_document document.now) in
+    ensures { let says = patched params.now 0 (map plain_patch delta.patches) (plain_document document.now) in
         GivesAs plain_document blamed says result }
 {
+    let Delta { patches, update: _ } = delta;
     let mut now = document.copy(alloc)?;
-    for (at, patch) in delta.patches.as_slice().iter().enumerate() {
+    let mut at = 0;
+    'patches: for patch in patches.into_vec() {
         match apply(alloc, now, patch, params)? {
             Some(next) => now = next,
             None => return Err(PatchRefused::PatchFailed(at)),
         }
+        at += 1;
     }
     Ok(now)
 }
@@ -47,14 +51,14 @@ pub fn apply_all(
 fn apply(
     alloc: Global,
     document: Document,
-    patch: &Patch,
+    patch: Patch,
     params: &Params,
 ) -> Result<Option<Document>, WantOfMemory>
-    ensures { IfOk result (λ next. option_map plain_document next ≡ after_patch params.now (plain_patch patch.now) (plain_document document)) }
+    ensures { IfOk result (λ next. option_map plain_document next ≡ after_patch params.now (plain_patch patch) (plain_document document)) }
 {
     match patch {
         Patch::AddKeys(keys) => {
-            let next = with_keys(alloc, document, keys.as_slice())?;
+            let next = with_keys(alloc, document, keys)?;
             if_document(alloc, next, params)
         }
         Patch::RemoveKeys(ids) => if_document(
@@ -63,16 +67,13 @@ fn apply(
             params,
         ),
         Patch::AddServices(services) => {
-            let next = with_services(alloc, document, services.as_slice())?;
+            let next = with_services(alloc, document, services)?;
             if_document(alloc, next, params)
         }
         Patch::RemoveServices(ids) => {
             if_document(alloc, without_services(document, ids.as_slice()), params)
         }
-        Patch::Replace(new) => {
-            let next = new.copy(alloc)?;
-            if_document(alloc, next, params)
-        }
+        Patch::Replace(new) => if_document(alloc, new, params),
         Patch::Steps(steps) => after_steps(alloc, document, steps.as_slice(), params),
         Patch::AddNames(names) => {
             let next = with_names(alloc, document, names.as_slice())?;

@@ -5,17 +5,17 @@ ghost use Rattle.st_doc.specs.Effects.{added, added_names, removed, removed_name
 
 use crate::document::Document;
 use crate::effects::{add_entries, add_names, remove_entries, remove_names};
-use st_base::{Text, WantOfMemory};
+use st_base::{List, Text, WantOfMemory};
 use st_canon::Json;
 use std::alloc::Global;
 
 pub(crate) fn with_keys(
     alloc: Global,
     document: Document,
-    new: &[Json],
+    new: List<Json>,
 ) -> Result<Document, WantOfMemory>
     ensures { IfOk result (λ next. plain_document next
-        ≡ (let old = plain_document document in record old { keys = added (map plain new.now) old.keys })) }
+        ≡ (let old = plain_document document in record old { keys = added (map plain new) old.keys })) }
 {
     let Document {
         keys,
@@ -48,10 +48,10 @@ pub(crate) fn without_keys(document: Document, ids: &[Text]) -> Document
 pub(crate) fn with_services(
     alloc: Global,
     document: Document,
-    new: &[Json],
+    new: List<Json>,
 ) -> Result<Document, WantOfMemory>
     ensures { IfOk result (λ next. plain_document next
-        ≡ (let old = plain_document document in record old { services = added (map plain new.now) old.services })) }
+        ≡ (let old = plain_document document in record old { services = added (map plain new) old.services })) }
 {
     let Document {
         keys,

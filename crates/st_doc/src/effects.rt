@@ -10,13 +10,24 @@ use st_base::{Copied, List, Text, WantOfMemory};
 use st_canon::Json;
 use std::alloc::Global;
 
-/// Each new entry replaces the entry of its id in its place, else goes last.
-#[tactic(auto, unfolding(crate::specs::Effects::added))]
+/// Each new entry replaces the entry of its id in its place, else goes last. Where there are no entries
+/// yet, the new ones are moved and not copied.
 pub(crate) fn add_entries(
     alloc: Global,
     entries: List<Json>,
-    new: &[Json],
+    new: List<Json>,
 ) -> Result<List<Json>, WantOfMemory>
+    ensures { IfOk result (λ all. map plain all ≡ added (map plain new) (map plain entries)) }
+{
+    if entries.as_slice().is_empty() {
+        return Ok(new);
+    }
+    add_copies(alloc, entries, new.as_slice())
+}
+
+// The same with copies of the new entries.
+#[tactic(auto, unfolding(crate::specs::Effects::added))]
+fn add_copies(alloc: Global, entries: List<Json>, new: &[Json]) -> Result<List<Json>, WantOfMemory>
     ensures { IfOk result (λ all. map plain all ≡ added (map plain new.now) (map plain entries)) }
 {
     let mut others = others(alloc, entries.as_slice(), new)?;

@@ -1,4 +1,4 @@
-ghost use Rattle.std.specs.Prelude.{◌≡◌, map, IfOk};
+ghost use Rattle.std.specs.Prelude.{◌≡◌, ◌+◌, ◌<◌, drop, length, map, IfOk};
 ghost use Rattle.std.specs.BTreeSet.{IsFromIterResult};
 ghost use Rattle.st_canon.specs.View.{plain};
 ghost use Rattle.st_doc.specs.Alike.{is_among, none_twice};
@@ -8,6 +8,10 @@ use st_base::{Text, WantOfMemory};
 use st_canon::Json;
 use std::alloc::{AllocError, Global};
 use std::collections::BTreeSet;
+
+// From so many texts on, a set tells whether one stands twice. Fewer are compared with one another,
+// which takes no memory.
+const MANY: usize = 8;
 
 /// The id of a key or a service; of what has none, the empty text.
 pub(crate) fn id_of(entry: &Json) -> &str
@@ -47,6 +51,9 @@ pub(crate) fn has_id(entries: &[Json], id: &str) -> bool
 pub(crate) fn ids_stand_once(alloc: Global, entries: &[Json]) -> Result<bool, WantOfMemory>
     ensures { IfOk result (λ once. once ≡ none_twice (map id_of (map plain entries.now))) }
 {
+    if entries.len() < MANY {
+        return Ok(few_ids_stand_once(entries));
+    }
     let ids = ids_of(alloc, entries)?;
     none_twice(alloc, ids.as_slice())
 }
@@ -55,8 +62,41 @@ pub(crate) fn ids_stand_once(alloc: Global, entries: &[Json]) -> Result<bool, Wa
 pub(crate) fn texts_stand_once(alloc: Global, texts: &[Text]) -> Result<bool, WantOfMemory>
     ensures { IfOk result (λ once. once ≡ none_twice texts.now) }
 {
+    if texts.len() < MANY {
+        return Ok(few_texts_stand_once(texts));
+    }
     let texts = strs_of(alloc, texts)?;
     none_twice(alloc, texts.as_slice())
+}
+
+fn few_ids_stand_once(entries: &[Json]) -> bool
+    ensures { result ≡ none_twice (map id_of (map plain entries.now)) }
+{
+    for (at, entry) in entries.iter().enumerate() {
+        if has_id(behind(entries, at), id_of(entry)) {
+            return false;
+        }
+    }
+    true
+}
+
+fn few_texts_stand_once(texts: &[Text]) -> bool
+    ensures { result ≡ none_twice texts.now }
+{
+    for (at, text) in texts.iter().enumerate() {
+        if is_among(behind(texts, at), text.as_str()) {
+            return false;
+        }
+    }
+    true
+}
+
+// The items behind this place.
+fn behind<T>(items: &[T], at: usize) -> &[T]
+    requires { at < length items.now }
+    ensures { result.now ≡ drop (at + 1) items.now }
+{
+    &items[at + 1..]
 }
 
 fn ids_of<'a>(alloc: Global, entries: &'a [Json]) -> Result<Vec<&'a str>, WantOfMemory>

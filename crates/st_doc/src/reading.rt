@@ -101,12 +101,13 @@ pub(crate) fn are_texts(values: &[Json]) -> bool
     true
 }
 
+/// Copies of the values. There is room for these alone, since a document may keep the list for long.
 pub(crate) fn copies(alloc: Global, values: &[Json]) -> Result<List<Json>, WantOfMemory>
     ensures { IfOk result (λ copies. copies ≡ values.now) }
 {
-    let mut copies = List::new(alloc);
+    let mut copies = Vec::with_capacity(alloc, values.len())?;
     for value in values {
-        copies.push(alloc, value.copy(alloc)?)?;
+        copies.push(value.copy(alloc)?)?;
     }
-    Ok(copies)
+    Ok(List::from_vec(copies))
 }
