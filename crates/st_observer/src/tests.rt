@@ -1,5 +1,4 @@
 mod files;
-mod late;
 mod observing;
 mod orders;
 mod seen;
@@ -7,4 +6,5 @@ mod signed;
 mod signed_files;
 mod states;
 mod steps;
+mod stories;
 mod waiting;

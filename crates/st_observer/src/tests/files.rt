@@ -1,17 +1,28 @@
-//! Files of entries, and the anchor strings that name them. Their URIs, and the suffix, were computed by
+//! Files of entries, and the anchor strings that name them. Their URIs, and the suffixes, were computed by
 //! another program.
 
-// The suffix of each create here.
-pub(super) const SUFFIX: &str = "EiATdX8Q5MV_plJJmuNAF_0nOfwoAX70r-tP5eSOPf86vA";
+// Suffixes by their names: those of the create, the recover, the deactivate and the update of one entry are
+// a to d, and a is that of every other create here. The last is that of the signed operations.
+pub(super) const SUFFIXES: &str = "a EiATdX8Q5MV_plJJmuNAF_0nOfwoAX70r-tP5eSOPf86vA
+b EiDsORX1QuD4y2wYMvuwOJoBH-SLaoLjf3lA4nS_IwIHdg
+c EiBbB6xA9TNJPIAK9uA8bOPqQ1mchWW_qMlXczcQgnkndg
+d EiApNwE_IYGBBgayp5mwW9ooSfPjaaIJgqQTjw4KVZhM5A
+signed EiD-zxDVK2hIFNpYmFI4XfycZg9p9lTgzP_7KzgnFe7F_Q";
 
 // Entries, each with its height and its anchor string: of a create; of an update of the suffix by a core
 // index file alone, and by one with the create beside it; of the create with a chunk file, whose delta does
-// not count; of an update whose signed text can't be opened; of one operation of each kind.
+// not count; of an update whose signed text can't be opened; of the core index file `{}`, with several
+// counts, and of no file; of one operation of each kind.
 pub(super) const ENTRIES: &str = "created 5 1.EiA10dvb-_d3kAW7ki4Rzo6ZaD84v2bZZ4O2fJ21bh1ChA
 alone 5 1.EiCsir62ZDH0aqKUHQ01Ma8lTAFhXsAV0ua-pqMudFd96Q
 beside 5 2.EiDKeYorqm9yliypMRptbi4Fm-jQPsUx43Y34Oh3zkJE4A
 begun 5 1.EiCVeqHqnr7f7zXPF1C9ceh-9vyVhY0q8iekTrXnXstd6w
 next 5 1.EiBd6rNvUO3CJbOAvAsFtgoQ2kmdgrDfK4hCuaBkPQeMrA
+none 5 0.EiBEE2-jVbNnihFGrRb36GSelPtPwh_nfoMQwGD2HKr_ig
+padded 5 01.EiBEE2-jVbNnihFGrRb36GSelPtPwh_nfoMQwGD2HKr_ig
+thousand 5 1000.EiBEE2-jVbNnihFGrRb36GSelPtPwh_nfoMQwGD2HKr_ig
+above 5 1001.EiBEE2-jVbNnihFGrRb36GSelPtPwh_nfoMQwGD2HKr_ig
+short 5 1.x
 each 5 4.EiCb6kwOArFSToi3aWJeYzbWl3niUdUXxIaRUwt1qKD7yw";
 
 // Files by their names. Those of an entry with one operation of each kind are A to E.

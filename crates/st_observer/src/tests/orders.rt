@@ -1,84 +1,139 @@
 //! The files of one entry in every order.
-use super::seen::{has_items, reports, wants};
-use super::steps::{after, then};
-use crate::Observer;
-use st_base::Work;
+use super::stories::first_other_under;
 use std::test::Fail;
 
-// The suffixes of the create, the recover, the deactivate and the update, computed by another program.
-const SUFFIXES: &str = "EiATdX8Q5MV_plJJmuNAF_0nOfwoAX70r-tP5eSOPf86vA
-EiDsORX1QuD4y2wYMvuwOJoBH-SLaoLjf3lA4nS_IwIHdg
-EiBbB6xA9TNJPIAK9uA8bOPqQ1mchWW_qMlXczcQgnkndg
-EiApNwE_IYGBBgayp5mwW9ooSfPjaaIJgqQTjw4KVZhM5A";
-
-// The hundred and twenty orders of the five files, listed by another program.
-const ORDERS: &str =
-    "A B C D E|A B C E D|A B D C E|A B D E C|A B E C D|A B E D C|A C B D E|A C B E D|A C D B E|A C D E B|
-A C E B D|A C E D B|A D B C E|A D B E C|A D C B E|A D C E B|A D E B C|A D E C B|A E B C D|A E B D C|
-A E C B D|A E C D B|A E D B C|A E D C B|B A C D E|B A C E D|B A D C E|B A D E C|B A E C D|B A E D C|
-B C A D E|B C A E D|B C D A E|B C D E A|B C E A D|B C E D A|B D A C E|B D A E C|B D C A E|B D C E A|
-B D E A C|B D E C A|B E A C D|B E A D C|B E C A D|B E C D A|B E D A C|B E D C A|C A B D E|C A B E D|
-C A D B E|C A D E B|C A E B D|C A E D B|C B A D E|C B A E D|C B D A E|C B D E A|C B E A D|C B E D A|
-C D A B E|C D A E B|C D B A E|C D B E A|C D E A B|C D E B A|C E A B D|C E A D B|C E B A D|C E B D A|
-C E D A B|C E D B A|D A B C E|D A B E C|D A C B E|D A C E B|D A E B C|D A E C B|D B A C E|D B A E C|
-D B C A E|D B C E A|D B E A C|D B E C A|D C A B E|D C A E B|D C B A E|D C B E A|D C E A B|D C E B A|
-D E A B C|D E A C B|D E B A C|D E B C A|D E C A B|D E C B A|E A B C D|E A B D C|E A C B D|E A C D B|
-E A D B C|E A D C B|E B A C D|E B A D C|E B C A D|E B C D A|E B D A C|E B D C A|E C A B D|E C A D B|
-E C B A D|E C B D A|E C D A B|E C D B A|E D A B C|E D A C B|E D B A C|E D B C A|E D C A B|E D C B A";
-
-fn has_each(rt: &HostRuntime, observer: &Observer) -> bool {
-    for suffix in SUFFIXES.lines() {
-        if !has_items(rt.alloc(), observer, suffix, "1") {
-            return false;
-        }
-    }
-    true
-}
+// The entry behind its five files, and then before them in each of their hundred and twenty orders, which
+// another program listed.
+const ORDERS: &str = "new A B C D E +each
+new +each A B C D E
+new +each A B C E D
+new +each A B D C E
+new +each A B D E C
+new +each A B E C D
+new +each A B E D C
+new +each A C B D E
+new +each A C B E D
+new +each A C D B E
+new +each A C D E B
+new +each A C E B D
+new +each A C E D B
+new +each A D B C E
+new +each A D B E C
+new +each A D C B E
+new +each A D C E B
+new +each A D E B C
+new +each A D E C B
+new +each A E B C D
+new +each A E B D C
+new +each A E C B D
+new +each A E C D B
+new +each A E D B C
+new +each A E D C B
+new +each B A C D E
+new +each B A C E D
+new +each B A D C E
+new +each B A D E C
+new +each B A E C D
+new +each B A E D C
+new +each B C A D E
+new +each B C A E D
+new +each B C D A E
+new +each B C D E A
+new +each B C E A D
+new +each B C E D A
+new +each B D A C E
+new +each B D A E C
+new +each B D C A E
+new +each B D C E A
+new +each B D E A C
+new +each B D E C A
+new +each B E A C D
+new +each B E A D C
+new +each B E C A D
+new +each B E C D A
+new +each B E D A C
+new +each B E D C A
+new +each C A B D E
+new +each C A B E D
+new +each C A D B E
+new +each C A D E B
+new +each C A E B D
+new +each C A E D B
+new +each C B A D E
+new +each C B A E D
+new +each C B D A E
+new +each C B D E A
+new +each C B E A D
+new +each C B E D A
+new +each C D A B E
+new +each C D A E B
+new +each C D B A E
+new +each C D B E A
+new +each C D E A B
+new +each C D E B A
+new +each C E A B D
+new +each C E A D B
+new +each C E B A D
+new +each C E B D A
+new +each C E D A B
+new +each C E D B A
+new +each D A B C E
+new +each D A B E C
+new +each D A C B E
+new +each D A C E B
+new +each D A E B C
+new +each D A E C B
+new +each D B A C E
+new +each D B A E C
+new +each D B C A E
+new +each D B C E A
+new +each D B E A C
+new +each D B E C A
+new +each D C A B E
+new +each D C A E B
+new +each D C B A E
+new +each D C B E A
+new +each D C E A B
+new +each D C E B A
+new +each D E A B C
+new +each D E A C B
+new +each D E B A C
+new +each D E B C A
+new +each D E C A B
+new +each D E C B A
+new +each E A B C D
+new +each E A B D C
+new +each E A C B D
+new +each E A C D B
+new +each E A D B C
+new +each E A D C B
+new +each E B A C D
+new +each E B A D C
+new +each E B C A D
+new +each E B C D A
+new +each E B D A C
+new +each E B D C A
+new +each E C A B D
+new +each E C A D B
+new +each E C B A D
+new +each E C B D A
+new +each E C D A B
+new +each E C D B A
+new +each E D A B C
+new +each E D A C B
+new +each E D B A C
+new +each E D B C A
+new +each E D C A B
+new +each E D C B A";
 
 // All files are read, none is wanted, and each suffix has its operation.
-fn knows_all(rt: &HostRuntime, observer: &Observer) -> bool {
-    reports(observer, 0, "read read read read read")
-        && wants(rt.alloc(), observer, "none")
-        && has_each(rt, observer)
-}
+const KNOWN: &str =
+    "entry 0 read read read read read|wanted none|operations a 1|operations b 1|operations c 1|operations d 1";
 
-// The files in this order, behind the entry.
-fn behind(rt: &HostRuntime, order: &str) -> Option<Observer> {
-    let mut work = Work::new(rt);
-    let observer = after(rt.alloc(), "+each", &mut work)?;
-    then(rt.alloc(), observer, order, &mut work)
-}
-
-fn is_known_behind(rt: &HostRuntime, order: &str) -> bool {
-    match behind(rt, order) {
-        Some(observer) => knows_all(rt, &observer),
-        None => false,
-    }
-}
-
-// The first order in which the files come otherwise.
-fn first_other(rt: &HostRuntime) -> Option<&'static str> {
-    for order in ORDERS.split('|') {
-        if !is_known_behind(rt, order) {
-            return Some(order);
-        }
-    }
-    None
-}
-
-// Which is how it is defined.
-fn is_known_before(rt: &HostRuntime) -> bool {
-    match after(rt.alloc(), "A B C D E +each", &mut Work::new(rt)) {
-        Some(observer) => knows_all(rt, &observer),
-        None => false,
-    }
-}
-
-// In whatever order the files come, as where all are there before the entry.
+// In whatever order the files come, as where all are there before the entry, which is how it is defined.
 #[test]
 fn files_may_come_in_every_order(rt: HostRuntime) -> Result<(), Fail> {
-    assert!(rt; is_known_before(&rt));
-    match first_other(&rt) {
+    match first_other_under(&rt, ORDERS, KNOWN) {
         Some(order) => Err(Fail::from(order)),
         None => Ok(()),
     }

@@ -1,4 +1,6 @@
-//! What is seen of an observer.
+//! What is seen of an observer, by words.
+use super::files::SUFFIXES;
+use super::steps::found;
 use crate::Observer;
 use st_anchor::RoleState;
 use st_apply::{DidState, StateParts};
@@ -17,22 +19,43 @@ fn word(state: &RoleState) -> &str {
     }
 }
 
-// Whether it stands so with the roles of an entry, in words; no words mean that there is no entry.
-pub(super) fn reports(observer: &Observer, n: u32, words: &str) -> bool {
+// Whether it stands so with the roles of an entry, or `none`: there is no entry.
+fn reports(observer: &Observer, n: u32, words: &str) -> bool {
     match observer.report(n) {
         Some(states) => states.iter().map(word).eq(words.split(' ')),
-        None => words.is_empty(),
+        None => words == "none",
     }
 }
 
-fn is_active(state: &DidState) -> bool {
-    matches!(state.parts(), StateParts::Active { .. })
+fn reports_so(observer: &Observer, number_and_words: &str) -> bool {
+    let Some((number, words)) = number_and_words.split_once(' ') else {
+        return false;
+    };
+    match read_number(number.as_bytes(), 1_000) {
+        Some(n) => reports(observer, n, words),
+        None => false,
+    }
 }
 
-pub(super) fn has_active(observer: &Observer, suffix: &str) -> bool {
-    match read_hash(suffix.as_bytes()) {
-        Ok(suffix) => is_active(observer.state(&suffix)),
-        Err(_) => false,
+// The suffix of a name.
+fn suffix(name: &str) -> Option<Hash> {
+    match found(SUFFIXES, name) {
+        Some(text) => read_hash(text.as_bytes()).ok(),
+        None => None,
+    }
+}
+
+fn has_active(observer: &Observer, name: &str) -> bool {
+    match suffix(name) {
+        Some(suffix) => matches!(observer.state(&suffix).parts(), StateParts::Active { .. }),
+        None => false,
+    }
+}
+
+fn has_absent(observer: &Observer, name: &str) -> bool {
+    match suffix(name) {
+        Some(suffix) => matches!(observer.state(&suffix).parts(), StateParts::Absent),
+        None => false,
     }
 }
 
@@ -51,10 +74,17 @@ fn counts(alloc: Global, observer: &Observer, suffix: &Hash, many: &str) -> bool
 }
 
 // Whether a suffix has so many operations.
-pub(super) fn has_items(alloc: Global, observer: &Observer, suffix: &str, many: &str) -> bool {
-    match read_hash(suffix.as_bytes()) {
-        Ok(suffix) => counts(alloc, observer, &suffix, many),
-        Err(_) => false,
+fn has_items(alloc: Global, observer: &Observer, name: &str, many: &str) -> bool {
+    match suffix(name) {
+        Some(suffix) => counts(alloc, observer, &suffix, many),
+        None => false,
+    }
+}
+
+fn has_so_many(alloc: Global, observer: &Observer, name_and_number: &str) -> bool {
+    match name_and_number.split_once(' ') {
+        Some((name, many)) => has_items(alloc, observer, name, many),
+        None => false,
     }
 }
 
@@ -73,7 +103,7 @@ fn is_only(uris: &[Hash], text: &str) -> bool {
 }
 
 // Whether the file of this URI alone is wanted, or none.
-pub(super) fn wants(alloc: Global, observer: &Observer, uri: &str) -> bool {
+fn wants(alloc: Global, observer: &Observer, uri: &str) -> bool {
     match observer.wanted(alloc) {
         Ok(uris) => is_only(uris.as_slice(), uri),
         Err(_) => false,
@@ -99,9 +129,47 @@ fn serves_in(state: &DidState, ids: &str) -> bool {
 }
 
 // Whether the document of a suffix has exactly these services in this order.
-pub(super) fn serves(observer: &Observer, suffix: &str, ids: &str) -> bool {
-    match read_hash(suffix.as_bytes()) {
-        Ok(suffix) => serves_in(observer.state(&suffix), ids),
-        Err(_) => false,
+fn serves(observer: &Observer, name_and_ids: &str) -> bool {
+    let Some((name, ids)) = name_and_ids.split_once(' ') else {
+        return false;
+    };
+    match suffix(name) {
+        Some(suffix) => serves_in(observer.state(&suffix), ids),
+        None => false,
     }
+}
+
+// Whether at most so many operations were applied.
+fn is_within(applied: u64, most: &str) -> bool {
+    match read_number(most.as_bytes(), 1_000) {
+        Some(most) => applied <= most as u64,
+        None => false,
+    }
+}
+
+// Whether this is seen where the steps before it applied so many operations.
+fn is_seen(alloc: Global, observer: &Observer, applied: u64, look: &str) -> bool {
+    let Some((what, rest)) = look.split_once(' ') else {
+        return false;
+    };
+    match what {
+        "entry" => reports_so(observer, rest),
+        "active" => has_active(observer, rest),
+        "absent" => has_absent(observer, rest),
+        "operations" => has_so_many(alloc, observer, rest),
+        "wanted" => wants(alloc, observer, rest),
+        "services" => serves(observer, rest),
+        "applied" => is_within(applied, rest),
+        _ => false,
+    }
+}
+
+// Whether all of these are seen, which stand between bars.
+pub(super) fn are_seen(alloc: Global, observer: &Observer, applied: u64, looks: &str) -> bool {
+    for look in looks.split('|') {
+        if !is_seen(alloc, observer, applied, look) {
+            return false;
+        }
+    }
+    true
 }

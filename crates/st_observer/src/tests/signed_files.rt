@@ -2,9 +2,6 @@
 //! reveal the create's recovery key, each with a service of its own. A Python program made each text here,
 //! with LMS keys of types 4 and 5.
 
-// The suffix of the create.
-pub(super) const SIGNED_SUFFIX: &str = "EiD-zxDVK2hIFNpYmFI4XfycZg9p9lTgzP_7KzgnFe7F_Q";
-
 // Entries, each with its height and its anchor string.
 pub(super) const SIGNED_ENTRIES: &str = "begin 5 1.EiB7VK45S5RbO3OfgHfmIaje04bYC-F644o-sxaLO7D-2Q
 add1 5 1.EiB-Ir6QBa2XxLPvQsg_518uIjZNhwFNzaN3H4mnbZl2_Q

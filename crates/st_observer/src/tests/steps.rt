@@ -1,5 +1,5 @@
-//! Steps by words: `+NAME` appends the entry of a name, `-N` keeps the first N entries alone, and at a name
-//! alone its file comes.
+//! Steps by words: at `new` nothing has come, `+NAME` appends the entry of a name, `-N` keeps the first N
+//! entries alone, and at another name its file comes.
 use super::files::{ENTRIES, FILES};
 use super::signed_files::{SIGNED_ENTRIES, SIGNED_FILES};
 use crate::Observer;
@@ -8,7 +8,7 @@ use st_params::Schedule;
 use std::alloc::Global;
 
 // What stands behind a name in a table.
-fn found(table: &'static str, name: &str) -> Option<&'static str> {
+pub(super) fn found(table: &'static str, name: &str) -> Option<&'static str> {
     for line in table.lines() {
         if let Some((named, text)) = line.split_once(' ')
             && named == name
@@ -33,57 +33,90 @@ fn entry(name: &str) -> Option<&'static str> {
     }
 }
 
-// Appends an entry of this height and text.
-pub(super) fn appended(
+fn is_known(step: &str) -> bool {
+    match step.strip_prefix('+') {
+        Some(name) => entry(name).is_some(),
+        None => step == "new" || step.starts_with('-') || file(step).is_some(),
+    }
+}
+
+// Whether each of these steps is one.
+pub(super) fn are_known(steps: &str) -> bool {
+    for step in steps.split_whitespace() {
+        if !is_known(step) {
+            return false;
+        }
+    }
+    true
+}
+
+fn bytes_of(alloc: Global, text: Option<&'static str>) -> Option<Bytes> {
+    Bytes::from_slice(alloc, text?.as_bytes()).ok()
+}
+
+// The height and the anchor string of an entry.
+fn entry_of(alloc: Global, name: &str) -> Option<(u32, Bytes)> {
+    let (height, text) = entry(name)?.split_once(' ')?;
+    let height = read_number(height.as_bytes(), 1_000)?;
+    let text = bytes_of(alloc, Some(text))?;
+    Some((height, text))
+}
+
+fn push(
     alloc: Global,
     observer: Observer,
     height: u32,
-    text: &str,
+    text: Bytes,
     work: &mut Work,
 ) -> Option<Observer> {
     if observer.ledger().admits(height).is_err() {
-        return None;
+        return Some(observer);
     }
-    let text = Bytes::from_slice(alloc, text.as_bytes()).ok()?;
     let (observer, _) = observer.append(alloc, height, text, work).ok()?;
     Some(observer)
 }
 
-fn appended_by_name(
-    alloc: Global,
-    observer: Observer,
-    name: &str,
-    work: &mut Work,
-) -> Option<Observer> {
-    let (height, text) = entry(name)?.split_once(' ')?;
-    let height = read_number(height.as_bytes(), 1_000)?;
-    appended(alloc, observer, height, text, work)
+fn append(alloc: Global, observer: Observer, name: &str, work: &mut Work) -> Option<Observer> {
+    match entry_of(alloc, name) {
+        Some((height, text)) => push(alloc, observer, height, text, work),
+        None => Some(observer),
+    }
 }
 
 fn cut(alloc: Global, observer: Observer, number: &str, work: &mut Work) -> Option<Observer> {
-    let n = read_number(number.as_bytes(), observer.ledger().len())?;
+    let Some(n) = read_number(number.as_bytes(), observer.ledger().len()) else {
+        return Some(observer);
+    };
     let (observer, _) = observer.cut(alloc, n, work).ok()?;
     Some(observer)
 }
 
-fn arrived(alloc: Global, observer: Observer, name: &str, work: &mut Work) -> Option<Observer> {
-    let file = Bytes::from_slice(alloc, file(name)?.as_bytes()).ok()?;
-    let (observer, _, _) = observer.arrive(alloc, file, work).ok()?;
-    Some(observer)
+fn arrive(alloc: Global, observer: Observer, name: &str, work: &mut Work) -> Option<Observer> {
+    match bytes_of(alloc, file(name)) {
+        Some(file) => {
+            let (observer, _, _) = observer.arrive(alloc, file, work).ok()?;
+            Some(observer)
+        }
+        None => Some(observer),
+    }
 }
 
+// A step that can't be taken changes nothing.
 fn stepped(alloc: Global, observer: Observer, step: &str, work: &mut Work) -> Option<Observer> {
-    if let Some(name) = step.strip_prefix('+') {
-        return appended_by_name(alloc, observer, name, work);
+    if step == "new" {
+        return Observer::new(alloc, Schedule::new()).ok();
     }
-    match step.strip_prefix('-') {
-        Some(number) => cut(alloc, observer, number, work),
-        None => arrived(alloc, observer, step, work),
+    match step.strip_prefix('+') {
+        Some(name) => append(alloc, observer, name, work),
+        None => match step.strip_prefix('-') {
+            Some(number) => cut(alloc, observer, number, work),
+            None => arrive(alloc, observer, step, work),
+        },
     }
 }
 
 // What there is after these steps more.
-pub(super) fn then(
+pub(super) fn after(
     alloc: Global,
     observer: Observer,
     steps: &str,
@@ -92,28 +125,6 @@ pub(super) fn then(
     let mut observer = observer;
     for step in steps.split_whitespace() {
         observer = stepped(alloc, observer, step, work)?;
-    }
-    Some(observer)
-}
-
-// What there is after these steps, from nothing.
-pub(super) fn after(alloc: Global, steps: &str, work: &mut Work) -> Option<Observer> {
-    let observer = Observer::new(alloc, Schedule::new()).ok()?;
-    then(alloc, observer, steps, work)
-}
-
-// The same as `then`, where at most so many operations are applied.
-pub(super) fn then_within(
-    alloc: Global,
-    observer: Observer,
-    steps: &str,
-    most: u64,
-    work: &mut Work,
-) -> Option<Observer> {
-    let before = work.applies();
-    let observer = then(alloc, observer, steps, work)?;
-    if work.applies().saturating_sub(before) > most {
-        return None;
     }
     Some(observer)
 }
