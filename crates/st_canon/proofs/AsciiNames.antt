@@ -52,7 +52,8 @@ apart_bytes a b at same la lb sa sb r is apart =
     let rest = name_cmp (drop (at + 1) a) (drop (at + 1) b) in
     by r rest (ranked _ _ r is) ∙ ap (λ o. ordering_then o rest) is ∙ sym (next_bytes a b at same la lb sa sb).0
   where
-    by : (o rest : Ordering) → MatchOrdering o (get_or a at 0 < get_or b at 0) (get_or a at 0 ≡ get_or b at 0) (get_or b at 0 < get_or a at 0) → o ≡ ordering_then o rest
+    by : (o rest : Ordering) → MatchOrdering o (get_or a at 0 < get_or b at 0) (get_or a at 0 ≡ get_or b at 0)
+        (get_or b at 0 < get_or a at 0) → o ≡ ordering_then o rest
     by Less rest h = refl
     by Equal rest h = absurd (apart h)
     by Greater rest h = refl

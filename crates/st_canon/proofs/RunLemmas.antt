@@ -13,7 +13,8 @@ use Rattle.st_canon.proofs.Compact.{same_escapes}
 plain_front : (xs : List ℕ) (n : ℕ) → n ≤ length xs → PlainBetween xs 0 n → flat_map escape (take n xs) ≡ take n xs
 plain_front xs n within plain =
     let long = length-take-le n xs within in
-    let front : PlainBetween (take n xs) 0 (length (take n xs)) = λ k low high. ap is_plain (get_or-take n xs k 0 (omega (arith, long))) ∙ plain k low (omega (arith, long)) in
+    let front : PlainBetween (take n xs) 0 (length (take n xs)) = λ k low high. ap is_plain (get_or-take n xs k 0 (omega (arith, long)))
+    ∙ plain k low (omega (arith, long)) in
     same_escapes (take n xs) ∙ escape_on_plain true (take n xs) front
 
 -- the front as it is, and the rest escaped

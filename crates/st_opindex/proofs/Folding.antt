@@ -45,7 +45,8 @@ module _ {K State Item : Type 0} {cmp : K → K → Ordering} {next : State → 
   -- so no change has to account for it
   pub folded_owed : AreFolded cmp next start entries → AreOwed cmp [] entries
   folded_owed folds = record {
-    each = λ key some. let none : left_at cmp key entries ≡ 0 = found_none next start (lookup (is_at (cmp key)) entries) (folds.each key) in absurd (omega (arith, none, some));
+    each = λ key some. let none : left_at cmp key entries ≡ 0 = found_none next start (lookup (is_at (cmp key)) entries) (folds.each key) in
+        absurd (omega (arith, none, some));
   }
 
 -- ---- sums
@@ -99,7 +100,8 @@ module _ {K State Item : Type 0} {cmp : K → K → Ordering} where
     proofs = refl;
     applies = omega (
       arith,
-      sum_by-le-sum_by (λ name. min (left_at cmp name.0 old) (name_cost cmp (seen_items old) name)) (name_cost cmp (seen_items old)) names (λ name. omega arith),
+      sum_by-le-sum_by (λ name. min (left_at cmp name.0 old) (name_cost cmp (seen_items old) name)) (name_cost cmp (seen_items old)) names
+          (λ name. omega arith),
     );
   }
 
@@ -171,14 +173,16 @@ module _ {K State Item : Type 0} {cmp : K → K → Ordering} (order : IsTotalOr
         );
       }
         where
-          fewer : (name : K × ℕ) → min (left_at cmp name.0 new) (name_cost cmp (seen_items old) name) ≤ min (left_at cmp name.0 now) (name_cost cmp (seen_items old) name)
+          fewer : (name : K × ℕ) → min (left_at cmp name.0 new) (name_cost cmp (seen_items old) name)
+              ≤ min (left_at cmp name.0 now) (name_cost cmp (seen_items old) name)
           fewer name = elim (cases_Bool (is_at (cmp key) name.0)) [
             | inl same ↦ let none : left_at cmp name.0 new ≡ 0 = folds name.0 ∙ rw same refl in omega (arith, none)
             | inr apart ↦ let stays : left_at cmp name.0 new ≡ left_at cmp name.0 now = folds name.0 ∙ rw apart refl in omega (arith, stays)
           ]
 
   -- one key more is folded
-  pub folding_more : (place : ℕ) (new : List (K × Row Item State)) → FoldsKey cmp key now new → ChangesAt cmp key (λ items. items) (seen_items now) (seen_items new)
+  pub folding_more : (place : ℕ) (new : List (K × Row Item State)) → FoldsKey cmp key now new
+      → ChangesAt cmp key (λ items. items) (seen_items now) (seen_items new)
       → IsFolding cmp (taken ++ (key, place) ∷ []) old new
   folding_more place new folds stays = record {
     left = left;
@@ -193,7 +197,10 @@ module _ {K State Item : Type 0} {cmp : K → K → Ordering} (order : IsTotalOr
       left other = elim (cases_Bool (is_at (cmp key) other)) [
         | inl same ↦
             let here : left_at cmp other new ≡ 0 = folds other ∙ rw same refl in
-            rw (any_push (λ change. is_at (cmp change.0) other) taken (key, place), or_right (list_any (λ change. is_at (cmp change.0) other) taken) (is_at (cmp key) other) same) here
+            rw (
+              any_push (λ change. is_at (cmp change.0) other) taken (key, place),
+              or_right (list_any (λ change. is_at (cmp change.0) other) taken) (is_at (cmp key) other) same,
+            ) here
         | inr apart ↦
             let here : left_at cmp other new ≡ left_at cmp other now = folds other ∙ rw apart refl in
             elim (cases_Bool (list_any (λ change. is_at (cmp change.0) other) taken)) [

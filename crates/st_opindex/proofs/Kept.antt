@@ -34,7 +34,8 @@ module _ {State Item : Type 0} {next : State → Item → State} {start : State}
       → (other : List (Held Item)) (at : ℕ) → at ≤ row.done → take at other ≡ take at row.items.items → IsKeptBefore next start other at row.kept.items
   kept_before {row} is other at within alike = record {
     enough = omega (arith, is.reached.count, within);
-    each = λ i d below. is.reached.each i d (omega (arith, is.reached.count, below, within)) ∙ ap (folded next start) (take_alike row.items.items other (8 * (i + 1)) at (omega (arith, below)) alike);
+    each = λ i d below. is.reached.each i d (omega (arith, is.reached.count, below, within))
+        ∙ ap (folded next start) (take_alike row.items.items other (8 * (i + 1)) at (omega (arith, below)) alike);
   }
 
   -- the last of these states is what the items up to it reach

@@ -5,14 +5,16 @@ use Rattle.st_canon.proofs.names.compare_ascii.Goals.{then-loop-at-test+else-at-
 
 pub returns-then-a-b : goal.returns-then-a-b
 returns-then-a-b c = record {
-  order = apart_bytes c.args.first.now c.args.second.now c.loop-at.at c.loop-at.invariant.same c.loop-at-test.true c.if-at-second.true (omega arith) (omega arith) c.cmp.result c.cmp.ensures c.if-a-b.true;
+  order = apart_bytes c.args.first.now c.args.second.now c.loop-at.at c.loop-at.invariant.same c.loop-at-test.true c.if-at-second.true
+      (omega arith) (omega arith) c.cmp.result c.cmp.ensures c.if-a-b.true;
 }
 
 pub loop-at-preserved : goal.loop-at-preserved
 loop-at-preserved c = record {
   first = omega arith;
   second = omega arith;
-  same = same_bytes c.args.first.now c.args.second.now c.loop-at.at c.loop-at.invariant.same c.loop-at-test.true c.if-at-second.true (omega arith) (omega arith) c.if-a-b.false;
+  same = same_bytes c.args.first.now c.args.second.now c.loop-at.at c.loop-at.invariant.same c.loop-at-test.true c.if-at-second.true
+      (omega arith) (omega arith) c.if-a-b.false;
 }
 
 pub returns-then-first-second : goal.returns-then-first-second

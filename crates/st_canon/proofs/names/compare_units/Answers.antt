@@ -10,6 +10,7 @@ pub returns : goal.returns
 returns c =
     let order = cmp_from_yields_List (λ x y. y ≡ x) _ nat_cmp _ c.cmp.ensures.ran
     (units_yielded c.args.first.now _ c.utf8.first c.encode_utf16.ensures.text c.encode_utf16.ensures.pending)
-    (λ it e. units_yielded c.args.second.now it c.utf8.second (ap encode_utf16_rest e ∙ c.encode_utf16-2.ensures.text) (ap encode_utf16_pending e ∙ c.encode_utf16-2.ensures.pending))
+    (λ it e. units_yielded c.args.second.now it c.utf8.second (ap encode_utf16_rest e ∙ c.encode_utf16-2.ensures.text)
+    (ap encode_utf16_pending e ∙ c.encode_utf16-2.ensures.pending))
     (λ x y. refl) in
     record { order = order; same = λ tied. same_from_tied _ _ c.utf8.first c.utf8.second (sym order ∙ tied) }

@@ -28,7 +28,8 @@ pub go_back-requires-clause-kept : goal.go_back-requires-clause-kept
 go_back-requires-clause-kept g c =
     let splits = rw c.as_slice.ensures.value at c.count_before-at.ensures in
     let at = c.count_before-at.result in
-    rw c.truncate.ensures.items (kept_before c.requires.is (take at c.args.row.items.items) at (omega (arith, split-within splits, c.requires.all)) (take-take at at c.args.row.items.items (omega arith)))
+    rw c.truncate.ensures.items (kept_before c.requires.is (take at c.args.row.items.items)
+    at (omega (arith, split-within splits, c.requires.all)) (take-take at at c.args.row.items.items (omega arith)))
 
 pub returns-clause-items : goal.returns-clause-items
 returns-clause-items g c =
@@ -41,7 +42,12 @@ returns-clause-bound g c =
     let reached : reaches c.args.place c.args.row.items.items ≡ true = split-reaches splits (omega (arith, split-within splits, c.args.row.items.ok.0)) in
     rw reached
     (applies-few (left_of c.in_ok-back.back) _
-    (omega (arith, c.in_ok-back.ensures.left, ap length c.truncate.ensures.items, length-take c.count_before-at.result c.args.row.items.items)) c.fold_row.ensures.bound)
+    (omega (
+      arith,
+      c.in_ok-back.ensures.left,
+      ap length c.truncate.ensures.items,
+      length-take c.count_before-at.result c.args.row.items.items,
+    )) c.fold_row.ensures.bound)
 
 pub returns-in_err-row-clause-bound : goal.returns-in_err-row-clause-bound
 returns-in_err-row-clause-bound g c =
@@ -49,4 +55,9 @@ returns-in_err-row-clause-bound g c =
     let reached : reaches c.args.place c.args.row.items.items ≡ true = split-reaches splits (omega (arith, split-within splits, c.args.row.items.ok.0)) in
     rw reached
     (applies-few (left_of c.in_ok-back.back) _
-    (omega (arith, c.in_ok-back.ensures.left, ap length c.truncate.ensures.items, length-take c.count_before-at.result c.args.row.items.items)) c.fold_row.ensures.bound)
+    (omega (
+      arith,
+      c.in_ok-back.ensures.left,
+      ap length c.truncate.ensures.items,
+      length-take c.count_before-at.result c.args.row.items.items,
+    )) c.fold_row.ensures.bound)

@@ -15,7 +15,8 @@ returns-then-at-done-clause-row g c =
     record {
       ascends = rw c.in_ok-items.ensures (Ascend-with_item c.args.place c.args.item c.args.row.items.items c.requires.ascends);
       within = omega (arith, c.if-at-done.true, split-length splits c.args.item, ap length c.in_ok-items.ensures);
-      reached = rw c.in_ok-items.ensures (row_alike c.requires put c.count_before-at.result (omega (arith, c.if-at-done.true)) (split-alike splits c.args.item));
+      reached = rw c.in_ok-items.ensures (row_alike c.requires put c.count_before-at.result (omega (arith, c.if-at-done.true))
+          (split-alike splits c.args.item));
     }
 
 pub go_back-requires-clause-ascends : goal.go_back-requires-clause-ascends

@@ -36,7 +36,9 @@ returns g c =
       rows = rows_updated (rows_updated c.requires c.args.key None taken c.in-Some.ensures.updates.0 tt) c.args.key (Some row) c.insert.new.self.entries
           c.in_ok-insert.ensures.updates.0 c.in_ok-row.ensures.folded.is;
       items = seen_changed order c.args.key old taken (seen_taken order c.args.key old taken c.in-Some.ensures.updates.0) (λ items. items)
-          row c.insert.new.self.entries (c.in_ok-row.ensures.items ∙ sym (seen_found g.K.Ord.cmp c.args.key old (Some c.in-Some.row) c.in-Some.ensures.value)) c.in_ok-insert.ensures.updates.0;
-      folds = left_folded g.K.Ord.cmp c.args.key old taken (left_taken g.K.Ord.cmp c.args.key old taken c.in-Some.ensures.updates.0) row c.insert.new.self.entries c.in_ok-insert.ensures.updates.0 none;
+          row c.insert.new.self.entries (c.in_ok-row.ensures.items
+          ∙ sym (seen_found g.K.Ord.cmp c.args.key old (Some c.in-Some.row) c.in-Some.ensures.value)) c.in_ok-insert.ensures.updates.0;
+      folds = left_folded g.K.Ord.cmp c.args.key old taken (left_taken g.K.Ord.cmp c.args.key old taken c.in-Some.ensures.updates.0) row
+          c.insert.new.self.entries c.in_ok-insert.ensures.updates.0 none;
       bound = rw (← c.in-Some.ensures.value) c.fold_row.ensures.bound;
     }

@@ -12,7 +12,8 @@ changes-init g c = record {
 
 pub returns-in_err-fold_key-clause-bound : goal.returns-in_err-fold_key-clause-bound
 returns-in_err-fold_key-clause-bound g c = λ names named.
-    fold_stopped g.met.K.Ord.total c.changes.invariant.folding c.change-item.result.0 c.requires.owed names named (c.changes.invariant.paid names named) c.fold_key.ensures.bound
+    fold_stopped g.met.K.Ord.total c.changes.invariant.folding c.change-item.result.0 c.requires.owed names named
+    (c.changes.invariant.paid names named) c.fold_key.ensures.bound
 
 pub changes-preserved : goal.changes-preserved
 changes-preserved g c =
@@ -23,7 +24,8 @@ changes-preserved g c =
     take_more c.args.changes.now c.changes.change-index change c.changes-test.true ∙ ap (λ last. front ++ last ∷ []) (sym c.change-item.is) in
     record {
       rows = c.in_ok-fold_key.ensures.rows;
-      folding = rw more (folding_more order c.changes.invariant.folding change.0 change.1 c.fold_key.new.rows.entries c.in_ok-fold_key.ensures.folds c.in_ok-fold_key.ensures.items);
+      folding = rw more (folding_more order c.changes.invariant.folding change.0 change.1 c.fold_key.new.rows.entries
+          c.in_ok-fold_key.ensures.folds c.in_ok-fold_key.ensures.items);
       paid = λ names named.
           fold_paid order c.changes.invariant.folding change.0 c.requires.owed names named (c.changes.invariant.paid names named) c.fold_key.ensures.bound
           c.fold_key.new.rows.entries c.in_ok-fold_key.ensures.folds;
