@@ -84,7 +84,8 @@ module _ {limits : Limits} {operations : List PlainOperation} {n : ℕ} {sizes :
   module _ {next : Sizes} (one : IsNext operations n next) (held : AreHeld limits) where
     next_small : are_sizes_small limits next ≡ are_files_small limits (take (n + 1) operations)
     next_small =
-        ap (are_sizes_small limits) one.summed ∙ saturated_small limits (sizes_of (take (n + 1) operations)) held ∙ sym (files_small (take (n + 1) operations) limits)
+        ap (are_sizes_small limits) one.summed ∙ saturated_small limits (sizes_of (take (n + 1) operations)) held
+        ∙ sym (files_small (take (n + 1) operations) limits)
 
     -- one operation more goes
     pub one_counted : n < limits.max_operations → are_sizes_small limits next ≡ true → IsCounted limits operations (n + 1) next

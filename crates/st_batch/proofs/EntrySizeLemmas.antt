@@ -29,7 +29,8 @@ pub create_long : (create : SuffixData) → IsHash create.delta_hash → IsHash 
     → size_of (create_json create) ≡ 55 + text_length create.delta_hash.code + text_length create.recovery_commitment.code
 unfolding names_on_literals escape
 create_long create delta_hash recovery_commitment =
-    let inside : Members = member (codes "deltaHash") (hash_json create.delta_hash) (member (codes "recoveryCommitment") (hash_json create.recovery_commitment) no_members) in
+    let inside : Members = member (codes "deltaHash") (hash_json create.delta_hash)
+    (member (codes "recoveryCommitment") (hash_json create.recovery_commitment) no_members) in
     let members : Members = member (codes "suffixData") (suffix_data_json create) no_members in
     omega (arith, object_size inside, object_size members, hash_size create.delta_hash delta_hash, hash_size create.recovery_commitment recovery_commitment)
 
@@ -67,5 +68,6 @@ create_counted create delta_hash recovery_commitment first second =
     )
 
 -- a signed text
-pub signed_counted : (signed : List ℕ) {n m : ℕ} → n ≡ saturated (length (quoted signed)) → m ≡ saturated (n + 16) → m ≡ saturated (size_of (signed_json signed) + 1)
+pub signed_counted : (signed : List ℕ) {n m : ℕ} → n ≡ saturated (length (quoted signed)) → m ≡ saturated (n + 16)
+    → m ≡ saturated (size_of (signed_json signed) + 1)
 signed_counted signed is sum = omega (arith, signed_long signed, is, sum)

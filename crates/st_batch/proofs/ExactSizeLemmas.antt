@@ -23,7 +23,13 @@ object_size no_members = refl
 object_size (member name p ms) =
     let later = canonical p ++ canonical_members true ms in
     let whole = quoted name ++ (58 ∷ later) in
-    omega (arith, members_after ms, length-append whole (125 ∷ []), length-append (quoted name) (58 ∷ later), length-append (canonical p) (canonical_members true ms))
+    omega (
+      arith,
+      members_after ms,
+      length-append whole (125 ∷ []),
+      length-append (quoted name) (58 ∷ later),
+      length-append (canonical p) (canonical_members true ms),
+    )
 
 -- ---- lists
 

@@ -57,7 +57,8 @@ zero_passes : (most : ℕ) → nat_le 0 most ≡ true
 zero_passes most = grind (arith, nat_tests)
 
 -- whether a file that is there where there are operations is small
-filed_test : (limits : Limits) (role : Role) (operations : List PlainOperation) (entries size : ℕ) (said : List ℕ) → IsAnyBy operations entries → length said ≡ size
+filed_test : (limits : Limits) (role : Role) (operations : List PlainOperation) (entries size : ℕ) (said : List ℕ)
+    → IsAnyBy operations entries → length said ≡ size
     → list_all (is_small limits) (filed role (if_any operations said)) ≡ nat_le (where_any entries size) (most_bytes limits role)
 filed_test limits role [] entries size said any long = rw any (sym (zero_passes (most_bytes limits role)))
 filed_test limits role (operation ∷ operations) entries size said any long =
@@ -107,13 +108,16 @@ module _ (operations : List PlainOperation) where
       let create = list_of (codes "create") (map create_json index.creates) (sum_by create_size operations) refl (creates_sum operations) in
       let recover = list_of (codes "recover") (map target_json index.recovers) (sum_by recover_size operations) refl (recovers_sum operations) in
       let deactivate = list_of (codes "deactivate") (map target_json index.deactivates) (sum_by deactivate_size operations) refl (deactivates_sum operations) in
-      let kinds = core_kinds (some_list (map create_json index.creates)) (some_list (map target_json index.recovers)) (some_list (map target_json index.deactivates)) in
+      let kinds = core_kinds (some_list (map create_json index.creates)) (some_list (map target_json index.recovers))
+      (some_list (map target_json index.deactivates)) in
       let inside : weight (core_operations index) ≡ member_size (codes "create") (sum_by create_size operations)
       + member_size (codes "recover") (sum_by recover_size operations) + member_size (codes "deactivate") (sum_by deactivate_size operations) =
       omega (arith, create, recover, deactivate, kinds) in
       let third = object_there (codes "operations") (core_operations index) refl ∙ ap (member_size (codes "operations")) inside in
-      let first = uri_there (with_core_proof groups) (with_core_proof_size (sizes_of operations)) (codes "coreProofFileUri") (core_proof_text groups) (any_with_core_proof operations) refl in
-      let second = uri_there (with_delta groups) (with_delta_size (sizes_of operations)) (codes "provisionalIndexFileUri") (canonical (provisional_json (provisional_index groups)))
+      let first = uri_there (with_core_proof groups) (with_core_proof_size (sizes_of operations)) (codes "coreProofFileUri")
+      (core_proof_text groups) (any_with_core_proof operations) refl in
+      let second = uri_there (with_delta groups) (with_delta_size (sizes_of operations)) (codes "provisionalIndexFileUri")
+      (canonical (provisional_json (provisional_index groups)))
       (any_with_delta operations) refl in
       let members = core_members (option_map hash_json index.core_proof) (option_map hash_json index.provisional) (some_object (core_operations index)) in
       object_size (index_members index) ∙ ap in_brackets (omega (arith, members, first, second, third))
@@ -149,7 +153,8 @@ module _ (operations : List PlainOperation) where
       let deltas = filter_map delta_there (with_delta groups) in
       let pairs : List (List ℕ × Option Plain) = (codes "deltas", some_list deltas) ∷ [] in
       object_size (some_listed pairs)
-      ∙ ap in_brackets (one_member (codes "deltas") (some_list deltas) ∙ list_of (codes "deltas") deltas (sum_by delta_size operations) refl (deltas_sum operations))
+      ∙ ap in_brackets
+      (one_member (codes "deltas") (some_list deltas) ∙ list_of (codes "deltas") deltas (sum_by delta_size operations) refl (deltas_sum operations))
 
   chunk_entry_long : size_of (chunk_entry_json (uri_of (chunk_text groups))) ≡ in_brackets (uri_size (codes "chunkFileUri") 1)
   unfolding escape
@@ -182,7 +187,8 @@ module _ (operations : List PlainOperation) where
 
   -- no file of the operations is longer than it may be, if and only if the sums of their entries are so small
   pub files_small : (limits : Limits) → are_files_small limits operations ≡ are_sizes_small limits (sizes_of operations)
-  unfolding are_files_small files_of core_proof_file provisional_file provisional_proof_file core_proof_size provisional_size provisional_proof_size chunk_size grouped
+  unfolding are_files_small files_of core_proof_file provisional_file provisional_proof_file core_proof_size provisional_size
+      provisional_proof_size chunk_size grouped
   files_small limits =
       let test = is_small limits in
       let sizes = sizes_of operations in
@@ -192,10 +198,13 @@ module _ (operations : List PlainOperation) where
       let provisional_proof = filed ProvisionalProof (provisional_proof_file groups) in
       let chunk = filed Chunk (chunk_file groups) in
       let one = and-true (nat_le (length (core_file groups)) limits.max_index) ∙ ap (λ n. nat_le n limits.max_index) core_long in
-      let two = filed_test limits CoreProof (with_core_proof groups) (with_core_proof_size sizes) _ (core_proof_text groups) (any_with_core_proof operations) core_proof_long in
-      let three = filed_test limits Provisional (with_delta groups) (with_delta_size sizes) _ (canonical (provisional_json (provisional_index groups))) (any_with_delta operations)
+      let two = filed_test limits CoreProof (with_core_proof groups) (with_core_proof_size sizes) _ (core_proof_text groups)
+      (any_with_core_proof operations) core_proof_long in
+      let three = filed_test limits Provisional (with_delta groups) (with_delta_size sizes) _
+      (canonical (provisional_json (provisional_index groups))) (any_with_delta operations)
       provisional_long in
-      let four = filed_test limits ProvisionalProof groups.updates sizes.updates _ (canonical (provisional_proof_json (filter_map signed_text_in groups.updates)))
+      let four = filed_test limits ProvisionalProof groups.updates sizes.updates _
+      (canonical (provisional_proof_json (filter_map signed_text_in groups.updates)))
       (any_update operations) provisional_proof_long in
       let five = filed_test limits Chunk (with_delta groups) (with_delta_size sizes) _ (chunk_text groups) (any_with_delta operations) chunk_long in
       five_tests test core core_proof provisional provisional_proof chunk ∙ five_same one two three four five

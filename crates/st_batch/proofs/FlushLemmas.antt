@@ -28,7 +28,8 @@ taken_operations count entries = sym (take-map (λ entry. plain_operation entry.
 left_operations : (count : ℕ) (entries : List Entry) → operations_of (drop count entries) ≡ drop count (operations_of entries)
 left_operations count entries = sym (drop-map (λ entry. plain_operation entry.1) count entries)
 
-each_left : (P : PlainOperation → Type 0) (count : ℕ) (operations : List PlainOperation) → AllByRecursion P operations → AllByRecursion P (drop count operations)
+each_left : (P : PlainOperation → Type 0) (count : ℕ) (operations : List PlainOperation)
+    → AllByRecursion P operations → AllByRecursion P (drop count operations)
 each_left P zero operations all = all
 each_left P (suc count) [] all = tt
 each_left P (suc count) (operation ∷ operations) all = each_left P count operations all.1

@@ -46,7 +46,8 @@ unfolding files_of
 files_ascend groups = by (core_file groups) (core_proof_file groups) (provisional_file groups) (provisional_proof_file groups) (chunk_file groups)
   where
     by : (core : List ℕ) (core_proof provisional provisional_proof chunk : Option (List ℕ))
-        → AscendFrom 0 (filed Core (Some core) ++ filed CoreProof core_proof ++ filed Provisional provisional ++ filed ProvisionalProof provisional_proof ++ filed Chunk chunk)
+        → AscendFrom 0 (filed Core (Some core) ++ filed CoreProof core_proof ++ filed Provisional provisional
+        ++ filed ProvisionalProof provisional_proof ++ filed Chunk chunk)
     by core None None None None = (omega arith, tt)
     by core None None None (Some e) = (omega arith, (omega arith, tt))
     by core None None (Some d) None = (omega arith, (omega arith, tt))

@@ -8,7 +8,8 @@ use Rattle.st_batch.proofs.FirstSizeLemmas.{weight, weight_there}
 -- of a core index
 pub core_members : (core_proof provisional operations : Option Plain)
     → weight (some_listed ((codes "coreProofFileUri", core_proof) ∷ (codes "provisionalIndexFileUri", provisional) ∷ (codes "operations", operations) ∷ []))
-    ≡ weight_there (codes "coreProofFileUri") core_proof + weight_there (codes "provisionalIndexFileUri") provisional + weight_there (codes "operations") operations
+    ≡ weight_there (codes "coreProofFileUri") core_proof + weight_there (codes "provisionalIndexFileUri") provisional
+    + weight_there (codes "operations") operations
 unfolding names_on_literals put_some
 core_members None None None = omega arith
 core_members None None (Some c) = omega arith

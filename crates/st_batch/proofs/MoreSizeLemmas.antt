@@ -41,8 +41,10 @@ module _ (few many : Sizes) (within : AreWithin few many) where
       (member_size (codes "create") few.creates + member_size (codes "recover") few.recovers + member_size (codes "deactivate") few.deactivates)
       (member_size (codes "create") many.creates + member_size (codes "recover") many.recovers + member_size (codes "deactivate") many.deactivates)
       (omega (arith, create, recover, deactivate)) in
-      let core_proof = uri_more (codes "coreProofFileUri") (with_core_proof_size few) (with_core_proof_size many) (omega (arith, within.recovers, within.deactivates)) in
-      let provisional = uri_more (codes "provisionalIndexFileUri") (with_delta_size few) (with_delta_size many) (omega (arith, within.creates, within.recovers, within.updates)) in
+      let core_proof = uri_more (codes "coreProofFileUri") (with_core_proof_size few) (with_core_proof_size many)
+      (omega (arith, within.recovers, within.deactivates)) in
+      let provisional = uri_more (codes "provisionalIndexFileUri") (with_delta_size few) (with_delta_size many)
+      (omega (arith, within.creates, within.recovers, within.updates)) in
       omega (arith, operations, core_proof, provisional)
 
   pub core_proof_more : core_proof_size few ≤ core_proof_size many
@@ -62,13 +64,15 @@ module _ (few many : Sizes) (within : AreWithin few many) where
       let update = member_more (codes "update") few.updates many.updates within.updates in
       let operations = member_more (codes "operations") (member_size (codes "update") few.updates) (member_size (codes "update") many.updates) update in
       let proof = uri_more (codes "provisionalProofFileUri") few.updates many.updates within.updates in
-      any_more (with_delta_size few) (with_delta_size many) _ _ (omega (arith, within.creates, within.recovers, within.updates)) (omega (arith, operations, proof))
+      any_more (with_delta_size few) (with_delta_size many) _ _ (omega (arith, within.creates, within.recovers, within.updates))
+      (omega (arith, operations, proof))
 
   pub provisional_proof_more : provisional_proof_size few ≤ provisional_proof_size many
   unfolding provisional_proof_size
   provisional_proof_more =
       let update = member_more (codes "update") few.update_proofs many.update_proofs within.update_proofs in
-      let operations = member_more (codes "operations") (member_size (codes "update") few.update_proofs) (member_size (codes "update") many.update_proofs) update in
+      let operations = member_more (codes "operations") (member_size (codes "update") few.update_proofs)
+      (member_size (codes "update") many.update_proofs) update in
       any_more few.updates many.updates _ _ within.updates (omega (arith, operations))
 
   pub chunk_more : chunk_size few ≤ chunk_size many

@@ -88,7 +88,8 @@ module _ (operations : List PlainOperation) where
       says (recovering target (Some proof) delta) = refl
       says (deactivating target proof) = refl
 
-  pub deactivate_proofs_sum : entries_weight (map signed_json (filter_map signed_text_in (filter is_deactivate operations))) ≡ sum_by deactivate_proof_size operations
+  pub deactivate_proofs_sum : entries_weight (map signed_json (filter_map signed_text_in (filter is_deactivate operations)))
+      ≡ sum_by deactivate_proof_size operations
   deactivate_proofs_sum = kind_sum signed_json signed_text_in is_deactivate deactivate_proof_size says operations
     where
       says : (operation : PlainOperation) → deactivate_proof_size operation ≡ kind_size signed_json signed_text_in is_deactivate operation
@@ -121,7 +122,8 @@ delta_weight operations = entries_weight (filter_map delta_there operations)
 delta_weight_both : (xs ys : List PlainOperation) → delta_weight (xs ++ ys) ≡ delta_weight xs + delta_weight ys
 delta_weight_both xs ys = ap entries_weight (filter_map-append delta_there xs ys) ∙ weight_both (filter_map delta_there xs) (filter_map delta_there ys)
 
-delta_weight_one : (operation : PlainOperation) (operations : List PlainOperation) → delta_weight (operation ∷ operations) ≡ delta_size operation + delta_weight operations
+delta_weight_one : (operation : PlainOperation) (operations : List PlainOperation)
+    → delta_weight (operation ∷ operations) ≡ delta_size operation + delta_weight operations
 delta_weight_one operation operations = elim (delta_there operation) as
     (λ there. entries_weight (cons_option there (filter_map delta_there operations)) ≡ entry_size there + delta_weight operations) [
       | None ↦ omega arith
@@ -179,7 +181,8 @@ any_kind : (is_kind : PlainOperation → Bool) (size : PlainOperation → ℕ)
     → (operations : List PlainOperation) → IsAnyBy (filter is_kind operations) (sum_by size operations)
 any_kind is_kind size one [] = refl
 any_kind is_kind size one (operation ∷ operations) =
-    let step = any_step (is_kind operation) operation (filter is_kind operations) (size operation) (sum_by size operations) (one operation) (any_kind is_kind size one operations) in
+    let step = any_step (is_kind operation) operation (filter is_kind operations) (size operation) (sum_by size operations) (one operation)
+    (any_kind is_kind size one operations) in
     any_more (filter is_kind (operation ∷ operations)) (size operation + sum_by size operations) (sum_by size (operation ∷ operations))
     (omega (arith, sum_by-cons size operation operations)) step
 
@@ -225,12 +228,17 @@ module _ (operations : List PlainOperation) where
   pub any_with_core_proof : IsAnyBy (with_core_proof (grouped operations)) (sum_by recover_size operations + sum_by deactivate_size operations)
   unfolding grouped
   any_with_core_proof =
-      any_both (filter is_recover operations) (filter is_deactivate operations) (sum_by recover_size operations) (sum_by deactivate_size operations) any_recover any_deactivate
+      any_both (filter is_recover operations) (filter is_deactivate operations) (sum_by recover_size operations)
+      (sum_by deactivate_size operations) any_recover any_deactivate
 
   -- whether there are operations with a delta
-  pub any_with_delta : IsAnyBy (with_delta (grouped operations)) (sum_by create_size operations + sum_by recover_size operations + sum_by update_size operations)
+  pub any_with_delta : IsAnyBy (with_delta (grouped operations))
+      (sum_by create_size operations + sum_by recover_size operations + sum_by update_size operations)
   unfolding grouped
   any_with_delta =
-      any_both (filter is_create operations ++ filter is_recover operations) (filter is_update operations) (sum_by create_size operations + sum_by recover_size operations)
+      any_both (filter is_create operations ++ filter is_recover operations) (filter is_update operations)
+      (sum_by create_size operations + sum_by recover_size operations)
       (sum_by update_size operations)
-      (any_both (filter is_create operations) (filter is_recover operations) (sum_by create_size operations) (sum_by recover_size operations) any_create any_recover) any_update
+      (any_both (filter is_create operations) (filter is_recover operations)
+      (sum_by create_size operations) (sum_by recover_size operations) any_create any_recover)
+      any_update

@@ -55,7 +55,8 @@ pub one_more : (operations : List PlainOperation) (n : ℕ) (default : PlainOper
     ≡ saturated_sizes (sizes_of (take (n + 1) operations))
 unfolding sizes_in
 one_more operations n default within =
-    let more = λ (size : PlainOperation → ℕ). saturated_sum (sum_by size (take n operations)) (size (get_or operations n default)) (sum_by size (take (n + 1) operations))
+    let more = λ (size : PlainOperation → ℕ). saturated_sum (sum_by size (take n operations)) (size (get_or operations n default))
+    (sum_by size (take (n + 1) operations))
     (sum_by_more size operations n default within) in
     let creates = more create_size in
     let recovers = more recover_size in

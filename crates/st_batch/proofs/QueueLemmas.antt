@@ -36,10 +36,12 @@ first_found true found later operation e = refl
 first_found false found later operation e = e
 
 -- a key is found exactly where one of the keys is the same
-found_any : (suffix : HashValue) (entries : List Entry) → is_some (lookup (same_hash suffix) entries) ≡ list_any (same_hash suffix) (map (λ entry. entry.0) entries)
+found_any : (suffix : HashValue) (entries : List Entry) → is_some (lookup (same_hash suffix) entries)
+    ≡ list_any (same_hash suffix) (map (λ entry. entry.0) entries)
 found_any suffix [] = refl
 found_any suffix (entry ∷ entries) =
-    first_found (same_hash suffix entry.0) (lookup (same_hash suffix) entries) (list_any (same_hash suffix) (map (λ one. one.0) entries)) entry.1 (found_any suffix entries)
+    first_found (same_hash suffix entry.0) (lookup (same_hash suffix) entries)
+    (list_any (same_hash suffix) (map (λ one. one.0) entries)) entry.1 (found_any suffix entries)
 
 -- a suffix is found exactly where an operation for it is queued
 pub found_queued : (suffix : HashValue) (entries : List Entry) → IsKept entries

@@ -42,7 +42,8 @@ module _ (sizes : Sizes) (limit : ℕ) (low : limit < 2 ^ 64) where
       let create = inside_within (codes "create") (saturated sizes.creates) in
       let recover = inside_within (codes "recover") (saturated sizes.recovers) in
       let deactivate = inside_within (codes "deactivate") (saturated sizes.deactivates) in
-      let operations = inside_within (codes "operations") (member_size (codes "create") (saturated sizes.creates) + member_size (codes "recover") (saturated sizes.recovers)
+      let operations = inside_within (codes "operations")
+      (member_size (codes "create") (saturated sizes.creates) + member_size (codes "recover") (saturated sizes.recovers)
       + member_size (codes "deactivate") (saturated sizes.deactivates)) in
       let creates : saturated sizes.creates ≡ sizes.creates = omega (arith, small, low, create, operations) in
       let recovers : saturated sizes.recovers ≡ sizes.recovers = omega (arith, small, low, recover, operations) in
@@ -64,7 +65,8 @@ module _ (sizes : Sizes) (limit : ℕ) (low : limit < 2 ^ 64) where
   unfolding core_proof_size
   core_proof_tells small =
       let kinds = λ (sizes : Sizes). member_size (codes "recover") sizes.recover_proofs + member_size (codes "deactivate") sizes.deactivate_proofs in
-      any_tells (with_core_proof_size (saturated_sizes sizes)) (with_core_proof_size sizes) (in_brackets (member_size (codes "operations") (kinds (saturated_sizes sizes))))
+      any_tells (with_core_proof_size (saturated_sizes sizes)) (with_core_proof_size sizes)
+      (in_brackets (member_size (codes "operations") (kinds (saturated_sizes sizes))))
       (in_brackets (member_size (codes "operations") (kinds sizes))) limit (λ none. omega (arith, none))
       (λ fits.
       let operations = inside_within (codes "operations") (kinds (saturated_sizes sizes)) in

@@ -64,7 +64,8 @@ module _ (groups : Grouped) where
   chunk_some some = any_some (with_delta groups) (chunk_text groups) some
 
 -- what is said of operations is there wherever something else is
-both_none : {Said Other : Type 0} (operations : List PlainOperation) (said : Said) (other : Other) → if_any operations said ≡ None → if_any operations other ≡ None
+both_none : {Said Other : Type 0} (operations : List PlainOperation) (said : Said) (other : Other)
+    → if_any operations said ≡ None → if_any operations other ≡ None
 both_none [] said other none = refl
 both_none (operation ∷ operations) said other none = absurd cc
 
@@ -104,13 +105,15 @@ uri_said role file e is = is ∙ (ap (λ files. option_map (λ found. found.uri)
 
 module _ (groups : Grouped) where
   -- the provisional index with these URIs
-  pub provisional_said : {proof : Option HashValue} {chunk : HashValue} → proof ≡ option_map uri_of (provisional_proof_file groups) → chunk ≡ uri_of (chunk_text groups)
+  pub provisional_said : {proof : Option HashValue} {chunk : HashValue}
+      → proof ≡ option_map uri_of (provisional_proof_file groups) → chunk ≡ uri_of (chunk_text groups)
       → record { proof = proof; chunk = chunk; updates = filter_map target_in groups.updates } ≡ provisional_index groups
   unfolding provisional_index
   provisional_said proof chunk = rw (proof, chunk) refl
 
   -- the core index with these URIs
-  pub core_said : {core_proof provisional : Option HashValue} → core_proof ≡ option_map uri_of (core_proof_file groups) → provisional ≡ option_map uri_of (provisional_file groups)
+  pub core_said : {core_proof provisional : Option HashValue}
+      → core_proof ≡ option_map uri_of (core_proof_file groups) → provisional ≡ option_map uri_of (provisional_file groups)
       → canonical (core_json (record {
         core_proof = core_proof;
         provisional = provisional;

@@ -20,10 +20,10 @@ no_groups = record { creates = []; recovers = []; deactivates = []; updates = []
 -- groups with one operation more, the last of its kind
 abbrev pub with_operation : Grouped → PlainOperation → Grouped
 with_operation groups (creating suffix_data delta) =
-    record { creates = groups.creates ++ creating suffix_data delta ∷ []; recovers = groups.recovers; deactivates = groups.deactivates; updates = groups.updates }
+    record groups { creates = groups.creates ++ creating suffix_data delta ∷ [] }
 with_operation groups (recovering target proof delta) =
-    record { creates = groups.creates; recovers = groups.recovers ++ recovering target proof delta ∷ []; deactivates = groups.deactivates; updates = groups.updates }
+    record groups { recovers = groups.recovers ++ recovering target proof delta ∷ [] }
 with_operation groups (deactivating target proof) =
-    record { creates = groups.creates; recovers = groups.recovers; deactivates = groups.deactivates ++ deactivating target proof ∷ []; updates = groups.updates }
+    record groups { deactivates = groups.deactivates ++ deactivating target proof ∷ [] }
 with_operation groups (updating target proof delta) =
-    record { creates = groups.creates; recovers = groups.recovers; deactivates = groups.deactivates; updates = groups.updates ++ updating target proof delta ∷ [] }
+    record groups { updates = groups.updates ++ updating target proof delta ∷ [] }

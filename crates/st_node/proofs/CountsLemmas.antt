@@ -27,7 +27,8 @@ fitting_counts {observed = observed} {n = n} {old = old} {new = new} says =
     let fits : nat_le n (length observed.ledger) ≡ true = grind (arith, nat_tests) in
     subst (λ fits. FittingCounts observed n fits old new) (sym fits) (cut_counts says)
 
-module _ {observed : Observed} {queue : List PlainOperation} {machine : Machine} (is : record { observed = observed; queue = queue } ≡ machine) {old new : Counts} where
+module _ {observed : Observed} {queue : List PlainOperation} {machine : Machine}
+    (is : record { observed = observed; queue = queue } ≡ machine) {old new : Counts} where
   pub arrival_counts : (bytes : List ℕ) → ArrivalCounts observed bytes old new → ArrivalCounts machine.observed bytes old new
   arrival_counts bytes counts = subst (λ (m : Machine). ArrivalCounts m.observed bytes old new) is counts
 

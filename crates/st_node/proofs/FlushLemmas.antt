@@ -22,7 +22,8 @@ some_queued limits (operation ∷ operations) some = omega arith
 abbrev machine_of : Observed → List PlainOperation → Machine
 machine_of observed queue = record { observed = observed; queue = queue }
 
-module _ (observed : Observed) {queue rest : List PlainOperation} {limits : Limits} {batch : Batch} (now : limits ≡ limits_now observed) (flushed : IsFlushed limits queue rest batch) where
+module _ (observed : Observed) {queue rest : List PlainOperation} {limits : Limits} {batch : Batch} (now : limits ≡ limits_now observed)
+    (flushed : IsFlushed limits queue rest batch) where
   abbrev there : Machine
   there = machine_of observed queue
 

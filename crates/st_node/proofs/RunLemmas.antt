@@ -90,7 +90,8 @@ stays_then : {before between last : Observed} {entries more : List Entry} {some 
     → between.schedule ≡ before.schedule → StaysDue before between entries some old mid → StaysDue between last more others mid new
     → StaysDue before last (entries ++ more) (some + others) old new
 stays_then {before = before} {between = between} {entries = entries} {more = more} same first second =
-    let counts : sum_by (declared_count between.schedule) more ≡ sum_by (declared_count before.schedule) more = ap (λ schedule. sum_by (declared_count schedule) more) same in
+    let counts : sum_by (declared_count between.schedule) more
+    ≡ sum_by (declared_count before.schedule) more = ap (λ schedule. sum_by (declared_count schedule) more) same in
     record {
       files = omega (arith, first.files, second.files, length-append entries more);
       proofs = omega (arith, first.proofs, second.proofs, sum_by-append (declared_count before.schedule) entries more, counts);
@@ -117,16 +118,21 @@ pub due_more : (machine : Machine) (lines more : List (List ℕ)) (old mid new :
     → DueOver machine lines old mid → DueOver (after machine lines) more mid new → DueOver machine (lines ++ more) old new
 due_more machine lines more old mid new first second =
     let last = after (after machine lines) more in
-    let all : StaysDue machine.observed last.observed (entries_of machine lines ++ entries_of (after machine lines) more) (submitted_in (lines ++ more)) old new = stays_as (sym (sum_by-append submitted_by_line lines more)) (stays_then (schedule-after machine lines) first second) in
-    subst (λ (last : Machine). StaysDue machine.observed last.observed (entries_of machine (lines ++ more)) (submitted_in (lines ++ more)) old new) (sym (after-append machine lines more))
+    let all : StaysDue machine.observed last.observed (entries_of machine lines ++ entries_of (after machine lines) more)
+    (submitted_in (lines ++ more)) old new = stays_as (sym (sum_by-append submitted_by_line lines more))
+    (stays_then (schedule-after machine lines) first second) in
+    subst (λ (last : Machine). StaysDue machine.observed last.observed (entries_of machine (lines ++ more))
+    (submitted_in (lines ++ more)) old new) (sym (after-append machine lines more))
     (subst (λ (entries : List Entry). StaysDue machine.observed last.observed entries (submitted_in (lines ++ more)) old new)
     (sym (entries-append machine lines more)) all)
 
 pub cut_due : (machine : Machine) (line : List ℕ) (old new : Counts)
     → DueOver machine (take (longest_line + 1) line ∷ []) old new → DueOver machine (line ∷ []) old new
 cut_due machine line old new due =
-    subst (λ (last : Machine). StaysDue machine.observed last.observed (entries_of machine (line ∷ [])) (submitted_in (line ∷ [])) old new) (cut_after machine line [])
-    (subst (λ (entries : List Entry). StaysDue machine.observed (after machine (take (longest_line + 1) line ∷ [])).observed entries (submitted_in (line ∷ [])) old new)
+    subst (λ (last : Machine). StaysDue machine.observed last.observed (entries_of machine (line ∷ [])) (submitted_in (line ∷ [])) old new)
+    (cut_after machine line [])
+    (subst (λ (entries : List Entry). StaysDue machine.observed (after machine (take (longest_line + 1) line ∷ [])).observed entries
+    (submitted_in (line ∷ [])) old new)
     (cut_entries machine line []) (stays_as (cut_submitted machine line []) due))
 
 -- before anything has come nothing is due

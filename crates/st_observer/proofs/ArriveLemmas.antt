@@ -76,7 +76,8 @@ module _ (file : List ℕ) (observed : Observed) (before : Kept) (uri : HashValu
       grew-more (decided_of (map (known_from later) before.bounds.items) - decided_of before.bounds.items)
       (opened_of (map (known_from later) before.bounds.items) - opened_of before.bounds.items)
       (named_cost (over before.states.schedule observed.ledger later) names)
-      (decided_in (arrived file observed) - decided_in observed) (opened_in (arrived file observed) - opened_in observed) (named_cost (arrived file observed) names)
+      (decided_in (arrived file observed) - decided_in observed) (opened_in (arrived file observed) - opened_in observed)
+      (named_cost (arrived file observed) names)
       old new
       (omega (arith, sum-arrived decided_roles, sum-known decided_roles observed before is))
       (omega (arith, sum-arrived opened_proofs, sum-known opened_proofs observed before is))

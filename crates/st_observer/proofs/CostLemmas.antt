@@ -72,7 +72,8 @@ module _ (file : List ℕ) (observed : Observed) where
       let here : (if is_missed_by file observed first then at_place place (suffixes_then first) else []) ≡ at_place place (suffixes_then entry) =
       rw (← same, late) refl in
       let at : place + 0 ≡ place = omega arith in
-      rw (here, at) (named-before place (suffixes_then entry) (at_place place (suffixes_then entry)) (late_names (place + 1) entries) (named-there place (suffixes_then entry)))
+      rw (here, at) (named-before place (suffixes_then entry) (at_place place (suffixes_then entry)) (late_names (place + 1) entries)
+      (named-there place (suffixes_then entry)))
   each-late place (suc n) (first ∷ entries) entry found late =
       let at : place + suc n ≡ place + 1 + n = omega arith in
       rw at

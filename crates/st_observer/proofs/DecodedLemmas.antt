@@ -161,7 +161,8 @@ decode_of-bytes text bytes is =
     let fine = none_of (groups_error dec text q) _ errors.1 in
     subst IsBytes parts.1
     (at_place (decoded_bytes dec pad text)
-    (each-append IsByte (groups_bytes dec text q) (suffix_bytes dec pad (4 * q) text) (groups dec url_safe_table text q fine.0) (suffix dec url_safe_table pad (4 * q) text)))
+    (each-append IsByte (groups_bytes dec text q) (suffix_bytes dec pad (4 * q) text) (groups dec url_safe_table text q fine.0)
+    (suffix dec url_safe_table pad (4 * q) text)))
 
 ok_of : {T E : Type 0} (result : Result T E) (found : T) → result_ok result ≡ Some found → result ≡ Ok found
 ok_of (Ok value) found is = cc

@@ -105,11 +105,13 @@ module _ (entries : List ℕ) (at n : ℕ) (inside : at < length entries) (is : 
             room step.bounds looking.reading exactly (omega (arith, grew.applied)) (omega arith);
         named = λ names first where_given.
             changes names (looking.named names first where_given)
-            (subst (λ (b : Known). AreNamedAt n (suffixes_given (given b)) names) (sym (more-known observed now.bounds.items entry n looking.going.same room there))
+            (subst (λ (b : Known). AreNamedAt n (suffixes_given (given b)) names)
+            (sym (more-known observed now.bounds.items entry n looking.going.same room there))
             (where_given n entry found all-among));
       }
 
-  pub looking-skipped : (observed : Observed) (start now : Going) (old new : Counts) → Looking observed entries at start now old new → length observed.ledger ≤ n
+  pub looking-skipped : (observed : Observed) (start now : Going) (old new : Counts) → Looking observed entries at start now old new
+      → length observed.ledger ≤ n
       → Looking observed entries (at + 1) start now old new
   looking-skipped observed start now old new looking past = record {
     going =

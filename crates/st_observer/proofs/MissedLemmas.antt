@@ -162,7 +162,8 @@ read-chunk_in context core provisional bytes = read-judged Nothing _ _ _ tt
 read-provisional_over : (context : Context) (core : CoreIndex) (files : Files) (branch : ProvisionalBranch)
     → ReadProvisional branch → ReadProvisional (provisional_over context core files branch)
 read-provisional_over context core files branch read = (
-  read-up Nothing (provisional_proof_in context branch.says) as_it_is files branch.proofs (read-provisional_proof_in context branch.says) (λ says is. is) read.0,
+  read-up Nothing (provisional_proof_in context branch.says) as_it_is files branch.proofs (read-provisional_proof_in context branch.says)
+      (λ says is. is) read.0,
   read-up Nothing (chunk_in context core branch.says) as_it_is files branch.chunk (read-chunk_in context core branch.says) (λ says is. is) read.1,
 )
 

@@ -4,6 +4,7 @@
 use Rattle.std.proofs.Common.{◌≡◌, ◌∙◌, ℕ, List, set, ap, subst, sym}
 use Rattle.std.proofs.lemmas.List.{set-set}
 use Rattle.st_anchor.specs.Coming.{newly_decided, newly_opened}
+use Rattle.st_anchor.specs.Counting.{WorkedAtMost}
 use Rattle.st_anchor.specs.Gives.{given, suffixes_given}
 use Rattle.st_anchor.specs.Known.{Known, known_from}
 use Rattle.st_anchor.specs.States.{role_states}
@@ -15,6 +16,7 @@ use Rattle.st_observer.specs.Steps.{PutsGiven, Settles, bound_at}
 use Rattle.st_observer.specs.Waiting.{TurnsTo}
 use Rattle.st_observer.specs.Work.{AreNamedAt, GrewAtMost}
 use Rattle.st_observer.specs.declared.kept.Kept.{Kept}
+use Rattle.st_observer.proofs.WorkLemmas.{grew-only}
 
 module _ (files : Files) (bounds : List Known) (n : ℕ) (start settled : Known) (out : start ≡ bound_at n bounds)
     (settles_to : settled ≡ known_from files start) where
@@ -26,9 +28,11 @@ module _ (files : Files) (bounds : List Known) (n : ℕ) (start settled : Known)
   settle-bounds without after filler first second =
       second ∙ ap (λ xs. set xs n settled) first ∙ set-set bounds n filler settled ∙ ap (set bounds n) settled-is
 
-  pub settle-few : (old new : Counts) → GrewAtMost (newly_decided files start) (newly_opened files start) 0 old new
+  pub settle-few : (old new : Counts) → WorkedAtMost (newly_decided files start) (newly_opened files start) old new
       → GrewAtMost (newly_decided files (bound_at n bounds)) (newly_opened files (bound_at n bounds)) 0 old new
-  settle-few old new grew = subst (λ (b : Known). GrewAtMost (newly_decided files b) (newly_opened files b) 0 old new) out grew
+  settle-few old new few =
+      subst (λ (b : Known). GrewAtMost (newly_decided files b) (newly_opened files b) 0 old new) out
+      (grew-only (newly_decided files start) (newly_opened files start) 0 old new few)
 
   -- what names all that was changed, and what the entry gives, names what is changed then
   pub settle-names : {changed : Type 0} (names : List (HashValue × ℕ)) → (AreNamedAt n (suffixes_given (given settled)) names → changed)

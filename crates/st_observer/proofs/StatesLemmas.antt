@@ -42,12 +42,14 @@ module _ (place : ℕ) where
   before_none : (operations : List Anchored) → AllByRecursion (λ anchored. place < anchored.place) operations → before_place place operations ≡ []
   before_none operations all =
       filter_none (λ anchored. ltb anchored.place place) operations
-      (each-weaker (λ anchored. place < anchored.place) (λ anchored. ltb anchored.place place ≡ false) (λ anchored late. le-ltb anchored.place place (omega arith)) operations all)
+      (each-weaker (λ anchored. place < anchored.place) (λ anchored. ltb anchored.place place ≡ false)
+      (λ anchored late. le-ltb anchored.place place (omega arith)) operations all)
 
   -- those after a place stand after it
   each-after : (operations : List Anchored) → AllByRecursion (λ anchored. place < anchored.place) (after_place place operations)
   each-after operations =
-      each-weaker (λ anchored. ltb place anchored.place ≡ true) (λ anchored. place < anchored.place) (λ anchored is. ltb-true place anchored.place is) (after_place place operations)
+      each-weaker (λ anchored. ltb place anchored.place ≡ true) (λ anchored. place < anchored.place)
+      (λ anchored is. ltb-true place anchored.place is) (after_place place operations)
       (each-passes (λ anchored. ltb place anchored.place) operations)
 
 -- ---- an operation put at a place
@@ -210,7 +212,8 @@ state_resolved schedule suffix items ascend =
 
 module _ {X : Type 0} (test : HashValue → Bool) where
   -- a look-up finds the last where it finds none before,
-  lookup-last : (given : List (HashValue × X)) (last : HashValue × X) → lookup test given ≡ None → test last.0 ≡ true → lookup test (given ++ last ∷ []) ≡ Some last.1
+  lookup-last : (given : List (HashValue × X)) (last : HashValue × X) → lookup test given ≡ None → test last.0 ≡ true
+      → lookup test (given ++ last ∷ []) ≡ Some last.1
   lookup-last [] last none is = rw is refl
   lookup-last (first ∷ given) last none is = elim (cases_Bool (test first.0)) [
     | inl here ↦ let found : Some first.1 ≡ None = rw here at none in cc
@@ -227,7 +230,8 @@ last_once : {X : Type 0} (given : List (HashValue × X)) (last : HashValue × X)
     → lookup (same_hash last.0) given ≡ None
 last_once [] last once = refl
 last_once (first ∷ given) last once =
-    let parts = or_parts (list_any (same_hash first.0) (map (λ entry. entry.0) (given ++ last ∷ []))) (has_twice same_hash (map (λ entry. entry.0) (given ++ last ∷ []))) once in
+    let parts = or_parts (list_any (same_hash first.0) (map (λ entry. entry.0) (given ++ last ∷ [])))
+    (has_twice same_hash (map (λ entry. entry.0) (given ++ last ∷ []))) once in
     let none : list_any (same_hash first.0) (map (λ entry. entry.0) given ++ last.0 ∷ []) ≡ false =
     ap (list_any (same_hash first.0)) (sym (map_push (λ entry. entry.0) given last)) ∙ parts.0 in
     let apart = or_parts (list_any (same_hash first.0) (map (λ entry. entry.0) given)) (same_hash first.0 last.0 || false)
@@ -289,7 +293,8 @@ module _ {place height : ℕ} {all whole : Givens} {first now : BySuffix} (left 
     once = has_twice-front same_hash same_hash-equivalence.symm (suffixes_given left) (last.0 ∷ [])
         (ap (has_twice same_hash) (sym (map_push (λ entry. entry.0) left last)) ∙ with_last.once);
     leads = λ suffix. elim (cases_Bool (same_hash suffix last.0)) [
-      | inl same ↦ subst (λ (suffix : HashValue). with_given place height (given_for suffix left) (operations_at suffix new) ≡ with_given place height (given_for suffix all) (operations_at suffix first))
+      | inl same ↦ subst (λ (suffix : HashValue). with_given place height (given_for suffix left) (operations_at suffix new)
+          ≡ with_given place height (given_for suffix all) (operations_at suffix first))
           (sym (same_hash-is suffix last.0 same)) at_last
       | inr other ↦
           let stays : operations_at suffix new ≡ operations_at suffix now =
@@ -300,7 +305,8 @@ module _ {place height : ℕ} {all whole : Givens} {first now : BySuffix} (left 
     ];
   }
     where
-      at_last : with_given place height (given_for last.0 left) (operations_at last.0 new) ≡ with_given place height (given_for last.0 all) (operations_at last.0 first)
+      at_last : with_given place height (given_for last.0 left) (operations_at last.0 new)
+          ≡ with_given place height (given_for last.0 all) (operations_at last.0 first)
       at_last =
           ap (λ given. with_given place height given (operations_at last.0 new)) (last_once left last with_last.once)
           ∙ puts last.0
@@ -326,9 +332,11 @@ pub named-itself : (changes : List (HashValue × ℕ)) → AreNamed hash_cmp cha
 named-itself [] = tt
 named-itself (change ∷ changes) =
     let here : (is_at (hash_cmp change.0) change.0 && leb change.1 change.1) ≡ true = rw (tied change.0, le-leb change.1 change.1 (omega arith)) refl in (
-      or_left (is_at (hash_cmp change.0) change.0 && leb change.1 change.1) (list_any (λ name. is_at (hash_cmp change.0) name.0 && leb name.1 change.1) changes) here,
+      or_left (is_at (hash_cmp change.0) change.0 && leb change.1 change.1)
+          (list_any (λ name. is_at (hash_cmp change.0) name.0 && leb name.1 change.1) changes) here,
       each-weaker (λ later. IsNamed hash_cmp changes later.0 later.1) (λ later. IsNamed hash_cmp (change ∷ changes) later.0 later.1)
-          (λ later is. or_right (is_at (hash_cmp later.0) change.0 && leb change.1 later.1) (list_any (λ name. is_at (hash_cmp later.0) name.0 && leb name.1 later.1) changes) is)
+          (λ later is. or_right (is_at (hash_cmp later.0) change.0 && leb change.1 later.1)
+          (list_any (λ name. is_at (hash_cmp later.0) name.0 && leb name.1 later.1) changes) is)
           changes (named-itself changes),
     )
 
@@ -338,14 +346,16 @@ module _ (place : ℕ) (suffixes : List HashValue) (front back : List (HashValue
   named-before named =
       each-weaker (λ suffix. IsNamed hash_cmp front suffix place) (λ suffix. IsNamed hash_cmp (front ++ back) suffix place)
       (λ suffix is. list_any-append (λ name. is_at (hash_cmp suffix) name.0 && leb name.1 place) front back
-      ∙ or_left (list_any (λ name. is_at (hash_cmp suffix) name.0 && leb name.1 place) front) (list_any (λ name. is_at (hash_cmp suffix) name.0 && leb name.1 place) back) is)
+      ∙ or_left (list_any (λ name. is_at (hash_cmp suffix) name.0 && leb name.1 place) front)
+      (list_any (λ name. is_at (hash_cmp suffix) name.0 && leb name.1 place) back) is)
       suffixes named
 
   pub named-behind : AreNamedAt place suffixes back → AreNamedAt place suffixes (front ++ back)
   named-behind named =
       each-weaker (λ suffix. IsNamed hash_cmp back suffix place) (λ suffix. IsNamed hash_cmp (front ++ back) suffix place)
       (λ suffix is. list_any-append (λ name. is_at (hash_cmp suffix) name.0 && leb name.1 place) front back
-      ∙ or_right (list_any (λ name. is_at (hash_cmp suffix) name.0 && leb name.1 place) front) (list_any (λ name. is_at (hash_cmp suffix) name.0 && leb name.1 place) back) is)
+      ∙ or_right (list_any (λ name. is_at (hash_cmp suffix) name.0 && leb name.1 place) front)
+      (list_any (λ name. is_at (hash_cmp suffix) name.0 && leb name.1 place) back) is)
       suffixes named
 
 module _ (place : ℕ) where
@@ -358,9 +368,11 @@ module _ (place : ℕ) where
   named-there [] = tt
   named-there (suffix ∷ suffixes) =
       let here : (is_at (hash_cmp suffix) suffix && leb place place) ≡ true = rw (tied suffix, le-leb place place (omega arith)) refl in (
-        or_left (is_at (hash_cmp suffix) suffix && leb place place) (list_any (λ name. is_at (hash_cmp suffix) name.0 && leb name.1 place) (at_place suffixes)) here,
+        or_left (is_at (hash_cmp suffix) suffix && leb place place)
+            (list_any (λ name. is_at (hash_cmp suffix) name.0 && leb name.1 place) (at_place suffixes)) here,
         each-weaker (λ later. IsNamed hash_cmp (at_place suffixes) later place) (λ later. IsNamed hash_cmp ((suffix, place) ∷ at_place suffixes) later place)
-            (λ later is. or_right (is_at (hash_cmp later) suffix && leb place place) (list_any (λ name. is_at (hash_cmp later) name.0 && leb name.1 place) (at_place suffixes)) is)
+            (λ later is. or_right (is_at (hash_cmp later) suffix && leb place place)
+            (list_any (λ name. is_at (hash_cmp later) name.0 && leb name.1 place) (at_place suffixes)) is)
             suffixes (named-there suffixes),
       )
 
@@ -376,5 +388,6 @@ module _ (place : ℕ) where
         arith,
         along,
         sum-map cost (suffixes_given given),
-        sum_by-le-sum_by (λ suffix. cost_from place (operations_at suffix new)) cost (suffixes_given given) (λ suffix. omega (arith, ap (cost_from place) (puts suffix))),
+        sum_by-le-sum_by (λ suffix. cost_from place (operations_at suffix new)) cost (suffixes_given given)
+            (λ suffix. omega (arith, ap (cost_from place) (puts suffix))),
       )

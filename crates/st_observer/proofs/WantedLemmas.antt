@@ -83,8 +83,14 @@ module _ {K : Type 0} {cmp : K → K → Ordering} (order : IsTotalOrder cmp) wh
       → (cmp first key ≡ Less → IsStrictlySortedBy cmp (first ∷ after))
       → IsStrictlySortedBy cmp (match_ordering rank (key ∷ first ∷ keys) (first ∷ keys) (first ∷ after))
   unfolding IsStrictlySortedBy
-  sorted_by key first keys after Less is sorted above later =
-      ((is, each-weaker (λ later. cmp first later ≡ Less) (λ later. cmp key later ≡ Less) (λ later less. order.trans key first later is less) keys above), sorted)
+  sorted_by key first keys after Less is sorted above later = (
+    (
+      is,
+      each-weaker (λ later. cmp first later ≡ Less) (λ later. cmp key later ≡ Less)
+          (λ later less. order.trans key first later is less) keys above,
+    ),
+    sorted,
+  )
   sorted_by key first keys after Equal is sorted above later = sorted
   sorted_by key first keys after Greater is sorted above later = later (order.antisymm first key ∙ ap ordering_reverse is)
 

@@ -16,5 +16,5 @@ pub returns : goal.returns
 returns c =
     let groups = plain_groups c.args.groups.now in
     let some = are_some _ _ c.has_core_proof.ensures c.if-not-has_core_proof.false in
-    c.in_ok-filed.ensures ∙ ap (filed CoreProof) (ap Some (c.in_ok-bytes.ensures.text ∙ ap (λ proofs. canonical (core_proof_json proofs)) c.in_ok-proofs.ensures)
-    ∙ sym (core_proof_some groups some))
+    let text = c.in_ok-bytes.ensures.text ∙ ap (λ proofs. canonical (core_proof_json proofs)) c.in_ok-proofs.ensures in
+    c.in_ok-filed.ensures ∙ ap (filed CoreProof) (ap Some text ∙ sym (core_proof_some groups some))

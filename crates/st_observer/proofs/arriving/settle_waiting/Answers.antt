@@ -1,12 +1,10 @@
-use Rattle.std.proofs.Common.{◌≡◌, ◌∙◌, ℕ, false, ap, subst, sym}
-use Rattle.st_hash.specs.Hash.{hash_cmp}
+use Rattle.std.proofs.Common.{◌∙◌, false, ap, subst}
 use Rattle.st_observer.specs.Observed.{Observed}
-use Rattle.st_observer.specs.Steps.{IsGoing, NamesWhere, is_among, kept_of, over}
+use Rattle.st_observer.specs.Steps.{IsGoing, is_among, kept_of, over}
 use Rattle.st_observer.specs.Waiting.{is_waiting}
 use Rattle.st_observer.specs.declared.going.Going.{Going}
-use Rattle.st_observer.proofs.ClosingLemmas.{closed-exact, closed-few, closed-going, opened-few, opened-going}
+use Rattle.st_observer.proofs.ClosingLemmas.{closed-exact, closed-going, opened-few, opened-going, waited-few}
 use Rattle.st_observer.proofs.arriving.settle_waiting.Goals as goal
-use Rattle.st_opindex.specs.Changed.{AreNamed}
 
 pub settle_entries-requires-clause-going : goal.settle_entries-requires-clause-going
 settle_entries-requires-clause-going c =
@@ -26,33 +24,22 @@ returns-clause-exact c =
     c.open-start.ensures c.in_ok-later.ensures.bounds c.in_ok-going.ensures.exact c.close.ensures.reads
 
 pub returns-clause-bound : goal.returns-clause-bound
-returns-clause-bound c = λ names where_given.
-    let waits : (n : ℕ) → is_among c.as_slice.result.now n ≡ is_waiting c.args.uri.now n c.args.kept.waiting =
-    λ n. ap (λ xs. is_among xs n) c.as_slice.ensures ∙ c.in_ok-entries.ensures.those n in
-    let start = c.open-start.result in
-    let same_start = ap (λ (g : Going). over g.states.states.schedule c.args.ledger.now c.args.content.now) c.open-start.ensures in
-    let first : AreNamed hash_cmp start.states.changes names = subst (λ (g : Going). AreNamed hash_cmp g.states.changes names) (sym c.open-start.ensures) tt in
-    let there : NamesWhere (is_among c.as_slice.result.now) (over start.states.states.schedule c.args.ledger.now c.args.content.now) names =
-    subst (λ (o : Observed). NamesWhere (is_among c.as_slice.result.now) o names) (sym same_start)
-    (λ n entry found among. where_given n entry found (sym (waits n) ∙ among)) in
-    let state = subst (λ (o : Observed). IsGoing o (λ n. false) (kept_of c.in_ok-going.going)) same_start c.in_ok-going.ensures.state in
-    closed-few (over c.args.kept.states.schedule c.args.ledger.now c.args.content.now) c.args.kept start c.in_ok-going.going names c.args.work.now c.settle_entries.new.work c.close.new.work
-    c.open-start.ensures state c.in_ok-going.ensures.bound (c.close.ensures.bound names (c.in_ok-going.ensures.changes names first there))
+returns-clause-bound c = λ names.
+    waited-few c.args.ledger.now c.args.content.now (λ n. is_waiting c.args.uri.now n c.args.kept.waiting) (is_among c.as_slice.result.now)
+    c.args.kept c.open-start.result c.in_ok-going.going names c.args.work.now c.settle_entries.new.work c.close.new.work
+    c.open-start.ensures (λ n. ap (λ xs. is_among xs n) c.as_slice.ensures ∙ c.in_ok-entries.ensures.those n)
+    c.in_ok-going.ensures.state c.in_ok-going.ensures.bound
+    (λ first there. c.close.ensures.bound names (c.in_ok-going.ensures.changes names first there))
 
 pub returns-in_err-later-clause-bound : goal.returns-in_err-later-clause-bound
-returns-in_err-later-clause-bound c = λ names where_given.
-    let waits : (n : ℕ) → is_among c.as_slice.result.now n ≡ is_waiting c.args.uri.now n c.args.kept.waiting =
-    λ n. ap (λ xs. is_among xs n) c.as_slice.ensures ∙ c.in_ok-entries.ensures.those n in
-    let start = c.open-start.result in
-    let same_start = ap (λ (g : Going). over g.states.states.schedule c.args.ledger.now c.args.content.now) c.open-start.ensures in
-    let first : AreNamed hash_cmp start.states.changes names = subst (λ (g : Going). AreNamed hash_cmp g.states.changes names) (sym c.open-start.ensures) tt in
-    let there : NamesWhere (is_among c.as_slice.result.now) (over start.states.states.schedule c.args.ledger.now c.args.content.now) names =
-    subst (λ (o : Observed). NamesWhere (is_among c.as_slice.result.now) o names) (sym same_start)
-    (λ n entry found among. where_given n entry found (sym (waits n) ∙ among)) in
-    let state = subst (λ (o : Observed). IsGoing o (λ n. false) (kept_of c.in_ok-going.going)) same_start c.in_ok-going.ensures.state in
-    closed-few (over c.args.kept.states.schedule c.args.ledger.now c.args.content.now) c.args.kept start c.in_ok-going.going names c.args.work.now c.settle_entries.new.work c.close.new.work
-    c.open-start.ensures state c.in_ok-going.ensures.bound (c.close.ensures.bound names (c.in_ok-going.ensures.changes names first there))
+returns-in_err-later-clause-bound c = λ names.
+    waited-few c.args.ledger.now c.args.content.now (λ n. is_waiting c.args.uri.now n c.args.kept.waiting) (is_among c.as_slice.result.now)
+    c.args.kept c.open-start.result c.in_ok-going.going names c.args.work.now c.settle_entries.new.work c.close.new.work
+    c.open-start.ensures (λ n. ap (λ xs. is_among xs n) c.as_slice.ensures ∙ c.in_ok-entries.ensures.those n)
+    c.in_ok-going.ensures.state c.in_ok-going.ensures.bound
+    (λ first there. c.close.ensures.bound names (c.in_ok-going.ensures.changes names first there))
 
 pub returns-in_err-going-clause-bound : goal.returns-in_err-going-clause-bound
 returns-in_err-going-clause-bound c = λ names where_given.
-    opened-few (over c.args.kept.states.schedule c.args.ledger.now c.args.content.now) c.args.kept c.open-start.result names c.args.work.now c.settle_entries.new.work c.open-start.ensures c.in_err-going.ensures.bound
+    opened-few (over c.args.kept.states.schedule c.args.ledger.now c.args.content.now) c.args.kept c.open-start.result names
+    c.args.work.now c.settle_entries.new.work c.open-start.ensures c.in_err-going.ensures.bound

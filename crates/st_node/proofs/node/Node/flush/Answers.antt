@@ -7,7 +7,8 @@ returns-in_err-observer-in-Ok-clause-counts c =
 
 pub returns-in_ok-observer-in-Ok-clause-answer : goal.returns-in_ok-observer-in-Ok-clause-answer
 returns-in_ok-observer-in-Ok-clause-answer c =
-    flush_answer c.self.inside.observer c.limits_now-params.ensures c.in-Ok.ensures.flushed c.self.view_is c.in_ok-observer-in-Ok.ensures.state c.in_ok-text-in-Ok.ensures
+    flush_answer c.self.inside.observer c.limits_now-params.ensures c.in-Ok.ensures.flushed c.self.view_is
+    c.in_ok-observer-in-Ok.ensures.state c.in_ok-text-in-Ok.ensures
 
 pub returns-in_ok-observer-in-Ok-clause-counts : goal.returns-in_ok-observer-in-Ok-clause-counts
 returns-in_ok-observer-in-Ok-clause-counts c =

@@ -1,12 +1,10 @@
 use Rattle.std.proofs.Common.{◌∙◌, ap, refl, sym}
-use Rattle.st_anchor.specs.Coming.{newly_decided, newly_opened}
 use Rattle.st_anchor.specs.Known.{known_from}
 use Rattle.st_anchor.specs.States.{role_states}
 use Rattle.st_observer.specs.Steps.{kept_of, unknown}
 use Rattle.st_observer.specs.Wanted.{one_misses}
 use Rattle.st_observer.proofs.WaitsLemmas.{states-inside}
 use Rattle.st_observer.proofs.SettleLemmas.{settle-bounds, settle-few, settle-names, settles}
-use Rattle.st_observer.proofs.WorkLemmas.{grew-only}
 use Rattle.st_observer.proofs.going.Going.settle.Goals as goal
 
 pub returns-clause-step : goal.returns-clause-step
@@ -25,33 +23,25 @@ pub returns-clause-bound : goal.returns-clause-bound
 returns-clause-bound c =
     settle-few c.args.content.now c.args.self.bounds.items c.args.n c.exchange-bound.result c.in_ok-bound.bound c.exchange-bound.ensures.value
     c.in_ok-bound.ensures.value
-    c.args.work.now c.settle.new.work
-    (grew-only (newly_decided c.args.content.now c.exchange-bound.result) (newly_opened c.args.content.now c.exchange-bound.result)
-    0 c.args.work.now c.settle.new.work c.in_ok-bound.ensures.few)
+    c.args.work.now c.settle.new.work c.in_ok-bound.ensures.few
 
 pub returns-in_err-states-clause-bound : goal.returns-in_err-states-clause-bound
 returns-in_err-states-clause-bound c =
     settle-few c.args.content.now c.args.self.bounds.items c.args.n c.exchange-bound.result c.in_ok-bound.bound c.exchange-bound.ensures.value
     c.in_ok-bound.ensures.value
-    c.args.work.now c.settle.new.work
-    (grew-only (newly_decided c.args.content.now c.exchange-bound.result) (newly_opened c.args.content.now c.exchange-bound.result)
-    0 c.args.work.now c.settle.new.work c.in_ok-bound.ensures.few)
+    c.args.work.now c.settle.new.work c.in_ok-bound.ensures.few
 
 pub returns-in_err-turn-clause-bound : goal.returns-in_err-turn-clause-bound
 returns-in_err-turn-clause-bound c =
     settle-few c.args.content.now c.args.self.bounds.items c.args.n c.exchange-bound.result c.in_ok-bound.bound c.exchange-bound.ensures.value
     c.in_ok-bound.ensures.value
-    c.args.work.now c.settle.new.work
-    (grew-only (newly_decided c.args.content.now c.exchange-bound.result) (newly_opened c.args.content.now c.exchange-bound.result)
-    0 c.args.work.now c.settle.new.work c.in_ok-bound.ensures.few)
+    c.args.work.now c.settle.new.work c.in_ok-bound.ensures.few
 
 pub returns-in_err-bound-clause-bound : goal.returns-in_err-bound-clause-bound
 returns-in_err-bound-clause-bound c =
     settle-few c.args.content.now c.args.self.bounds.items c.args.n c.exchange-bound.result
     (known_from c.args.content.now c.exchange-bound.result) c.exchange-bound.ensures.value refl
-    c.args.work.now c.settle.new.work
-    (grew-only (newly_decided c.args.content.now c.exchange-bound.result) (newly_opened c.args.content.now c.exchange-bound.result)
-    0 c.args.work.now c.settle.new.work c.in_err-bound.ensures.few)
+    c.args.work.now c.settle.new.work c.in_err-bound.ensures.few
 
 pub returns-clause-changes : goal.returns-clause-changes
 returns-clause-changes c = λ names named.
@@ -63,4 +53,5 @@ pub turn-requires : goal.turn-requires
 turn-requires c = λ uri.
     c.requires.waits.each uri c.args.n
     ∙ ap (one_misses uri)
-    (states-inside c.args.n c.args.self.bounds.items unknown c.requires.inside ∙ ap role_states (sym c.exchange-bound.ensures.value) ∙ sym c.states_of-before.ensures)
+    (states-inside c.args.n c.args.self.bounds.items unknown c.requires.inside ∙ ap role_states (sym c.exchange-bound.ensures.value)
+    ∙ sym c.states_of-before.ensures)

@@ -36,8 +36,10 @@ pub returns-clause-once : goal.returns-clause-once
 returns-clause-once c =
     subst (λ (s : Observed). (names : List (HashValue × ℕ)) → NamesLate c.args.bytes s names
     → c.settle_waiting.new.work.applies ≤ c.args.work.now.applies + named_cost (arrived c.args.bytes s) names) c.self.view_is
-    (λ names late. ((arrived-few c.args.bytes (over c.self.inside.schedule c.self.inside.ledger c.self.inside.content) c.self.inside.kept c.in_ok-uri.uri c.put.new.self
-    c.self.invariant c.in_ok-uri.ensures.uri c.in_ok-uri.ensures.ok c.args.work.now c.settle_waiting.new.work c.settle_waiting.ensures.bound) names late).applied)
+    (λ names late. ((arrived-few c.args.bytes (over c.self.inside.schedule c.self.inside.ledger c.self.inside.content) c.self.inside.kept
+    c.in_ok-uri.uri c.put.new.self
+    c.self.invariant c.in_ok-uri.ensures.uri c.in_ok-uri.ensures.ok c.args.work.now c.settle_waiting.new.work
+    c.settle_waiting.ensures.bound) names late).applied)
 
 pub returns-in_err-kept-clause-bound : goal.returns-in_err-kept-clause-bound
 returns-in_err-kept-clause-bound c =
@@ -51,5 +53,7 @@ pub returns-in_err-kept-clause-once : goal.returns-in_err-kept-clause-once
 returns-in_err-kept-clause-once c =
     subst (λ (s : Observed). (names : List (HashValue × ℕ)) → NamesLate c.args.bytes s names
     → c.settle_waiting.new.work.applies ≤ c.args.work.now.applies + named_cost (arrived c.args.bytes s) names) c.self.view_is
-    (λ names late. ((arrived-few c.args.bytes (over c.self.inside.schedule c.self.inside.ledger c.self.inside.content) c.self.inside.kept c.in_ok-uri.uri c.put.new.self
-    c.self.invariant c.in_ok-uri.ensures.uri c.in_ok-uri.ensures.ok c.args.work.now c.settle_waiting.new.work c.settle_waiting.ensures.bound) names late).applied)
+    (λ names late. ((arrived-few c.args.bytes (over c.self.inside.schedule c.self.inside.ledger c.self.inside.content) c.self.inside.kept
+    c.in_ok-uri.uri c.put.new.self
+    c.self.invariant c.in_ok-uri.ensures.uri c.in_ok-uri.ensures.ok c.args.work.now c.settle_waiting.new.work
+    c.settle_waiting.ensures.bound) names late).applied)

@@ -9,7 +9,8 @@ pub invariant_of-result : goal.invariant_of-result
 invariant_of-result c =
     let old = c.self.inside.index.items in
     record {
-      each = λ suffix. subst (PlacesAscend place_of) (sym (cut_operations c.args.place suffix old c.in_ok-index.index.items (c.in_ok-index.ensures.items suffix)))
+      each = λ suffix. subst (PlacesAscend place_of) (sym (cut_operations c.args.place suffix old c.in_ok-index.index.items
+          (c.in_ok-index.ensures.items suffix)))
           (ascend-before c.args.place (operations_at suffix old) (c.self.invariant.each suffix));
     }
 
