@@ -6,7 +6,6 @@ use Rattle.st_canon.specs.Objects.{some_list, some_object}
 use Rattle.st_canon.specs.Plain.{Plain}
 use Rattle.st_canon.specs.Shapes.{member_in}
 use Rattle.st_canon.proofs.ObjectLemmas.{member_at-some_listed, member_in-some_object}
-use Rattle.st_hash.specs.Hash.{HashValue}
 use Rattle.st_indexfiles.specs.CoreIndex.{core_index_of, core_json, core_operations}
 use Rattle.st_indexfiles.specs.CoreRules.{has_core_entries, has_core_members}
 use Rattle.st_indexfiles.specs.Hashes.{hash_json}

@@ -1,3 +1,5 @@
+-- no byte of base64url, and so of a hash text, is escaped in JSON
+pub mod BareLemmas
 pub mod CoreLemmas
 pub mod ProvisionalLemmas
 pub mod TwiceLemmas

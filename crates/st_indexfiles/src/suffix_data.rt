@@ -1,14 +1,23 @@
-ghost use Rattle.std.specs.Prelude.{◌≡◌, ◌≤◌, IfOk, OnOk, Some};
+ghost use Rattle.std.specs.Prelude.{◌≡◌, ◌++◌, ◌≤◌, codes, IfOk, OnOk, Some};
+ghost use Rattle.st_canon.specs.Canonical.{canonical};
 ghost use Rattle.st_canon.specs.View.{plain};
+ghost use Rattle.st_hash.specs.Hash.{IsHash};
 ghost use Rattle.st_indexfiles.specs.SuffixData.{suffix_data_json, suffix_data_of, suffix_of};
 ghost use Rattle.st_indexfiles.specs.Written.{IsHashReadAgain};
 
 use crate::entries::Entry;
 use crate::hashes::{hash_in, hash_json};
-use st_base::{Copied, WantOfMemory};
-use st_canon::{Json, Object, write};
-use st_hash::{Hash, hash_with};
+use st_base::{Bytes, Copied, WantOfMemory};
+use st_canon::{Json, Object};
+use st_hash::{Hash, hash_text, hash_with};
 use std::alloc::Global;
+
+// What stands round the two hash texts in the canonical text of suffix data.
+const DELTA_HASH: &[u8] = b"{\"deltaHash\":\"";
+
+const RECOVERY_COMMITMENT: &[u8] = b"\",\"recoveryCommitment\":\"";
+
+const END: &[u8] = b"\"}";
 
 /// What a create commits to: the hash of its delta, and the commitment to its recovery key.
 #[derive(Clone, Copy, Debug, PartialEq, Eq)]
@@ -66,9 +75,48 @@ impl Copied for SuffixData {
 pub fn suffix_of(alloc: Global, suffix_data: &SuffixData) -> Result<Hash, WantOfMemory>
     ensures { IfOk result (λ suffix. suffix ≡ suffix_of suffix_data.now) }
 {
-    let json = suffix_data.json(alloc)?;
-    let text = write(alloc, &json)?;
+    let text = suffix_text(alloc, suffix_data)?;
     Ok(hash_with(text.as_slice(), suffix_data.delta_hash.code()))
+}
+
+// The canonical text of suffix data. It takes no value of JSON, since in a hash text no byte is
+// escaped.
+#[tactic(auto, using(crate::proofs::BareLemmas::suffix_data_text))]
+fn suffix_text(alloc: Global, suffix_data: &SuffixData) -> Result<Bytes, WantOfMemory>
+    ensures { IfOk result (λ text. text ≡ canonical (suffix_data_json suffix_data.now)) }
+{
+    know_hash(&suffix_data.delta_hash);
+    know_hash(&suffix_data.recovery_commitment);
+    let delta_hash = hash_text(alloc, &suffix_data.delta_hash)?;
+    let recovery_commitment = hash_text(alloc, &suffix_data.recovery_commitment)?;
+    Ok(between_parts(alloc, delta_hash.as_str(), recovery_commitment.as_str())?)
+}
+
+// The two hash texts with what stands round them. The memory is had at once.
+fn between_parts(
+    alloc: Global,
+    delta_hash: &str,
+    recovery_commitment: &str,
+) -> Result<Bytes, WantOfMemory>
+    ensures { IfOk result (λ text. text ≡ (((codes "{\"deltaHash\":\"" ++ delta_hash.now)
+        ++ codes "\",\"recoveryCommitment\":\"") ++ recovery_commitment.now) ++ codes "\"}") }
+{
+    let parts = DELTA_HASH.len() + RECOVERY_COMMITMENT.len() + END.len();
+    let hashes = delta_hash.len().saturating_add(recovery_commitment.len());
+    let mut text = Vec::with_capacity(alloc, hashes.saturating_add(parts))?;
+    text.extend_from_slice(DELTA_HASH)?;
+    text.extend_from_slice(delta_hash.as_bytes())?;
+    text.extend_from_slice(RECOVERY_COMMITMENT)?;
+    text.extend_from_slice(recovery_commitment.as_bytes())?;
+    text.extend_from_slice(END)?;
+    Ok(Bytes::from_vec(text))
+}
+
+// For the proof: the value is one that hashes have, by a clause of `code`. Nothing is done.
+fn know_hash(hash: &Hash)
+    ensures { IsHash hash.now }
+{
+    let _code = hash.code();
 }
 
 impl Entry for SuffixData {
