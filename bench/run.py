@@ -7,6 +7,7 @@ NAME is one of
 
     content    content lines, against the bare decoding and hashing of the same bytes
     streams    whole streams, against the bare cost of their bytes and signatures; memory against files
+    memory     the memory of many creates, against their files
     resolves   a resolve behind small and great ledgers and histories
     hostile    streams that are made to be costly, against ones of an eighth of the size
     reading    great files of a batch, against the bare reading of their JSON
@@ -39,7 +40,7 @@ def main():
     parser.add_argument("--instructions", action="store_true")
     options = parser.parse_args()
     measures = {"content": lambda folder: content.measure(folder, options.instructions),
-                "streams": lambda folder: streams.measure(folder, options.origin),
+                "streams": lambda folder: streams.measure(folder, options.origin), "memory": streams.memory,
                 "resolves": growth.resolves, "hostile": growth.hostile, "reading": reading.measure,
                 "submit": submitting.measure,
                 "json": libraries.json, "signatures": libraries.signatures, "index": libraries.index,

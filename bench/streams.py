@@ -12,7 +12,7 @@ import os
 
 import lms
 from formats import bytes_of, hash_text
-from load import STREAMS
+from load import STREAMS, creates
 from measuring import best_times, build, node, peak, rows, write_lines
 
 # The proof files of an entry: which index names them, and by which member.
@@ -83,3 +83,16 @@ def measure(folder, origin=None):
               "%.2f times the least with its JSON read (%.2f s); %d MiB, %.1f times its files of %.1f MiB"
               % (name, time, time / (hashing + signing), hashing, signing, count, time / (reading + signing), reading + signing,
                  memory >> 20, memory / files.size, files.size / 2 ** 20), flush=True)
+
+
+def memory(folder, few=8_000, many=80_000):
+    """Prints what creates take in memory beside their files: few of them, many, and each byte of files more."""
+    given = os.path.join(folder, "given")
+    found = []
+    for count in (few, many):
+        lines = [line.encode() for line in creates(count, asked=0)]
+        write_lines(given, lines)
+        found.append((peak(node(), given), Files(lines).size))
+    (least, small), (most, great) = found
+    print("memory of creates: %d take %.1f times their files, %d take %.1f times, and each byte of files more %.2f bytes"
+          % (few, least / small, many, most / great, (most - least) / (great - small)), flush=True)

@@ -1,30 +1,29 @@
-ghost use Rattle.std.specs.Prelude.{◌≡◌, IfOk, drop, map, option_map, slice_get};
+ghost use Rattle.std.specs.Prelude.{◌≡◌, IfOk, drop, map, slice_get};
 ghost use Rattle.st_canon.specs.View.{plain};
 
 use st_base::{Copied, List, WantOfMemory};
 use st_canon::Json;
-use st_ops::Shared;
+use st_ops::PackedJson;
 use std::alloc::Global;
 use std::marker::Model;
 
-/// The deltas of a chunk file. They are kept once, and shared with the operations that are given.
-/// Contracts see the list of plain values.
+/// The deltas of a chunk file. They are kept once, in little memory, and shared with the operations that
+/// are given. Contracts see the list of plain values.
 #[derive(Drop)]
 pub struct Deltas {
-    items: List<Shared<Json>>,
+    items: List<PackedJson>,
 }
 
 impl Model for Deltas {
-    ghost use Rattle.std.specs.Prelude.{List, map};
-    ghost use Rattle.st_ops.specs.Codes.{coded_deltas};
+    ghost use Rattle.std.specs.Prelude.{List};
     ghost use Rattle.st_canon.specs.Plain.{Plain};
-    ghost use Rattle.st_canon.specs.View.{plain};
+    ghost use Rattle.st_ops.specs.PlainCodes.{coded_deltas};
 
     ghost Value = { List Plain };
 
     ghost coded = { coded_deltas };
 
-    ghost view = { λ deltas. map plain deltas.items };
+    ghost view = { λ deltas. deltas.items };
 }
 
 impl Deltas {
@@ -32,34 +31,35 @@ impl Deltas {
     pub fn share(alloc: Global, deltas: List<Json>) -> Result<Deltas, WantOfMemory>
         ensures { IfOk result (λ shared. shared ≡ map plain deltas) }
     {
-        let items = share_all(alloc, deltas)?;
+        let items = pack_all(alloc, deltas)?;
         Ok(Deltas { items })
     }
 
-    pub fn as_slice(&self) -> &[Shared<Json>]
-        ensures { map plain result.now ≡ self.now }
+    pub fn as_slice(&self) -> &[PackedJson]
+        ensures { result.now ≡ self.now }
     {
         self.items.as_slice()
     }
 }
 
-fn share_all(alloc: Global, deltas: List<Json>) -> Result<List<Shared<Json>>, WantOfMemory>
-    ensures { IfOk result (λ items. items ≡ deltas) }
+// Each is let go as soon as it is packed.
+fn pack_all(alloc: Global, deltas: List<Json>) -> Result<List<PackedJson>, WantOfMemory>
+    ensures { IfOk result (λ items. items ≡ map plain deltas) }
 {
-    let mut items = List::new(alloc);
+    let mut items = Vec::with_capacity(alloc, deltas.len())?;
     'deltas: for delta in deltas.into_vec() {
-        items.push(alloc, Shared::new(alloc, delta)?)?;
+        items.push(PackedJson::pack(alloc, &delta)?)?;
     }
-    Ok(items)
+    Ok(List::from_vec(items))
 }
 
 /// The delta in this place, where there is one.
 pub fn delta_at(
     alloc: Global,
-    deltas: &[Shared<Json>],
+    deltas: &[PackedJson],
     at: usize,
-) -> Result<Option<Shared<Json>>, WantOfMemory>
-    ensures { IfOk result (λ delta. option_map plain delta ≡ slice_get (map plain deltas.now) at) }
+) -> Result<Option<PackedJson>, WantOfMemory>
+    ensures { IfOk result (λ delta. delta ≡ slice_get deltas.now at) }
 {
     match deltas.get(at) {
         Some(delta) => Ok(Some(delta.copy(alloc)?)),
@@ -68,8 +68,8 @@ pub fn delta_at(
 }
 
 /// The deltas from this place on.
-pub fn deltas_from(deltas: &[Shared<Json>], at: usize) -> &[Shared<Json>]
-    ensures { map plain result.now ≡ drop at (map plain deltas.now) }
+pub fn deltas_from(deltas: &[PackedJson], at: usize) -> &[PackedJson]
+    ensures { result.now ≡ drop at deltas.now }
 {
     if at < deltas.len() {
         &deltas[at..]

@@ -1,5 +1,4 @@
 ghost use Rattle.std.specs.Prelude.{◌≡◌, ◌++◌, IfOk, OnOk, map, option_map};
-ghost use Rattle.st_canon.specs.View.{plain};
 ghost use Rattle.st_ops.specs.Operation.{creating, plain_operation, plain_proof};
 ghost use Rattle.st_anchor.specs.Gives.{creates_given, deactivates_given, deltas_below, operations_below, plain_given, recovers_given, signed_given, updates_below, with_suffix};
 ghost use Rattle.st_anchor.specs.Kinds.{made};
@@ -10,11 +9,10 @@ use crate::given::Given;
 use crate::opened::Proofs;
 use crate::part::Part;
 use st_base::{List, WantOfMemory};
-use st_canon::Json;
 use st_hash::Hash;
 use st_indexfiles::{CoreIndex, SuffixData, Target, suffix_of};
 use st_jws::Signed;
-use st_ops::{Operation, Shared};
+use st_ops::{Operation, PackedJson, Shared};
 use std::alloc::Global;
 
 // The kinds of operations that are signed.
@@ -40,8 +38,8 @@ pub fn give_below(alloc: Global, branch: &CoreBranch) -> Result<List<Given>, Wan
 }
 
 // The deltas of the chunk file, or none where it wasn't read.
-fn deltas_below(provisional: &Part<ProvisionalBranch>) -> &[Shared<Json>]
-    ensures { map plain result.now ≡ deltas_below provisional.now }
+fn deltas_below(provisional: &Part<ProvisionalBranch>) -> &[PackedJson]
+    ensures { result.now ≡ deltas_below provisional.now }
 {
     match provisional {
         Part::Is(branch) => match &branch.chunk {
@@ -55,11 +53,11 @@ fn deltas_below(provisional: &Part<ProvisionalBranch>) -> &[Shared<Json>]
 fn give_creates(
     alloc: Global,
     creates: &[SuffixData],
-    deltas: &[Shared<Json>],
+    deltas: &[PackedJson],
     list: &mut List<Given>,
 ) -> Result<(), WantOfMemory>
     ensures { OnOk result (map plain_given list.new ≡
-        map plain_given list.old ++ map with_suffix (creates_given creates.now (map plain deltas.now))) }
+        map plain_given list.old ++ map with_suffix (creates_given creates.now deltas.now)) }
 {
     'creates: for (at, create) in creates.iter().enumerate() {
         let delta = delta_at(alloc, deltas, at)?;
@@ -71,9 +69,9 @@ fn give_creates(
 fn create_of(
     alloc: Global,
     create: &SuffixData,
-    delta: Option<Shared<Json>>,
+    delta: Option<PackedJson>,
 ) -> Result<Given, WantOfMemory>
-    ensures { IfOk result (λ given. plain_given given ≡ with_suffix (creating create.now (option_map plain delta))) }
+    ensures { IfOk result (λ given. plain_given given ≡ with_suffix (creating create.now delta)) }
 {
     let suffix = suffix_of(alloc, create)?;
     Ok(Given {
@@ -90,11 +88,11 @@ fn give_proved(
     alloc: Global,
     core: &CoreIndex,
     proofs: &Part<OpenedCore>,
-    deltas: &[Shared<Json>],
+    deltas: &[PackedJson],
     list: &mut List<Given>,
 ) -> Result<(), WantOfMemory>
     ensures { OnOk result (map plain_given list.new ≡ map plain_given list.old
-        ++ map with_suffix (recovers_given core.now (map plain deltas.now) proofs.now)
+        ++ map with_suffix (recovers_given core.now deltas.now proofs.now)
         ++ map with_suffix (deactivates_given core.now proofs.now)) }
 {
     if let Part::Is(proofs) = proofs {
@@ -124,11 +122,11 @@ fn give_proved(
 fn give_updates(
     alloc: Global,
     provisional: &Part<ProvisionalBranch>,
-    deltas: &[Shared<Json>],
+    deltas: &[PackedJson],
     list: &mut List<Given>,
 ) -> Result<(), WantOfMemory>
     ensures { OnOk result (map plain_given list.new ≡ map plain_given list.old
-        ++ map with_suffix (updates_below (map plain deltas.now) provisional.now)) }
+        ++ map with_suffix (updates_below deltas.now provisional.now)) }
 {
     match provisional {
         Part::Is(branch) => match &branch.proofs {
@@ -148,11 +146,11 @@ fn give_signed(
     kind: Kind,
     targets: &[Target],
     proofs: &Proofs,
-    deltas: &[Shared<Json>],
+    deltas: &[PackedJson],
     list: &mut List<Given>,
 ) -> Result<(), WantOfMemory>
     ensures { OnOk result (map plain_given list.new ≡ map plain_given list.old
-        ++ map with_suffix (signed_given (made kind) targets.now proofs.now (map plain deltas.now))) }
+        ++ map with_suffix (signed_given (made kind) targets.now proofs.now deltas.now)) }
 {
     'targets: for (at, target) in targets.iter().enumerate() {
         let proof = proofs.at(alloc, at)?;
@@ -166,9 +164,9 @@ fn signed_of(
     kind: Kind,
     target: &Target,
     proof: Option<Shared<Signed>>,
-    delta: Option<Shared<Json>>,
+    delta: Option<PackedJson>,
 ) -> Given
-    ensures { plain_given result ≡ with_suffix (made kind target.now (option_map plain_proof proof) (option_map plain delta)) }
+    ensures { plain_given result ≡ with_suffix (made kind target.now (option_map plain_proof proof) delta) }
 {
     let suffix = target.suffix;
     Given {
@@ -182,9 +180,9 @@ fn operation_of(
     suffix: Hash,
     reveal: Hash,
     proof: Option<Shared<Signed>>,
-    delta: Option<Shared<Json>>,
+    delta: Option<PackedJson>,
 ) -> Operation
-    ensures { plain_operation result ≡ made kind (record { suffix = suffix; reveal = reveal }) (option_map plain_proof proof) (option_map plain delta) }
+    ensures { plain_operation result ≡ made kind (record { suffix = suffix; reveal = reveal }) (option_map plain_proof proof) delta }
 {
     match kind {
         Kind::Update => Operation::Update {

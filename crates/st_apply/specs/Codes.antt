@@ -4,13 +4,14 @@ use Rattle.std.specs.Coded.{Coded, code_by, coded×, coded_list, coded_option, c
 use Rattle.st_canon.specs.Plain.{Plain}
 use Rattle.st_doc.specs.Document.{PlainDocument}
 use Rattle.st_hash.specs.Hash.{HashValue}
-use Rattle.st_ops.specs.Codes.{coded_plain}
+use Rattle.st_ops.specs.PlainCodes.{coded_plain}
 use Rattle.st_apply.specs.Seen.{State, absent, active, deactivated}
 
 abbrev hash_code : Coded HashValue
 hash_code = code_by (ℕ × List ℕ) (coded× coded_ℕ (coded_list coded_ℕ)) (λ h. (h.code, h.digest)) (λ p. record { code = p.0; digest = p.1 }) (λ _. refl)
 
-abbrev document_code : Coded PlainDocument
+-- how a document is stored: by its fields
+abbrev pub document_code : Coded PlainDocument
 document_code =
     code_by (List Plain × (List Plain × List (List ℕ)))
     (coded× (coded_list coded_plain) (coded× (coded_list coded_plain) (coded_list (coded_list coded_ℕ))))

@@ -1,21 +1,20 @@
-ghost use Rattle.std.specs.Prelude.{◌≡◌, IfOk, option_map, unwrap_or};
+ghost use Rattle.std.specs.Prelude.{◌≡◌, IfOk, unwrap_or};
 ghost use Rattle.st_apply.specs.Applied.{applied, beginning_at, reveal_meets, seen_as, seen_at, sidetree};
 ghost use Rattle.st_apply.specs.Counting.{counted_change};
 ghost use Rattle.st_apply.specs.Seen.{absent, updates};
 ghost use Rattle.st_apply.specs.Shown.{shown_active};
 ghost use Rattle.st_apply.specs.Step.{begun, step};
 ghost use Rattle.st_base.specs.Work.{one_apply};
-ghost use Rattle.st_canon.specs.View.{plain};
 ghost use Rattle.st_ops.specs.Operation.{plain_operation};
 
-use crate::counting::{changed_document, counted_delta};
+use crate::counting::{begun_document, changed_document, counted_delta};
+use crate::packed::PackedDocument;
 use crate::state::{Active, DidState, Kept};
 use st_base::{Copied, WantOfMemory, Work};
-use st_canon::Json;
 use st_doc::Document;
 use st_hash::Hash;
 use st_jws::meets;
-use st_ops::{Claim, Operation, Shared, claim_of};
+use st_ops::{Claim, Operation, PackedJson, claim_of};
 use st_params::Params;
 use std::alloc::Global;
 
@@ -111,12 +110,12 @@ fn on_update(
     active: &Active,
     reveal: &Hash,
     delta_hash: &Hash,
-    delta: &Option<Shared<Json>>,
+    delta: &Option<PackedJson>,
     params: &Params,
 ) -> Result<Option<DidState>, WantOfMemory>
     ensures { IfOk result (λ next. unwrap_or next (shown_active active.now)
         ≡ step sidetree (shown_active active.now)
-        (updates reveal.now (counted_change params.now delta_hash.now (option_map plain delta.now)))) }
+        (updates reveal.now (counted_change params.now delta_hash.now delta.now))) }
 {
     let Some(commitment) = &active.update else {
         return Ok(None);
@@ -140,17 +139,19 @@ fn begin(
     params: &Params,
     recovery: &Hash,
     delta_hash: &Hash,
-    delta: &Option<Shared<Json>>,
+    delta: &Option<PackedJson>,
 ) -> Result<DidState, WantOfMemory>
     ensures { IfOk result (λ next. next ≡ begun sidetree
-        (beginning_at params.now recovery.now delta_hash.now (option_map plain delta.now))) }
+        (beginning_at params.now recovery.now delta_hash.now delta.now)) }
 {
-    let empty = Shared::new(alloc, Document::empty(alloc))?;
     match counted_delta(alloc, params, delta_hash, delta)? {
-        None => Ok(DidState::active(*recovery, None, empty)),
+        None => {
+            let empty = PackedDocument::pack(alloc, Document::empty(alloc))?;
+            Ok(DidState::active(*recovery, None, empty))
+        }
         Some(delta) => {
             let update = delta.update;
-            let document = changed_document(alloc, params, &empty, delta)?;
+            let document = begun_document(alloc, params, delta)?;
             Ok(DidState::active(*recovery, Some(update), document))
         }
     }

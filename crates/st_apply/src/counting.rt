@@ -1,15 +1,14 @@
 ghost use Rattle.std.specs.Prelude.{◌≡◌, IfOk, option_map};
 ghost use Rattle.st_apply.specs.Counting.{change_by, counted};
 ghost use Rattle.st_apply.specs.Step.{changed};
-ghost use Rattle.st_canon.specs.View.{plain};
 ghost use Rattle.st_doc.specs.Delta.{plain_delta};
-ghost use Rattle.st_doc.specs.Document.{plain_document};
+ghost use Rattle.st_doc.specs.Document.{empty_document};
 
+use crate::packed::PackedDocument;
 use st_base::{Copied, WantOfMemory};
-use st_canon::{Json, write};
 use st_doc::{Delta, DeltaRefused, Document, PatchRefused, apply_all, check_delta};
-use st_hash::{Hash, hash_with};
-use st_ops::Shared;
+use st_hash::Hash;
+use st_ops::PackedJson;
 use st_params::Params;
 use std::alloc::Global;
 
@@ -18,19 +17,19 @@ pub(crate) fn counted_delta(
     alloc: Global,
     params: &Params,
     delta_hash: &Hash,
-    delta: &Option<Shared<Json>>,
+    delta: &Option<PackedJson>,
 ) -> Result<Option<Delta>, WantOfMemory>
     ensures { IfOk result (λ found. option_map plain_delta found
-        ≡ counted params.now delta_hash.now (option_map plain delta.now)) }
+        ≡ counted params.now delta_hash.now delta.now) }
 {
     let Some(delta) = delta else {
         return Ok(None);
     };
-    let text = write(alloc, delta.get())?;
-    if hash_with(text.as_slice(), delta_hash.code()) != *delta_hash {
+    if delta.hash(alloc, delta_hash.code())? != *delta_hash {
         return Ok(None);
     }
-    match check_delta(alloc, delta.get(), params) {
+    let value = delta.unpack(alloc)?;
+    match check_delta(alloc, &value, params) {
         Ok(delta) => Ok(Some(delta)),
         Err(DeltaRefused::TooLong) => Ok(None),
         Err(DeltaRefused::BadDelta) => Ok(None),
@@ -43,15 +42,29 @@ pub(crate) fn counted_delta(
 pub(crate) fn changed_document(
     alloc: Global,
     params: &Params,
-    document: &Shared<Document>,
+    document: &PackedDocument,
     delta: Delta,
-) -> Result<Shared<Document>, WantOfMemory>
-    ensures { IfOk result (λ after. plain_document after
-        ≡ changed (plain_document document.now) (change_by params.now (plain_delta delta))) }
+) -> Result<PackedDocument, WantOfMemory>
+    ensures { IfOk result (λ after. after ≡ changed document.now (change_by params.now (plain_delta delta))) }
 {
-    match apply_all(alloc, document.get(), delta, params) {
-        Ok(after) => Shared::new(alloc, after),
+    match apply_all(alloc, document.unpack(alloc)?, delta, params) {
+        Ok(after) => PackedDocument::pack(alloc, after),
         Err(PatchRefused::PatchFailed(_)) => document.copy(alloc),
+        Err(PatchRefused::WantOfMemory) => Err(WantOfMemory),
+    }
+}
+
+// The same of the document without entries.
+pub(crate) fn begun_document(
+    alloc: Global,
+    params: &Params,
+    delta: Delta,
+) -> Result<PackedDocument, WantOfMemory>
+    ensures { IfOk result (λ after. after ≡ changed empty_document (change_by params.now (plain_delta delta))) }
+{
+    match apply_all(alloc, Document::empty(alloc), delta, params) {
+        Ok(after) => PackedDocument::pack(alloc, after),
+        Err(PatchRefused::PatchFailed(_)) => { PackedDocument::pack(alloc, Document::empty(alloc)) }
         Err(PatchRefused::WantOfMemory) => Err(WantOfMemory),
     }
 }

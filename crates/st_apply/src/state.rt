@@ -1,7 +1,6 @@
+use crate::packed::PackedDocument;
 use st_base::{Copied, WantOfMemory};
-use st_doc::Document;
 use st_hash::Hash;
-use st_ops::Shared;
 use std::alloc::Global;
 use std::marker::Model;
 
@@ -25,7 +24,7 @@ pub(crate) enum Kept {
 pub(crate) struct Active {
     pub(crate) recovery: Hash,
     pub(crate) update: Option<Hash>,
-    pub(crate) document: Shared<Document>,
+    pub(crate) document: PackedDocument,
 }
 
 impl Model for DidState {
@@ -55,7 +54,7 @@ pub enum StateParts<'a> {
         /// The commitment to the key of the next update, where there is one.
         update: Option<Hash>,
         /// The document.
-        document: &'a Document,
+        document: &'a PackedDocument,
     },
     /// A deactivate has acted.
     Deactivated,
@@ -65,7 +64,6 @@ impl DidState {
     ghost use Rattle.std.specs.Prelude.{◌≡◌};
     ghost use Rattle.st_apply.specs.Seen.{absent, active, deactivated};
     ghost use Rattle.st_apply.specs.Shown.{lent};
-    ghost use Rattle.st_doc.specs.Document.{plain_document};
 
     /// The state before any operation.
     pub fn absent() -> DidState
@@ -74,12 +72,8 @@ impl DidState {
         DidState { kept: Kept::Absent }
     }
 
-    pub(crate) fn active(
-        recovery: Hash,
-        update: Option<Hash>,
-        document: Shared<Document>,
-    ) -> DidState
-        ensures { result ≡ active recovery update (plain_document document) }
+    pub(crate) fn active(recovery: Hash, update: Option<Hash>, document: PackedDocument) -> DidState
+        ensures { result ≡ active recovery update document }
     {
         DidState {
             kept: Kept::Active(Active {
@@ -107,7 +101,7 @@ impl DidState {
             Kept::Active(active) => StateParts::Active {
                 recovery: active.recovery,
                 update: active.update,
-                document: active.document.get(),
+                document: &active.document,
             },
             Kept::Deactivated => StateParts::Deactivated,
         }

@@ -3,7 +3,8 @@ use Rattle.std.specs.Prelude.{◌≡◌, ℕ, Bool, true, false, List, Option, N
 use Rattle.std.specs.Coded.{Coded, code_by, coded×, coded_bool, coded_list, coded_option, coded_ℕ}
 use Rattle.st_canon.specs.Plain.{Plain}
 use Rattle.st_hash.specs.Hash.{HashValue}
-use Rattle.st_ops.specs.Codes.{coded_plain, coded_proof}
+use Rattle.st_ops.specs.Codes.{coded_proof}
+use Rattle.st_ops.specs.PlainCodes.{coded_plain}
 use Rattle.st_ops.specs.Operation.{PlainOperation, Proof, creating, updating, recovering, deactivating}
 
 -- two hashes, and a proof and a delta that may be there

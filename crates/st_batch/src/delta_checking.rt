@@ -1,16 +1,14 @@
-ghost use Rattle.std.specs.Prelude.{◌≡◌, true, is_some, option_map, IfOk, IfSome};
+ghost use Rattle.std.specs.Prelude.{◌≡◌, true, is_some, IfOk, IfSome};
 ghost use Rattle.st_apply.specs.Counting.{counted};
 ghost use Rattle.st_batch.specs.Fits.{delta_counts, has_right_delta};
 ghost use Rattle.st_canon.specs.Proper.{IsProper};
-ghost use Rattle.st_canon.specs.View.{plain};
 ghost use Rattle.st_ops.specs.Operation.{plain_operation};
 ghost use Rattle.st_ops.specs.RequestText.{delta_there};
 
 use st_base::WantOfMemory;
-use st_canon::{Json, write};
 use st_doc::{DeltaRefused, check_delta};
-use st_hash::{Hash, hash_with};
-use st_ops::{Claim, Operation, Shared, claim_of};
+use st_hash::Hash;
+use st_ops::{Claim, Operation, PackedJson, claim_of};
 use st_params::Params;
 use std::alloc::Global;
 
@@ -57,20 +55,20 @@ fn delta_counts(
 fn counts(
     alloc: Global,
     delta_hash: &Hash,
-    delta: &Option<Shared<Json>>,
+    delta: &Option<PackedJson>,
     params: &Params,
 ) -> Result<bool, WantOfMemory>
-    ensures value { IfOk result (λ counts. counts ≡ is_some (counted params.now delta_hash.now (option_map plain delta.now))) }
-    ensures proper { IfOk result (λ counts. counts ≡ true → IfSome (option_map plain delta.now) IsProper) }
+    ensures value { IfOk result (λ counts. counts ≡ is_some (counted params.now delta_hash.now delta.now)) }
+    ensures proper { IfOk result (λ counts. counts ≡ true → IfSome delta.now IsProper) }
 {
     let Some(delta) = delta else {
         return Ok(false);
     };
-    let text = write(alloc, delta.get())?;
-    if hash_with(text.as_slice(), delta_hash.code()) != *delta_hash {
+    if delta.hash(alloc, delta_hash.code())? != *delta_hash {
         return Ok(false);
     }
-    match check_delta(alloc, delta.get(), params) {
+    let value = delta.unpack(alloc)?;
+    match check_delta(alloc, &value, params) {
         Ok(_) => Ok(true),
         Err(DeltaRefused::TooLong) => Ok(false),
         Err(DeltaRefused::BadDelta) => Ok(false),

@@ -71,7 +71,7 @@ pub(crate) fn push_deltas(
 {
     'operations: for operation in operations {
         if let Some(delta) = delta_in(operation) {
-            deltas.push(alloc, delta.copy(alloc)?)?;
+            deltas.push(alloc, delta.unpack(alloc)?)?;
         }
     }
     Ok(())

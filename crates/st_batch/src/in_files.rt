@@ -1,13 +1,11 @@
 ghost use Rattle.std.specs.Prelude.{◌≡◌, option_map};
 ghost use Rattle.st_batch.specs.Groups.{suffix_data_in, target_in};
-ghost use Rattle.st_canon.specs.View.{plain};
 ghost use Rattle.st_ops.specs.Operation.{plain_operation};
 ghost use Rattle.st_ops.specs.RequestText.{delta_there};
 
-use st_canon::Json;
 use st_hash::Hash;
 use st_indexfiles::{SuffixData, Target};
-use st_ops::{Operation, Shared};
+use st_ops::{Operation, PackedJson};
 
 /// The suffix data of a create.
 pub(crate) fn suffix_data_in(operation: &Operation) -> Option<SuffixData>
@@ -43,22 +41,13 @@ fn target(suffix: &Hash, reveal: &Hash) -> Target
 }
 
 /// The delta that stands beside an operation.
-pub(crate) fn delta_in(operation: &Operation) -> Option<&Json>
-    ensures { option_map (λ delta. plain delta.now) result ≡ delta_there (plain_operation operation.now) }
+pub(crate) fn delta_in(operation: &Operation) -> Option<&PackedJson>
+    ensures { option_map (λ delta. delta.now) result ≡ delta_there (plain_operation operation.now) }
 {
     match operation {
-        Operation::Create { delta, .. } => value_of(delta),
-        Operation::Update { delta, .. } => value_of(delta),
-        Operation::Recover { delta, .. } => value_of(delta),
+        Operation::Create { delta, .. } => delta.as_ref(),
+        Operation::Update { delta, .. } => delta.as_ref(),
+        Operation::Recover { delta, .. } => delta.as_ref(),
         Operation::Deactivate { .. } => None,
-    }
-}
-
-fn value_of(delta: &Option<Shared<Json>>) -> Option<&Json>
-    ensures { option_map (λ value. plain value.now) result ≡ option_map plain delta.now }
-{
-    match delta {
-        Some(delta) => Some(delta.get()),
-        None => None,
     }
 }

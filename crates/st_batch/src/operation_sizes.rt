@@ -3,7 +3,6 @@ ghost use Rattle.st_batch.specs.OperationSizes.{entry_size, proof_size, sizes_in
 ghost use Rattle.st_batch.specs.Sums.{saturated_sizes};
 ghost use Rattle.st_canon.specs.Canonical.{quoted};
 ghost use Rattle.st_canon.specs.Measure.{saturated, size_of};
-ghost use Rattle.st_canon.specs.View.{plain};
 ghost use Rattle.st_datafiles.specs.ProofFiles.{signed_json};
 ghost use Rattle.st_hash.specs.Hash.{IsHash, text_length as text_length_of};
 ghost use Rattle.st_indexfiles.specs.SuffixData.{create_json};
@@ -16,7 +15,7 @@ use st_canon::{Json, size};
 use st_hash::{Hash, SHA_512};
 use st_indexfiles::SuffixData;
 use st_jws::Signed;
-use st_ops::{Operation, Shared};
+use st_ops::{Operation, PackedJson, Shared};
 use std::alloc::Global;
 
 // What of an entry stands round its hash texts or its signed text, and the comma behind it.
@@ -123,11 +122,11 @@ fn text_size(alloc: Global, text: &Text) -> Result<u64, WantOfMemory>
 }
 
 // A delta, where there is one.
-fn delta_size(delta: &Option<Shared<Json>>) -> u64
-    ensures { result ≡ saturated (entry_size (option_map plain delta.now)) }
+fn delta_size(delta: &Option<PackedJson>) -> u64
+    ensures { result ≡ saturated (entry_size delta.now) }
 {
     match delta {
-        Some(delta) => size(delta.get()).saturating_add(1),
+        Some(delta) => delta.size().saturating_add(1),
         None => 0,
     }
 }

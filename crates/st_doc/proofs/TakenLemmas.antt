@@ -1,7 +1,6 @@
 -- What is taken out of a document's JSON is the document.
 use Rattle.std.proofs.Common.{◌≡◌, ℕ, Bool, true, false, List, [], ◌∷◌, map, Option, Some, None, if◌then◌else◌, refl, ap, sym, ◌∙◌}
 use Rattle.std.specs.Prelude.{codes, ◌&&◌}
-use Rattle.st_canon.specs.Entries.{entries}
 use Rattle.st_canon.specs.Measure.{fits}
 use Rattle.st_canon.specs.Objects.{some_list}
 use Rattle.st_canon.specs.Plain.{Plain, text, list}

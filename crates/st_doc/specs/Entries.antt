@@ -1,11 +1,11 @@
 -- The forms of the keys and services of a document (Sidetree v1.0.0, "DID State Patches", in bounds of
 -- this project's own). `None` is a value that is not there.
-use Rattle.std.specs.Prelude.{ℕ, ◌==◌, Bool, true, false, ◌&&◌, ◌||◌, nat_le, List, [], ◌∷◌, length, codes, Option, Some, None, is_some, unwrap_or, option_and_then}
+use Rattle.std.specs.Prelude.{ℕ, ◌==◌, Bool, true, false, ◌&&◌, ◌||◌, nat_le, List, [], ◌∷◌, length, codes, Option, Some, None, unwrap_or}
 use Rattle.std.specs.Char.{is_ascii_alphanumeric}
 use Rattle.std.specs.List.{list_all, filter_map}
-use Rattle.st_canon.specs.Entries.{entries, text_in, members_in, items_in}
+use Rattle.st_canon.specs.Entries.{entries, text_in}
 use Rattle.st_canon.specs.Plain.{Plain, text, list, object}
-use Rattle.st_canon.specs.Shapes.{entries_in, is_object_of, member_in, text_at}
+use Rattle.st_canon.specs.Shapes.{is_object_of, member_in, text_at}
 use Rattle.st_doc.specs.Alike.{is_among, none_twice}
 
 abbrev pub all_hold : List Bool → Bool

@@ -15,27 +15,27 @@ use crate::document::Document;
 use crate::patch::Patch;
 use crate::reading::take_document;
 use crate::refused::PatchRefused;
-use st_base::{Copied, WantOfMemory};
+use st_base::WantOfMemory;
 use st_jsonpatch::{Step, StepsRefused, apply_steps};
 use st_params::Params;
 use std::alloc::Global;
 
-/// The document after the patches of the delta, which it takes over: a document that replaces another,
+/// The document after the patches of the delta. It takes both over: a document that replaces another,
 /// and entries that are added where there were none, are moved and not copied.
 ///
 /// `PatchFailed(i)` comes exactly where patch `i`, counted from 0, is the first that fails: where its
 /// result is no document at these parameters, or a step of it fails.
 pub fn apply_all(
     alloc: Global,
-    document: &Document,
+    document: Document,
     delta: Delta,
     params: &Params,
 ) -> Result<Document, PatchRefused>
-    ensures { let says = patched params.now 0 (map plain_patch delta.patches) (plain_document document.now) in
+    ensures { let says = patched params.now 0 (map plain_patch delta.patches) (plain_document document) in
         GivesAs plain_document blamed says result }
 {
     let Delta { patches, update: _ } = delta;
-    let mut now = document.copy(alloc)?;
+    let mut now = document;
     let mut at = 0;
     'patches: for patch in patches.into_vec() {
         match apply(alloc, now, patch, params)? {

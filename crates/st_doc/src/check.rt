@@ -8,7 +8,6 @@ use crate::forms::is_name;
 use crate::ids::{ids_stand_once, texts_stand_once};
 use crate::key::are_keys;
 use crate::service::are_services;
-use crate::taking::taken_from;
 use st_base::{Text, WantOfMemory};
 use st_canon::fits;
 use st_params::Params;
@@ -36,7 +35,7 @@ pub(crate) fn if_document(
     if !fits(&json, params.max_depth(), params.max_document()) {
         return Ok(None);
     }
-    Ok(Some(taken_from(alloc, json)?))
+    Ok(Some(Document::from_json(alloc, json)?))
 }
 
 // What must hold of the keys, services and names.

@@ -18,7 +18,7 @@ impl Document {
     }
 
     /// The same, which takes keys and services over without a copy.
-    pub(crate) fn into_json(self, alloc: Global) -> Result<Json, WantOfMemory>
+    pub fn into_json(self, alloc: Global) -> Result<Json, WantOfMemory>
         ensures { IfOk result (λ json. plain json ≡ document_json (plain_document self)) }
     {
         Ok(Json::Object(self.into_members(alloc)?))

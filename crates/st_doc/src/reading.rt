@@ -10,7 +10,6 @@ ghost use Rattle.st_doc.specs.Document.{document_names, document_of, has_documen
 use crate::check::{if_document, may_have_names};
 use crate::document::Document;
 use crate::refused::DocumentRefused;
-use crate::taking::taken_from;
 use st_base::{Copied, List, WantOfMemory};
 use st_canon::{Json, entries_in, is_list_if_there};
 use st_params::Params;
@@ -41,7 +40,7 @@ fn read_document(
         return Ok(None);
     }
     let value = value.copy(alloc)?;
-    let document = taken_from(alloc, value)?;
+    let document = Document::from_json(alloc, value)?;
     if_document(alloc, document, params)
 }
 
@@ -56,7 +55,7 @@ pub(crate) fn take_document(
     if !has_document_form(&value, params.version()) {
         return Ok(None);
     }
-    let document = taken_from(alloc, value)?;
+    let document = Document::from_json(alloc, value)?;
     if_document(alloc, document, params)
 }
 

@@ -11,13 +11,16 @@ use st_base::{Copied, List, Text, WantOfMemory};
 use st_canon::{Json, Object, entries_in};
 use std::alloc::Global;
 
-/// What the lists of the value hold, taken out of it.
-pub(crate) fn taken_from(alloc: Global, value: Json) -> Result<Document, WantOfMemory>
-    ensures { IfOk result (λ document. plain_document document ≡ document_in (plain value)) }
-{
-    match value {
-        Json::Object(members) => taken_out(alloc, members),
-        _ => Ok(Document::empty(alloc)),
+impl Document {
+    /// What the lists of the value hold, taken out of it. Whether that may stand in a document is not
+    /// looked at: so a document comes back out of its own JSON, whatever the parameters are by now.
+    pub fn from_json(alloc: Global, value: Json) -> Result<Document, WantOfMemory>
+        ensures { IfOk result (λ document. plain_document document ≡ document_in (plain value)) }
+    {
+        match value {
+            Json::Object(members) => taken_out(alloc, members),
+            _ => Ok(Document::empty(alloc)),
+        }
     }
 }
 

@@ -67,7 +67,7 @@ fn after(rt: &HostRuntime, value: &str, patches: &str, params: &Params) -> Resul
         Ok(delta) => delta,
         Err(refusal) => return Ok(refusal),
     };
-    match apply_all(rt.alloc(), &document, delta, params) {
+    match apply_all(rt.alloc(), document, delta, params) {
         Ok(document) => text(rt, &document),
         Err(PatchRefused::PatchFailed(at)) => Ok(format!(in rt.alloc(); "failed {at}")?),
         Err(PatchRefused::WantOfMemory) => Err(Fail::from("out of memory")),

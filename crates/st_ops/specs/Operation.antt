@@ -31,11 +31,11 @@ plain_proof signed = record { text = signed.text; payload = plain signed.payload
 
 -- the plain operation that an `Operation` stands for
 abbrev pub plain_operation : Operation → PlainOperation
-plain_operation (Create suffix_data delta) = creating suffix_data (option_map plain delta)
+plain_operation (Create suffix_data delta) = creating suffix_data delta
 plain_operation (Update suffix reveal proof delta) =
-    updating (record { suffix = suffix; reveal = reveal }) (option_map plain_proof proof) (option_map plain delta)
+    updating (record { suffix = suffix; reveal = reveal }) (option_map plain_proof proof) delta
 plain_operation (Recover suffix reveal proof delta) =
-    recovering (record { suffix = suffix; reveal = reveal }) (option_map plain_proof proof) (option_map plain delta)
+    recovering (record { suffix = suffix; reveal = reveal }) (option_map plain_proof proof) delta
 plain_operation (Deactivate suffix reveal proof) =
     deactivating (record { suffix = suffix; reveal = reveal }) (option_map plain_proof proof)
 

@@ -1,9 +1,9 @@
 ghost use Rattle.std.specs.Prelude.{◌≡◌, IfOk};
 ghost use Rattle.st_ops.specs.Operation.{plain_operation, suffix_of};
 
+use crate::packed::PackedJson;
 use crate::shared::Shared;
 use st_base::{Copied, WantOfMemory};
-use st_canon::Json;
 use st_hash::Hash;
 use st_indexfiles::{SuffixData, suffix_of};
 use st_jws::Signed;
@@ -17,21 +17,21 @@ pub enum Operation {
     /// It makes an identifier, whose suffix is that of the suffix data.
     Create {
         suffix_data: SuffixData,
-        delta: Option<Shared<Json>>,
+        delta: Option<PackedJson>,
     },
     /// It changes the document under the update commitment that the reveal value meets.
     Update {
         suffix: Hash,
         reveal: Hash,
         proof: Option<Shared<Signed>>,
-        delta: Option<Shared<Json>>,
+        delta: Option<PackedJson>,
     },
     /// It begins the document anew, under the recovery commitment that the reveal value meets.
     Recover {
         suffix: Hash,
         reveal: Hash,
         proof: Option<Shared<Signed>>,
-        delta: Option<Shared<Json>>,
+        delta: Option<PackedJson>,
     },
     /// It ends the identifier, under the recovery commitment that the reveal value meets.
     Deactivate {

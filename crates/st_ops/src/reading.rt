@@ -1,4 +1,4 @@
-ghost use Rattle.std.specs.Prelude.{◌≡◌, ◌≤◌, codes, if◌then◌else◌, IfNone, IfOk, IfSome, option_map, None, Some, Ok, Err};
+ghost use Rattle.std.specs.Prelude.{◌≡◌, ◌≤◌, codes, if◌then◌else◌, IfNone, IfOk, IfSome, None, Some, Ok, Err};
 ghost use Rattle.st_base.specs.Answers.{GivesAs};
 ghost use Rattle.st_base.specs.Work.{Counts, ProofsAtMost};
 ghost use Rattle.st_canon.specs.Entries.{members_in};
@@ -15,6 +15,7 @@ ghost use Rattle.st_ops.specs.declared.refused.RequestRefused.TheVariants.{BadPr
 use crate::claiming::claim_of;
 use crate::form::{is_change_form, is_create_form, is_deactivate_form};
 use crate::operation::Operation;
+use crate::packed::PackedJson;
 use crate::refused::RequestRefused;
 use crate::shared::Shared;
 use crate::signed::{proof_in, target_in};
@@ -109,7 +110,7 @@ fn create_asked(
     let Some(suffix_data) = suffix_data_in(&request, params.version()) else {
         return Err(RequestRefused::BadHash);
     };
-    let delta = delta_in(alloc, request)?;
+    let delta = delta_in(alloc, &request)?;
     Ok(Operation::Create { suffix_data, delta })
 }
 
@@ -137,7 +138,7 @@ fn update_asked(
         suffix: target.suffix,
         reveal: target.reveal,
         proof: Some(Shared::new(alloc, proof)?),
-        delta: delta_in(alloc, request)?,
+        delta: delta_in(alloc, &request)?,
     };
     if has_claim(alloc, &operation, params)? {
         Ok(operation)
@@ -170,7 +171,7 @@ fn recover_asked(
         suffix: target.suffix,
         reveal: target.reveal,
         proof: Some(Shared::new(alloc, proof)?),
-        delta: delta_in(alloc, request)?,
+        delta: delta_in(alloc, &request)?,
     };
     if has_claim(alloc, &operation, params)? {
         Ok(operation)
@@ -219,12 +220,12 @@ fn suffix_data_in(request: &Object, version: u8) -> Option<SuffixData>
     SuffixData::read(request.get("suffixData")?, version)
 }
 
-// The delta of a request, taken out of it.
-fn delta_in(alloc: Global, mut request: Object) -> Result<Option<Shared<Json>>, WantOfMemory>
-    ensures { IfOk result (λ delta. option_map plain delta ≡ member_in (codes "delta") (Some (object (plain_members request)))) }
+// The delta of a request.
+fn delta_in(alloc: Global, request: &Object) -> Result<Option<PackedJson>, WantOfMemory>
+    ensures { IfOk result (λ delta. delta ≡ member_in (codes "delta") (Some (object (plain_members request.now)))) }
 {
-    match request.remove("delta") {
-        Some(delta) => Ok(Some(Shared::new(alloc, delta)?)),
+    match request.get("delta") {
+        Some(delta) => Ok(Some(PackedJson::pack(alloc, delta)?)),
         None => Ok(None),
     }
 }

@@ -1,3 +1,4 @@
+mod packed;
 mod refusals;
 mod samples;
 mod texts;

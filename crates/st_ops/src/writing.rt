@@ -8,12 +8,13 @@ ghost use Rattle.st_hash.specs.Hash.{IsHash};
 ghost use Rattle.st_ops.specs.KnownHashes.{HasHashes};
 ghost use Rattle.st_ops.specs.Operation.{creating, plain_operation, plain_proof};
 ghost use Rattle.st_ops.specs.Request.{request_of, IsComplete};
-ghost use Rattle.st_ops.specs.RequestText.{named_members, proof_json, request_json, request_text, signed_json, IsDeltaWithin, IsReadAgain};
+ghost use Rattle.st_ops.specs.RequestText.{named_members, proof_json, request_json, request_text, signed_json, IsDeltaWithin};
 ghost use Rattle.st_params.specs.Limits.{Limits};
 
 use crate::operation::Operation;
+use crate::packed::PackedJson;
 use crate::shared::Shared;
-use st_base::{Bytes, Copied, Text, WantOfMemory};
+use st_base::{Bytes, Text, WantOfMemory};
 use st_canon::{Json, Object, write};
 use st_hash::{Hash, hash_text};
 use st_indexfiles::SuffixData;
@@ -102,9 +103,9 @@ fn request_members(alloc: Global, operation: &Operation) -> Result<Object, WantO
 fn create_members(
     alloc: Global,
     suffix_data: &SuffixData,
-    delta: &Option<Shared<Json>>,
+    delta: &Option<PackedJson>,
 ) -> Result<Object, WantOfMemory>
-    ensures { IfOk result (λ members. object (plain_members members) ≡ request_json (creating suffix_data.now (option_map plain delta.now))) }
+    ensures { IfOk result (λ members. object (plain_members members) ≡ request_json (creating suffix_data.now delta.now)) }
 {
     let mut members = Object::new(alloc);
     let kind = text_json(alloc, "create")?;
@@ -122,10 +123,10 @@ fn signed_members(
     suffix: &Hash,
     reveal: &Hash,
     proof: &Option<Shared<Signed>>,
-    delta: Option<&Shared<Json>>,
+    delta: Option<&PackedJson>,
 ) -> Result<Object, WantOfMemory>
     ensures { IfOk result (λ members. object (plain_members members)
-        ≡ signed_json kind.now (record { suffix = suffix.now; reveal = reveal.now }) (option_map plain_proof proof.now) (option_map plain (option_copied delta.entry))) }
+        ≡ signed_json kind.now (record { suffix = suffix.now; reveal = reveal.now }) (option_map plain_proof proof.now) (option_copied delta.entry)) }
 {
     let mut members = named_members(alloc, kind, suffix, reveal)?;
     let signed = proof_json(alloc, proof)?;
@@ -175,11 +176,11 @@ fn proof_json(alloc: Global, proof: &Option<Shared<Signed>>) -> Result<Option<Js
     }
 }
 
-fn delta_json(alloc: Global, delta: Option<&Shared<Json>>) -> Result<Option<Json>, WantOfMemory>
-    ensures { IfOk result (λ json. option_map plain json ≡ option_map plain (option_copied delta.entry)) }
+fn delta_json(alloc: Global, delta: Option<&PackedJson>) -> Result<Option<Json>, WantOfMemory>
+    ensures { IfOk result (λ json. option_map plain json ≡ option_copied delta.entry) }
 {
     match delta {
-        Some(delta) => Ok(Some(delta.get().copy(alloc)?)),
+        Some(delta) => Ok(Some(delta.unpack(alloc)?)),
         None => Ok(None),
     }
 }

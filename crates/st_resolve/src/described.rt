@@ -25,7 +25,8 @@ pub(crate) fn did_document(
 {
     match state {
         StateParts::Active { document, .. } => {
-            Ok(Json::Object(described(alloc, did, document)?))
+            let document = document.unpack(alloc)?;
+            Ok(Json::Object(described(alloc, did, &document)?))
         }
         _ => Ok(Json::Object(bare(alloc, did)?)),
     }

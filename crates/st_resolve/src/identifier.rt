@@ -1,8 +1,7 @@
 use st_base::{Copied, Text, WantOfMemory};
-use st_canon::Json;
 use st_hash::Hash;
 use st_indexfiles::SuffixData;
-use st_ops::Shared;
+use st_ops::PackedJson;
 use std::alloc::Global;
 
 /// What the long form of an identifier holds beside its suffix: the two parts of the create that makes
@@ -12,7 +11,7 @@ pub struct LongForm {
     /// The suffix data.
     pub suffix_data: SuffixData,
     /// The delta, an object, which operations can share.
-    pub delta: Shared<Json>,
+    pub delta: PackedJson,
 }
 
 /// An identifier.

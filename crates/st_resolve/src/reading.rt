@@ -15,11 +15,11 @@ use crate::identifier::{Did, LongForm};
 use crate::parts::{behind_prefix, cut_parts};
 use crate::refused::DidRefused;
 use crate::spelling::{long_form, short_form};
-use st_base::{Bytes, Copied, WantOfMemory};
+use st_base::{Bytes, WantOfMemory};
 use st_canon::{Json, read_json, write};
 use st_hash::{DecRefused, Hash, dec, read_hash_at};
 use st_indexfiles::{SuffixData, suffix_of};
-use st_ops::Shared;
+use st_ops::PackedJson;
 use std::alloc::Global;
 
 /// The identifier that a text is, by the hash texts of this version.
@@ -122,7 +122,7 @@ fn long_in(alloc: Global, value: &Json, version: u8) -> Result<Option<LongForm>,
     let Some(suffix_data) = suffix_data_in(value.member("suffixData"), version) else {
         return Ok(None);
     };
-    let delta = Shared::new(alloc, delta.copy(alloc)?)?;
+    let delta = PackedJson::pack(alloc, delta)?;
     Ok(Some(LongForm { suffix_data, delta }))
 }
 

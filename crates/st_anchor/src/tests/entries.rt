@@ -4,8 +4,8 @@ use super::files::{
 use super::{after, stands};
 use crate::{Bound, entry_laws};
 use st_base::{Bytes, WantOfMemory, Work};
-use st_canon::{Json, write};
-use st_ops::{Operation, Shared};
+use st_canon::write;
+use st_ops::{Operation, PackedJson};
 use std::alloc::Global;
 use std::test::Fail;
 
@@ -22,11 +22,11 @@ fn files_come_in_any_order_and_may_serve_two_roles(rt: HostRuntime) -> Result<()
 fn with_delta(
     alloc: Global,
     name: &str,
-    delta: &Option<Shared<Json>>,
+    delta: &Option<PackedJson>,
 ) -> Result<Bytes, WantOfMemory> {
     let mut line = Bytes::from_slice(alloc, name.as_bytes())?;
     if let Some(delta) = delta {
-        let text = write(alloc, delta.get())?;
+        let text = write(alloc, &delta.unpack(alloc)?)?;
         line.push_all(alloc, text.as_slice())?;
     }
     Ok(line)

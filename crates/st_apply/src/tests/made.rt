@@ -6,7 +6,7 @@ use st_canon::{Json, read};
 use st_hash::{Hash, hash_text, hash256};
 use st_indexfiles::SuffixData;
 use st_jws::{Jwk, Signed, commitment, reveal};
-use st_ops::{Operation, Shared};
+use st_ops::{Operation, PackedJson, Shared};
 use std::test::Fail;
 
 // The public key is that of the first test of RFC 8554, appendix F.
@@ -70,12 +70,12 @@ fn delta_text(rt: &HostRuntime, update: &str, adds: &str) -> Result<String, Fail
 }
 
 // The delta beside an operation: none where it adds `-`.
-fn delta(rt: &HostRuntime, text: &str, adds: &str) -> Result<Option<Shared<Json>>, Fail> {
+fn delta(rt: &HostRuntime, text: &str, adds: &str) -> Result<Option<PackedJson>, Fail> {
     if adds == "-" {
         return Ok(None);
     }
     let value = value(rt, text)?;
-    Ok(Some(Shared::new(rt.alloc(), value)?))
+    Ok(Some(PackedJson::pack(rt.alloc(), &value)?))
 }
 
 // The payload of a template, as if it were signed by the key.

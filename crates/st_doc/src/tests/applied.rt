@@ -50,7 +50,7 @@ fn a_failing_patch_fails_them_all(rt: HostRuntime) -> Result<(), Fail> {
     };
     let delta = delta.copy(rt.alloc())?;
     assert_eq!(rt; delta.patches.len(), 2);
-    match apply_all(rt.alloc(), &document, delta, &params("1")) {
+    match apply_all(rt.alloc(), document.copy(rt.alloc())?, delta, &params("1")) {
         Ok(_) => return Err(Fail::from("it was applied")),
         Err(e) => assert_eq!(rt; e, PatchRefused::PatchFailed(1)),
     }

@@ -121,20 +121,23 @@ fn has_services(document: &Document, ids: &str) -> bool {
     document.services().iter().map(id).eq(ids.split(' '))
 }
 
-fn serves_in(state: &DidState, ids: &str) -> bool {
-    match state.parts() {
-        StateParts::Active { document, .. } => has_services(document, ids),
-        _ => false,
+fn serves_in(alloc: Global, state: &DidState, ids: &str) -> bool {
+    let StateParts::Active { document, .. } = state.parts() else {
+        return false;
+    };
+    match document.unpack(alloc) {
+        Ok(document) => has_services(&document, ids),
+        Err(_) => false,
     }
 }
 
 // Whether the document of a suffix has exactly these services in this order.
-fn serves(observer: &Observer, name_and_ids: &str) -> bool {
+fn serves(alloc: Global, observer: &Observer, name_and_ids: &str) -> bool {
     let Some((name, ids)) = name_and_ids.split_once(' ') else {
         return false;
     };
     match suffix(name) {
-        Some(suffix) => serves_in(observer.state(&suffix), ids),
+        Some(suffix) => serves_in(alloc, observer.state(&suffix), ids),
         None => false,
     }
 }
@@ -158,7 +161,7 @@ fn is_seen(alloc: Global, observer: &Observer, applied: u64, look: &str) -> bool
         "absent" => has_absent(observer, rest),
         "operations" => has_so_many(alloc, observer, rest),
         "wanted" => wants(alloc, observer, rest),
-        "services" => serves(observer, rest),
+        "services" => serves(alloc, observer, rest),
         "applied" => is_within(applied, rest),
         _ => false,
     }

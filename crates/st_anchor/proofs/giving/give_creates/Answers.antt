@@ -1,5 +1,4 @@
-use Rattle.std.proofs.Common.{◌∙◌, ap, map, option_map}
-use Rattle.st_canon.specs.View.{plain}
+use Rattle.std.proofs.Common.{◌∙◌, ap, map}
 use Rattle.st_ops.specs.Operation.{creating}
 use Rattle.st_anchor.specs.Gives.{beside, plain_given, with_suffix}
 use Rattle.st_anchor.proofs.GivesLemmas.{entry-beside, given-all, given-more, inside-beside, past-beside}
@@ -7,9 +6,9 @@ use Rattle.st_anchor.proofs.giving.give_creates.Goals as goal
 
 pub creates-preserved : goal.creates-preserved
 creates-preserved c =
-    let deltas = map plain c.args.deltas.now in
+    let deltas = c.args.deltas.now in
     let create = c.index-creates-at.result in
-    let delta = option_map plain c.in_ok-delta.delta in
+    let delta = c.in_ok-delta.delta in
     ap (map plain_given) c.in_ok-push.ensures.ok
     ∙ given-more plain_given with_suffix (λ entry. creating entry.0 entry.1) (beside c.args.creates.now deltas) c.creates.at (create, delta) c.in_ok-create_of.field-0 c.creates.list
     (map plain_given c.args.list.now) (inside-beside c.args.creates.now deltas c.creates.at c.creates-test.true)
@@ -20,6 +19,6 @@ creates-preserved c =
 
 pub returns : goal.returns
 returns c =
-    let deltas = map plain c.args.deltas.now in
+    let deltas = c.args.deltas.now in
     given-all plain_given with_suffix (λ entry. creating entry.0 entry.1) (beside c.args.creates.now deltas) c.creates.at c.creates.list (map plain_given c.args.list.now)
     (past-beside c.args.creates.now deltas c.creates.at c.creates-test.false) c.creates.invariant

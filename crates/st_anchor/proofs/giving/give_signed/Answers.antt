@@ -1,6 +1,5 @@
-use Rattle.std.proofs.Common.{◌∙◌, ap, map, option_and_then, option_map, refl}
+use Rattle.std.proofs.Common.{◌∙◌, ap, map, option_and_then, refl}
 use Rattle.std.specs.Prelude.{slice_get}
-use Rattle.st_canon.specs.View.{plain}
 use Rattle.st_anchor.specs.Gives.{beside, plain_given, with_suffix}
 use Rattle.st_anchor.specs.Kinds.{made}
 use Rattle.st_anchor.proofs.GivesLemmas.{entry-beside, given-all, given-more, inside-beside, past-beside}
@@ -8,11 +7,11 @@ use Rattle.st_anchor.proofs.giving.give_signed.Goals as goal
 
 pub targets-preserved : goal.targets-preserved
 targets-preserved c =
-    let deltas = map plain c.args.deltas.now in
+    let deltas = c.args.deltas.now in
     let signed = beside c.args.targets.now c.args.proofs.now in
     let target = c.index-targets-at.result in
     let proof = slice_get c.args.proofs.now c.targets.at in
-    let delta = option_map plain c.in_ok-delta.delta in
+    let delta = c.in_ok-delta.delta in
     let inside = inside-beside c.args.targets.now c.args.proofs.now c.targets.at c.targets-test.true in
     ap (map plain_given) c.in_ok-push.ensures.ok
     ∙ given-more plain_given with_suffix (λ entry. made c.args.kind entry.0.0 (option_and_then (λ proof. proof) entry.0.1) entry.1) (beside signed deltas) c.targets.at
@@ -26,7 +25,7 @@ targets-preserved c =
 
 pub returns : goal.returns
 returns c =
-    let deltas = map plain c.args.deltas.now in
+    let deltas = c.args.deltas.now in
     let signed = beside c.args.targets.now c.args.proofs.now in
     given-all plain_given with_suffix (λ entry. made c.args.kind entry.0.0 (option_and_then (λ proof. proof) entry.0.1) entry.1) (beside signed deltas) c.targets.at
     c.targets.list (map plain_given c.args.list.now)

@@ -1,0 +1,120 @@
+ghost use Rattle.std.specs.Prelude.{◌≡◌, IfOk};
+ghost use Rattle.st_canon.specs.View.{plain};
+ghost use Rattle.st_ops.specs.Packed.{IsPacked, packed_value};
+
+use crate::shared::Shared;
+use st_base::{Bytes, Copied, WantOfMemory};
+use st_canon::{Json, depth, read, size, write};
+use st_hash::{Hash, hash_with};
+use std::alloc::Global;
+use std::marker::Model;
+
+// How deep a value may nest whose text is read again for sure.
+const READ_AGAIN: u64 = 127;
+
+/// A JSON value in little memory, which several owners share: it is kept as its canonical text, which
+/// takes a sixth of what its parts would, and is read again where they are wanted. A copy costs nothing
+/// but a count. Contracts see the plain value.
+#[derive(Drop)]
+pub struct PackedJson {
+    form: Shared<Form>,
+}
+
+// What is kept of a value: its canonical text, or where that nests too deep to be read again, its parts.
+#[derive(Drop)]
+pub(crate) enum Form {
+    Text(Bytes),
+    Parts(Json),
+}
+
+impl Model for PackedJson {
+    ghost use Rattle.st_canon.specs.Plain.{Plain};
+    ghost use Rattle.st_ops.specs.PlainCodes.{coded_plain};
+    ghost use Rattle.st_ops.specs.Packed.{IsPacked, packed_value};
+
+    ghost Value = { Plain };
+
+    ghost coded = { coded_plain };
+
+    ghost view = { λ packed. packed_value packed.form };
+
+    ghost invariant = { λ packed. IsPacked packed.form };
+}
+
+impl PackedJson {
+    ghost use Rattle.std.specs.Prelude.{OnOk, min, ◌^◌, ◌-◌};
+    ghost use Rattle.st_canon.specs.Canonical.{canonical};
+    ghost use Rattle.st_canon.specs.Measure.{size_of};
+    ghost use Rattle.st_canon.specs.Proper.{IsProper};
+    ghost use Rattle.st_hash.specs.Hash.{IsCode, hash_of_with};
+
+    /// The value in little memory.
+    pub fn pack(alloc: Global, value: &Json) -> Result<PackedJson, WantOfMemory>
+        ensures { IfOk result (λ packed. packed ≡ plain value.now) }
+    {
+        let form = form_of(alloc, value)?;
+        Ok(PackedJson {
+            form: Shared::new(alloc, form)?,
+        })
+    }
+
+    /// The value in its parts.
+    pub fn unpack(&self, alloc: Global) -> Result<Json, WantOfMemory>
+        ensures { IfOk result (λ value. plain value ≡ self.now) }
+    {
+        match self.form.get() {
+            // The text is that of a value, so nothing but memory can be wanting.
+            Form::Text(text) => match read(alloc, text.as_slice()) {
+                Ok(value) => Ok(value),
+                Err(_) => Err(WantOfMemory),
+            },
+            Form::Parts(value) => value.copy(alloc),
+        }
+    }
+
+    /// The hash of its canonical text by the algorithm with this code.
+    pub fn hash(&self, alloc: Global, code: u8) -> Result<Hash, WantOfMemory>
+        requires { IsCode code }
+        ensures value { IfOk result (λ hash. hash ≡ hash_of_with code (canonical self.now)) }
+        ensures proper { OnOk result (IsProper self.now) }
+    {
+        match self.form.get() {
+            Form::Text(text) => Ok(hash_with(text.as_slice(), code)),
+            Form::Parts(value) => {
+                let text = write(alloc, value)?;
+                Ok(hash_with(text.as_slice(), code))
+            }
+        }
+    }
+
+    /// The length of its canonical text, or `u64::MAX` where that is longer.
+    pub fn size(&self) -> u64
+        ensures { result ≡ min (size_of self.now) (2 ^ 64 - 1) }
+    {
+        match self.form.get() {
+            Form::Text(text) => text.as_slice().len() as u64,
+            Form::Parts(value) => size(value),
+        }
+    }
+}
+
+impl Copied for PackedJson {
+    /// One owner more of the same value.
+    fn copy(&self, alloc: Global) -> Result<PackedJson, WantOfMemory> {
+        Ok(PackedJson {
+            form: self.form.copy(alloc)?,
+        })
+    }
+}
+
+fn form_of(alloc: Global, value: &Json) -> Result<Form, WantOfMemory>
+    ensures value { IfOk result (λ form. packed_value form ≡ plain value.now) }
+    ensures packed { IfOk result IsPacked }
+{
+    if depth(value) > READ_AGAIN {
+        return Ok(Form::Parts(value.copy(alloc)?));
+    }
+    let text = write(alloc, value)?;
+    // A copy has room for the text alone.
+    Ok(Form::Text(Bytes::from_slice(alloc, text.as_slice())?))
+}
