@@ -1,5 +1,6 @@
 pub mod Seen
 pub mod Codes
+pub mod DocumentForm
 pub mod Step
 pub mod Acting
 pub mod Resolution

@@ -8,7 +8,7 @@ ghost use Rattle.st_base.specs.Work.{one_apply};
 ghost use Rattle.st_ops.specs.Operation.{plain_operation};
 
 use crate::counting::{begun_document, changed_document, counted_delta};
-use crate::packed::PackedDocument;
+use crate::document::KeptDocument;
 use crate::state::{Active, DidState, Kept};
 use st_base::{Copied, WantOfMemory, Work};
 use st_doc::Document;
@@ -146,7 +146,7 @@ fn begin(
 {
     match counted_delta(alloc, params, delta_hash, delta)? {
         None => {
-            let empty = PackedDocument::pack(alloc, Document::empty(alloc))?;
+            let empty = KeptDocument::pack(alloc, Document::empty(alloc))?;
             Ok(DidState::active(*recovery, None, empty))
         }
         Some(delta) => {

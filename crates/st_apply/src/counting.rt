@@ -4,7 +4,7 @@ ghost use Rattle.st_apply.specs.Step.{changed};
 ghost use Rattle.st_doc.specs.Delta.{plain_delta};
 ghost use Rattle.st_doc.specs.Document.{empty_document};
 
-use crate::packed::PackedDocument;
+use crate::document::KeptDocument;
 use st_base::{Copied, WantOfMemory};
 use st_doc::{Delta, DeltaRefused, Document, PatchRefused, apply_all, check_delta};
 use st_hash::Hash;
@@ -29,7 +29,7 @@ pub(crate) fn counted_delta(
         return Ok(None);
     }
     let value = delta.unpack(alloc)?;
-    match check_delta(alloc, &value, params) {
+    match check_delta(alloc, value, params) {
         Ok(delta) => Ok(Some(delta)),
         Err(DeltaRefused::TooLong) => Ok(None),
         Err(DeltaRefused::BadDelta) => Ok(None),
@@ -42,13 +42,13 @@ pub(crate) fn counted_delta(
 pub(crate) fn changed_document(
     alloc: Global,
     params: &Params,
-    document: &PackedDocument,
+    document: &KeptDocument,
     delta: Delta,
-) -> Result<PackedDocument, WantOfMemory>
+) -> Result<KeptDocument, WantOfMemory>
     ensures { IfOk result (λ after. after ≡ changed document.now (change_by params.now (plain_delta delta))) }
 {
     match apply_all(alloc, document.unpack(alloc)?, delta, params) {
-        Ok(after) => PackedDocument::pack(alloc, after),
+        Ok(after) => KeptDocument::share(alloc, after),
         Err(PatchRefused::PatchFailed(_)) => document.copy(alloc),
         Err(PatchRefused::WantOfMemory) => Err(WantOfMemory),
     }
@@ -59,12 +59,12 @@ pub(crate) fn begun_document(
     alloc: Global,
     params: &Params,
     delta: Delta,
-) -> Result<PackedDocument, WantOfMemory>
+) -> Result<KeptDocument, WantOfMemory>
     ensures { IfOk result (λ after. after ≡ changed empty_document (change_by params.now (plain_delta delta))) }
 {
     match apply_all(alloc, Document::empty(alloc), delta, params) {
-        Ok(after) => PackedDocument::pack(alloc, after),
-        Err(PatchRefused::PatchFailed(_)) => { PackedDocument::pack(alloc, Document::empty(alloc)) }
+        Ok(after) => KeptDocument::pack(alloc, after),
+        Err(PatchRefused::PatchFailed(_)) => { KeptDocument::pack(alloc, Document::empty(alloc)) }
         Err(PatchRefused::WantOfMemory) => Err(WantOfMemory),
     }
 }

@@ -4,13 +4,13 @@
 
 mod applying;
 mod counting;
+mod document;
 mod laws;
-mod packed;
 mod state;
 #[cfg(test)]
 mod tests;
 
 pub use applying::apply;
+pub use document::KeptDocument;
 pub use laws::{alike_law, anchored_law, given_law, resolution_laws};
-pub use packed::PackedDocument;
 pub use state::{DidState, StateParts};

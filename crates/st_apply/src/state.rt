@@ -1,4 +1,4 @@
-use crate::packed::PackedDocument;
+use crate::document::KeptDocument;
 use st_base::{Copied, WantOfMemory};
 use st_hash::Hash;
 use std::alloc::Global;
@@ -24,7 +24,7 @@ pub(crate) enum Kept {
 pub(crate) struct Active {
     pub(crate) recovery: Hash,
     pub(crate) update: Option<Hash>,
-    pub(crate) document: PackedDocument,
+    pub(crate) document: KeptDocument,
 }
 
 impl Model for DidState {
@@ -54,7 +54,7 @@ pub enum StateParts<'a> {
         /// The commitment to the key of the next update, where there is one.
         update: Option<Hash>,
         /// The document.
-        document: &'a PackedDocument,
+        document: &'a KeptDocument,
     },
     /// A deactivate has acted.
     Deactivated,
@@ -72,7 +72,7 @@ impl DidState {
         DidState { kept: Kept::Absent }
     }
 
-    pub(crate) fn active(recovery: Hash, update: Option<Hash>, document: PackedDocument) -> DidState
+    pub(crate) fn active(recovery: Hash, update: Option<Hash>, document: KeptDocument) -> DidState
         ensures { result ≡ active recovery update document }
     {
         DidState {

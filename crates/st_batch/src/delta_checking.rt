@@ -68,7 +68,7 @@ fn counts(
         return Ok(false);
     }
     let value = delta.unpack(alloc)?;
-    match check_delta(alloc, &value, params) {
+    match check_delta(alloc, value, params) {
         Ok(_) => Ok(true),
         Err(DeltaRefused::TooLong) => Ok(false),
         Err(DeltaRefused::BadDelta) => Ok(false),

@@ -1,5 +1,5 @@
 -- No text stands twice where there are as many different ones as all.
-use Rattle.std.proofs.Common.{◌≡◌, ◌∙◌, ℕ, suc, ◌≤◌, nat_eq, Bool, true, false, not, cond, List, [], ◌∷◌, length, map, refl, ap, arith, Bor}
+use Rattle.std.proofs.Common.{◌≡◌, ◌∙◌, ℕ, suc, ◌≤◌, nat_eq, true, false, not, cond, List, [], ◌∷◌, length, map, refl, ap, arith, Bor}
 use Rattle.std.specs.Prelude.{◌||◌, bytes_eq}
 use Rattle.std.specs.List.{list_any}
 use Rattle.std.specs.Set.{distinct_count, unique_keys}

@@ -1,6 +1,6 @@
 -- The patches of a delta (Sidetree v1.0.0, "Standard Patch Actions"; those on names are this project's
 -- own): each an object with exactly `action` and the member that this action needs.
-use Rattle.std.specs.Prelude.{ℕ, ◌&&◌, List, [], ◌∷◌, map, codes, if◌then◌else◌, bytes_eq, Option, Some, None}
+use Rattle.std.specs.Prelude.{ℕ, ◌&&◌, List, [], ◌∷◌, map, codes, if◌then◌else◌, bytes_eq, Option, Some, None, option_and_then}
 use Rattle.std.specs.List.{list_all}
 use Rattle.std.specs.Result.{result_ok}
 use Rattle.st_base.specs.Each.{each_of}
@@ -14,6 +14,8 @@ use Rattle.st_params.specs.Limits.{Limits}
 use Rattle.st_doc.specs.Alike.{none_twice}
 use Rattle.st_doc.specs.Document.{PlainDocument, document_of, may_have_names, plain_document}
 use Rattle.st_doc.specs.Entries.{id_of, is_id, is_key, is_name, is_service}
+use Rattle.st_doc.specs.declared.action.Action.{Action}
+use Rattle.st_doc.specs.declared.action.Action.TheVariants as action
 use Rattle.st_doc.specs.declared.patch.Patch.{Patch}
 use Rattle.st_doc.specs.declared.patch.Patch.TheVariants.{AddKeys, RemoveKeys, AddServices, RemoveServices, Replace, Steps, AddNames, RemoveNames}
 
@@ -113,21 +115,38 @@ remove_names_of patch = do
   names ← names_in patch
   Some (remove_names names)
 
--- the patch of this action; the last two stand only in version 2
-abbrev pub patch_named : Limits → List ℕ → Plain → Option PlainPatch
-patch_named limits action patch =
-    if bytes_eq action (codes "add-public-keys") then add_keys_of patch else
-    if bytes_eq action (codes "remove-public-keys") then remove_keys_of patch else
-    if bytes_eq action (codes "add-services") then add_services_of patch else
-    if bytes_eq action (codes "remove-services") then remove_services_of patch else
-    if bytes_eq action (codes "replace") then replace_of limits patch else
-    if bytes_eq action (codes "ietf-json-patch") then steps_of patch else
-    if bytes_eq action (codes "add-also-known-as") && may_have_names limits.version then add_names_of patch else
-    if bytes_eq action (codes "remove-also-known-as") && may_have_names limits.version then remove_names_of patch else
+-- ---- by the action
+
+-- the action of this name; the last two stand only in version 2
+abbrev pub action_named : ℕ → List ℕ → Option Action
+action_named version name =
+    if bytes_eq name (codes "add-public-keys") then Some action.AddKeys else
+    if bytes_eq name (codes "remove-public-keys") then Some action.RemoveKeys else
+    if bytes_eq name (codes "add-services") then Some action.AddServices else
+    if bytes_eq name (codes "remove-services") then Some action.RemoveServices else
+    if bytes_eq name (codes "replace") then Some action.Replace else
+    if bytes_eq name (codes "ietf-json-patch") then Some action.Steps else
+    if bytes_eq name (codes "add-also-known-as") && may_have_names version then Some action.AddNames else
+    if bytes_eq name (codes "remove-also-known-as") && may_have_names version then Some action.RemoveNames else
     None
+
+-- the action that a value names
+abbrev pub action_of : ℕ → Plain → Option Action
+action_of version value = option_and_then (action_named version) (text_at (codes "action") (Some value))
+
+-- the patch that a value with this action is
+abbrev pub patch_by : Limits → Action → Plain → Option PlainPatch
+patch_by limits action.AddKeys patch = add_keys_of patch
+patch_by limits action.RemoveKeys patch = remove_keys_of patch
+patch_by limits action.AddServices patch = add_services_of patch
+patch_by limits action.RemoveServices patch = remove_services_of patch
+patch_by limits action.Replace patch = replace_of limits patch
+patch_by limits action.Steps patch = steps_of patch
+patch_by limits action.AddNames patch = add_names_of patch
+patch_by limits action.RemoveNames patch = remove_names_of patch
 
 -- The patch that a value is.
 unfoldable pub patch_of : Limits → Plain → Option PlainPatch
 patch_of limits value = do
-  action ← text_at (codes "action") (Some value)
-  patch_named limits action value
+  action ← action_of limits.version value
+  patch_by limits action value

@@ -8,30 +8,32 @@ ghost use Rattle.st_doc.specs.Patch.{plain_patch};
 
 use crate::delta::Delta;
 use crate::patch::Patch;
-use crate::patch_reading::read_patch;
+use crate::patch_reading::take_patch;
 use crate::refused::DeltaRefused;
+use crate::taking::{list_out, take_member};
 use st_base::List;
-use st_canon::{Json, depth, entries_in, fits};
+use st_canon::{Json, depth, fits};
 use st_hash::{Hash, read_hash_at};
 use st_params::Params;
 use std::alloc::Global;
 
 const MAX_DEPTH: u64 = 64;
 
-/// The delta at these parameters that this value is.
+/// The delta at these parameters that this value is. The value is taken over: keys, services and
+/// documents in it are moved and not copied.
 ///
 /// It refuses with the first of these that holds: `TooLong`, `BadDelta`, and `BadPatch(i)` for the
 /// first value in `patches` that is no patch.
-pub fn check_delta(alloc: Global, value: &Json, params: &Params) -> Result<Delta, DeltaRefused>
-    ensures { GivesAs plain_delta refusal_of (delta_of params.now (plain value.now)) result }
+pub fn check_delta(alloc: Global, value: Json, params: &Params) -> Result<Delta, DeltaRefused>
+    ensures { GivesAs plain_delta refusal_of (delta_of params.now (plain value)) result }
 {
-    if is_too_long(value, params) {
+    if is_too_long(&value, params) {
         return Err(DeltaRefused::TooLong);
     }
-    if !has_delta_form(value, params.version()) {
+    if !has_delta_form(&value, params.version()) {
         return Err(DeltaRefused::BadDelta);
     }
-    read_delta(alloc, value, params)
+    take_delta(alloc, value, params)
 }
 
 #[tactic(auto, unfolding(crate::specs::Delta::is_too_long))]
@@ -84,29 +86,32 @@ fn update_in(value: &Json, version: u8) -> Option<Hash>
 }
 
 #[tactic(auto, unfolding(crate::specs::Delta::delta_in))]
-fn read_delta(alloc: Global, value: &Json, params: &Params) -> Result<Delta, DeltaRefused>
-    ensures { GivesAs plain_delta refusal_of (delta_in params.now (plain value.now)) result }
+fn take_delta(alloc: Global, value: Json, params: &Params) -> Result<Delta, DeltaRefused>
+    ensures { GivesAs plain_delta refusal_of (delta_in params.now (plain value)) result }
 {
-    let Some(update) = update_in(value, params.version()) else {
+    let Some(update) = update_in(&value, params.version()) else {
         return Err(DeltaRefused::BadDelta);
     };
-    let patches = read_patches(alloc, entries_in(value.member("patches")), params)?;
+    let values = list_out(alloc, take_member(value, "patches"));
+    let patches = take_patches(alloc, values, params)?;
     Ok(Delta { patches, update })
 }
 
-fn read_patches(
+fn take_patches(
     alloc: Global,
-    values: &[Json],
+    values: List<Json>,
     params: &Params,
 ) -> Result<List<Patch>, DeltaRefused>
-    ensures { GivesAs (map plain_patch) refusal_of (patches_of params.now 0 (map plain values.now)) result }
+    ensures { GivesAs (map plain_patch) refusal_of (patches_of params.now 0 (map plain values)) result }
 {
     let mut patches = List::new(alloc);
-    for (at, value) in values.iter().enumerate() {
-        let Some(patch) = read_patch(alloc, value, params)? else {
+    let mut at = 0;
+    'values: for value in values.into_vec() {
+        let Some(patch) = take_patch(alloc, value, params)? else {
             return Err(DeltaRefused::BadPatch(at));
         };
         patches.push(alloc, patch)?;
+        at += 1;
     }
     Ok(patches)
 }

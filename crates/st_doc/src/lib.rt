@@ -1,6 +1,7 @@
 //! Documents of identifiers, and the deltas whose patches change them.
 #![tactic(auto)]
 
+mod action;
 mod applying;
 mod changes;
 mod check;

@@ -1,92 +1,82 @@
-ghost use Rattle.std.specs.Prelude.{◌≡◌, map, option_map, IfOk, Some};
+ghost use Rattle.std.specs.Prelude.{◌≡◌, is_some, map, option_map, IfOk, Some};
 ghost use Rattle.std.specs.List.{list_all};
 ghost use Rattle.std.specs.Result.{result_ok};
 ghost use Rattle.st_base.specs.Each.{each_of};
-ghost use Rattle.st_canon.specs.Shapes.{text_at};
 ghost use Rattle.st_canon.specs.View.{plain};
 ghost use Rattle.st_jsonpatch.specs.Step.{plain_step, step_of};
 ghost use Rattle.st_doc.specs.Entries.{is_id};
-ghost use Rattle.st_doc.specs.Patch.{add_keys_of, add_names_of, add_services_of, ids_in, names_in, patch_named, patch_of, plain_patch, remove_keys_of, remove_names_of, remove_services_of, replace_of, steps_of, values_at};
+ghost use Rattle.st_doc.specs.Patch.{add_keys_of, add_names_of, add_services_of, ids_in, names_in, patch_by, patch_of, plain_patch, remove_keys_of, remove_names_of, remove_services_of, replace_of, steps_of, values_at};
 
-use crate::check::{are_names, may_have_names};
-use crate::document::Document;
+use crate::action::{Action, action_of};
+use crate::check::are_names;
 use crate::forms::is_id;
 use crate::ids::{ids_stand_once, texts_stand_once};
 use crate::key::are_keys;
 use crate::patch::Patch;
-use crate::reading::{are_texts, copies};
-use crate::refused::DocumentRefused;
+use crate::reading::{are_texts, take_document};
 use crate::service::are_services;
-use crate::taking::texts_of;
+use crate::taking::{list_out, take_member, texts_of};
 use st_base::{List, Text, WantOfMemory};
 use st_canon::Json;
 use st_jsonpatch::{Step, StepRefused};
 use st_params::Params;
 use std::alloc::Global;
 
-/// The patch that this value is, where it is one.
+/// The patch that this value is, where it is one. Keys, services and a document are moved out of it.
 #[tactic(auto, unfolding(crate::specs::Patch::patch_of))]
-pub(crate) fn read_patch(
+pub(crate) fn take_patch(
     alloc: Global,
-    value: &Json,
+    value: Json,
     params: &Params,
 ) -> Result<Option<Patch>, WantOfMemory>
-    ensures { IfOk result (λ patch. option_map plain_patch patch ≡ patch_of params.now (plain value.now)) }
+    ensures { IfOk result (λ patch. option_map plain_patch patch ≡ patch_of params.now (plain value)) }
 {
-    match text_at(value, "action") {
-        Some(action) => read_named(alloc, action, value, params),
+    match action_of(&value, params.version()) {
+        Some(action) => take_as(alloc, action, value, params),
         None => Ok(None),
     }
 }
 
-fn text_at<'a>(value: &'a Json, name: &str) -> Option<&'a str>
-    ensures { option_map (λ text. text.now) result ≡ text_at name.now (Some (plain value.now)) }
-{
-    value.member(name)?.as_text()
-}
-
-fn read_named(
+fn take_as(
     alloc: Global,
-    action: &str,
-    patch: &Json,
+    action: Action,
+    patch: Json,
     params: &Params,
 ) -> Result<Option<Patch>, WantOfMemory>
-    ensures { IfOk result (λ read. option_map plain_patch read ≡ patch_named params.now action.now (plain patch.now)) }
+    ensures { IfOk result (λ taken. option_map plain_patch taken ≡ patch_by params.now action (plain patch)) }
 {
-    if action == "add-public-keys" {
-        read_add_keys(alloc, patch)
-    } else if action == "remove-public-keys" {
-        read_remove_keys(alloc, patch)
-    } else if action == "add-services" {
-        read_add_services(alloc, patch)
-    } else if action == "remove-services" {
-        read_remove_services(alloc, patch)
-    } else if action == "replace" {
-        read_replace(alloc, patch, params)
-    } else if action == "ietf-json-patch" {
-        read_steps(alloc, patch)
-    } else if action == "add-also-known-as" && may_have_names(params.version()) {
-        read_add_names(alloc, patch)
-    } else if action == "remove-also-known-as" && may_have_names(params.version()) {
-        read_remove_names(alloc, patch)
-    } else {
-        Ok(None)
+    match action {
+        Action::AddKeys => take_add_keys(alloc, patch),
+        Action::RemoveKeys => read_remove_keys(alloc, &patch),
+        Action::AddServices => take_add_services(alloc, patch),
+        Action::RemoveServices => read_remove_services(alloc, &patch),
+        Action::Replace => take_replace(alloc, patch, params),
+        Action::Steps => read_steps(alloc, &patch),
+        Action::AddNames => read_add_names(alloc, &patch),
+        Action::RemoveNames => read_remove_names(alloc, &patch),
     }
 }
 
-fn read_add_keys(alloc: Global, patch: &Json) -> Result<Option<Patch>, WantOfMemory>
-    ensures { IfOk result (λ read. option_map plain_patch read ≡ add_keys_of (plain patch.now)) }
+fn take_add_keys(alloc: Global, patch: Json) -> Result<Option<Patch>, WantOfMemory>
+    ensures { IfOk result (λ taken. option_map plain_patch taken ≡ add_keys_of (plain patch)) }
+{
+    if !adds_keys(alloc, &patch)? {
+        return Ok(None);
+    }
+    let keys = list_out(alloc, take_member(patch, "publicKeys"));
+    Ok(Some(Patch::AddKeys(keys)))
+}
+
+fn adds_keys(alloc: Global, patch: &Json) -> Result<bool, WantOfMemory>
+    ensures { IfOk result (λ adds. adds ≡ is_some (add_keys_of (plain patch.now))) }
 {
     let Some(keys) = values_at(patch, "publicKeys") else {
-        return Ok(None);
+        return Ok(false);
     };
     if !are_keys(keys) {
-        return Ok(None);
+        return Ok(false);
     }
-    if !ids_stand_once(alloc, keys)? {
-        return Ok(None);
-    }
-    Ok(Some(Patch::AddKeys(copies(alloc, keys)?)))
+    ids_stand_once(alloc, keys)
 }
 
 fn read_remove_keys(alloc: Global, patch: &Json) -> Result<Option<Patch>, WantOfMemory>
@@ -98,19 +88,26 @@ fn read_remove_keys(alloc: Global, patch: &Json) -> Result<Option<Patch>, WantOf
     Ok(Some(Patch::RemoveKeys(ids)))
 }
 
-fn read_add_services(alloc: Global, patch: &Json) -> Result<Option<Patch>, WantOfMemory>
-    ensures { IfOk result (λ read. option_map plain_patch read ≡ add_services_of (plain patch.now)) }
+fn take_add_services(alloc: Global, patch: Json) -> Result<Option<Patch>, WantOfMemory>
+    ensures { IfOk result (λ taken. option_map plain_patch taken ≡ add_services_of (plain patch)) }
+{
+    if !adds_services(alloc, &patch)? {
+        return Ok(None);
+    }
+    let services = list_out(alloc, take_member(patch, "services"));
+    Ok(Some(Patch::AddServices(services)))
+}
+
+fn adds_services(alloc: Global, patch: &Json) -> Result<bool, WantOfMemory>
+    ensures { IfOk result (λ adds. adds ≡ is_some (add_services_of (plain patch.now))) }
 {
     let Some(services) = values_at(patch, "services") else {
-        return Ok(None);
+        return Ok(false);
     };
     if !are_services(services) {
-        return Ok(None);
+        return Ok(false);
     }
-    if !ids_stand_once(alloc, services)? {
-        return Ok(None);
-    }
-    Ok(Some(Patch::AddServices(copies(alloc, services)?)))
+    ids_stand_once(alloc, services)
 }
 
 fn read_remove_services(alloc: Global, patch: &Json) -> Result<Option<Patch>, WantOfMemory>
@@ -122,19 +119,18 @@ fn read_remove_services(alloc: Global, patch: &Json) -> Result<Option<Patch>, Wa
     Ok(Some(Patch::RemoveServices(ids)))
 }
 
-fn read_replace(alloc: Global, patch: &Json, params: &Params) -> Result<Option<Patch>, WantOfMemory>
-    ensures { IfOk result (λ read. option_map plain_patch read ≡ replace_of params.now (plain patch.now)) }
+fn take_replace(alloc: Global, patch: Json, params: &Params) -> Result<Option<Patch>, WantOfMemory>
+    ensures { IfOk result (λ taken. option_map plain_patch taken ≡ replace_of params.now (plain patch)) }
 {
     if !patch.is_object_of(&["action", "document"]) {
         return Ok(None);
     }
-    let Some(value) = patch.member("document") else {
+    let Some(value) = take_member(patch, "document") else {
         return Ok(None);
     };
-    match Document::read(alloc, value, params) {
-        Ok(document) => Ok(Some(Patch::Replace(document))),
-        Err(DocumentRefused::NotDocument) => Ok(None),
-        Err(DocumentRefused::WantOfMemory) => Err(WantOfMemory),
+    match take_document(alloc, value, params)? {
+        Some(document) => Ok(Some(Patch::Replace(document))),
+        None => Ok(None),
     }
 }
 

@@ -10,7 +10,7 @@ ghost use Rattle.st_doc.specs.Document.{document_names, document_of, has_documen
 use crate::check::{if_document, may_have_names};
 use crate::document::Document;
 use crate::refused::DocumentRefused;
-use st_base::{Copied, List, WantOfMemory};
+use st_base::{Copied, WantOfMemory};
 use st_canon::{Json, entries_in, is_list_if_there};
 use st_params::Params;
 use std::alloc::Global;
@@ -98,15 +98,4 @@ pub(crate) fn are_texts(values: &[Json]) -> bool
         }
     }
     true
-}
-
-/// Copies of the values. There is room for these alone, since a document may keep the list for long.
-pub(crate) fn copies(alloc: Global, values: &[Json]) -> Result<List<Json>, WantOfMemory>
-    ensures { IfOk result (λ copies. copies ≡ values.now) }
-{
-    let mut copies = Vec::with_capacity(alloc, values.len())?;
-    for value in values {
-        copies.push(value.copy(alloc)?)?;
-    }
-    Ok(List::from_vec(copies))
 }

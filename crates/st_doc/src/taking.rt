@@ -1,7 +1,7 @@
 ghost use Rattle.std.specs.Prelude.{◌≡◌, map, option_map, IfOk, Some};
 ghost use Rattle.st_canon.specs.Entries.{items_in};
 ghost use Rattle.st_canon.specs.Plain.{object};
-ghost use Rattle.st_canon.specs.Shapes.{entries_in};
+ghost use Rattle.st_canon.specs.Shapes.{entries_in, member_in};
 ghost use Rattle.st_canon.specs.View.{plain, plain_items, plain_members};
 ghost use Rattle.st_doc.specs.Document.{document_in, plain_document};
 ghost use Rattle.st_doc.specs.Entries.{texts_of};
@@ -39,7 +39,8 @@ fn taken_out(alloc: Global, members: Object) -> Result<Document, WantOfMemory>
     })
 }
 
-fn list_out(alloc: Global, there: Option<Json>) -> List<Json>
+/// The items of the list that is there. Where there is nothing, or no list, there are none.
+pub(crate) fn list_out(alloc: Global, there: Option<Json>) -> List<Json>
     ensures { map plain result ≡ entries_in (option_map plain there) }
 {
     match there {
@@ -64,6 +65,16 @@ fn items_of(value: Json) -> Option<List<Json>>
 {
     match value {
         Json::List(items) => Some(items),
+        _ => None,
+    }
+}
+
+/// Takes the member of this name out of an object that has one.
+pub(crate) fn take_member(value: Json, name: &str) -> Option<Json>
+    ensures { option_map plain result ≡ member_in name.now (Some (plain value)) }
+{
+    match value {
+        Json::Object(mut members) => members.remove(name),
         _ => None,
     }
 }

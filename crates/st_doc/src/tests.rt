@@ -39,7 +39,7 @@ fn text(rt: &HostRuntime, document: &Document) -> Result<String, Fail> {
 }
 
 fn delta(rt: &HostRuntime, text: &str, params: &Params) -> Result<Result<Delta, String>, Fail> {
-    match check_delta(rt.alloc(), &json(rt, text)?, params) {
+    match check_delta(rt.alloc(), json(rt, text)?, params) {
         Ok(delta) => Ok(Ok(delta)),
         Err(DeltaRefused::TooLong) => Ok(Err(String::from_str(rt.alloc(), "too long")?)),
         Err(DeltaRefused::BadDelta) => Ok(Err(String::from_str(rt.alloc(), "bad delta")?)),

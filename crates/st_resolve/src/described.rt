@@ -25,8 +25,8 @@ pub(crate) fn did_document(
 {
     match state {
         StateParts::Active { document, .. } => {
-            let document = document.unpack(alloc)?;
-            Ok(Json::Object(described(alloc, did, &document)?))
+            let document = document.open(alloc)?;
+            Ok(Json::Object(described(alloc, did, document.get())?))
         }
         _ => Ok(Json::Object(bare(alloc, did)?)),
     }

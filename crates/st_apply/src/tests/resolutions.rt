@@ -91,7 +91,7 @@ fn shown(rt: &HostRuntime, state: &DidState) -> Result<String, Fail> {
                 Some(update) => name_of(rt, &update)?,
                 None => "none",
             };
-            let services = services(rt, &document.unpack(rt.alloc())?)?;
+            let services = services(rt, document.open(rt.alloc())?.get())?;
             Ok(format!(in rt.alloc(); "active {recovery} {update} ({services})")?)
         }
     }

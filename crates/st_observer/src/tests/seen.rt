@@ -125,8 +125,8 @@ fn serves_in(alloc: Global, state: &DidState, ids: &str) -> bool {
     let StateParts::Active { document, .. } = state.parts() else {
         return false;
     };
-    match document.unpack(alloc) {
-        Ok(document) => has_services(&document, ids),
+    match document.open(alloc) {
+        Ok(document) => has_services(document.get(), ids),
         Err(_) => false,
     }
 }

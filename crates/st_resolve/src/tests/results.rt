@@ -1,7 +1,7 @@
 use super::{SHORT, did, text};
 use crate::rendering::said_of;
 use crate::{RenderRefused, render};
-use st_apply::{DidState, PackedDocument, StateParts, apply};
+use st_apply::{DidState, KeptDocument, StateParts, apply};
 use st_base::{Copied, Work};
 use st_canon::read;
 use st_doc::Document;
@@ -84,7 +84,7 @@ fn what_no_entry_made_is_said_by_a_long_form_alone(rt: HostRuntime) -> Result<()
 #[test]
 fn a_long_form_that_is_published_says_what_the_entries_say(rt: HostRuntime) -> Result<(), Fail> {
     let long = did(&rt, LONG)?.copy(rt.alloc())?;
-    let document = PackedDocument::pack(rt.alloc(), Document::empty(rt.alloc()))?;
+    let document = KeptDocument::pack(rt.alloc(), Document::empty(rt.alloc()))?;
     let state = StateParts::Active {
         recovery: hash(OF_NOTHING)?,
         update: None,
@@ -103,7 +103,7 @@ fn a_state_says_its_document_until_it_is_deactivated(rt: HostRuntime) -> Result<
     let did = did(&rt, SHORT)?;
     let value = read(rt.alloc(), DOCUMENT.as_bytes())?;
     let document = Document::read(rt.alloc(), &value, &Schedule::with_second(0).newest())?;
-    let document = PackedDocument::pack(rt.alloc(), document)?;
+    let document = KeptDocument::pack(rt.alloc(), document)?;
     let active = StateParts::Active {
         recovery: hash(OF_NOTHING)?,
         update: Some(hash(OF_ABC)?),

@@ -1,0 +1,98 @@
+ghost use Rattle.std.specs.Prelude.{◌≡◌, IfOk};
+ghost use Rattle.st_doc.specs.Document.{document_in, plain_document};
+
+use st_base::{Copied, WantOfMemory};
+use st_doc::Document;
+use st_ops::{PackedJson, Shared};
+use std::alloc::Global;
+use std::marker::Model;
+
+/// The document of a state, which states share: a copy costs nothing but a count. One that a create or a
+/// recover began is packed, since most identifiers are never updated. One that was updated is kept in its
+/// parts, since it may well be updated again. Contracts see the document.
+#[derive(Drop)]
+pub struct KeptDocument {
+    form: DocumentForm,
+}
+
+// What is kept of a document: its JSON, packed, or its parts.
+#[derive(Drop)]
+pub(crate) enum DocumentForm {
+    Packed(PackedJson),
+    Parts(Shared<Document>),
+}
+
+impl Model for KeptDocument {
+    ghost use Rattle.st_apply.specs.Codes.{document_code};
+    ghost use Rattle.st_apply.specs.DocumentForm.{document_kept};
+    ghost use Rattle.st_doc.specs.Document.{PlainDocument};
+
+    ghost Value = { PlainDocument };
+
+    ghost coded = { document_code };
+
+    ghost view = { λ kept. document_kept kept.form };
+}
+
+impl KeptDocument {
+    /// The document in little memory.
+    pub fn pack(alloc: Global, document: Document) -> Result<KeptDocument, WantOfMemory>
+        ensures { IfOk result (λ kept. kept ≡ plain_document document) }
+    {
+        let json = document.into_json(alloc)?;
+        let json = PackedJson::pack(alloc, &json)?;
+        Ok(KeptDocument {
+            form: DocumentForm::Packed(json),
+        })
+    }
+
+    /// The document in its parts.
+    pub fn share(alloc: Global, document: Document) -> Result<KeptDocument, WantOfMemory>
+        ensures { IfOk result (λ kept. kept ≡ plain_document document) }
+    {
+        Ok(KeptDocument {
+            form: DocumentForm::Parts(Shared::new(alloc, document)?),
+        })
+    }
+
+    /// The document, to be looked at. One that is packed is read, one in its parts is shared.
+    pub fn open(&self, alloc: Global) -> Result<Shared<Document>, WantOfMemory>
+        ensures { IfOk result (λ document. plain_document document ≡ self.now) }
+    {
+        match &self.form {
+            DocumentForm::Packed(json) => Shared::new(alloc, document_of(alloc, json)?),
+            DocumentForm::Parts(document) => document.copy(alloc),
+        }
+    }
+
+    /// The document, to be changed: it shares nothing.
+    pub fn unpack(&self, alloc: Global) -> Result<Document, WantOfMemory>
+        ensures { IfOk result (λ document. plain_document document ≡ self.now) }
+    {
+        match &self.form {
+            DocumentForm::Packed(json) => document_of(alloc, json),
+            DocumentForm::Parts(document) => document.get().copy(alloc),
+        }
+    }
+}
+
+impl Copied for KeptDocument {
+    /// One owner more of the same document.
+    fn copy(&self, alloc: Global) -> Result<KeptDocument, WantOfMemory> {
+        match &self.form {
+            DocumentForm::Packed(json) => Ok(KeptDocument {
+                form: DocumentForm::Packed(json.copy(alloc)?),
+            }),
+            DocumentForm::Parts(document) => Ok(KeptDocument {
+                form: DocumentForm::Parts(document.copy(alloc)?),
+            }),
+        }
+    }
+}
+
+fn document_of(alloc: Global, json: &PackedJson) -> Result<Document, WantOfMemory>
+    ensures { IfOk result (λ document. plain_document document ≡ document_in json.now) }
+{
+    let json = json.unpack(alloc)?;
+    Document::from_json(alloc, json)
+}
