@@ -1,5 +1,6 @@
--- Private: what the laws rest on.
+-- Private: what the laws rest on; and that a delta that is too long does not count.
 mod ChaseLemmas
+mod LongLemmas
 mod MeetingLemmas
 mod PlaceLemmas
 mod WalkLemmas

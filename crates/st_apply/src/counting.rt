@@ -25,6 +25,10 @@ pub(crate) fn counted_delta(
     let Some(delta) = delta else {
         return Ok(None);
     };
+    // Its text is there, so one that is too long is neither hashed nor read.
+    if delta.size() > params.max_delta() {
+        return Ok(None);
+    }
     if delta.hash(alloc, delta_hash.code())? != *delta_hash {
         return Ok(None);
     }
