@@ -20,6 +20,7 @@ escape b = if b == 34 then codes "\\\"" else
     if nat_lt b 32 then codes "\\u00" ++ hex_digit (b / 16) ∷ hex_digit (b % 16) ∷ [] else
     b ∷ []
 
+-- a text as JSON writes it, between quotation marks (RFC 8785, section 3.2.2.2)
 abbrev pub quoted : List ℕ → List ℕ
 quoted t = 34 ∷ (flat_map escape t ++ 34 ∷ [])
 

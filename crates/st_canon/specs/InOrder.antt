@@ -11,6 +11,7 @@ abbrev pub placed : {X : Type 0} → List ℕ × X → List (List ℕ × X) → 
 placed pair [] = pair ∷ []
 placed pair (e ∷ es) = match_ordering (name_cmp pair.0 e.0) (pair ∷ e ∷ es) (pair ∷ es) (e ∷ placed pair es)
 
+-- the pairs by their names, sorted
 abbrev pub in_order : {X : Type 0} → List (List ℕ × X) → List (List ℕ × X)
 in_order [] = []
 in_order (e ∷ es) = placed e (in_order es)
@@ -20,5 +21,6 @@ abbrev pub AreApart : List (List ℕ) → Type 0
 AreApart [] = ⊤
 AreApart (name ∷ names) = AllByRecursion (λ other. name_cmp name other ≡ Equal → ⊥) names × AreApart names
 
+-- no name comes twice
 abbrev pub NamesDiffer : {X : Type 0} → List (List ℕ × X) → Type 0
 NamesDiffer pairs = AreApart (keys_of pairs)

@@ -4,6 +4,7 @@ use Rattle.st_canon.specs.Canonical.{canonical}
 use Rattle.st_canon.specs.Depth.{depth_of}
 use Rattle.st_canon.specs.Plain.{Plain}
 
+-- the number of bytes of its canonical text
 abbrev pub size_of : Plain → ℕ
 size_of p = length (canonical p)
 

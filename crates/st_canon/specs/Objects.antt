@@ -26,6 +26,7 @@ unfoldable pub put_some : List ℕ → Option Plain → Members → Members
 put_some name None others = others
 put_some name (Some value) others = put name value others
 
+-- the members with each of the pairs that has a value
 abbrev pub with_some : List (List ℕ × Option Plain) → Members → Members
 with_some [] others = others
 with_some (pair ∷ pairs) others = with_some pairs (put_some pair.0 pair.1 others)

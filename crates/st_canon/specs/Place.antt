@@ -3,6 +3,7 @@ use Rattle.std.specs.Prelude.{◌≡◌, ℕ, ◌<◌, ◌≤◌, List, length, 
 use Rattle.std.specs.declared.cmp.Ordering.TheVariants.{Less, Greater}
 use Rattle.st_canon.specs.Names.{name_cmp}
 
+-- the pair at this place has this name
 pub record IsPlaceOf {X : Type 0} (name : List ℕ) (pairs : List (List ℕ × X)) (at : ℕ) : Type 0 where
   pub in_range : at < length pairs
   pub named : (d : List ℕ × X) → (slice_index_or pairs at d).0 ≡ name

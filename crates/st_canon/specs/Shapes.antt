@@ -21,9 +21,11 @@ member_in name there = option_and_then (member_at name) (option_and_then members
 abbrev pub text_at : List ℕ → Option Plain → Option (List ℕ)
 text_at name there = option_and_then text_in (member_in name there)
 
+-- the values of the list of this name
 abbrev pub list_at : List ℕ → Option Plain → Option (List Plain)
 list_at name there = option_and_then list_in (member_in name there)
 
+-- the members of the object of this name
 abbrev pub object_at : List ℕ → Option Plain → Option Members
 object_at name there = option_and_then members_in (member_in name there)
 
@@ -38,14 +40,17 @@ only_member name there = if is_object_of (name ∷ []) there then member_in name
 
 -- ---- nothing, or a value of one kind
 
+-- a text, or no value at all
 abbrev pub is_text_if_there : Option Plain → Bool
 is_text_if_there None = true
 is_text_if_there (Some value) = is_some (text_in value)
 
+-- a list, or no value at all
 abbrev pub is_list_if_there : Option Plain → Bool
 is_list_if_there None = true
 is_list_if_there (Some value) = is_some (items_in value)
 
+-- an object, or no value at all
 abbrev pub is_object_if_there : Option Plain → Bool
 is_object_if_there None = true
 is_object_if_there (Some value) = is_some (members_in value)

@@ -4,10 +4,12 @@ use Rattle.st_canon.specs.Plain.{Plain, null, boolean, whole, text, list, object
 use Rattle.st_canon.specs.declared.value.Json.{Json, fold-Json}
 use Rattle.st_canon.specs.declared.value.Json.TheOpen.{Json-F}
 
+-- values as the items of a list
 abbrev pub items_of : List Plain → Items
 items_of [] = no_items
 items_of (p ∷ ps) = item p (items_of ps)
 
+-- pairs of a name and a value as the members of an object
 abbrev pub members_of : List (List ℕ × Plain) → Members
 members_of [] = no_members
 members_of (m ∷ ms) = member m.0 m.1 (members_of ms)
@@ -21,11 +23,14 @@ plain_step (Json-F.Text t) = text t
 plain_step (Json-F.List ps) = list (items_of ps)
 plain_step (Json-F.Object ms) = object (members_of ms)
 
+-- the plain value that a `Json` stands for
 abbrev pub plain : Json → Plain
 plain = fold-Json Plain plain_step
 
+-- the items that the values of a list stand for
 abbrev pub plain_items : List Json → Items
 plain_items values = items_of (map plain values)
 
+-- the members that the pairs of an object stand for
 abbrev pub plain_members : List (List ℕ × Json) → Members
 plain_members pairs = members_of (map (λ e. (e.0, plain e.1)) pairs)

@@ -35,6 +35,7 @@ operation_members file = unwrap_or (object_at (codes "operations") file) no_memb
 
 -- ---- written
 
+-- an entry of a proof file: the object with its signed text
 abbrev pub signed_json : List ℕ → Plain
 signed_json signed = object_of ((codes "signedData", text signed) ∷ [])
 

@@ -13,6 +13,7 @@ use Rattle.st_doc.specs.declared.delta.Delta.{Delta}
 use Rattle.st_doc.specs.declared.refused.DeltaRefused.{DeltaRefused}
 use Rattle.st_doc.specs.declared.refused.DeltaRefused.TheVariants.{TooLong, BadDelta, BadPatch, WantOfMemory}
 
+-- what a delta is: patches, and the commitment to the key of the next update
 pub record PlainDelta : Type 0 where
   pub patches : List PlainPatch
   pub update : HashValue
@@ -37,6 +38,7 @@ delta_rules version delta =
     ∷ nat_le (depth_of delta) 64
     ∷ []
 
+-- a value with the outer form of a delta; its patches are not looked at
 unfoldable pub has_delta_form : ℕ → Plain → Bool
 has_delta_form version delta = all_hold (delta_rules version delta)
 
@@ -51,6 +53,7 @@ patches_of limits i (value ∷ values) = do
   patches ← patches_of limits (i + 1) values
   Ok (patch ∷ patches)
 
+-- The delta of an object that has the form, or the number of the first of its values that is no patch.
 unfoldable pub delta_in : Limits → Plain → Result PlainDelta DeltaRefused
 delta_in limits delta = do
   update ← ok_or (update_in limits.version delta) BadDelta

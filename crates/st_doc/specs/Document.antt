@@ -21,6 +21,7 @@ pub record PlainDocument : Type 0 where
   pub services : List Plain
   pub names : List (List ℕ)
 
+-- a document before any patch
 abbrev pub empty_document : PlainDocument
 empty_document = record { keys = []; services = []; names = [] }
 
@@ -37,6 +38,7 @@ document_members document = some_listed (
     ∷ (codes "alsoKnownAs", some_list (map text document.names))
     ∷ [])
 
+-- a document as JSON, with the members that it has
 abbrev pub document_json : PlainDocument → Plain
 document_json document = object (document_members document)
 
@@ -46,6 +48,7 @@ document_json document = object (document_members document)
 abbrev pub may_have_names : ℕ → Bool
 may_have_names version = version == 2
 
+-- a document without names
 abbrev pub has_no_names : PlainDocument → Bool
 has_no_names document = length document.names == 0
 
@@ -61,6 +64,7 @@ document_rules version document =
     ∷ none_twice document.names
     ∷ []
 
+-- a document that keeps every rule of its version
 unfoldable pub keeps_rules : ℕ → PlainDocument → Bool
 keeps_rules version document = all_hold (document_rules version document)
 
@@ -75,6 +79,7 @@ if_document limits document = if is_document limits document then Some document 
 
 -- ---- the values that are a document
 
+-- the members that a document may have
 abbrev pub document_names : ℕ → List (List ℕ)
 document_names version = codes "publicKeys" ∷ codes "services" ∷ (if may_have_names version then codes "alsoKnownAs" ∷ [] else [])
 
@@ -88,6 +93,7 @@ form_rules version value =
     ∷ each_is text_in (entries_in (member_in (codes "alsoKnownAs") value))
     ∷ []
 
+-- a value with the form of a document; its keys and services are not looked at
 unfoldable pub has_document_form : ℕ → Plain → Bool
 has_document_form version value = all_hold (form_rules version (Some value))
 

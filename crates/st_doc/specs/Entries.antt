@@ -8,6 +8,7 @@ use Rattle.st_canon.specs.Plain.{Plain, text, list, object}
 use Rattle.st_canon.specs.Shapes.{is_object_of, member_in, text_at}
 use Rattle.st_doc.specs.Alike.{is_among, none_twice}
 
+-- every one of the tests is true
 abbrev pub all_hold : List Bool → Bool
 all_hold tests = list_all (λ holds. holds) tests
 
@@ -17,10 +18,12 @@ all_hold tests = list_all (λ holds. holds) tests
 abbrev pub is_short : ℕ → List ℕ → Bool
 is_short most bytes = nat_le 1 (length bytes) && nat_le (length bytes) most
 
+-- a text of 1 to so many bytes, and nothing else
 abbrev pub is_short_text : ℕ → Option Plain → Bool
 is_short_text most (Some (text bytes)) = is_short most bytes
 is_short_text most other = false
 
+-- the same, or no value at all
 abbrev pub is_short_text_if_there : ℕ → Option Plain → Bool
 is_short_text_if_there most None = true
 is_short_text_if_there most (Some value) = is_short_text most (Some value)
@@ -33,6 +36,7 @@ is_base64url_sign byte = is_ascii_alphanumeric byte || ((byte == 45) || (byte ==
 abbrev pub is_id : List ℕ → Bool
 is_id bytes = is_short 50 bytes && list_all is_base64url_sign bytes
 
+-- a text that is an id
 abbrev pub is_id_text : Option Plain → Bool
 is_id_text (Some (text bytes)) = is_id bytes
 is_id_text other = false
@@ -43,10 +47,12 @@ is_name bytes = is_short 100 bytes
 
 -- ---- keys
 
+-- an object, whatever is in it
 abbrev pub is_object : Option Plain → Bool
 is_object (Some (object _)) = true
 is_object other = false
 
+-- what a key may be for (Sidetree v1.0.0, "add-public-keys")
 abbrev pub purposes : List (List ℕ)
 purposes = codes "authentication" ∷ codes "assertionMethod" ∷ codes "keyAgreement"
     ∷ codes "capabilityInvocation" ∷ codes "capabilityDelegation" ∷ []
@@ -65,10 +71,12 @@ abbrev pub are_purposes : Option Plain → Bool
 are_purposes (Some (list items)) = list_all is_purpose (entries items) && none_twice (texts_of (entries items))
 are_purposes other = false
 
+-- the same, or no value at all
 abbrev pub are_purposes_if_there : Option Plain → Bool
 are_purposes_if_there None = true
 are_purposes_if_there (Some value) = are_purposes (Some value)
 
+-- the members that a key may have
 abbrev pub key_names : List (List ℕ)
 key_names = codes "id" ∷ codes "type" ∷ codes "publicKeyJwk" ∷ codes "purposes" ∷ codes "controller" ∷ []
 
@@ -83,11 +91,13 @@ key_rules key =
     ∷ is_short_text_if_there 200 (member_in (codes "controller") key)
     ∷ []
 
+-- a key: every rule of keys holds
 unfoldable pub is_key : Plain → Bool
 is_key key = all_hold (key_rules (Some key))
 
 -- ---- services
 
+-- the members that a service may have
 abbrev pub service_names : List (List ℕ)
 service_names = codes "id" ∷ codes "type" ∷ codes "serviceEndpoint" ∷ []
 
@@ -95,6 +105,7 @@ service_names = codes "id" ∷ codes "type" ∷ codes "serviceEndpoint" ∷ []
 abbrev pub is_endpoint : Option Plain → Bool
 is_endpoint there = is_short_text 100 there || is_object there
 
+-- a service: what must hold of its members
 abbrev pub service_rules : Option Plain → List Bool
 service_rules service =
     is_object_of service_names service
@@ -103,6 +114,7 @@ service_rules service =
     ∷ is_endpoint (member_in (codes "serviceEndpoint") service)
     ∷ []
 
+-- a service: every rule of services holds
 unfoldable pub is_service : Plain → Bool
 is_service service = all_hold (service_rules (Some service))
 

@@ -67,6 +67,7 @@ names_in patch = do
 
 -- ---- the rows
 
+-- `add-public-keys`: keys, none with the id of another
 abbrev pub add_keys_of : Plain → Option PlainPatch
 add_keys_of patch = do
   keys ← values_at (codes "publicKeys") patch
@@ -74,11 +75,13 @@ add_keys_of patch = do
   none_twice (map id_of keys)
   Some (add_keys keys)
 
+-- `remove-public-keys`: the ids of keys
 abbrev pub remove_keys_of : Plain → Option PlainPatch
 remove_keys_of patch = do
   ids ← ids_in patch
   Some (remove_keys ids)
 
+-- `add-services`: services, none with the id of another
 abbrev pub add_services_of : Plain → Option PlainPatch
 add_services_of patch = do
   services ← values_at (codes "services") patch
@@ -86,11 +89,13 @@ add_services_of patch = do
   none_twice (map id_of services)
   Some (add_services services)
 
+-- `remove-services`: the ids of services
 abbrev pub remove_services_of : Plain → Option PlainPatch
 remove_services_of patch = do
   ids ← ids_in patch
   Some (remove_services ids)
 
+-- `replace`: a whole document
 abbrev pub replace_of : Limits → Plain → Option PlainPatch
 replace_of limits patch = do
   is_object_of (codes "action" ∷ codes "document" ∷ []) (Some patch)
@@ -98,18 +103,21 @@ replace_of limits patch = do
   document ← result_ok (document_of limits value)
   Some (replace document)
 
+-- `ietf-json-patch`: steps of RFC 6902
 abbrev pub steps_of : Plain → Option PlainPatch
 steps_of patch = do
   values ← values_at (codes "patches") patch
   list ← each_of (λ value. result_ok (step_of value)) values
   Some (steps list)
 
+-- `add-also-known-as`: names, each once
 abbrev pub add_names_of : Plain → Option PlainPatch
 add_names_of patch = do
   names ← names_in patch
   none_twice names
   Some (add_names names)
 
+-- `remove-also-known-as`: names
 abbrev pub remove_names_of : Plain → Option PlainPatch
 remove_names_of patch = do
   names ← names_in patch

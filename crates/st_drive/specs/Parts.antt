@@ -31,6 +31,7 @@ pub record GoesOverCut {M C : Type 0} (means : Meaning M C) (cap : ℕ)
     (m : M) (c : C) (kept : List (List ℕ)) (written : List ℕ) (n : M) (d : C) : Type 0 where
   pub of : (lines : List (List ℕ)) → CutTo cap lines kept → Goes means m c lines written n d
 
+-- the same over the lines of the input, of which those too long are kept cut
 pub record StopsOverCut {M C : Type 0} (means : Meaning M C) (cap : ℕ)
     (m : M) (c : C) (kept : List (List ℕ)) (written : List ℕ) (d : C) : Type 0 where
   pub of : (lines : List (List ℕ)) → CutTo cap lines kept → Stops means m c lines written d

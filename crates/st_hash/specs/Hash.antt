@@ -22,6 +22,7 @@ IsCode code = (code ≡ 0x12) ⊎ (code ≡ 0x13)
 abbrev pub digest_length : ℕ → ℕ
 digest_length code = if code == 0x13 then 64 else 32
 
+-- the length of a hash text: base64url of 66 bytes, or of 34
 abbrev pub text_length : ℕ → ℕ
 text_length code = if code == 0x13 then 88 else 46
 
@@ -43,6 +44,7 @@ hash_of_with code bytes = record { code = code; digest = digest_with code bytes 
 abbrev pub hash_of : List ℕ → HashValue
 hash_of bytes = record { code = 0x12; digest = sha256 bytes }
 
+-- the URI of a file is the hash of its bytes
 abbrev pub uri_of : List ℕ → HashValue
 uri_of file = hash_of file
 

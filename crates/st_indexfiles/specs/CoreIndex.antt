@@ -35,6 +35,7 @@ suffixes_of index =
 
 -- ---- written
 
+-- the operations of a core index file by their kinds; a kind without any is left out
 abbrev pub core_operations : CoreIndex → Members
 core_operations index = some_listed
     ((codes "create", some_list (map create_json index.creates))

@@ -16,10 +16,12 @@ use Rattle.st_indexfiles.specs.declared.core_rule.CoreRule.{CoreRule}
 use Rattle.st_indexfiles.specs.declared.core_rule.CoreRule.TheVariants.{C1, C2, C3, C4, C5, C6, C7, C8}
 use Rattle.st_params.specs.Limits.{Limits}
 
+-- the members that a core index file may have
 abbrev pub core_names : List (List ℕ)
 core_names =
     codes "coreProofFileUri" ∷ codes "provisionalIndexFileUri" ∷ codes "writerLockId" ∷ codes "operations" ∷ []
 
+-- the kinds of operations that a core index file may name
 abbrev pub core_kinds : List (List ℕ)
 core_kinds = codes "create" ∷ codes "recover" ∷ codes "deactivate" ∷ []
 

@@ -40,9 +40,11 @@ suffixes_in updates = map (λ update. update.suffix) updates
 
 -- ---- written
 
+-- the object that names a chunk file
 abbrev pub chunk_json : HashValue → Plain
 chunk_json uri = object_of ((codes "chunkFileUri", hash_json uri) ∷ [])
 
+-- the updates of a provisional index file; without any the list is left out
 abbrev pub provisional_operations : ProvisionalIndex → Members
 provisional_operations index = some_listed ((codes "update", some_list (map target_json index.updates)) ∷ [])
 

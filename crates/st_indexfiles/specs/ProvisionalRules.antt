@@ -19,6 +19,7 @@ use Rattle.st_indexfiles.specs.declared.provisional_rule.ProvisionalRule.{Provis
 use Rattle.st_indexfiles.specs.declared.provisional_rule.ProvisionalRule.TheVariants.{P1, P2, P3, P4, P5, P6, P7, P8, P9}
 use Rattle.st_params.specs.Limits.{Limits}
 
+-- the members that a provisional index file may have
 abbrev pub provisional_names : List (List ℕ)
 provisional_names = codes "provisionalProofFileUri" ∷ codes "chunks" ∷ codes "operations" ∷ []
 

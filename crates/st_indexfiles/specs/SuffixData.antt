@@ -24,11 +24,13 @@ create_of version entry = suffix_data_of version (only_member (codes "suffixData
 
 -- ---- written
 
+-- suffix data as JSON, each hash as its text
 abbrev pub suffix_data_json : SuffixData → Plain
 suffix_data_json suffix_data = object_of
     ((codes "deltaHash", hash_json suffix_data.delta_hash)
     ∷ (codes "recoveryCommitment", hash_json suffix_data.recovery_commitment) ∷ [])
 
+-- a create as a core index file has it
 abbrev pub create_json : SuffixData → Plain
 create_json create = object_of ((codes "suffixData", suffix_data_json create) ∷ [])
 

@@ -15,5 +15,6 @@ target_of version entry = do
   reveal ← hash_in version (member_in (codes "revealValue") (Some entry))
   Some (record { suffix = suffix; reveal = reveal })
 
+-- an identifier and the reveal value for it, as an index file has them
 abbrev pub target_json : Target → Plain
 target_json target = object_of ((codes "didSuffix", hash_json target.suffix) ∷ (codes "revealValue", hash_json target.reveal) ∷ [])

@@ -12,6 +12,7 @@ is_index [] = false
 is_index (b ∷ []) = all_ascii_digits (b ∷ [])
 is_index (b ∷ c ∷ bs) = if b == 48 then false else all_ascii_digits (b ∷ c ∷ bs)
 
+-- the place in a list that a token names
 abbrev pub index_of : List ℕ → Option ℕ
 index_of token = if is_index token then Some (digits_value 10 token) else None
 

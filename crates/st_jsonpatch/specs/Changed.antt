@@ -28,5 +28,6 @@ handed_out (put_new new) there = None
 handed_out take_out there = there
 handed_out (set_to new) there = None
 
+-- the caller gets the value that the act takes out, if it takes one
 abbrev pub HandsOut : Act → Option Plain → Result (Option Json) ChangeRefused → Type 0
 HandsOut act there result = IfOk result (λ out. option_map plain out ≡ handed_out act there)

@@ -19,6 +19,7 @@ pub data Act : Type 0 where
 
 -- ---- lists
 
+-- a number that is not over the bound
 abbrev pub at_most : ℕ → ℕ → Option ℕ
 at_most most n = if nat_le n most then Some n else None
 
@@ -39,6 +40,7 @@ without_item token items = option_map_or (λ index. items_of (remove (entries it
 abbrev pub with_item : List ℕ → Plain → Items → Items
 with_item token new items = option_map_or (λ index. items_of (slice_set (entries items) index new)) (index_of token) items
 
+-- a list after the act at one of its places
 abbrev pub items_after : Act → List ℕ → Items → Option Items
 items_after (put_new new) token items = inserted token new items
 items_after take_out token items = option_map (λ _. without_item token items) (item_at token items)
@@ -64,12 +66,15 @@ parent_after act token scalar = None
 abbrev pub put_back : {Parent : Type 0} → (Plain → Parent) → (Plain → Option Plain) → Option Plain → Option Parent
 put_back back change there = option_and_then (λ entry. option_map back (change entry)) there
 
+-- a list one of whose items is changed
 abbrev pub items_inside : List ℕ → (Plain → Option Plain) → Items → Option Items
 items_inside token change items = put_back (λ new. with_item token new items) change (item_at token items)
 
+-- an object one of whose members is changed
 abbrev pub members_inside : List ℕ → (Plain → Option Plain) → Members → Option Members
 members_inside token change members = put_back (λ new. put token new members) change (member_at token members)
 
+-- a list or an object in which what the token names is changed; nothing is inside other values
 abbrev pub inside : List ℕ → (Plain → Option Plain) → Plain → Option Plain
 inside token change (list items) = option_map list (items_inside token change items)
 inside token change (object members) = option_map object (members_inside token change members)

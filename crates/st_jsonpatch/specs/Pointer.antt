@@ -29,6 +29,7 @@ token_from true (b ∷ bs) = do
 abbrev pub token_of : List ℕ → Result (List ℕ) PointerRefused
 token_of = token_from false
 
+-- the first piece with a byte before it
 abbrev pub begun_with : ℕ → List (List ℕ) → List (List ℕ)
 begun_with b [] = (b ∷ []) ∷ []
 begun_with b (piece ∷ pieces) = (b ∷ piece) ∷ pieces
@@ -38,6 +39,7 @@ abbrev pub pieces_of : List ℕ → List (List ℕ)
 pieces_of [] = [] ∷ []
 pieces_of (b ∷ bs) = if b == 47 then [] ∷ pieces_of bs else begun_with b (pieces_of bs)
 
+-- the tokens of the pieces, or the first refusal
 abbrev pub tokens_of : List (List ℕ) → Result (List (List ℕ)) PointerRefused
 tokens_of [] = Ok []
 tokens_of (piece ∷ pieces) = do

@@ -43,6 +43,7 @@ path_at name value = do
   written ← ok_or (text_at name (Some value)) BadStep
   or_bad_step (pointer_of written)
 
+-- the member `value`, of any kind
 abbrev pub value_in : Plain → Result Plain StepRefused
 value_in value = ok_or (member_in (codes "value") (Some value)) BadStep
 
@@ -60,6 +61,7 @@ with_from step value = do
   from ← path_at (codes "from") value
   Ok (step from path)
 
+-- a step that has nothing but its path
 abbrev pub with_path : (List (List ℕ) → PlainStep) → Plain → Result PlainStep StepRefused
 with_path step value = do
   path ← path_at (codes "path") value

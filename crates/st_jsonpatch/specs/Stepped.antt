@@ -17,6 +17,7 @@ abbrev pub removed : List (List ℕ) → Plain → Option Plain
 removed [] value = None
 removed (token ∷ path) value = edited take_out token path value
 
+-- `replace`: the new value where the path leads, which must be there
 abbrev pub replaced : Plain → List (List ℕ) → Plain → Option Plain
 replaced new [] value = Some new
 replaced new (token ∷ path) value = edited (set_to new) token path value
@@ -35,11 +36,13 @@ moved from path value = do
   rest ← removed from value
   added entry path rest
 
+-- `copy`: what is at the first path, added at the second
 abbrev pub copied : List (List ℕ) → List (List ℕ) → Plain → Option Plain
 copied from path value = do
   entry ← at from value
   added entry path value
 
+-- `test`: nothing changes where the value is equal to what is expected
 abbrev pub tested : Plain → List (List ℕ) → Plain → Option Plain
 tested expected path value = do
   entry ← at path value

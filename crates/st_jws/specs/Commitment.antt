@@ -18,6 +18,7 @@ commitment_of_with code key = hash_of_with code (reveal_of_with code key).digest
 abbrev pub reveal_of : Jwk → HashValue
 reveal_of key = reveal_of_with 0x12 key
 
+-- the commitment by SHA-256
 abbrev pub commitment_of : Jwk → HashValue
 commitment_of key = commitment_of_with 0x12 key
 

@@ -42,6 +42,7 @@ abbrev pub IsNonce : Option (List ℕ) → Type 0
 IsNonce None = ⊤
 IsNonce (Some nonce) = (length nonce ≡ 16) × IsBytes nonce
 
+-- the members that a key may have as JSON
 abbrev pub jwk_names : List (List ℕ)
 jwk_names = codes "alg" ∷ codes "kty" ∷ codes "pub" ∷ codes "nonce" ∷ []
 

@@ -24,6 +24,7 @@ abbrev pub key_in : Plain → Option Jwk
 key_in payload =
     option_and_then jwk_of (option_xor (member_in (codes "updateKey") (Some payload)) (member_in (codes "recoveryKey") (Some payload)))
 
+-- what a signed text says: its payload, and the key that signed it
 pub record Opened : Type 0 where
   pub payload : Plain
   pub key : Jwk

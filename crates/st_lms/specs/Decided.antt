@@ -8,6 +8,7 @@ use Rattle.st_lms.specs.Parts.{parts_in, parts_hold}
 abbrev pub is_one_time_type : ℕ → Bool
 is_one_time_type t = nat_le 1 t && nat_le t 4
 
+-- the number of a tree type that is supported
 abbrev pub is_tree_type : ℕ → Bool
 is_tree_type t = nat_le 5 t && nat_le t 6
 

@@ -39,8 +39,10 @@ public_text key = u32str key.tree ++ u32str key.ots ++ key.id ++ key.root
 unfoldable pub tree_type_in : List ℕ → ℕ
 tree_type_in text = str_to_u32 (take 4 text)
 
+-- the number of the one-time type, after that of the tree
 unfoldable pub one_time_type_in : List ℕ → ℕ
 one_time_type_in text = str_to_u32 (take 4 (drop 4 text))
 
+-- a secret key of its four parts
 abbrev pub secret_key : ℕ → ℕ → List ℕ → List ℕ → SecretKey
 secret_key ots tree id seed = record { ots = ots; tree = tree; id = id; seed = seed }

@@ -7,9 +7,11 @@ use Rattle.st_lms.specs.Parameters.{width, chains, shift, greatest_digit}
 
 -- ---- what tells the messages of the hash apart (7.1)
 
+-- what sets a hash of a public key apart
 abbrev pub d_pblc : ℕ
 d_pblc = 0x8080
 
+-- what sets a hash of a message apart
 abbrev pub d_mesg : ℕ
 d_mesg = 0x8181
 

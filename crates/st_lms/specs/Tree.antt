@@ -10,9 +10,11 @@ use Rattle.st_lms.specs.Keys.{SecretKey}
 
 -- ---- what tells the messages of the hash apart (7.1)
 
+-- what sets a leaf of the tree apart
 abbrev pub d_leaf : ℕ
 d_leaf = 0x8282
 
+-- what sets an inner node of the tree apart
 abbrev pub d_intr : ℕ
 d_intr = 0x8383
 

@@ -5,12 +5,14 @@ use Rattle.st_lms.specs.declared.parameters.OneTimeType.TheVariants.{Width1, Wid
 use Rattle.st_lms.specs.declared.parameters.TreeType.{TreeType}
 use Rattle.st_lms.specs.declared.parameters.TreeType.TheVariants.{Height5, Height10}
 
+-- the number of a one-time type
 abbrev pub one_time_number : OneTimeType → ℕ
 one_time_number Width1 = 1
 one_time_number Width2 = 2
 one_time_number Width4 = 3
 one_time_number Width8 = 4
 
+-- the number of a tree type
 abbrev pub tree_number : TreeType → ℕ
 tree_number Height5 = 5
 tree_number Height10 = 6
@@ -19,5 +21,6 @@ tree_number Height10 = 6
 abbrev pub one_time_of : ℕ → OneTimeType
 one_time_of n = if n == 1 then Width1 else if n == 2 then Width2 else if n == 3 then Width4 else Width8
 
+-- the tree type with this number, of those supported
 abbrev pub tree_of : ℕ → TreeType
 tree_of n = if n == 5 then Height5 else Height10

@@ -27,12 +27,14 @@ with_claim limits operation = do
   claim ← ok_or (claim_of limits operation) BadProof
   Ok operation
 
+-- the create that a request asks for (Sidetree v1.0.0, "Create")
 abbrev pub create_asked : Limits → Option Plain → Result PlainOperation RequestRefused
 create_asked limits request = do
   holds_or (is_create_form request) BadForm
   suffix_data ← ok_or (suffix_data_of limits.version (member_in (codes "suffixData") request)) BadHash
   Ok (creating suffix_data (member_in (codes "delta") request))
 
+-- the update that a request asks for ("Update")
 abbrev pub update_asked : Limits → Option Plain → Result PlainOperation RequestRefused
 update_asked limits request = do
   holds_or (is_change_form request) BadForm
@@ -40,6 +42,7 @@ update_asked limits request = do
   proof ← ok_or (proof_in limits.max_signed request) BadProof
   with_claim limits (updating target (Some proof) (member_in (codes "delta") request))
 
+-- the recover that a request asks for ("Recover")
 abbrev pub recover_asked : Limits → Option Plain → Result PlainOperation RequestRefused
 recover_asked limits request = do
   holds_or (is_change_form request) BadForm
@@ -47,6 +50,7 @@ recover_asked limits request = do
   proof ← ok_or (proof_in limits.max_signed request) BadProof
   with_claim limits (recovering target (Some proof) (member_in (codes "delta") request))
 
+-- the deactivate that a request asks for ("Deactivate")
 abbrev pub deactivate_asked : Limits → Option Plain → Result PlainOperation RequestRefused
 deactivate_asked limits request = do
   holds_or (is_deactivate_form request) BadForm
@@ -56,6 +60,7 @@ deactivate_asked limits request = do
 
 -- ---- by the kind that its `type` names
 
+-- the operation that a request of this type asks for
 abbrev pub asked_by_type : List ℕ → Limits → Option Plain → Result PlainOperation RequestRefused
 asked_by_type type limits request =
     if is_name type (codes "create") then create_asked limits request else

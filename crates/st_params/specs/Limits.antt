@@ -26,6 +26,7 @@ pub record Limits : Type 0 where
 abbrev pub in_version : ℕ → ℕ → ℕ → ℕ
 in_version version first second = if version == 1 then first else second
 
+-- the limits of a version
 abbrev pub limits_of : ℕ → Limits
 limits_of version = record {
   version = version;

@@ -1,5 +1,5 @@
 use crate::PackedJson;
-use st_base::{Copied, List};
+use st_base::{Bytes, Copied, List};
 use st_canon::{Json, read, write};
 use st_hash::{SHA_256, hash_text};
 use std::test::Fail;
@@ -21,13 +21,29 @@ fn nested(rt: &HostRuntime, levels: u32) -> Result<Json, Fail> {
     Ok(value)
 }
 
+// A copy of what is packed.
+fn packed_copy(rt: &HostRuntime, value: &Json) -> Result<PackedJson, Fail> {
+    let packed = PackedJson::pack(rt.alloc(), value)?;
+    Ok(packed.copy(rt.alloc())?)
+}
+
+// Whether it comes out as a value with this canonical text.
+fn comes_out(rt: &HostRuntime, packed: &PackedJson, text: &Bytes) -> Result<bool, Fail> {
+    let value = packed.unpack(rt.alloc())?;
+    let found = write(rt.alloc(), &value)?;
+    Ok(found.as_slice() == text.as_slice())
+}
+
+fn has_hash(rt: &HostRuntime, packed: &PackedJson, hash: &str) -> Result<bool, Fail> {
+    let found = packed.hash(rt.alloc(), SHA_256)?;
+    Ok(hash_text(rt.alloc(), &found)?.as_str() == hash)
+}
+
 // Whether a copy of what is packed is so long, has this hash, and comes out with the text of the value.
 fn is_kept(rt: &HostRuntime, value: &Json, long: u64, hash: &str) -> Result<bool, Fail> {
-    let packed = PackedJson::pack(rt.alloc(), value)?.copy(rt.alloc())?;
-    let out = packed.unpack(rt.alloc())?;
-    let same = write(rt.alloc(), &out)?.as_slice() == write(rt.alloc(), value)?.as_slice();
-    let found = hash_text(rt.alloc(), &packed.hash(rt.alloc(), SHA_256)?)?;
-    Ok(same && packed.size() == long && found.as_str() == hash)
+    let packed = packed_copy(rt, value)?;
+    let text = write(rt.alloc(), value)?;
+    Ok(packed.size() == long && has_hash(rt, &packed, hash)? && comes_out(rt, &packed, &text)?)
 }
 
 #[test]
