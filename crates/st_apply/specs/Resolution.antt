@@ -109,6 +109,7 @@ module _ {Hash Document Item : Type 0} (rules : Rules Hash Document) (place : It
   resolved_from items from None = deactivated
   resolved_from items from (Some beginning) = ending beginning.recovery (last_update items from beginning.change)
 
+  -- the same behind this item, which is the last recover or deactivate, or the create where there is none
   abbrev pub resolved_by : List Item → Item → State Hash Document
   resolved_by items full = resolved_from items (place full) (beginning_of (seen full))
 

@@ -3,6 +3,7 @@ use Rattle.std.specs.Prelude.{◌≡◌, ⊤, Bool, List, [], ◌∷◌, if◌th
 use Rattle.st_base.specs.declared.refused.FileRefused.{FileRefused}
 use Rattle.st_base.specs.declared.refused.FileRefused.TheVariants.{Rejected, WantOfMemory}
 
+-- each rule, and whether it fails
 abbrev pub Table : Type 0 → Type 0
 Table Rule = List (Rule × Bool)
 

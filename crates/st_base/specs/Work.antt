@@ -7,7 +7,7 @@ pub record Counts : Type 0 where
   pub proofs : ℕ
   pub applies : ℕ
 
--- what has done nothing yet
+-- nothing was done yet
 abbrev pub no_work : Counts
 no_work = record { files = 0; proofs = 0; applies = 0 }
 

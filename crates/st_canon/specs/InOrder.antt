@@ -11,7 +11,7 @@ abbrev pub placed : {X : Type 0} → List ℕ × X → List (List ℕ × X) → 
 placed pair [] = pair ∷ []
 placed pair (e ∷ es) = match_ordering (name_cmp pair.0 e.0) (pair ∷ e ∷ es) (pair ∷ es) (e ∷ placed pair es)
 
--- the pairs by their names, sorted
+-- the pairs in the order of their names; of several with one name, the first alone
 abbrev pub in_order : {X : Type 0} → List (List ℕ × X) → List (List ℕ × X)
 in_order [] = []
 in_order (e ∷ es) = placed e (in_order es)

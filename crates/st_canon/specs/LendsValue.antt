@@ -7,10 +7,11 @@ use Rattle.st_canon.specs.contracts.value.Json.{the_row}
 use Rattle.st_canon.specs.declared.value.Json as value
 use Rattle.st_canon.specs.declared.value.Json.{Json}
 
--- a list is lent, and what it is given back as is in the value
+-- where the value is a list, that list is lent: the value ends as the list that was last written, and
+-- every other value stays
 abbrev pub LendsList : MutBor Json → Option (MutBor (List Json)) → Fml
 LendsList json r = LendsIf the_row (list_row the_row) json r value.List json.now
 
--- the members of an object are lent likewise
+-- the same of the members of an object
 abbrev pub LendsObject : MutBor Json → Option (MutBor (List (List ℕ × Json))) → Fml
 LendsObject json r = LendsIf the_row (members_row the_row) json r value.Object json.now

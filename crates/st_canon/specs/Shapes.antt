@@ -17,15 +17,15 @@ json_in bytes = result_ok (json_of bytes)
 abbrev pub member_in : List ℕ → Option Plain → Option Plain
 member_in name there = option_and_then (member_at name) (option_and_then members_in there)
 
--- the text, the entries of the list, and the members of the object that is the member of this name
+-- the text that is the member of this name
 abbrev pub text_at : List ℕ → Option Plain → Option (List ℕ)
 text_at name there = option_and_then text_in (member_in name there)
 
--- the values of the list of this name
+-- the entries of the list that is the member of this name
 abbrev pub list_at : List ℕ → Option Plain → Option (List Plain)
 list_at name there = option_and_then list_in (member_in name there)
 
--- the members of the object of this name
+-- the members of the object that is the member of this name
 abbrev pub object_at : List ℕ → Option Plain → Option Members
 object_at name there = option_and_then members_in (member_in name there)
 

@@ -7,7 +7,7 @@ use Rattle.st_drive.specs.declared.stop.Stop.TheVariants.{ReadFault, WriteFault,
 use Rattle.st_drive.specs.Lines.{all_lines, whole_lines}
 use Rattle.st_drive.specs.Tables.{Answered, EndsEarly}
 
--- the status with which the program ends
+-- the status of a run that ended so
 abbrev pub status_of : {T : Type 0} → Result T Stop → ℕ
 status_of (Ok x) = 0
 status_of (Err ReadFault) = 2

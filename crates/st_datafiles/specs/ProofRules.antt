@@ -26,11 +26,11 @@ has_proofs kind wanted file = length (proofs_of kind file) == wanted
 
 -- ---- the tables
 
--- the lists of a core proof file, in the order of its operations
+-- the names of the lists of a core proof file
 abbrev pub core_proof_kinds : List (List ℕ)
 core_proof_kinds = codes "recover" ∷ codes "deactivate" ∷ []
 
--- the one list of a provisional proof file
+-- the name of the one list of a provisional proof file
 abbrev pub provisional_proof_kinds : List (List ℕ)
 provisional_proof_kinds = codes "update" ∷ []
 

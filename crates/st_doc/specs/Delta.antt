@@ -38,7 +38,7 @@ delta_rules version delta =
     ∷ nat_le (depth_of delta) 64
     ∷ []
 
--- a value with the outer form of a delta; its patches are not looked at
+-- a value with the outer form of a delta; of its patches only how deep they nest is looked at
 unfoldable pub has_delta_form : ℕ → Plain → Bool
 has_delta_form version delta = all_hold (delta_rules version delta)
 
@@ -53,7 +53,8 @@ patches_of limits i (value ∷ values) = do
   patches ← patches_of limits (i + 1) values
   Ok (patch ∷ patches)
 
--- The delta of an object that has the form, or the number of the first of its values that is no patch.
+-- The delta of a value that has the form, or which value in its list `patches` is the first that is
+-- no patch.
 unfoldable pub delta_in : Limits → Plain → Result PlainDelta DeltaRefused
 delta_in limits delta = do
   update ← ok_or (update_in limits.version delta) BadDelta

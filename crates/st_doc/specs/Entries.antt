@@ -18,7 +18,7 @@ all_hold tests = list_all (λ holds. holds) tests
 abbrev pub is_short : ℕ → List ℕ → Bool
 is_short most bytes = nat_le 1 (length bytes) && nat_le (length bytes) most
 
--- a text of 1 to so many bytes, and nothing else
+-- a text of 1 to so many bytes stands there
 abbrev pub is_short_text : ℕ → Option Plain → Bool
 is_short_text most (Some (text bytes)) = is_short most bytes
 is_short_text most other = false

@@ -31,6 +31,7 @@ pub(crate) fn if_document(
     if !keeps_rules(alloc, &document, params.version())? {
         return Ok(None);
     }
+    // Its JSON takes the lists over, is measured, and gives them back.
     let json = document.into_json(alloc)?;
     if !fits(&json, params.max_depth(), params.max_document()) {
         return Ok(None);

@@ -13,7 +13,7 @@ use std::alloc::Global;
 
 impl Document {
     /// What the lists of the value hold, taken out of it. Whether that may stand in a document is not
-    /// looked at: so a document comes back out of its own JSON, whatever the parameters are by now.
+    /// looked at, so it does not turn on the parameters.
     pub fn from_json(alloc: Global, value: Json) -> Result<Document, WantOfMemory>
         ensures { IfOk result (λ document. plain_document document ≡ document_in (plain value)) }
     {

@@ -31,7 +31,7 @@ pub record GoesOverCut {M C : Type 0} (means : Meaning M C) (cap : ℕ)
     (m : M) (c : C) (kept : List (List ℕ)) (written : List ℕ) (n : M) (d : C) : Type 0 where
   pub of : (lines : List (List ℕ)) → CutTo cap lines kept → Goes means m c lines written n d
 
--- the same over the lines of the input, of which those too long are kept cut
+-- m was stopped so within each list of lines that is cut to these
 pub record StopsOverCut {M C : Type 0} (means : Meaning M C) (cap : ℕ)
     (m : M) (c : C) (kept : List (List ℕ)) (written : List ℕ) (d : C) : Type 0 where
   pub of : (lines : List (List ℕ)) → CutTo cap lines kept → Stops means m c lines written d
@@ -57,6 +57,7 @@ pub record Outlet : Type 0 where
   pub holds : Option (List ℕ)
   pub has : List ℕ
 
+-- an outlet of these four
 abbrev pub outlet : Option (List ℕ) → List ℕ → Option (List ℕ) → List ℕ → Outlet
 outlet held had holds has = record { held = held; had = had; holds = holds; has = has }
 

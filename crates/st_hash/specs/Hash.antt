@@ -18,7 +18,7 @@ pub record HashValue : Type 0 where
 abbrev pub IsCode : ℕ → Type 0
 IsCode code = (code ≡ 0x12) ⊎ (code ≡ 0x13)
 
--- how many bytes a digest of this algorithm has, and how many characters its hash texts
+-- how many bytes a digest of this algorithm has
 abbrev pub digest_length : ℕ → ℕ
 digest_length code = if code == 0x13 then 64 else 32
 
@@ -44,7 +44,7 @@ hash_of_with code bytes = record { code = code; digest = digest_with code bytes 
 abbrev pub hash_of : List ℕ → HashValue
 hash_of bytes = record { code = 0x12; digest = sha256 bytes }
 
--- the URI of a file is the hash of its bytes
+-- the URI of a file: the SHA-256 hash of its bytes, in every version
 abbrev pub uri_of : List ℕ → HashValue
 uri_of file = hash_of file
 

@@ -19,7 +19,7 @@ pub data Act : Type 0 where
 
 -- ---- lists
 
--- a number that is not over the bound
+-- the number, where it is at most so great
 abbrev pub at_most : ℕ → ℕ → Option ℕ
 at_most most n = if nat_le n most then Some n else None
 

@@ -29,7 +29,7 @@ token_from true (b ∷ bs) = do
 abbrev pub token_of : List ℕ → Result (List ℕ) PointerRefused
 token_of = token_from false
 
--- the first piece with a byte before it
+-- the pieces, with this byte in front of the first
 abbrev pub begun_with : ℕ → List (List ℕ) → List (List ℕ)
 begun_with b [] = (b ∷ []) ∷ []
 begun_with b (piece ∷ pieces) = (b ∷ piece) ∷ pieces

@@ -61,7 +61,7 @@ with_from step value = do
   from ← path_at (codes "from") value
   Ok (step from path)
 
--- a step that has nothing but its path
+-- a step that needs a path alone
 abbrev pub with_path : (List (List ℕ) → PlainStep) → Plain → Result PlainStep StepRefused
 with_path step value = do
   path ← path_at (codes "path") value

@@ -14,7 +14,7 @@ reveal_of_with code key = hash_of_with code (canonical (jwk_json key))
 abbrev pub commitment_of_with : ℕ → Jwk → HashValue
 commitment_of_with code key = hash_of_with code (reveal_of_with code key).digest
 
--- the same with SHA-256
+-- the reveal value by SHA-256
 abbrev pub reveal_of : Jwk → HashValue
 reveal_of key = reveal_of_with 0x12 key
 

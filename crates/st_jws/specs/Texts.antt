@@ -14,7 +14,8 @@ pub record Texts : Type 0 where
   pub payload : List ℕ
   pub signature : List ℕ
 
--- A signed text at its first two dots (RFC 7515, section 3.1); what was signed is all before the second.
+-- A signed text, cut at its first two dots (RFC 7515, section 3.1). What was signed is all that stands
+-- before the second.
 abbrev pub texts_of : List ℕ → Option Texts
 texts_of text = do
   (header, rest) ← cut_at dot text

@@ -35,7 +35,7 @@ pub record IsSecretKey (key : SecretKey) : Type 0 where
 unfoldable pub public_text : PublicKey → List ℕ
 public_text key = u32str key.tree ++ u32str key.ots ++ key.id ++ key.root
 
--- the types that 56 bytes begin with
+-- the number of the tree type, with which a public key begins
 unfoldable pub tree_type_in : List ℕ → ℕ
 tree_type_in text = str_to_u32 (take 4 text)
 

@@ -2,7 +2,7 @@
 use Rattle.st_lms.specs.Parts.{SignatureParts}
 use Rattle.st_lms.specs.declared.verification.Parts.{Parts}
 
--- the parts of a signature as bytes and numbers
+-- the parts of a signature, each as a list of bytes
 abbrev pub parts_seen : Parts → SignatureParts
 parts_seen parts = record {
   q = parts.q.now;

@@ -15,6 +15,6 @@ coded_proof =
     (λ fields. record { text = fields.0; payload = fields.1.0; key = fields.1.1 })
     (λ _. refl)
 
--- proofs, of which some are not there, as bytes
+-- a list of proofs, of which some may not be there
 abbrev pub coded_proofs : Coded (List (Option Proof))
 coded_proofs = coded_list (coded_option coded_proof)

@@ -5,6 +5,7 @@ use Rattle.std.proofs.Common.{ap}
 use base.Stored.{Gv, gnil, gnum, gcons}
 use Rattle.st_canon.specs.Plain.{Plain, null, boolean, whole, text, list, object, Items, no_items, item, Members, no_members, member}
 
+-- bytes by their numbers
 abbrev pub coded_bytes : Coded (List ℕ)
 coded_bytes = coded_list coded_ℕ
 
@@ -95,8 +96,10 @@ mutual
       let rest : ms ≡ ns = inj_members ms ns (ap right (ap right e)) in
       cc
 
+-- a plain value by its tree
 abbrev pub coded_plain : Coded Plain
 coded_plain = record { code = code_plain; inj = inj_plain }
 
+-- deltas, as far as they are plain values
 abbrev pub coded_deltas : Coded (List Plain)
 coded_deltas = coded_list coded_plain

@@ -2,6 +2,7 @@
 -- documents of their canonical texts.
 use Rattle.std.specs.Prelude.{ℕ, ◌==◌, if◌then◌else◌}
 
+-- the limits of one version
 pub record Limits : Type 0 where
   pub version : ℕ
   -- how many operations a batch may declare

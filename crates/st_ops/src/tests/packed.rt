@@ -53,7 +53,7 @@ fn a_delta_is_kept_as_its_text(rt: HostRuntime) -> Result<(), Fail> {
     Ok(())
 }
 
-// No text that nests deeper than 127 is read.
+// No text with more than 127 open brackets is read.
 #[test]
 fn a_value_of_any_depth_comes_out_again(rt: HostRuntime) -> Result<(), Fail> {
     let hash = "EiANDOAIaGgGzvsjhq-Au7SV3IJ52oNGao_AuyX6qWYBQg";
