@@ -27,9 +27,9 @@ impl Model for Deltas {
 }
 
 impl Deltas {
-    /// These deltas, to be shared.
-    pub fn share(alloc: Global, deltas: List<Json>) -> Result<Deltas, WantOfMemory>
-        ensures { IfOk result (λ shared. shared ≡ map plain deltas) }
+    /// These deltas in little memory.
+    pub fn pack(alloc: Global, deltas: List<Json>) -> Result<Deltas, WantOfMemory>
+        ensures { IfOk result (λ packed. packed ≡ map plain deltas) }
     {
         let items = pack_all(alloc, deltas)?;
         Ok(Deltas { items })

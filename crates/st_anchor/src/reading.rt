@@ -138,7 +138,7 @@ pub fn chunk_part(
     let _count = context.count;
     let wanted = core.creates.len() + core.recovers.len() + provisional.updates.len();
     match read_chunk(alloc, bytes, wanted, &context.params, work) {
-        Ok(deltas) => Ok(Part::Is(Deltas::share(alloc, deltas)?)),
+        Ok(deltas) => Ok(Part::Is(Deltas::pack(alloc, deltas)?)),
         Err(FileRefused::Rejected(rule)) => Ok(Part::Rejected(Rule::Chunk(rule))),
         Err(FileRefused::WantOfMemory) => Err(WantOfMemory),
     }

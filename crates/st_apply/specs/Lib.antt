@@ -8,5 +8,6 @@ pub mod Laws
 pub mod Numbered
 pub mod Counting
 pub mod Applied
+pub mod Awaited
 pub mod Anchored
 pub mod Shown

@@ -1,17 +1,19 @@
-ghost use Rattle.std.specs.Prelude.{◌≡◌, IfOk, unwrap_or};
+ghost use Rattle.std.specs.Prelude.{◌≡◌, IfOk, true, unwrap_or};
 ghost use Rattle.st_apply.specs.Applied.{applied, beginning_at, reveal_meets, seen_as, seen_at, sidetree};
-ghost use Rattle.st_apply.specs.Counting.{counted_change};
-ghost use Rattle.st_apply.specs.Seen.{absent, updates};
+ghost use Rattle.st_apply.specs.Awaited.{is_awaited, updated_by};
+ghost use Rattle.st_apply.specs.Counting.{change_by};
+ghost use Rattle.st_apply.specs.Seen.{absent};
 ghost use Rattle.st_apply.specs.Shown.{shown_active};
 ghost use Rattle.st_apply.specs.Step.{begun, step};
 ghost use Rattle.st_base.specs.Work.{one_apply};
+ghost use Rattle.st_doc.specs.Delta.{plain_delta};
 ghost use Rattle.st_ops.specs.Operation.{plain_operation};
 
 use crate::counting::{begun_document, changed_document, counted_delta};
 use crate::document::KeptDocument;
 use crate::state::{Active, DidState, Kept};
 use st_base::{Copied, WantOfMemory, Work};
-use st_doc::Document;
+use st_doc::Delta;
 use st_hash::Hash;
 use st_jws::meets;
 use st_ops::{Claim, Operation, PackedJson, claim_of};
@@ -39,13 +41,10 @@ pub fn apply(
     work.tick_applies();
     match &state.kept {
         Kept::Absent => on_absent(alloc, operation, params),
-        Kept::Active(active) => {
-            let claim = claim_of(alloc, operation, params)?;
-            match on_active(alloc, active, operation, &claim, params)? {
-                Some(next) => Ok(next),
-                None => state.copy(alloc),
-            }
-        }
+        Kept::Active(active) => match on_active(alloc, active, operation, params)? {
+            Some(next) => Ok(next),
+            None => state.copy(alloc),
+        },
         Kept::Deactivated => state.copy(alloc),
     }
 }
@@ -70,67 +69,91 @@ fn on_absent(
     }
 }
 
-// What an operation with this claim leaves of an active state. None is an operation that does not act.
+// What an operation leaves of an active state. None is one that does not act.
+#[tactic(auto, using(crate::proofs::AwaitingLemmas::unawaited_leaves))]
 fn on_active(
+    alloc: Global,
+    active: &Active,
+    operation: &Operation,
+    params: &Params,
+) -> Result<Option<DidState>, WantOfMemory>
+    ensures { IfOk result (λ next. unwrap_or next (shown_active active.now)
+        ≡ step sidetree (shown_active active.now) (seen_at params.now (plain_operation operation.now))) }
+{
+    // Its reveal value is tested before its claim, which costs more.
+    if !is_awaited(active, operation) {
+        return Ok(None);
+    }
+    let claim = claim_of(alloc, operation, params)?;
+    act(alloc, active, operation, &claim, params)
+}
+
+// Whether the operation's reveal value meets the commitment of the state that its kind reveals.
+fn is_awaited(active: &Active, operation: &Operation) -> bool
+    ensures { result ≡ is_awaited active.now.recovery active.now.update (plain_operation operation.now) }
+{
+    match operation {
+        Operation::Create { .. } => false,
+        Operation::Update { reveal, .. } => match &active.update {
+            Some(commitment) => reveals(reveal, commitment),
+            None => false,
+        },
+        Operation::Recover { reveal, .. } => reveals(reveal, &active.recovery),
+        Operation::Deactivate { reveal, .. } => reveals(reveal, &active.recovery),
+    }
+}
+
+// What an operation that an active state awaits leaves of it, with this claim. None is one that does not
+// act.
+fn act(
     alloc: Global,
     active: &Active,
     operation: &Operation,
     claim: &Option<Claim>,
     params: &Params,
 ) -> Result<Option<DidState>, WantOfMemory>
+    requires { is_awaited active.now.recovery active.now.update (plain_operation operation.now) ≡ true }
     ensures { IfOk result (λ next. unwrap_or next (shown_active active.now)
         ≡ step sidetree (shown_active active.now) (seen_as params.now (plain_operation operation.now) claim.now)) }
 {
     match (operation, claim) {
         (
-            Operation::Recover { reveal, delta, .. },
+            Operation::Recover { delta, .. },
             Some(
                 Claim::Recover {
                     recovery_commitment,
                     delta_hash,
                 },
             ),
-        ) if reveals(reveal, &active.recovery) => {
+        ) => {
             let next = begin(alloc, params, recovery_commitment, delta_hash, delta)?;
             Ok(Some(next))
         }
-        (Operation::Deactivate { reveal, .. }, Some(Claim::Deactivate))
-            if reveals(reveal, &active.recovery) => { Ok(Some(DidState::deactivated())) }
-        (Operation::Update { reveal, delta, .. }, Some(Claim::Update { delta_hash })) => {
-            on_update(alloc, active, reveal, delta_hash, delta, params)
+        (Operation::Deactivate { .. }, Some(Claim::Deactivate)) => {
+            Ok(Some(DidState::deactivated()))
+        }
+        (Operation::Update { delta, .. }, Some(Claim::Update { delta_hash })) => {
+            match counted_delta(alloc, params, delta_hash, delta)? {
+                Some(delta) => Ok(Some(updated(alloc, active, delta, params)?)),
+                None => Ok(None),
+            }
         }
         _ => Ok(None),
     }
 }
 
-// What an update with this reveal value, delta hash and delta leaves of an active state. None is one
-// that does not act.
-fn on_update(
+// What an update leaves whose delta counts.
+fn updated(
     alloc: Global,
     active: &Active,
-    reveal: &Hash,
-    delta_hash: &Hash,
-    delta: &Option<PackedJson>,
+    delta: Delta,
     params: &Params,
-) -> Result<Option<DidState>, WantOfMemory>
-    ensures { IfOk result (λ next. unwrap_or next (shown_active active.now)
-        ≡ step sidetree (shown_active active.now)
-        (updates reveal.now (counted_change params.now delta_hash.now delta.now))) }
+) -> Result<DidState, WantOfMemory>
+    ensures { IfOk result (λ next. next ≡ updated_by (change_by params.now (plain_delta delta)) active.now) }
 {
-    let Some(commitment) = &active.update else {
-        return Ok(None);
-    };
-    if !reveals(reveal, commitment) {
-        return Ok(None);
-    }
-    match counted_delta(alloc, params, delta_hash, delta)? {
-        None => Ok(None),
-        Some(delta) => {
-            let update = delta.update;
-            let document = changed_document(alloc, params, &active.document, delta)?;
-            Ok(Some(DidState::active(active.recovery, Some(update), document)))
-        }
-    }
+    let update = delta.update;
+    let document = changed_document(alloc, params, &active.document, delta)?;
+    Ok(DidState::active(active.recovery, Some(update), document))
 }
 
 // What a create or a recover leaves, by its recovery commitment, its delta hash and its delta.
@@ -146,7 +169,7 @@ fn begin(
 {
     match counted_delta(alloc, params, delta_hash, delta)? {
         None => {
-            let empty = KeptDocument::pack(alloc, Document::empty(alloc))?;
+            let empty = KeptDocument::empty(alloc)?;
             Ok(DidState::active(*recovery, None, empty))
         }
         Some(delta) => {

@@ -1,6 +1,7 @@
-ghost use Rattle.std.specs.Prelude.{◌≡◌, IfOk, option_map};
+ghost use Rattle.std.specs.Prelude.{◌≡◌, IfOk, IfSome, option_map};
 ghost use Rattle.st_apply.specs.Counting.{change_by, counted};
 ghost use Rattle.st_apply.specs.Step.{changed};
+ghost use Rattle.st_canon.specs.Proper.{IsProper};
 ghost use Rattle.st_doc.specs.Delta.{plain_delta};
 ghost use Rattle.st_doc.specs.Document.{empty_document};
 
@@ -12,15 +13,17 @@ use st_ops::PackedJson;
 use st_params::Params;
 use std::alloc::Global;
 
-// The delta, where it counts for the delta hash.
-pub(crate) fn counted_delta(
+/// The delta, where it counts for the delta hash (DIF Sidetree v1.0.0, "Operation Compilation"): one is
+/// there, its hash is the delta hash, and it is a delta at these limits.
+pub fn counted_delta(
     alloc: Global,
     params: &Params,
     delta_hash: &Hash,
     delta: &Option<PackedJson>,
 ) -> Result<Option<Delta>, WantOfMemory>
-    ensures { IfOk result (λ found. option_map plain_delta found
+    ensures value { IfOk result (λ found. option_map plain_delta found
         ≡ counted params.now delta_hash.now delta.now) }
+    ensures proper { IfOk result (λ found. IfSome found (λ _. IfSome delta.now IsProper)) }
 {
     let Some(delta) = delta else {
         return Ok(None);
@@ -68,7 +71,7 @@ pub(crate) fn begun_document(
 {
     match apply_all(alloc, Document::empty(alloc), delta, params) {
         Ok(after) => KeptDocument::pack(alloc, after),
-        Err(PatchRefused::PatchFailed(_)) => { KeptDocument::pack(alloc, Document::empty(alloc)) }
+        Err(PatchRefused::PatchFailed(_)) => KeptDocument::empty(alloc),
         Err(PatchRefused::WantOfMemory) => Err(WantOfMemory),
     }
 }

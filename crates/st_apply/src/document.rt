@@ -1,5 +1,5 @@
 ghost use Rattle.std.specs.Prelude.{◌≡◌, IfOk};
-ghost use Rattle.st_doc.specs.Document.{document_in, plain_document};
+ghost use Rattle.st_doc.specs.Document.{document_in, empty_document, plain_document};
 
 use st_base::{Copied, WantOfMemory};
 use st_doc::Document;
@@ -35,6 +35,13 @@ impl Model for KeptDocument {
 }
 
 impl KeptDocument {
+    /// The document without entries.
+    pub(crate) fn empty(alloc: Global) -> Result<KeptDocument, WantOfMemory>
+        ensures { IfOk result (λ kept. kept ≡ empty_document) }
+    {
+        KeptDocument::pack(alloc, Document::empty(alloc))
+    }
+
     /// The document in little memory.
     pub fn pack(alloc: Global, document: Document) -> Result<KeptDocument, WantOfMemory>
         ensures { IfOk result (λ kept. kept ≡ plain_document document) }
@@ -47,7 +54,7 @@ impl KeptDocument {
     }
 
     /// The document in its parts.
-    pub fn share(alloc: Global, document: Document) -> Result<KeptDocument, WantOfMemory>
+    pub(crate) fn share(alloc: Global, document: Document) -> Result<KeptDocument, WantOfMemory>
         ensures { IfOk result (λ kept. kept ≡ plain_document document) }
     {
         Ok(KeptDocument {
@@ -66,7 +73,7 @@ impl KeptDocument {
     }
 
     /// The document, to be changed: it shares nothing.
-    pub fn unpack(&self, alloc: Global) -> Result<Document, WantOfMemory>
+    pub(crate) fn unpack(&self, alloc: Global) -> Result<Document, WantOfMemory>
         ensures { IfOk result (λ document. plain_document document ≡ self.now) }
     {
         match &self.form {

@@ -11,6 +11,7 @@ mod state;
 mod tests;
 
 pub use applying::apply;
+pub use counting::counted_delta;
 pub use document::KeptDocument;
 pub use laws::{alike_law, anchored_law, given_law, resolution_laws};
 pub use state::{DidState, StateParts};

@@ -5,8 +5,8 @@ ghost use Rattle.st_canon.specs.Proper.{IsProper};
 ghost use Rattle.st_ops.specs.Operation.{plain_operation};
 ghost use Rattle.st_ops.specs.RequestText.{delta_there};
 
+use st_apply::counted_delta;
 use st_base::WantOfMemory;
-use st_doc::{DeltaRefused, check_delta};
 use st_hash::Hash;
 use st_ops::{Claim, Operation, PackedJson, claim_of};
 use st_params::Params;
@@ -61,18 +61,6 @@ fn counts(
     ensures value { IfOk result (λ counts. counts ≡ is_some (counted params.now delta_hash.now delta.now)) }
     ensures proper { IfOk result (λ counts. counts ≡ true → IfSome delta.now IsProper) }
 {
-    let Some(delta) = delta else {
-        return Ok(false);
-    };
-    if delta.hash(alloc, delta_hash.code())? != *delta_hash {
-        return Ok(false);
-    }
-    let value = delta.unpack(alloc)?;
-    match check_delta(alloc, value, params) {
-        Ok(_) => Ok(true),
-        Err(DeltaRefused::TooLong) => Ok(false),
-        Err(DeltaRefused::BadDelta) => Ok(false),
-        Err(DeltaRefused::BadPatch(_)) => Ok(false),
-        Err(DeltaRefused::WantOfMemory) => Err(WantOfMemory),
-    }
+    let counted = counted_delta(alloc, params, delta_hash, delta)?;
+    Ok(counted.is_some())
 }

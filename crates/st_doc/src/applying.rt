@@ -56,33 +56,17 @@ fn apply(
 ) -> Result<Option<Document>, WantOfMemory>
     ensures { IfOk result (λ next. option_map plain_document next ≡ after_patch params.now (plain_patch patch) (plain_document document)) }
 {
-    match patch {
-        Patch::AddKeys(keys) => {
-            let next = with_keys(alloc, document, keys)?;
-            if_document(alloc, next, params)
-        }
-        Patch::RemoveKeys(ids) => if_document(
-            alloc,
-            without_keys(document, ids.as_slice()),
-            params,
-        ),
-        Patch::AddServices(services) => {
-            let next = with_services(alloc, document, services)?;
-            if_document(alloc, next, params)
-        }
-        Patch::RemoveServices(ids) => {
-            if_document(alloc, without_services(document, ids.as_slice()), params)
-        }
-        Patch::Replace(new) => if_document(alloc, new, params),
-        Patch::Steps(steps) => after_steps(alloc, document, steps.as_slice(), params),
-        Patch::AddNames(names) => {
-            let next = with_names(alloc, document, names.as_slice())?;
-            if_document(alloc, next, params)
-        }
-        Patch::RemoveNames(names) => {
-            if_document(alloc, without_names(document, names.as_slice()), params)
-        }
-    }
+    let next = match patch {
+        Patch::AddKeys(keys) => with_keys(alloc, document, keys)?,
+        Patch::RemoveKeys(ids) => without_keys(document, ids.as_slice()),
+        Patch::AddServices(services) => with_services(alloc, document, services)?,
+        Patch::RemoveServices(ids) => without_services(document, ids.as_slice()),
+        Patch::Replace(new) => new,
+        Patch::Steps(steps) => return after_steps(alloc, document, steps.as_slice(), params),
+        Patch::AddNames(names) => with_names(alloc, document, names.as_slice())?,
+        Patch::RemoveNames(names) => without_names(document, names.as_slice()),
+    };
+    if_document(alloc, next, params)
 }
 
 // The steps applied to the document's JSON, where none fails and the result is a document.

@@ -10,7 +10,7 @@ use st_hash::{Hash, hash_text, read_hash, read_hash_at};
 use std::alloc::Global;
 
 /// The hash whose hash text of the version stands there.
-pub(crate) fn hash_in(there: Option<&Json>, version: u8) -> Option<Hash>
+pub fn hash_in(there: Option<&Json>, version: u8) -> Option<Hash>
     requires first { 1 ≤ version }
     requires last { version ≤ 2 }
     ensures { result ≡ hash_in version (option_map plain (option_copied there.entry)) }
@@ -45,7 +45,7 @@ pub(crate) fn is_uri_if_there(there: Option<&Json>) -> bool
 }
 
 /// The hash text of a hash as JSON. In whatever version it is read, it is read as this hash.
-pub(crate) fn hash_json(alloc: Global, hash: &Hash) -> Result<Json, WantOfMemory>
+pub fn hash_json(alloc: Global, hash: &Hash) -> Result<Json, WantOfMemory>
     ensures value { IfOk result (λ json. plain json ≡ hash_json hash.now) }
     ensures read { OnOk result (IsHashReadAgain hash.now) }
 {

@@ -1,6 +1,6 @@
 //! The two index files of a batch (DIF Sidetree v1.0.0, "Core Index File" and "Provisional Index
 //! File"): what their JSON says, the rules by which they are accepted, and their canonical texts.
-//! Suffix data and the suffixes of identifiers stand here too.
+//! Suffix data, the suffixes of identifiers, and hash texts in JSON stand here too.
 #![tactic(auto)]
 
 mod core_index;
@@ -24,6 +24,7 @@ pub use core_index::CoreIndex;
 pub use core_reading::read_core;
 pub use core_rule::{CoreRefused, CoreRule};
 pub use core_writing::write_core;
+pub use hashes::{hash_in, hash_json};
 pub use provisional_index::ProvisionalIndex;
 pub use provisional_reading::read_provisional;
 pub use provisional_rule::{ProvisionalRefused, ProvisionalRule};

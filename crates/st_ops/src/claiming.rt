@@ -5,12 +5,12 @@ ghost use Rattle.st_ops.specs.Claim.{claim_of, deactivate_claim, is_revealed, re
 ghost use Rattle.st_ops.specs.Operation.{plain_operation, plain_proof};
 
 use crate::claim::Claim;
-use crate::hashes::hash_in;
 use crate::operation::Operation;
 use crate::shared::Shared;
 use st_base::WantOfMemory;
 use st_canon::Json;
 use st_hash::Hash;
+use st_indexfiles::hash_in;
 use st_jws::{Jwk, Signed, reveal_with};
 use st_params::Params;
 use std::alloc::Global;

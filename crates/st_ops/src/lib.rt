@@ -5,7 +5,6 @@
 mod claim;
 mod claiming;
 mod form;
-mod hashes;
 mod operation;
 mod packed;
 mod reading;

@@ -6,10 +6,9 @@ ghost use Rattle.st_canon.specs.View.{plain_members};
 ghost use Rattle.st_ops.specs.Operation.{plain_proof};
 ghost use Rattle.st_ops.specs.SignedPart.{proof_in, proof_of, target_in};
 
-use crate::hashes::hash_in;
 use st_base::{Text, WantOfMemory, Work};
 use st_canon::{Json, Object};
-use st_indexfiles::Target;
+use st_indexfiles::{Target, hash_in};
 use st_jws::{Signed, SignedRefused, open_signed};
 use std::alloc::Global;
 

@@ -3,7 +3,6 @@ ghost use Rattle.std.specs.Option.{option_copied};
 ghost use Rattle.st_canon.specs.Objects.{some_listed};
 ghost use Rattle.st_canon.specs.Plain.{object, text};
 ghost use Rattle.st_canon.specs.View.{plain, plain_members};
-ghost use Rattle.st_indexfiles.specs.Hashes.{hash_json};
 ghost use Rattle.st_hash.specs.Hash.{IsHash};
 ghost use Rattle.st_ops.specs.KnownHashes.{HasHashes};
 ghost use Rattle.st_ops.specs.Operation.{creating, plain_operation, plain_proof};
@@ -16,8 +15,8 @@ use crate::packed::PackedJson;
 use crate::shared::Shared;
 use st_base::{Bytes, Text, WantOfMemory};
 use st_canon::{Json, Object, write};
-use st_hash::{Hash, hash_text};
-use st_indexfiles::SuffixData;
+use st_hash::Hash;
+use st_indexfiles::{SuffixData, hash_json};
 use st_jws::Signed;
 use std::alloc::Global;
 
@@ -159,12 +158,6 @@ fn text_json(alloc: Global, bytes: &str) -> Result<Json, WantOfMemory>
     ensures { IfOk result (λ json. plain json ≡ text bytes.now) }
 {
     Ok(Json::Text(Text::from_text(alloc, bytes)?))
-}
-
-fn hash_json(alloc: Global, hash: &Hash) -> Result<Json, WantOfMemory>
-    ensures { IfOk result (λ json. plain json ≡ hash_json hash.now) }
-{
-    Ok(Json::Text(hash_text(alloc, hash)?))
 }
 
 fn proof_json(alloc: Global, proof: &Option<Shared<Signed>>) -> Result<Option<Json>, WantOfMemory>

@@ -7,10 +7,10 @@ ghost use Rattle.st_resolve.specs.Result.{canonical_id, deactivated_mark, metada
 
 use crate::identifier::Did;
 use crate::spelling::short_form;
-use crate::texts::hash_json;
 use st_apply::StateParts;
 use st_base::WantOfMemory;
 use st_canon::{Json, Object};
+use st_indexfiles::hash_json;
 use std::alloc::Global;
 
 /// What is known of the identifier in this state, which is published or not.

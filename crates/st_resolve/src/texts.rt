@@ -3,12 +3,10 @@ ghost use Rattle.std.specs.Option.{option_copied};
 ghost use Rattle.st_canon.specs.Plain.{text};
 ghost use Rattle.st_canon.specs.View.{plain};
 ghost use Rattle.st_doc.specs.Entries.{id_of};
-ghost use Rattle.st_indexfiles.specs.Hashes.{hash_json};
 ghost use Rattle.st_resolve.specs.Keys.{reference_to};
 
 use st_base::{Copied, List, Text, WantOfMemory};
 use st_canon::Json;
-use st_hash::{Hash, hash_text};
 use std::alloc::Global;
 
 /// The text as JSON.
@@ -27,13 +25,6 @@ pub(crate) fn texts_json(alloc: Global, texts: &[Text]) -> Result<List<Json>, Wa
         list.push(alloc, text_json(alloc, text.as_str())?)?;
     }
     Ok(list)
-}
-
-/// The hash text as JSON.
-pub(crate) fn hash_json(alloc: Global, hash: &Hash) -> Result<Json, WantOfMemory>
-    ensures { IfOk result (λ json. plain json ≡ hash_json hash.now) }
-{
-    Ok(Json::Text(hash_text(alloc, hash)?))
 }
 
 /// A copy of what stands there.

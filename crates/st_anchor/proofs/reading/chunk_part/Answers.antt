@@ -9,9 +9,9 @@ overflow_add-wanted c = omega (arith, c.requires, c.len.ensures, c.len-2.ensures
 pub overflow_add-wanted-2 : goal.overflow_add-wanted-2
 overflow_add-wanted-2 c = omega (arith, c.requires, c.len.ensures, c.len-2.ensures, c.len-3.ensures)
 
-pub returns-in_ok-share-in-Ok-clause-value : goal.returns-in_ok-share-in-Ok-clause-value
-returns-in_ok-share-in-Ok-clause-value c =
-    ap (λ deltas. Is deltas) c.in_ok-share-in-Ok.ensures
+pub returns-in_ok-pack-in-Ok-clause-value : goal.returns-in_ok-pack-in-Ok-clause-value
+returns-in_ok-pack-in-Ok-clause-value c =
+    ap (λ deltas. Is deltas) c.in_ok-pack-in-Ok.ensures
     ∙ chunk-says c.args.context.now c.args.core.now c.args.provisional.now c.args.bytes.now _ (λ i. c.len.ensures i + c.len-2.ensures i + c.len-3.ensures i)
     _ c.in-Ok.ensures.answers.0 c.in-Ok.ensures.answers.1
 
