@@ -35,11 +35,11 @@ abbrev pub items_after : List Plain → Items → Items
 items_after [] rest = rest
 items_after (p ∷ ps) rest = item p (items_after ps rest)
 
-items_after-nil : (ps : List Plain) → items_after ps no_items ≡ items_of ps
+pub items_after-nil : (ps : List Plain) → items_after ps no_items ≡ items_of ps
 items_after-nil [] = refl
 items_after-nil (p ∷ ps) = ap (item p) (items_after-nil ps)
 
-items_after_push : (js : List Json) (j : Json) (rest : Items)
+pub items_after_push : (js : List Json) (j : Json) (rest : Items)
     → items_after (map plain (js ++ j ∷ [])) rest ≡ items_after (map plain js) (item (plain j) rest)
 items_after_push [] j rest = refl
 items_after_push (k ∷ js) j rest = ap (item (plain k)) (items_after_push js j rest)

@@ -52,7 +52,7 @@ pub one_more_proper_pair : (es : List (List ℕ × Json)) (e : List ℕ × Json)
 one_more_proper_pair [] e h u p = ((u, p), tt)
 one_more_proper_pair (f ∷ es) e h u p = (h.0, one_more_proper_pair es e h.1 u p)
 
-placed_proper : (e : List ℕ × Json) (es : List (List ℕ × Json)) → IsUtf8 e.0 × IsProper (plain e.1) → PairsAreProper es
+pub placed_proper : (e : List ℕ × Json) (es : List (List ℕ × Json)) → IsUtf8 e.0 × IsProper (plain e.1) → PairsAreProper es
     → PairsAreProper (placed e es)
 placed_proper e [] p h = (p, tt)
 placed_proper e (f ∷ es) p h = elim (name_cmp e.0 f.0) as (λ o. PairsAreProper (match_ordering o (e ∷ f ∷ es) (e ∷ es) (f ∷ placed e es))) [
@@ -65,7 +65,7 @@ in_order_proper : (es : List (List ℕ × Json)) → PairsAreProper es → Pairs
 in_order_proper [] h = tt
 in_order_proper (e ∷ es) h = placed_proper e (in_order es) h.0 (in_order_proper es h.1)
 
-ascending_proper : (es : List (List ℕ × Json)) → NamesAscend es → PairsAreProper es → MembersAreProper (plain_members es)
+pub ascending_proper : (es : List (List ℕ × Json)) → NamesAscend es → PairsAreProper es → MembersAreProper (plain_members es)
 unfolding IsStrictlySortedBy
 ascending_proper [] s h = tt
 ascending_proper (e ∷ es) s h = (h.0.0, above e.0 es s.0, h.0.1, ascending_proper es s.1 h.1)

@@ -5,6 +5,7 @@ mod Compared
 mod Converting
 mod Data
 mod Depths
+mod DirectLemmas
 mod Kept
 mod Outcomes
 mod Puts

@@ -6,7 +6,7 @@ use Rattle.std.specs.Map.{keys_of, lookup}
 use Rattle.std.proofs.lemmas.Map.{NonePasses, lookup-none}
 use Rattle.std.specs.Ordering.{match_ordering}
 use Rattle.st_canon.specs.Find.{member_at, put, without}
-use Rattle.st_canon.specs.InOrder.{placed}
+use Rattle.st_canon.specs.InOrder.{placed, IsApart}
 use Rattle.st_canon.specs.Names.{name_cmp, is_name, NamesAscend}
 use Rattle.st_canon.specs.Place.{IsPlaceOf, IsGapFor}
 use Rattle.st_canon.specs.Plain.{Plain, member}
@@ -114,6 +114,14 @@ module _ {X : Type 0} where
         (not_name_from_less name e.0 (first_above_gap e es gap), absent_at_gap es 0 (rest_of_above e es gap))
     absent_at_gap (e ∷ es) (suc i) gap =
         (not_name_from_greater name e.0 (first_below_gap e es i gap), absent_at_gap es i (rest_of_gap e es i gap))
+
+    -- no name ties with it
+    pub apart_at_gap : (es : List (List ℕ × X)) (i : ℕ) → IsGapFor name es i → IsApart name es
+    apart_at_gap [] i gap = tt
+    apart_at_gap (e ∷ es) zero gap =
+        (λ tied. let less = first_above_gap e es gap in cc, apart_at_gap es 0 (rest_of_above e es gap))
+    apart_at_gap (e ∷ es) (suc i) gap =
+        (λ tied. let greater = first_below_gap e es i gap in cc, apart_at_gap es i (rest_of_gap e es i gap))
 
     pub none_at_gap : (es : List (List ℕ × X)) (i : ℕ) → IsGapFor name es i → lookup (is_name name) es ≡ None
     none_at_gap es i gap = lookup-none (is_name name) es (absent_at_gap es i gap)

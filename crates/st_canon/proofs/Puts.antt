@@ -53,7 +53,7 @@ IsFresh k (data'.member l e ds) = (name_cmp k l ≡ Equal → ⊥) × IsFresh k 
 tied_from_bytes : (k l : List ℕ) → slice_cmp nat_cmp k l ≡ Equal → name_cmp k l ≡ Equal
 tied_from_bytes k l is = tied_from_same k l ((bytes_eq-Decides k l).0 (sym (is_eq-slice_cmp k l) ∙ ap is_eq is))
 
-fresh_put : (k l : List ℕ) (d : data'.Data) (ds : data'.Members) → (name_cmp k l ≡ Equal → ⊥) → IsFresh k ds
+pub fresh_put : (k l : List ℕ) (d : data'.Data) (ds : data'.Members) → (name_cmp k l ≡ Equal → ⊥) → IsFresh k ds
     → IsFresh k (data'.put l d ds)
 fresh_put k l d data'.no_members apart h = (apart, tt)
 fresh_put k l d (data'.member m e ds) apart h = elim (slice_cmp nat_cmp l m) as (λ o. IsFresh k (match_ordering o (data'.member l d (data'.member m e ds)) (data'.member m d ds) (data'.member m e (data'.put l d ds)))) [

@@ -16,6 +16,10 @@ abbrev pub in_order : {X : Type 0} → List (List ℕ × X) → List (List ℕ �
 in_order [] = []
 in_order (e ∷ es) = placed e (in_order es)
 
+-- the name ties with none of the pairs
+abbrev pub IsApart : {X : Type 0} → List ℕ → List (List ℕ × X) → Type 0
+IsApart name pairs = AllByRecursion (λ other. name_cmp name other ≡ Equal → ⊥) (keys_of pairs)
+
 -- no two names tie in the order
 abbrev pub AreApart : List (List ℕ) → Type 0
 AreApart [] = ⊤

@@ -13,6 +13,7 @@ pub mod Place
 pub mod Plain
 pub mod Proper
 pub mod Reading
+pub mod Direct
 pub mod Shapes
 pub mod View
 pub mod formers

@@ -6,6 +6,7 @@ mod comparing;
 mod convert;
 mod copied;
 mod counting;
+mod direct;
 mod escape;
 mod fitting;
 mod lists;

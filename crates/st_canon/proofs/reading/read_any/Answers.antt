@@ -1,6 +1,6 @@
 use mathlib.Core.Bool.{false≢true}
 use Rattle.st_canon.proofs.Outcomes.{gives_converted, refused}
-use Rattle.st_canon.proofs.reading.read.Goals as goal
+use Rattle.st_canon.proofs.reading.read_any.Goals as goal
 
 pub returns-in-Ok-clause-value : goal.returns-in-Ok-clause-value
 returns-in-Ok-clause-value c = gives_converted c.args.bytes.now _ c.convert.result c.in-Ok.ensures.ok.0 c.in-Ok.ensures.ok.1 c.convert.ensures.value
