@@ -39,15 +39,18 @@ pub items_after-nil : (ps : List Plain) → items_after ps no_items ≡ items_of
 items_after-nil [] = refl
 items_after-nil (p ∷ ps) = ap (item p) (items_after-nil ps)
 
-pub items_after_push : (js : List Json) (j : Json) (rest : Items)
-    → items_after (map plain (js ++ j ∷ [])) rest ≡ items_after (map plain js) (item (plain j) rest)
-items_after_push [] j rest = refl
-items_after_push (k ∷ js) j rest = ap (item (plain k)) (items_after_push js j rest)
+pub items_after_push : (ps : List Plain) (p : Plain) (rest : Items) → items_after (ps ++ p ∷ []) rest ≡ items_after ps (item p rest)
+items_after_push [] p rest = refl
+items_after_push (q ∷ ps) p rest = ap (item q) (items_after_push ps p rest)
+
+pub plain_pushed : (js : List Json) (j : Json) → map plain js ++ plain j ∷ [] ≡ map plain (js ++ j ∷ [])
+plain_pushed [] j = refl
+plain_pushed (k ∷ js) j = ap (λ ps. plain k ∷ ps) (plain_pushed js j)
 
 item_pushed : (js : List Json) (j : Json) (o : Option Items)
     → option_map (items_after (map plain js)) (option_map (item (plain j)) o) ≡ option_map (items_after (map plain (js ++ j ∷ []))) o
 item_pushed js j None = refl
-item_pushed js j (Some rest) = ap Some (sym (items_after_push js j rest))
+item_pushed js j (Some rest) = ap Some (sym (items_after_push (map plain js) (plain j) rest) ∙ ap (λ ps. items_after ps rest) (plain_pushed js j))
 
 -- so far these items were converted, and the others are left
 abbrev pub ItemsSoFar : List Value → List Value → List Json → Type 0

@@ -1,5 +1,5 @@
 -- JSON that is read over its tokens: a value, and items and members one after another.
-use Rattle.std.proofs.Common.{◌≡◌, ℕ, ℤ, ◌-◌, ◌<◌, ◌≤◌, List, [], ◌∷◌, ◌++◌, length, map, Bool, Option, Some, None, option_map, option_and_then, Ok, Ordering, Equal, Less, Greater, refl, sym, ap, ◌∙◌}
+use Rattle.std.proofs.Common.{◌≡◌, ℕ, ℤ, ◌-◌, ◌<◌, ◌≤◌, List, [], ◌∷◌, ◌++◌, length, Bool, Option, Some, None, option_map, option_and_then, Ok, Ordering, Equal, Less, Greater, refl, sym, ap, ◌∙◌}
 use Rattle.std.specs.Prelude.{unwrap_or}
 use Rattle.std.specs.Ordering.{match_ordering}
 use Rattle.std.specs.Str.{IsUtf8}
@@ -14,7 +14,7 @@ use Rattle.st_canon.specs.Direct.{whole_json, whole_json_items, whole_json_membe
 use Rattle.st_canon.specs.Find.{put}
 use Rattle.st_canon.specs.InOrder.{placed, IsApart}
 use Rattle.st_canon.specs.Names.{name_cmp}
-use Rattle.st_canon.specs.Plain.{Plain, null, boolean, whole, text, list, object, Items, no_items, item, Members}
+use Rattle.st_canon.specs.Plain.{Plain, null, boolean, whole, text, list, object, Items, no_items, item, Members, no_members, member}
 use Rattle.st_canon.specs.Reading.{json_of, whole_value, whole_items, whole_members, whole_number}
 use Rattle.st_canon.specs.View.{plain, plain_members}
 use Rattle.st_canon.specs.declared.value.Json.{Json}
@@ -23,7 +23,7 @@ use Rattle.st_canon.proofs.Outcomes.{json_of-utf8}
 use Rattle.st_canon.proofs.Places.{plain_members-placed}
 use Rattle.st_canon.proofs.Puts.{IsFresh, fresh_put, whole_put}
 
-abbrev Tokens : Type 0
+abbrev pub Tokens : Type 0
 Tokens = List Token
 
 -- ---- what was read, under a function
@@ -33,16 +33,16 @@ with_rest : {A B : Type 0} (f : A → B) (r : Tokens) (x : Option A)
 with_rest f r None = refl
 with_rest f r (Some a) = refl
 
-record WasRead {A B : Type 0} (f : A → Option B) (read : Option (A × Tokens)) (b : B) (r : Tokens) : Type 0 where
-  spelled : A
-  is : read ≡ Some (spelled, r)
-  gives : f spelled ≡ Some b
+pub record WasRead {A B : Type 0} (f : A → Option B) (read : Option (A × Tokens)) (b : B) (r : Tokens) : Type 0 where
+  pub spelled : A
+  pub is : read ≡ Some (spelled, r)
+  pub gives : f spelled ≡ Some b
 
 same_rest : {B : Type 0} (r s : Tokens) (x : Option B) (b : B) → option_map {U = B × Tokens} (λ y. (y, r)) x ≡ Some (b, s) → (r ≡ s) × (x ≡ Some b)
 same_rest r s None b e = absurd (cc)
 same_rest r s (Some y) b e = let same = ap (λ read. unwrap_or read (y, r)) e in (ap (λ p. p.1) same, ap (λ p. Some p.0) same)
 
-was_read : {A B : Type 0} (f : A → Option B) (read : Option (A × Tokens)) (b : B) (r : Tokens) → converted f read ≡ Some (b, r) → WasRead f read b r
+pub was_read : {A B : Type 0} (f : A → Option B) (read : Option (A × Tokens)) (b : B) (r : Tokens) → converted f read ≡ Some (b, r) → WasRead f read b r
 was_read f None b r e = absurd (cc)
 was_read f (Some p) b r e =
     let both = same_rest p.1 r (f p.0) b e in
@@ -123,22 +123,22 @@ item_before : (j : json.Json) (p : Plain) → whole_json j ≡ Some p → (read 
 item_before j p e None = refl
 item_before j p e (Some q) = with_item q.1 (of_json j) (of_items q.0) p e
 
-one_more : (js : List Json) (j : Json) (read : Option (Items × Tokens))
-    → parse_map (items_after (map plain js)) (parse_map (item (plain j)) read) ≡ parse_map (items_after (map plain (js ++ j ∷ []))) read
-one_more js j None = refl
-one_more js j (Some q) = ap (λ i. Some (i, q.1)) (sym (items_after_push js j q.0))
+one_more : (ps : List Plain) (p : Plain) (read : Option (Items × Tokens))
+    → parse_map (items_after ps) (parse_map (item p) read) ≡ parse_map (items_after (ps ++ p ∷ [])) read
+one_more ps p None = refl
+one_more ps p (Some q) = ap (λ i. Some (i, q.1)) (sym (items_after_push ps p q.0))
 
 pub none_yet : (read : Option (Items × Tokens)) → read ≡ parse_map (items_after []) read
 none_yet None = refl
 none_yet (Some q) = refl
 
 module _ (parse : Parse json.Json) (n : ℕ) (ts r : Tokens) where
-  pub next_item_read : (js : List Json) (j : Json) → 0 < n → after_end_array ts ≡ None → converted whole_json (parse ts) ≡ Some (plain j, r)
-      → parse_map (items_after (map plain js)) (converted whole_json_items (items parse n ts)) ≡ parse_map (items_after (map plain (js ++ j ∷ []))) (converted whole_json_items (items parse (n - 1) r))
-  next_item_read js j some going e =
-      let first = was_read whole_json (parse ts) (plain j) r e in
-      let step = ap (converted whole_json_items) (items_more parse n ts r first.spelled some going first.is) ∙ item_before first.spelled (plain j) first.gives _ in
-      ap (parse_map (items_after (map plain js))) step ∙ one_more js j _
+  pub next_item_read : (ps : List Plain) (p : Plain) → 0 < n → after_end_array ts ≡ None → converted whole_json (parse ts) ≡ Some (p, r)
+      → parse_map (items_after ps) (converted whole_json_items (items parse n ts)) ≡ parse_map (items_after (ps ++ p ∷ [])) (converted whole_json_items (items parse (n - 1) r))
+  next_item_read ps p some going e =
+      let first = was_read whole_json (parse ts) p r e in
+      let step = ap (converted whole_json_items) (items_more parse n ts r first.spelled some going first.is) ∙ item_before first.spelled p first.gives _ in
+      ap (parse_map (items_after ps)) step ∙ one_more ps p _
 
   pub items_over : length ts ≤ n → after_end_array ts ≡ Some r → converted whole_json_items (items parse n ts) ≡ Some (no_items, r)
   items_over enough e = ap (converted whole_json_items) (items_end parse n ts r enough e)
@@ -204,6 +204,12 @@ module _ (parse : Parse json.Json) (n : ℕ) (ts : Tokens) where
     pub members_over : (r : Tokens) → length ts ≤ n → read_key ts ≡ Some (None, r) → read ≡ Some (plain_members pairs, r)
     members_over r enough e =
         on.reads ∙ ap (converted (whole_json_members on.found)) (members_end parse n ts r enough e) ∙ ap (option_map (λ ms. (ms, r))) on.are.whole_is
+
+-- ---- an object with one member
+
+pub one_member : (k : List ℕ) (j : json.Json) (p : Plain) → whole_json j ≡ Some p
+    → whole_json (json.object (json.member k j json.no_members)) ≡ Some (object (member k p no_members))
+one_member k j p e = let there = data_there (of_json j) p e in rw (there.there_is, there.is_whole) refl
 
 -- ---- the whole text
 

@@ -2,10 +2,8 @@
 mod AsciiNames
 mod Compact
 mod Compared
-mod Converting
 mod Data
 mod Depths
-mod DirectLemmas
 mod Kept
 mod Outcomes
 mod Puts
@@ -16,6 +14,9 @@ mod Units
 -- For the crates above.
 -- a canonical text is read again, and no two values have one text
 pub mod Back
+-- items and members one after another, of data and over tokens
+pub mod Converting
+pub mod DirectLemmas
 -- a list of values that is edited, over its plain items
 pub mod ItemLists
 -- what is found by name after a put or a removal

@@ -15,24 +15,25 @@ use json::{Reader, Scratch, Token};
 use st_base::{List, Text, WantOfMemory};
 use std::alloc::Global;
 
-// How deep lists and objects may nest, as in `serde_json`.
-const MAX_DEPTH: usize = 127;
+/// How deep lists and objects may nest in a text that is read, as in `serde_json`.
+pub const MAX_DEPTH: usize = 127;
 
-// Why a text is not read here: memory is wanting, or it is left to `serde_json`.
-enum Stop {
-    WantOfMemory,
+/// Why the tokens of a text are not read in one pass.
+#[derive(Clone, Copy, Debug, PartialEq, Eq)]
+pub enum ReadStopped {
+    /// They are left to `read`: they are no JSON, have a number that is not whole or a name twice in
+    /// one object, or names far out of their order.
     Left,
+    WantOfMemory,
 }
 
-impl From<WantOfMemory> for Stop {
-    fn from(_want: WantOfMemory) -> Stop {
-        Stop::WantOfMemory
+impl From<WantOfMemory> for ReadStopped {
+    fn from(_want: WantOfMemory) -> ReadStopped {
+        ReadStopped::WantOfMemory
     }
 }
 
-/// The JSON that bytes are, read in one pass over their tokens. `None` leaves them to `serde_json`: they
-/// are no JSON, have a number that is not whole or a name twice in one object, or names far out of
-/// their order.
+/// The JSON that bytes are, read in one pass over their tokens. `None` leaves them to `serde_json`.
 pub(crate) fn read_directly(alloc: Global, bytes: &[u8]) -> Result<Option<Json>, WantOfMemory>
     ensures value { IfOk result (λ found. IfSome found (λ json. json_of bytes.now ≡ Ok (plain json))) }
     ensures proper { IfOk result (λ found. IfSome found (λ json. IsProper (plain json))) }
@@ -42,60 +43,65 @@ pub(crate) fn read_directly(alloc: Global, bytes: &[u8]) -> Result<Option<Json>,
     };
     match read_text(alloc, text) {
         Ok(json) => Ok(Some(json)),
-        Err(Stop::Left) => Ok(None),
-        Err(Stop::WantOfMemory) => Err(WantOfMemory),
+        Err(ReadStopped::Left) => Ok(None),
+        Err(ReadStopped::WantOfMemory) => Err(WantOfMemory),
     }
 }
 
-fn read_text(alloc: Global, text: &str) -> Result<Json, Stop>
+fn read_text(alloc: Global, text: &str) -> Result<Json, ReadStopped>
     ensures value { IfOk result (λ json. json_of text.now ≡ Ok (plain json)) }
     ensures proper { IfOk result (λ json. IsProper (plain json)) }
 {
     let mut scratch = Scratch::new(alloc);
     let Ok(mut reader) = Reader::new(text, &mut scratch) else {
-        return Err(Stop::WantOfMemory);
+        return Err(ReadStopped::WantOfMemory);
     };
     let json = read_value(alloc, &mut reader, MAX_DEPTH)?;
     if reader.next().is_some() {
-        return Err(Stop::Left);
+        return Err(ReadStopped::Left);
     }
     Ok(json)
 }
 
-// The next value. Lists and objects may nest so deep.
+/// The next value of a reader of tokens. Lists and objects may nest `depth` deep. What stops it says
+/// nothing of the tokens.
 #[cycle(read_value)]
-fn read_value(alloc: Global, reader: &mut Reader<'_>, depth: usize) -> Result<Json, Stop>
+pub fn read_value(alloc: Global, reader: &mut Reader<'_>, depth: usize) -> Result<Json, ReadStopped>
     ensures value { IfOk result (λ json. converted whole_json (value depth reader.old) ≡ Some (plain json, reader.new)) }
     ensures proper { IfOk result (λ json. IsProper (plain json)) }
     ensures shorter { OnOk result (length reader.new < length reader.old) }
 {
     let Some(token) = reader.next() else {
-        return Err(Stop::Left);
+        return Err(ReadStopped::Left);
     };
     match token {
         Token::Null => Ok(Json::Null),
         Token::Bool(b) => Ok(Json::Bool(b)),
         Token::Number(text) => match whole_of(text) {
             Some(whole) => Ok(Json::Whole(whole)),
-            None => Err(Stop::Left),
+            None => Err(ReadStopped::Left),
         },
         Token::String(text) => Ok(Json::Text(Text::from_text(alloc, text)?)),
         Token::BeginArray => if depth == 0 {
-            Err(Stop::Left)
+            Err(ReadStopped::Left)
         } else {
             Ok(Json::List(read_items(alloc, reader, depth - 1)?))
         },
         Token::BeginObject => if depth == 0 {
-            Err(Stop::Left)
+            Err(ReadStopped::Left)
         } else {
             Ok(Json::Object(read_members(alloc, reader, depth - 1)?))
         },
-        Token::EndObject | Token::EndArray | Token::Key(_) | Token::Bad => Err(Stop::Left),
+        Token::EndObject | Token::EndArray | Token::Key(_) | Token::Bad => Err(ReadStopped::Left),
     }
 }
 
 #[cycle(read_value)]
-fn read_items(alloc: Global, reader: &mut Reader<'_>, depth: usize) -> Result<List<Json>, Stop>
+fn read_items(
+    alloc: Global,
+    reader: &mut Reader<'_>,
+    depth: usize,
+) -> Result<List<Json>, ReadStopped>
     ensures value { IfOk result (λ found. converted whole_json_items (items (value depth) (length reader.old) reader.old) ≡ Some (plain_items found, reader.new)) }
     ensures proper { IfOk result (λ found. ItemsAreProper (plain_items found)) }
     ensures shorter { OnOk result (length reader.new < length reader.old) }
@@ -109,7 +115,7 @@ fn read_items(alloc: Global, reader: &mut Reader<'_>, depth: usize) -> Result<Li
 }
 
 #[cycle(read_value)]
-fn read_members(alloc: Global, reader: &mut Reader<'_>, depth: usize) -> Result<Object, Stop>
+fn read_members(alloc: Global, reader: &mut Reader<'_>, depth: usize) -> Result<Object, ReadStopped>
     ensures value { IfOk result (λ found. converted (whole_json_members no_members) (members (value depth) (length reader.old) reader.old) ≡ Some (plain_members found, reader.new)) }
     ensures proper { IfOk result (λ found. MembersAreProper (plain_members found)) }
     ensures shorter { OnOk result (length reader.new < length reader.old) }
@@ -117,7 +123,7 @@ fn read_members(alloc: Global, reader: &mut Reader<'_>, depth: usize) -> Result<
     let mut found = Members::new(alloc);
     'members: loop {
         let Ok(key) = reader.next_key() else {
-            return Err(Stop::Left);
+            return Err(ReadStopped::Left);
         };
         let Some(key) = key else {
             return Ok(found);
@@ -125,7 +131,7 @@ fn read_members(alloc: Global, reader: &mut Reader<'_>, depth: usize) -> Result<
         let name = Text::from_text(alloc, key)?;
         let json = read_value(alloc, reader, depth)?;
         if !found.add(name, json)? {
-            return Err(Stop::Left);
+            return Err(ReadStopped::Left);
         }
     }
 }

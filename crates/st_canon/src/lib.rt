@@ -30,6 +30,7 @@ mod writing;
 
 pub use comparing::equal;
 pub use counting::size;
+pub use direct::{MAX_DEPTH, ReadStopped, read_value};
 pub use fitting::fits;
 pub use lists::is_object_of_lists_if_there;
 pub use nesting::depth;

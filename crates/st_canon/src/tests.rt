@@ -8,6 +8,7 @@ mod measures;
 mod members;
 mod shapes;
 mod spelling;
+mod tokens;
 
 use crate::{Json, Object, is_text_if_there, read, some_list, write};
 use st_base::{List, WantOfMemory};

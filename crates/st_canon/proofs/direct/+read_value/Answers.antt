@@ -8,7 +8,7 @@ use Rattle.st_canon.specs.Direct.{whole_json_items}
 use Rattle.st_canon.specs.Plain.{list, object, text, boolean, null, whole}
 use Rattle.st_canon.specs.View.{plain, plain_items, plain_members}
 use Rattle.st_canon.specs.declared.value.Json.{Null, Bool, Whole, Text, List, Object, the_lemmas}
-use Rattle.st_canon.proofs.Converting.{items_after, items_after-nil}
+use Rattle.st_canon.proofs.Converting.{items_after, items_after-nil, plain_pushed}
 use Rattle.st_canon.proofs.DirectLemmas.{boolean_value, items_over, list_value, members_over, next_item_read, next_member_read, none_yet, null_value, object_value, reads_all, text_value, whole_number_value}
 use Rattle.st_canon.proofs.Kept.{ascending_proper, one_more_proper, placed_proper}
 use Rattle.st_canon.proofs.Sorting.{ascend_placed}
@@ -69,8 +69,8 @@ read_items-items-preserved t c =
     let shorter : length c.read_value.new.reader < length l.reader = rw (← going.1) done.shorter in (
       n - 1,
       omega (arith, l.invariant.1),
-      l.invariant.2 ∙ next_item_read (value c.args.depth) n l.reader c.read_value.new.reader l.found c.in_ok-json.json (omega (arith, l.invariant.1)) going.0 (rw (← going.1) done.value)
-          ∙ ap (λ js. parse_map (items_after (map plain js)) (converted whole_json_items (items (value c.args.depth) (n - 1) c.read_value.new.reader))) (sym pushed),
+      l.invariant.2 ∙ next_item_read (value c.args.depth) n l.reader c.read_value.new.reader (map plain l.found) (plain c.in_ok-json.json) (omega (arith, l.invariant.1)) going.0 (rw (← going.1) done.value)
+          ∙ ap (λ ps. parse_map (items_after ps) (converted whole_json_items (items (value c.args.depth) (n - 1) c.read_value.new.reader))) (plain_pushed l.found c.in_ok-json.json ∙ ap (map plain) (sym pushed)),
       omega (arith, l.invariant.3),
       rw pushed (one_more_proper l.found c.in_ok-json.json l.invariant.4 done.proper),
     )
