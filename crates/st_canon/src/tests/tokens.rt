@@ -34,15 +34,16 @@ fn values_are_read_one_after_another(rt: HostRuntime) -> Result<(), Fail> {
     Ok(())
 }
 
-// Members named by these numbers, each in four digits.
-fn members(rt: &HostRuntime, numbers: impl Iterator<Item = u32>) -> Result<String, Fail> {
+// An object of so many members that are named by numbers of five digits, up or down.
+fn numbered(rt: &HostRuntime, count: u64, down: bool) -> Result<String, Fail> {
     let mut text = String::from_str(rt.alloc(), "{")?;
-    for number in numbers {
-        if text.len() > 1 {
+    for at in 0..count {
+        let number = if down { count - 1 - at } else { at };
+        if at > 0 {
             text.push_str(",")?;
         }
         text.push_str("\"")?;
-        text.push_str(&(10000 + number).to_string(rt.alloc())?)?;
+        text.push_str(&number.saturating_add(10000).to_string(rt.alloc())?)?;
         text.push_str("\":0")?;
     }
     text.push_str("}")?;
@@ -53,8 +54,8 @@ fn members(rt: &HostRuntime, numbers: impl Iterator<Item = u32>) -> Result<Strin
 #[test]
 fn names_may_come_in_the_worst_order(rt: HostRuntime) -> Result<(), Fail> {
     for count in [2, 64, 65, 66, 200] {
-        let given = members(&rt, (0..count).rev())?;
-        let wanted = members(&rt, 0..count)?;
+        let given = numbered(&rt, count, true)?;
+        let wanted = numbered(&rt, count, false)?;
         assert!(rt; is_respelled(rt.alloc(), given.as_str(), wanted.as_str()));
     }
     Ok(())
