@@ -1,4 +1,5 @@
 mod core_files;
+mod hash_texts;
 mod provisional_files;
 
 use st_base::{Bytes, WantOfMemory, read_number};
