@@ -9,9 +9,10 @@ use crate::branches::{Context, CoreBranch, ProvisionalBranch};
 use crate::part::Part;
 use crate::reading::{chunk_part, core_proof_part, provisional_part, provisional_proof_part};
 use crate::role_state::RoleState;
-use st_base::{WantOfMemory, Work};
+use st_base::{Bytes, WantOfMemory, Work};
 use st_datafiles::Role;
 use st_indexfiles::CoreIndex;
+use st_packed::Shared;
 use std::alloc::Global;
 
 impl CoreBranch {
@@ -36,15 +37,15 @@ impl CoreBranch {
         alloc: Global,
         context: &Context,
         role: Role,
-        bytes: &[u8],
+        file: &Shared<Bytes>,
         work: &mut Work,
     ) -> Result<CoreBranch, WantOfMemory>
         requires missing { IsMissing (core_state role self) }
         requires sound { IsSoundCore context.now self }
-        ensures value { IfOk result (λ branch. branch ≡ core_with role context.now bytes.now self) }
+        ensures value { IfOk result (λ branch. branch ≡ core_with role context.now file.now self) }
         ensures work { OnOk result (work.new ≡
-            one_file_with (opened_in_core (core_with role context.now bytes.now self) - opened_in_core self) work.old) }
-        ensures few { WorkedAtMost 1 (opened_in_core (core_with role context.now bytes.now self) - opened_in_core self)
+            one_file_with (opened_in_core (core_with role context.now file.now self) - opened_in_core self) work.old) }
+        ensures few { WorkedAtMost 1 (opened_in_core (core_with role context.now file.now self) - opened_in_core self)
             work.old work.new }
     {
         let CoreBranch {
@@ -54,7 +55,7 @@ impl CoreBranch {
         } = self;
         match role {
             Role::CoreProof => {
-                let proofs = core_proof_part(alloc, bytes, &says, context, work)?;
+                let proofs = core_proof_part(alloc, file.get().as_slice(), &says, context, work)?;
                 Ok(CoreBranch {
                     says,
                     proofs,
@@ -68,7 +69,7 @@ impl CoreBranch {
                     context,
                     &says,
                     role,
-                    bytes,
+                    file,
                     work,
                 )?;
                 Ok(CoreBranch {
@@ -88,25 +89,25 @@ fn bind_provisional(
     context: &Context,
     core: &CoreIndex,
     role: Role,
-    bytes: &[u8],
+    file: &Shared<Bytes>,
     work: &mut Work,
 ) -> Result<Part<ProvisionalBranch>, WantOfMemory>
     requires missing { IsMissing (provisional_part_state role provisional) }
     requires sound { Holds (IsSoundProvisional context.now core.now) provisional }
-    ensures value { IfOk result (λ part. part ≡ provisional_part_with role context.now core.now bytes.now provisional) }
+    ensures value { IfOk result (λ part. part ≡ provisional_part_with role context.now core.now file.now provisional) }
     ensures work { OnOk result (work.new ≡
-        one_file_with (count_read opened_in_provisional (provisional_part_with role context.now core.now bytes.now provisional)
+        one_file_with (count_read opened_in_provisional (provisional_part_with role context.now core.now file.now provisional)
         - count_read opened_in_provisional provisional) work.old) }
-    ensures few { WorkedAtMost 1 (count_read opened_in_provisional (provisional_part_with role context.now core.now bytes.now provisional)
+    ensures few { WorkedAtMost 1 (count_read opened_in_provisional (provisional_part_with role context.now core.now file.now provisional)
         - count_read opened_in_provisional provisional) work.old work.new }
 {
     match provisional {
         Part::Missing(_) => {
-            let part = provisional_part(alloc, bytes, core, context, work)?;
+            let part = provisional_part(alloc, file.get().as_slice(), core, context, work)?;
             Ok(part)
         }
         Part::Is(branch) => {
-            let branch = branch.bind(alloc, context, core, role, bytes, work)?;
+            let branch = branch.bind(alloc, context, core, role, file, work)?;
             Ok(Part::Is(branch))
         }
         other => Ok(other),
@@ -132,16 +133,16 @@ impl ProvisionalBranch {
         context: &Context,
         core: &CoreIndex,
         role: Role,
-        bytes: &[u8],
+        file: &Shared<Bytes>,
         work: &mut Work,
     ) -> Result<ProvisionalBranch, WantOfMemory>
         requires missing { IsMissing (provisional_state role self) }
         requires sound { IsSoundProvisional context.now core.now self }
-        ensures value { IfOk result (λ branch. branch ≡ provisional_with role context.now core.now bytes.now self) }
+        ensures value { IfOk result (λ branch. branch ≡ provisional_with role context.now core.now file.now self) }
         ensures work { OnOk result (work.new ≡ one_file_with
-            (opened_in_provisional (provisional_with role context.now core.now bytes.now self) - opened_in_provisional self) work.old) }
+            (opened_in_provisional (provisional_with role context.now core.now file.now self) - opened_in_provisional self) work.old) }
         ensures few { WorkedAtMost 1
-            (opened_in_provisional (provisional_with role context.now core.now bytes.now self) - opened_in_provisional self)
+            (opened_in_provisional (provisional_with role context.now core.now file.now self) - opened_in_provisional self)
             work.old work.new }
     {
         let ProvisionalBranch {
@@ -151,7 +152,7 @@ impl ProvisionalBranch {
         } = self;
         match role {
             Role::Chunk => {
-                let chunk = chunk_part(alloc, bytes, core, &says, context, work)?;
+                let chunk = chunk_part(alloc, file, core, &says, context, work)?;
                 Ok(ProvisionalBranch {
                     says,
                     proofs,
@@ -159,7 +160,13 @@ impl ProvisionalBranch {
                 })
             }
             _ => {
-                let proofs = provisional_proof_part(alloc, bytes, &says, context, work)?;
+                let proofs = provisional_proof_part(
+                    alloc,
+                    file.get().as_slice(),
+                    &says,
+                    context,
+                    work,
+                )?;
                 Ok(ProvisionalBranch {
                     says,
                     proofs,

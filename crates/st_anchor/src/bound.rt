@@ -14,9 +14,10 @@ use crate::part::Part;
 use crate::reading::core_part;
 use crate::role_state::RoleState;
 use crate::rule::Rule;
-use st_base::{List, WantOfMemory, Work};
+use st_base::{Bytes, List, WantOfMemory, Work};
 use st_datafiles::Role;
 use st_ledger::read_anchor;
+use st_packed::Shared;
 use st_params::Params;
 use std::alloc::Global;
 use std::marker::Model;
@@ -89,22 +90,22 @@ impl Bound {
         self,
         alloc: Global,
         role: Role,
-        bytes: &[u8],
+        file: &Shared<Bytes>,
         work: &mut Work,
     ) -> Result<Bound, WantOfMemory>
-        requires { role_state role self ≡ RoleState.Missing (uri_of bytes.now) }
-        ensures value { IfOk result (λ bound. bound ≡ bound_with role bytes.now self) }
-        ensures work { OnOk result (work.new ≡ one_file_with (opened_by role bytes.now self) work.old) }
-        ensures few { WorkedAtMost 1 (opened_by role bytes.now self) work.old work.new }
+        requires { role_state role self ≡ RoleState.Missing (uri_of file.now) }
+        ensures value { IfOk result (λ bound. bound ≡ bound_with role file.now self) }
+        ensures work { OnOk result (work.new ≡ one_file_with (opened_by role file.now self) work.old) }
+        ensures few { WorkedAtMost 1 (opened_by role file.now self) work.old work.new }
     {
         let Bound { context, core } = self;
         match core {
             Part::Missing(_) => {
-                let core = core_part(alloc, bytes, &context, work)?;
+                let core = core_part(alloc, file.get().as_slice(), &context, work)?;
                 Ok(Bound { context, core })
             }
             Part::Is(branch) => {
-                let branch = branch.bind(alloc, &context, role, bytes, work)?;
+                let branch = branch.bind(alloc, &context, role, file, work)?;
                 Ok(Bound {
                     context,
                     core: Part::Is(branch),

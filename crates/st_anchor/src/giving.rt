@@ -12,7 +12,8 @@ use st_base::{List, WantOfMemory};
 use st_hash::Hash;
 use st_indexfiles::{CoreIndex, SuffixData, Target, suffix_of};
 use st_jws::Signed;
-use st_ops::{Operation, PackedJson, Shared};
+use st_ops::Operation;
+use st_packed::{PackedJson, Shared};
 use std::alloc::Global;
 
 // The kinds of operations that are signed.

@@ -6,7 +6,7 @@ ghost use Rattle.st_ops.specs.Operation.{plain_proof};
 
 use st_base::{Copied, List, Text, WantOfMemory, Work};
 use st_jws::{Signed, SignedRefused, open_signed};
-use st_ops::Shared;
+use st_packed::Shared;
 use std::alloc::Global;
 use std::marker::Model;
 

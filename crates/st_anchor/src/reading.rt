@@ -11,9 +11,10 @@ use crate::deltas::Deltas;
 use crate::opened::Proofs;
 use crate::part::Part;
 use crate::rule::Rule;
-use st_base::{FileRefused, WantOfMemory, Work};
+use st_base::{Bytes, FileRefused, WantOfMemory, Work};
 use st_datafiles::{CoreProofs, read_chunk, read_core_proof, read_provisional_proof};
 use st_indexfiles::{CoreIndex, ProvisionalIndex, read_core, read_provisional};
+use st_packed::Shared;
 use std::alloc::Global;
 
 /// What the bytes of a core index file make of their role.
@@ -121,24 +122,24 @@ pub fn provisional_proof_part(
     }
 }
 
-/// What the bytes of a chunk file make of their role, under both index files.
+/// What a chunk file makes of its role, under both index files.
 pub fn chunk_part(
     alloc: Global,
-    bytes: &[u8],
+    file: &Shared<Bytes>,
     core: &CoreIndex,
     provisional: &ProvisionalIndex,
     context: &Context,
     work: &mut Work,
 ) -> Result<Part<Deltas>, WantOfMemory>
     requires { core_count core.now + length provisional.now.updates ≤ context.now.count }
-    ensures value { IfOk result (λ part. part ≡ chunk_in context.now core.now provisional.now bytes.now) }
+    ensures value { IfOk result (λ part. part ≡ chunk_in context.now core.now provisional.now file.now) }
     ensures counted { work.new ≡ one_file work.old }
 {
     // Their sum is at most the declared count: the prover sees here that it fits.
     let _count = context.count;
     let wanted = core.creates.len() + core.recovers.len() + provisional.updates.len();
-    match read_chunk(alloc, bytes, wanted, &context.params, work) {
-        Ok(deltas) => Ok(Part::Is(Deltas::pack(alloc, deltas)?)),
+    match read_chunk(alloc, file, wanted, &context.params, work) {
+        Ok(deltas) => Ok(Part::Is(deltas)),
         Err(FileRefused::Rejected(rule)) => Ok(Part::Rejected(Rule::Chunk(rule))),
         Err(FileRefused::WantOfMemory) => Err(WantOfMemory),
     }

@@ -8,6 +8,7 @@ use crate::role_state::RoleState;
 use st_base::{Bytes, WantOfMemory, Work};
 use st_content::Content;
 use st_datafiles::Role;
+use st_packed::Shared;
 use std::alloc::Global;
 
 // All roles, in their order.
@@ -35,14 +36,14 @@ impl Bound {
     {
         let mut bound = self;
         'binding: while let Some((role, file)) = next_there(&bound, content) {
-            bound = bound.bind(alloc, role, file.as_slice(), work)?;
+            bound = bound.bind(alloc, role, file, work)?;
         }
         Ok(bound)
     }
 }
 
 // The first role whose missing file has come, and the file.
-fn next_there<'a>(bound: &Bound, content: &'a Content) -> Option<(Role, &'a Bytes)>
+fn next_there<'a>(bound: &Bound, content: &'a Content) -> Option<(Role, &'a Shared<Bytes>)>
     ensures found { IfSome result (λ next. HasCome content.now bound.now next.0 next.1.now) }
     ensures not_found { IfNone result (NoneHasCome content.now bound.now) }
 {
@@ -55,7 +56,7 @@ fn next_there<'a>(bound: &Bound, content: &'a Content) -> Option<(Role, &'a Byte
 }
 
 // The missing file of a role, where it has come.
-fn file_for<'a>(bound: &Bound, content: &'a Content, role: Role) -> Option<&'a Bytes>
+fn file_for<'a>(bound: &Bound, content: &'a Content, role: Role) -> Option<&'a Shared<Bytes>>
     ensures found { IfSome result (λ file. HasCome content.now bound.now role file.now) }
     ensures not_found { IfNone result (MissesNone content.now bound.now role) }
 {

@@ -16,7 +16,8 @@ use st_base::{Copied, WantOfMemory, Work};
 use st_doc::Delta;
 use st_hash::Hash;
 use st_jws::meets;
-use st_ops::{Claim, Operation, PackedJson, claim_of};
+use st_ops::{Claim, Operation, claim_of};
+use st_packed::PackedJson;
 use st_params::Params;
 use std::alloc::Global;
 

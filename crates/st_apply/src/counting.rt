@@ -9,7 +9,7 @@ use crate::document::KeptDocument;
 use st_base::{Copied, WantOfMemory};
 use st_doc::{Delta, DeltaRefused, Document, PatchRefused, apply_all, check_delta};
 use st_hash::Hash;
-use st_ops::PackedJson;
+use st_packed::PackedJson;
 use st_params::Params;
 use std::alloc::Global;
 

@@ -3,7 +3,7 @@ ghost use Rattle.st_doc.specs.Document.{document_in, empty_document, plain_docum
 
 use st_base::{Copied, WantOfMemory};
 use st_doc::Document;
-use st_ops::{PackedJson, Shared};
+use st_packed::{PackedJson, Shared};
 use std::alloc::Global;
 use std::marker::Model;
 

@@ -5,7 +5,8 @@ ghost use Rattle.st_ops.specs.RequestText.{delta_there};
 
 use st_hash::Hash;
 use st_indexfiles::{SuffixData, Target};
-use st_ops::{Operation, PackedJson};
+use st_ops::Operation;
+use st_packed::PackedJson;
 
 /// The suffix data of a create.
 pub(crate) fn suffix_data_in(operation: &Operation) -> Option<SuffixData>

@@ -15,7 +15,8 @@ use st_canon::{Json, size};
 use st_hash::{Hash, SHA_512};
 use st_indexfiles::SuffixData;
 use st_jws::Signed;
-use st_ops::{Operation, PackedJson, Shared};
+use st_ops::Operation;
+use st_packed::{PackedJson, Shared};
 use std::alloc::Global;
 
 // What of an entry stands round its hash texts or its signed text, and the comma behind it.

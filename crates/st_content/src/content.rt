@@ -8,6 +8,7 @@ ghost use Rattle.st_content.specs.Files.{AreNamed, file_at, with_entry, with_fil
 
 use st_base::{Bytes, WantOfMemory};
 use st_hash::{Hash, sha256};
+use st_packed::Shared;
 use std::alloc::Global;
 use std::collections::BTreeMap;
 use std::collections::btree_map::Entry;
@@ -26,7 +27,7 @@ pub enum Put {
 #[derive(Drop)]
 pub struct Content {
     // Under the digests of the URIs, which are all of SHA-256.
-    files: BTreeMap<[u8; 32], Bytes>,
+    files: BTreeMap<[u8; 32], Shared<Bytes>>,
 }
 
 impl Model for Content {
@@ -51,7 +52,7 @@ impl Content {
 
     /// Keeps the file, where none of its URI is there, and gives its URI. `Had` comes exactly where
     /// one is there; then nothing changes.
-    pub fn put(&mut self, _alloc: Global, bytes: Bytes) -> Result<(Hash, Put), WantOfMemory>
+    pub fn put(&mut self, alloc: Global, bytes: Bytes) -> Result<(Hash, Put), WantOfMemory>
         ensures uri { IfOk result (λ done. done.0 ≡ uri_of bytes) }
         ensures had { IfOk result (λ done. (done.1 ≡ Put.Had) ↔ IsSome (file_at (uri_of bytes) self.old)) }
         ensures ok { OnOk result (self.new ≡ with_file bytes self.old) }
@@ -64,13 +65,14 @@ impl Content {
     {
         let digest = sha256(bytes.as_slice());
         let uri = Hash::of_sha256(digest);
-        let put = put_first(&mut self.files, digest, bytes)?;
+        let file = Shared::new(alloc, bytes)?;
+        let put = put_first(&mut self.files, digest, file)?;
         Ok((uri, put))
     }
 
-    /// The file of this URI. None comes exactly where there is none; a hash of another algorithm than
-    /// SHA-256 is no URI.
-    pub fn get(&self, uri: &Hash) -> Option<&Bytes>
+    /// The file of this URI, which those that keep parts of it share. None comes exactly where there is
+    /// none; a hash of another algorithm than SHA-256 is no URI.
+    pub fn get(&self, uri: &Hash) -> Option<&Shared<Bytes>>
         ensures value { option_copied result ≡ file_at uri.now self.now }
         // The file has the URI that was asked for.
         ensures uri { IfSome result (λ file. uri_of file.now ≡ uri.now) }
@@ -85,9 +87,9 @@ impl Content {
 
 // Puts the file under its digest, where none stands there. The map is searched once.
 fn put_first(
-    files: &mut BTreeMap<[u8; 32], Bytes>,
+    files: &mut BTreeMap<[u8; 32], Shared<Bytes>>,
     digest: [u8; 32],
-    file: Bytes,
+    file: Shared<Bytes>,
 ) -> Result<Put, WantOfMemory>
     ensures had { IfOk result (λ put. (put ≡ Put.Had) ↔ ContainsKey (slice_cmp nat_cmp) files.old digest) }
     ensures ok { OnOk result (files.new.entries ≡ with_entry digest file files.old.entries) }

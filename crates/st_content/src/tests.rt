@@ -21,7 +21,7 @@ fn the_first_file_of_a_uri_stays(rt: HostRuntime) -> Result<(), Fail> {
     let Some(file) = content.get(&uri) else {
         return Err(Fail::from("no file"));
     };
-    assert_eq!(rt; file.as_slice(), b"abc".as_slice());
+    assert_eq!(rt; file.get().as_slice(), b"abc".as_slice());
     assert!(rt; content.get(&hash256(b"{}")).is_none());
     assert!(rt; content.get(&hash_with(b"abc", SHA_512)).is_none());
     Ok(())

@@ -57,11 +57,7 @@ pub(crate) fn take_document(
 }
 
 // The document of the lists that stand in the value, where it is one at these parameters.
-fn take_lists(
-    alloc: Global,
-    value: Json,
-    params: &Params,
-) -> Result<Option<Document>, WantOfMemory>
+fn take_lists(alloc: Global, value: Json, params: &Params) -> Result<Option<Document>, WantOfMemory>
     ensures { IfOk result (λ document. option_map plain_document document ≡ if_document params.now (document_in (plain value))) }
 {
     let document = Document::from_json(alloc, value)?;

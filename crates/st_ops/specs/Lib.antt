@@ -4,8 +4,6 @@ pub mod Codes
 pub mod Counting
 pub mod KnownHashes
 pub mod Operation
-pub mod Packed
-pub mod PlainCodes
 pub mod Request
 pub mod RequestForm
 pub mod RequestText

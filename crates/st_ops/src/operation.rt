@@ -1,12 +1,11 @@
 ghost use Rattle.std.specs.Prelude.{◌≡◌, IfOk};
 ghost use Rattle.st_ops.specs.Operation.{plain_operation, suffix_of};
 
-use crate::packed::PackedJson;
-use crate::shared::Shared;
 use st_base::{Copied, WantOfMemory};
 use st_hash::Hash;
 use st_indexfiles::{SuffixData, suffix_of};
 use st_jws::Signed;
+use st_packed::{PackedJson, Shared};
 use std::alloc::Global;
 
 /// An operation on an identifier (DIF Sidetree v1.0.0, "DID Operations"). A proof is the signed text of

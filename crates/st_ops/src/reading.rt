@@ -15,13 +15,12 @@ ghost use Rattle.st_ops.specs.declared.refused.RequestRefused.TheVariants.{BadPr
 use crate::claiming::claim_of;
 use crate::form::{is_change_form, is_create_form, is_deactivate_form};
 use crate::operation::Operation;
-use crate::packed::PackedJson;
 use crate::refused::RequestRefused;
-use crate::shared::Shared;
 use crate::signed::{proof_in, target_in};
 use st_base::{WantOfMemory, Work};
 use st_canon::{Json, Object, ReadRefused, read};
 use st_indexfiles::SuffixData;
+use st_packed::{PackedJson, Shared};
 use st_params::Params;
 use std::alloc::Global;
 

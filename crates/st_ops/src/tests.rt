@@ -1,4 +1,3 @@
-mod packed;
 mod refusals;
 mod samples;
 mod texts;

@@ -6,7 +6,8 @@ use st_canon::{Json, read};
 use st_hash::{Hash, hash_text, hash256};
 use st_indexfiles::SuffixData;
 use st_jws::{Jwk, Signed, commitment, reveal};
-use st_ops::{Operation, PackedJson, Shared};
+use st_ops::Operation;
+use st_packed::{PackedJson, Shared};
 use std::test::Fail;
 
 // The public key is that of the first test of RFC 8554, appendix F.

@@ -1,16 +1,22 @@
 use super::{case_of, spaces};
 use crate::{Role, read_chunk, write_chunk};
-use st_base::{Copied, FileRefused, Work};
+use st_base::{Bytes, Copied, FileRefused, List, Work};
 use st_canon::{equal, read};
+use st_packed::Shared;
 use st_params::Schedule;
 use std::test::Fail;
+
+fn shared(rt: &HostRuntime, file: &[u8]) -> Result<Shared<Bytes>, Fail> {
+    let bytes = Bytes::from_slice(rt.alloc(), file)?;
+    Ok(Shared::new(rt.alloc(), bytes)?)
+}
 
 // How a chunk file is answered where so many deltas are wanted: `read`, or the rule that rejects it.
 fn answer(rt: &HostRuntime, file: &[u8], wanted: usize) -> Result<String, Fail> {
     let alloc = rt.alloc();
     let mut work = Work::new(rt);
     let params = Schedule::new().newest();
-    match read_chunk(alloc, file, wanted, &params, &mut work) {
+    match read_chunk(alloc, &shared(rt, file)?, wanted, &params, &mut work) {
         Ok(_) => Ok(String::from_str(alloc, "read")?),
         Err(FileRefused::Rejected(rule)) => Ok(format!(in alloc; "{rule:?}")?),
         Err(FileRefused::WantOfMemory) => Err(Fail::from("out of memory")),
@@ -30,6 +36,7 @@ fn a_chunk_file_fails_its_first_rule(rt: HostRuntime) -> Result<(), Fail> {
 1 K4 {\"deltas\":[null,null]}
 3 K4 {\"deltas\":[null,null]}
 1 read {\"deltas\":[null]}
+1 read {\"deltas\":[0], \"deltas\":[{\"b\":1,\"a\":2}]}
 0 read {\"deltas\":[]}";
     for case in cases.lines() {
         let Some((wanted, rule, file)) = case_of(case) else {
@@ -51,7 +58,11 @@ fn deltas_are_written_and_read_again_in_their_order(rt: HostRuntime) -> Result<(
     let mut work = Work::new(&rt);
     let params = Schedule::new().newest();
     let file = b"{\"deltas\":[{\"b\":[null],\"a\":-1},\"x\"]}";
-    let deltas = read_chunk(alloc, file, 2, &params, &mut work)?;
+    let packed = read_chunk(alloc, &shared(&rt, file)?, 2, &params, &mut work)?;
+    let mut deltas = List::new(alloc);
+    for delta in packed.as_slice() {
+        deltas.push(alloc, delta.unpack(alloc)?)?;
+    }
     let written = write_chunk(alloc, deltas.as_slice())?;
     let canonical = b"{\"deltas\":[{\"a\":-1,\"b\":[null]},\"x\"]}";
     assert_eq!(rt; written.as_slice(), canonical.as_slice());

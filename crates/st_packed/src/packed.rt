@@ -1,7 +1,9 @@
-ghost use Rattle.std.specs.Prelude.{◌≡◌, IfOk};
+ghost use Rattle.std.specs.Prelude.{◌≡◌, IfOk, Ok};
+ghost use Rattle.st_canon.specs.Reading.{json_of};
 ghost use Rattle.st_canon.specs.View.{plain};
-ghost use Rattle.st_ops.specs.Packed.{IsPacked, packed_value};
+ghost use Rattle.st_packed.specs.Packed.{IsPacked, packed_value, value_read};
 
+use crate::part::Part;
 use crate::shared::Shared;
 use st_base::{Bytes, Copied, WantOfMemory};
 use st_canon::{Json, depth, read, size, write};
@@ -13,24 +15,27 @@ use std::marker::Model;
 const READ_AGAIN: u64 = 127;
 
 /// A JSON value in little memory, which several owners share: it is kept as its canonical text, which
-/// takes a sixth of what its parts would, and is read again where they are wanted. A copy costs nothing
-/// but a count. Contracts see the plain value.
+/// takes a sixth of what its parts would, and is read again where they are wanted. Where that text
+/// stands in a file that is kept, it takes next to nothing. A copy costs nothing but a count. Contracts
+/// see the plain value.
 #[derive(Drop)]
 pub struct PackedJson {
     form: Shared<Form>,
 }
 
-// What is kept of a value: its canonical text, or where that nests too deep to be read again, its parts.
+// What is kept of a value: its canonical text, by itself or in a file where it stands, or where that nests
+// too deep to be read again, its parts.
 #[derive(Drop)]
 pub(crate) enum Form {
     Text(Bytes),
+    Within(Part),
     Parts(Json),
 }
 
 impl Model for PackedJson {
     ghost use Rattle.st_canon.specs.Plain.{Plain};
-    ghost use Rattle.st_ops.specs.PlainCodes.{coded_plain};
-    ghost use Rattle.st_ops.specs.Packed.{IsPacked, packed_value};
+    ghost use Rattle.st_packed.specs.PlainCodes.{coded_plain};
+    ghost use Rattle.st_packed.specs.Packed.{IsPacked, packed_value};
 
     ghost Value = { Plain };
 
@@ -58,16 +63,29 @@ impl PackedJson {
         })
     }
 
+    /// The value, whose canonical text is looked for in the file at this place, and shared with it where
+    /// it stands there.
+    pub fn pack_within(
+        alloc: Global,
+        value: &Json,
+        file: &Shared<Bytes>,
+        at: usize,
+    ) -> Result<PackedJson, WantOfMemory>
+        ensures { IfOk result (λ packed. packed ≡ plain value.now) }
+    {
+        let form = form_within(alloc, value, file, at)?;
+        Ok(PackedJson {
+            form: Shared::new(alloc, form)?,
+        })
+    }
+
     /// The value in its parts.
     pub fn unpack(&self, alloc: Global) -> Result<Json, WantOfMemory>
         ensures { IfOk result (λ value. plain value ≡ self.now) }
     {
         match self.form.get() {
-            // The text is that of a value, so nothing but memory can be wanting.
-            Form::Text(text) => match read(alloc, text.as_slice()) {
-                Ok(value) => Ok(value),
-                Err(_) => Err(WantOfMemory),
-            },
+            Form::Text(text) => read_again(alloc, text.as_slice()),
+            Form::Within(part) => read_again(alloc, part.as_slice()),
             Form::Parts(value) => value.copy(alloc),
         }
     }
@@ -80,6 +98,7 @@ impl PackedJson {
     {
         match self.form.get() {
             Form::Text(text) => Ok(hash_with(text.as_slice(), code)),
+            Form::Within(part) => Ok(hash_with(part.as_slice(), code)),
             Form::Parts(value) => {
                 let text = write(alloc, value)?;
                 Ok(hash_with(text.as_slice(), code))
@@ -93,6 +112,7 @@ impl PackedJson {
     {
         match self.form.get() {
             Form::Text(text) => text.as_slice().len() as u64,
+            Form::Within(part) => part.as_slice().len() as u64,
             Form::Parts(value) => size(value),
         }
     }
@@ -117,4 +137,34 @@ fn form_of(alloc: Global, value: &Json) -> Result<Form, WantOfMemory>
     let text = write(alloc, value)?;
     // A copy has room for the text alone.
     Ok(Form::Text(Bytes::from_slice(alloc, text.as_slice())?))
+}
+
+fn form_within(
+    alloc: Global,
+    value: &Json,
+    file: &Shared<Bytes>,
+    at: usize,
+) -> Result<Form, WantOfMemory>
+    ensures value { IfOk result (λ form. packed_value form ≡ plain value.now) }
+    ensures packed { IfOk result IsPacked }
+{
+    if depth(value) > READ_AGAIN {
+        return Ok(Form::Parts(value.copy(alloc)?));
+    }
+    let text = write(alloc, value)?;
+    match Part::find(alloc, file, at, text.as_slice())? {
+        Some(part) => Ok(Form::Within(part)),
+        None => Ok(Form::Text(Bytes::from_slice(alloc, text.as_slice())?)),
+    }
+}
+
+// The value of a text that was written of one, so nothing but memory can be wanting.
+fn read_again(alloc: Global, text: &[u8]) -> Result<Json, WantOfMemory>
+    requires { json_of text.now ≡ Ok (value_read (json_of text.now)) }
+    ensures { IfOk result (λ value. plain value ≡ value_read (json_of text.now)) }
+{
+    match read(alloc, text) {
+        Ok(value) => Ok(value),
+        Err(_) => Err(WantOfMemory),
+    }
 }

@@ -1,0 +1,14 @@
+-- What a chunk file says that is nothing but a list of deltas.
+use Rattle.std.proofs.Common.{◌≡◌, List, Some, codes, true, refl}
+use Rattle.st_canon.specs.Plain.{Plain}
+use Rattle.st_canon.proofs.ItemLists.{entries-items_of}
+use Rattle.st_packed.specs.Entries.{object_of_list}
+use Rattle.st_datafiles.specs.Chunk.{deltas_of, has_chunk_form}
+
+pub form_is : (deltas : List Plain) → has_chunk_form (Some (object_of_list (codes "deltas") deltas)) ≡ true
+unfolding has_chunk_form
+form_is deltas = refl
+
+pub deltas_are : (deltas : List Plain) → deltas_of (Some (object_of_list (codes "deltas") deltas)) ≡ deltas
+unfolding deltas_of
+deltas_are deltas = entries-items_of deltas
