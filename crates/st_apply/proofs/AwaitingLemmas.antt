@@ -1,8 +1,6 @@
--- An operation that an active state does not await leaves it; an update that it awaits leaves what its
--- delta changes.
-use Rattle.std.proofs.Common.{◌≡◌, refl, sym, true, false}
+-- An operation that an active state does not await leaves it.
+use Rattle.std.proofs.Common.{◌≡◌, refl, false}
 use Rattle.std.specs.Prelude.{Option, Some, None}
-use Rattle.std.specs.Option.{option_map_or}
 use Rattle.st_doc.specs.Document.{PlainDocument}
 use Rattle.st_hash.specs.Hash.{HashValue}
 use Rattle.st_ops.specs.Operation.{PlainOperation, creating, updating, recovering, deactivating}
@@ -12,7 +10,7 @@ use Rattle.st_params.specs.Limits.{Limits}
 use Rattle.st_apply.specs.Applied.{seen_as, sidetree}
 use Rattle.st_apply.specs.Awaited.{awaits_update, is_awaited}
 use Rattle.st_apply.specs.Seen.{Change, active, updates}
-use Rattle.st_apply.specs.Step.{changed, step}
+use Rattle.st_apply.specs.Step.{step}
 
 -- an update that is not awaited
 unawaited_update : (recovery : HashValue) (update : Option HashValue) (document : PlainDocument) (reveal : HashValue)
@@ -39,12 +37,3 @@ unawaited_leaves limits recovery update document (deactivating target proof) Non
 unawaited_leaves limits recovery update document (deactivating target proof) (Some (Update delta_hash)) is = refl
 unawaited_leaves limits recovery update document (deactivating target proof) (Some (Recover commitment delta_hash)) is = refl
 unawaited_leaves limits recovery update document (deactivating target proof) (Some Deactivate) is = rw is refl
-
--- an update that is awaited
-pub awaited_updates : (recovery : HashValue) (update : Option HashValue) (document : PlainDocument) (reveal : HashValue)
-    (change : Option (Change HashValue PlainDocument)) → awaits_update update reveal ≡ true
-    → option_map_or (λ change. active recovery (Some change.update) (changed document change)) change (active recovery update document)
-    ≡ step sidetree (active recovery update document) (updates reveal change)
-awaited_updates recovery None document reveal change is = absurd (cc)
-awaited_updates recovery (Some commitment) document reveal None is = refl
-awaited_updates recovery (Some commitment) document reveal (Some change) is = rw is refl

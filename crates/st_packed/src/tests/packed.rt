@@ -1,4 +1,4 @@
-use crate::PackedJson;
+use crate::{PackedJson, Shared};
 use st_base::{Bytes, Copied, List};
 use st_canon::{Json, read, write};
 use st_hash::{SHA_256, hash_text};
@@ -39,11 +39,21 @@ fn has_hash(rt: &HostRuntime, packed: &PackedJson, hash: &str) -> Result<bool, F
     Ok(hash_text(rt.alloc(), &found)?.as_str() == hash)
 }
 
-// Whether a copy of what is packed is so long, has this hash, and comes out with the text of the value.
-fn is_kept(rt: &HostRuntime, value: &Json, long: u64, hash: &str) -> Result<bool, Fail> {
-    let packed = packed_copy(rt, value)?;
+// Whether what is packed is so long, has this hash, and comes out with the text of the value.
+fn is(
+    rt: &HostRuntime,
+    packed: &PackedJson,
+    value: &Json,
+    long: u64,
+    hash: &str,
+) -> Result<bool, Fail> {
     let text = write(rt.alloc(), value)?;
-    Ok(packed.size() == long && has_hash(rt, &packed, hash)? && comes_out(rt, &packed, &text)?)
+    Ok(packed.size() == long && has_hash(rt, packed, hash)? && comes_out(rt, packed, &text)?)
+}
+
+// The same of a copy.
+fn is_kept(rt: &HostRuntime, value: &Json, long: u64, hash: &str) -> Result<bool, Fail> {
+    is(rt, &packed_copy(rt, value)?, value, long, hash)
 }
 
 #[test]
@@ -60,5 +70,18 @@ fn a_value_of_any_depth_comes_out_again(rt: HostRuntime) -> Result<(), Fail> {
     assert!(rt; is_kept(&rt, &nested(&rt, 127)?, 254, hash)?);
     let hash = "EiDbrsKc4vtSoaNy4doxsNQ00lf-Eb6-4tMcZklxDjBSpg";
     assert!(rt; is_kept(&rt, &nested(&rt, 128)?, 256, hash)?);
+    Ok(())
+}
+
+// It is the same value, whether its text stands at the place or not.
+#[test]
+fn a_delta_may_be_kept_in_its_file(rt: HostRuntime) -> Result<(), Fail> {
+    let value = read(rt.alloc(), DELTA.as_bytes())?;
+    let text = format!(in rt.alloc(); "{{\"deltas\":[{DELTA}]}}")?;
+    let file = Shared::new(rt.alloc(), Bytes::from_slice(rt.alloc(), text.as_bytes())?)?;
+    for at in [0, 10, 11, 12, 93, 94, 95, usize::MAX] {
+        let packed = PackedJson::pack_within(rt.alloc(), &value, &file, at)?;
+        assert!(rt; is(&rt, &packed, &value, 82, DELTA_HASH)?);
+    }
     Ok(())
 }

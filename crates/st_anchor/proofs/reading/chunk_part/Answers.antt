@@ -17,6 +17,5 @@ returns-in-Ok-clause-value c =
 pub returns-in-Err-Rejected-clause-value : goal.returns-in-Err-Rejected-clause-value
 returns-in-Err-Rejected-clause-value c =
     let is = rw c.in-Err-Rejected.field-0-is at c.in-Err-Rejected.ensures.answers in
-    rw c.in-Err-Rejected.field-0-is
-    (chunk-fails c.args.context.now c.args.core.now c.args.provisional.now c.args.file.now _ (λ i. c.len.ensures i + c.len-2.ensures i + c.len-3.ensures i)
-    c.in-Err-Rejected.rule is)
+    chunk-fails c.args.context.now c.args.core.now c.args.provisional.now c.args.file.now _ (λ i. c.len.ensures i + c.len-2.ensures i + c.len-3.ensures i)
+    c.in-Err-Rejected.rule is

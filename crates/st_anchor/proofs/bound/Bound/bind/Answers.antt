@@ -14,7 +14,7 @@ use Rattle.st_anchor.proofs.bound.Bound.bind.Goals as goal
 
 pub invariant_of-result : goal.invariant_of-result
 invariant_of-result c =
-    subst (Holds (IsSoundCore c.self.inside.context)) (sym c.in_ok-core-in-Missing.ensures.value) (sound-core_in c.self.inside.context c.args.file.now)
+    subst (Holds (IsSoundCore c.self.inside.context)) (sym c.in_ok-core-in-Missing.ensures.value) (sound-core_in c.self.inside.context _)
 
 pub bind-requires-clause-missing : goal.bind-requires-clause-missing
 bind-requires-clause-missing c =

@@ -1,7 +1,4 @@
-use Rattle.std.proofs.Common.{◌∙◌, ◌-◌, ◌<◌, ap, sym, subst}
-use Rattle.st_anchor.specs.Coming.{opened_by}
-use Rattle.st_anchor.specs.Counting.{WorkedAtMost, one_file_with}
-use Rattle.st_anchor.specs.Known.{bound_with}
+use Rattle.std.proofs.Common.{◌-◌, ◌<◌, sym, subst}
 use Rattle.st_anchor.specs.States.{decided_roles}
 use Rattle.st_anchor.proofs.SettleLemmas.{Settles, settled-counts, settled-few, settled-known, settled-wanting, settles-bind, settles-smaller}
 use Rattle.st_anchor.proofs.bound.Bound.settle.Goals as goal
@@ -10,21 +7,21 @@ pub returns-in_err-bound-clause-few : goal.returns-in_err-bound-clause-few
 returns-in_err-bound-clause-few c =
     settled-wanting c.args.content.now c.args.self c.args.work.now c.binding.bound c.binding.work c.in-Some.role c.in-Some.file.now c.bind.new.work
     c.binding.invariant c.in-Some.ensures.found
-    (subst (λ file. WorkedAtMost 1 (opened_by c.in-Some.role file c.binding.bound) c.binding.work c.bind.new.work) c.as_slice.ensures c.in_err-bound.ensures.few)
+    c.in_err-bound.ensures.few
 
 pub binding-smaller : goal.binding-smaller
 binding-smaller c =
     subst (λ bound. 5 - decided_roles bound < 5 - decided_roles c.binding.bound)
-    (sym (c.in_ok-bound.ensures.value ∙ ap (λ file. bound_with c.in-Some.role file c.binding.bound) c.as_slice.ensures))
+    (sym c.in_ok-bound.ensures.value)
     (settles-smaller c.binding.bound c.in-Some.role c.in-Some.file.now c.args.content.now c.in-Some.ensures.found)
 
 pub binding-preserved : goal.binding-preserved
 binding-preserved c =
     subst (λ bound. Settles c.args.content.now c.args.self c.args.work.now bound c.bind.new.work)
-    (sym (c.in_ok-bound.ensures.value ∙ ap (λ file. bound_with c.in-Some.role file c.binding.bound) c.as_slice.ensures))
+    (sym c.in_ok-bound.ensures.value)
     (settles-bind c.args.content.now c.args.self c.args.work.now c.binding.bound c.binding.work c.in-Some.role c.in-Some.file.now c.bind.new.work
     c.binding.invariant c.in-Some.ensures.found
-    (c.in_ok-bound.ensures.work ∙ ap (λ file. one_file_with (opened_by c.in-Some.role file c.binding.bound) c.binding.work) c.as_slice.ensures))
+    c.in_ok-bound.ensures.work)
 
 pub returns-clause-value : goal.returns-clause-value
 returns-clause-value c =
