@@ -1,6 +1,6 @@
 """Whole streams: the processor time of a node, beside the bare cost of hashing the bytes of all its files
 once and of as many compressions of SHA-256 as its signatures take; beside the least that it comes to with the
-kit's leanest reader of JSON, which also reads each file once and hashes as many bytes once more; and its memory
+kit's leanest tree of JSON, which also reads each file once and hashes as many bytes once more; and its memory
 beside its files.
 
 The bare programs are bench/programs/bare_cost.txt, least_cost.txt and compress_cost.txt, over the same kit crates.
