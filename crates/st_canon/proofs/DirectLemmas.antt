@@ -42,7 +42,8 @@ same_rest : {B : Type 0} (r s : Tokens) (x : Option B) (b : B) → option_map {U
 same_rest r s None b e = absurd (cc)
 same_rest r s (Some y) b e = let same = ap (λ read. unwrap_or read (y, r)) e in (ap (λ p. p.1) same, ap (λ p. Some p.0) same)
 
-pub was_read : {A B : Type 0} (f : A → Option B) (read : Option (A × Tokens)) (b : B) (r : Tokens) → converted f read ≡ Some (b, r) → WasRead f read b r
+pub was_read : {A B : Type 0} (f : A → Option B) (read : Option (A × Tokens)) (b : B) (r : Tokens) → converted f read ≡ Some (b, r)
+    → WasRead f read b r
 was_read f None b r e = absurd (cc)
 was_read f (Some p) b r e =
     let both = same_rest p.1 r (f p.0) b e in
@@ -60,7 +61,8 @@ data_there (Some d) p e = record { is_data = d; there_is = refl; is_whole = e }
 -- ---- a value
 
 whole_array : (r : Tokens) (there : Option data'.Items)
-    → option_map (λ p. (p, r)) (option_and_then whole_value (option_map data'.array there)) ≡ parse_map list (option_map (λ p. (p, r)) (option_and_then whole_items there))
+    → option_map (λ p. (p, r)) (option_and_then whole_value (option_map data'.array there))
+    ≡ parse_map list (option_map (λ p. (p, r)) (option_and_then whole_items there))
 whole_array r None = refl
 whole_array r (Some ds) = with_rest list r (whole_items ds)
 
@@ -69,7 +71,8 @@ array_read None = refl
 array_read (Some p) = whole_array p.1 (of_items p.0)
 
 whole_object : (r : Tokens) (there : Option data'.Members)
-    → option_map (λ p. (p, r)) (option_and_then whole_value (option_map data'.object there)) ≡ parse_map object (option_map (λ p. (p, r)) (option_and_then whole_members there))
+    → option_map (λ p. (p, r)) (option_and_then whole_value (option_map data'.object there))
+    ≡ parse_map object (option_map (λ p. (p, r)) (option_and_then whole_members there))
 whole_object r None = refl
 whole_object r (Some ds) = with_rest object r (whole_members ds)
 
@@ -102,18 +105,21 @@ module _ (depth : ℕ) (old ts : Tokens) where
       → converted whole_json_items (items (value (depth - 1)) (length ts) ts) ≡ Some (ps, r)
       → converted whole_json (value depth old) ≡ Some (list ps, r)
   list_value ps r is deep read =
-      ap (λ o. converted whole_json (value depth o)) is ∙ ap (converted whole_json) (value-begin_array depth ts deep) ∙ array_read (items (value (depth - 1)) (length ts) ts) ∙ ap (parse_map list) read
+      ap (λ o. converted whole_json (value depth o)) is ∙ ap (converted whole_json) (value-begin_array depth ts deep)
+      ∙ array_read (items (value (depth - 1)) (length ts) ts) ∙ ap (parse_map list) read
 
   pub object_value : (ms : Members) (r : Tokens) → old ≡ Token.begin_object ∷ ts → 0 < depth
       → converted (whole_json_members data'.no_members) (members (value (depth - 1)) (length ts) ts) ≡ Some (ms, r)
       → converted whole_json (value depth old) ≡ Some (object ms, r)
   object_value ms r is deep read =
-      ap (λ o. converted whole_json (value depth o)) is ∙ ap (converted whole_json) (value-begin_object depth ts deep) ∙ object_read (members (value (depth - 1)) (length ts) ts) ∙ ap (parse_map object) read
+      ap (λ o. converted whole_json (value depth o)) is ∙ ap (converted whole_json) (value-begin_object depth ts deep)
+      ∙ object_read (members (value (depth - 1)) (length ts) ts) ∙ ap (parse_map object) read
 
 -- ---- items
 
 with_item : (r : Tokens) (there : Option data'.Data) (rest : Option data'.Items) (p : Plain) → option_and_then whole_value there ≡ Some p
-    → option_map (λ i. (i, r)) (option_and_then whole_items (option_and_then (λ d. option_map (data'.item d) rest) there)) ≡ parse_map (item p) (option_map (λ i. (i, r)) (option_and_then whole_items rest))
+    → option_map (λ i. (i, r)) (option_and_then whole_items (option_and_then (λ d. option_map (data'.item d) rest) there))
+    ≡ parse_map (item p) (option_map (λ i. (i, r)) (option_and_then whole_items rest))
 with_item r None rest p e = absurd (cc)
 with_item r (Some d) None p e = refl
 with_item r (Some d) (Some ds) p e = rw e (with_rest (item p) r (whole_items ds))
@@ -134,7 +140,8 @@ none_yet (Some q) = refl
 
 module _ (parse : Parse json.Json) (n : ℕ) (ts r : Tokens) where
   pub next_item_read : (ps : List Plain) (p : Plain) → 0 < n → after_end_array ts ≡ None → converted whole_json (parse ts) ≡ Some (p, r)
-      → parse_map (items_after ps) (converted whole_json_items (items parse n ts)) ≡ parse_map (items_after (ps ++ p ∷ [])) (converted whole_json_items (items parse (n - 1) r))
+      → parse_map (items_after ps) (converted whole_json_items (items parse n ts))
+      ≡ parse_map (items_after (ps ++ p ∷ [])) (converted whole_json_items (items parse (n - 1) r))
   next_item_read ps p some going e =
       let first = was_read whole_json (parse ts) p r e in
       let step = ap (converted whole_json_items) (items_more parse n ts r first.spelled some going first.is) ∙ item_before first.spelled p first.gives _ in
@@ -170,7 +177,8 @@ apart_placed k e (f ∷ pairs) alone apart =
 one_more_pair : (ds : data'.Members) (pairs : List (List ℕ × Json)) (k : List ℕ) (d : data'.Data) (j : Json) → ArePairs ds pairs
     → IsApart k pairs → whole_value d ≡ Some (plain j) → ArePairs (data'.put k d ds) (placed (k, j) pairs)
 one_more_pair ds pairs k d j are apart e = record {
-  whole_is = whole_put k d (plain j) ds e (are.fresh k apart) ∙ ap (option_map (put k (plain j))) are.whole_is ∙ ap Some (sym (plain_members-placed k j pairs));
+  whole_is = whole_put k d (plain j) ds e (are.fresh k apart)
+      ∙ ap (option_map (put k (plain j))) are.whole_is ∙ ap Some (sym (plain_members-placed k j pairs));
   fresh = λ l other. let both = apart_placed l (k, j) pairs apart other in fresh_put l k d ds both.0 (are.fresh l both.1);
 }
 
@@ -190,7 +198,8 @@ module _ (parse : Parse json.Json) (n : ℕ) (ts : Tokens) where
   reads_all = record { found = data'.no_members; are = no_pairs; reads = refl }
 
   module _ (read : Option (Members × Tokens)) (pairs : List (List ℕ × Json)) (on : ReadsOn read parse n ts pairs) where
-    pub next_member_read : (k : List ℕ) (s r : Tokens) (j : Json) → 0 < n → read_key ts ≡ Some (Some k, s) → converted whole_json (parse s) ≡ Some (plain j, r)
+    pub next_member_read : (k : List ℕ) (s r : Tokens) (j : Json) → 0 < n → read_key ts ≡ Some (Some k, s)
+        → converted whole_json (parse s) ≡ Some (plain j, r)
         → IsApart k pairs → ReadsOn read parse (n - 1) r (placed (k, j) pairs)
     next_member_read k s r j some named e apart =
         let first = was_read whole_json (parse s) (plain j) r e in

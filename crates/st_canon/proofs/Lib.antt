@@ -7,6 +7,7 @@ mod Depths
 mod Kept
 mod Outcomes
 mod Puts
+mod RewritingLemmas
 mod RunLemmas
 mod Searching
 mod Sorting

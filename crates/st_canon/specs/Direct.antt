@@ -16,14 +16,14 @@ whole_numeral minus parts = option_and_then whole_number (number_from minus part
 abbrev pub whole_text : List ℕ → Option ℤ
 whole_text digits = option_and_then whole_number (number_of digits)
 
--- a value with whole numbers
+-- the value with whole numbers that this JSON is
 abbrev pub whole_json : json.Json → Option Plain
 whole_json read = option_and_then whole_value (of_json read)
 
--- its items
+-- the same of items
 abbrev pub whole_json_items : json.Items → Option Items
 whole_json_items read = option_and_then whole_items (of_items read)
 
--- its members, which go in among these
+-- the same of members, which go in among these data
 abbrev pub whole_json_members : data'.Members → json.Members → Option Members
 whole_json_members found read = option_and_then whole_members (of_members read found)

@@ -16,14 +16,18 @@ abbrev pub in_order : {X : Type 0} → List (List ℕ × X) → List (List ℕ �
 in_order [] = []
 in_order (e ∷ es) = placed e (in_order es)
 
+-- the name ties with none of these
+abbrev pub IsNew : List ℕ → List (List ℕ) → Type 0
+IsNew name names = AllByRecursion (λ other. name_cmp name other ≡ Equal → ⊥) names
+
 -- the name ties with none of the pairs
 abbrev pub IsApart : {X : Type 0} → List ℕ → List (List ℕ × X) → Type 0
-IsApart name pairs = AllByRecursion (λ other. name_cmp name other ≡ Equal → ⊥) (keys_of pairs)
+IsApart name pairs = IsNew name (keys_of pairs)
 
 -- no two names tie in the order
 abbrev pub AreApart : List (List ℕ) → Type 0
 AreApart [] = ⊤
-AreApart (name ∷ names) = AllByRecursion (λ other. name_cmp name other ≡ Equal → ⊥) names × AreApart names
+AreApart (name ∷ names) = IsNew name names × AreApart names
 
 -- no name comes twice
 abbrev pub NamesDiffer : {X : Type 0} → List (List ℕ × X) → Type 0

@@ -1,5 +1,6 @@
 pub mod Canonical
 pub mod Depth
+pub mod Direct
 pub mod Entries
 pub mod Find
 pub mod InOrder
@@ -13,7 +14,7 @@ pub mod Place
 pub mod Plain
 pub mod Proper
 pub mod Reading
-pub mod Direct
+pub mod Rewritten
 pub mod Shapes
 pub mod View
 pub mod formers

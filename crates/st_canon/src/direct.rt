@@ -18,16 +18,23 @@ use std::alloc::Global;
 /// How deep lists and objects may nest in a text that is read, as in `serde_json`.
 pub const MAX_DEPTH: usize = 127;
 
-/// Why the tokens of a text are not read in one pass.
+/// Why the next value of a reader of tokens is not given.
 #[derive(Clone, Copy, Debug, PartialEq, Eq)]
 pub enum ReadStopped {
-    /// They are left to `read`: they are no JSON, have a number that is not whole or a name twice in
-    /// one object, or names far out of their order.
+    /// They are left to `read`: no value comes next, they are no JSON, nest deeper than asked, or have
+    /// a number with a fraction or an exponent, `-0`, one outside -(2^53 - 1) to 2^53 - 1, or a name
+    /// twice in one object. `read_value` leaves also a name that is below more than 64 names before
+    /// it, and `rewrite` each that is below the one before it. No clause says which.
     Left,
+    /// Memory could not be had.
     WantOfMemory,
 }
 
 impl From<WantOfMemory> for ReadStopped {
+    ghost use Rattle.st_canon.specs.declared.direct.ReadStopped.TheVariants.{WantOfMemory};
+
+    ghost from_gives = { λ _ stopped. stopped ≡ WantOfMemory };
+
     fn from(_want: WantOfMemory) -> ReadStopped {
         ReadStopped::WantOfMemory
     }
@@ -137,7 +144,7 @@ fn read_members(alloc: Global, reader: &mut Reader<'_>, depth: usize) -> Result<
 }
 
 // The whole number that a number's text is. `None` says nothing.
-fn whole_of(text: &str) -> Option<Whole>
+pub(crate) fn whole_of(text: &str) -> Option<Whole>
     ensures { IfSome result (λ whole. whole_text text.now ≡ Some whole) }
 {
     let bytes = text.as_bytes();

@@ -92,8 +92,8 @@ impl<T: Drop> Members<T> {
         Ok(Members { pairs })
     }
 
-    // Adds the member, where none of its name is there and few names are above it, and gives whether it
-    // did. So a list of names takes no more than linear time, whatever their order.
+    // Adds the member, where none of its name is there and at most 64 names are above it, and gives
+    // whether it did. So no order of names makes more than 64 members move for each.
     pub(crate) fn add(&mut self, name: Text, value: T) -> Result<bool, WantOfMemory>
         ensures added { IfOk result (λ added. added ≡ true → self.new ≡ placed (name, value) self.old) }
         ensures apart { IfOk result (λ added. added ≡ true → IsApart name self.old) }

@@ -1,18 +1,24 @@
 ghost use Rattle.std.specs.Prelude.{◌≡◌, ◌++◌, ◌≤◌, IfOk, OnOk, Ok, false};
-ghost use Rattle.std.specs.Fmt.{signed_decimal};
-ghost use Rattle.st_canon.specs.Canonical.{canonical, canonical_items, canonical_members};
+ghost use Rattle.st_canon.specs.Canonical.{canonical, canonical_items, canonical_members, comma as comma_text};
 ghost use Rattle.st_canon.specs.Depth.{depth_of};
-ghost use Rattle.st_canon.specs.Plain.{Plain};
+ghost use Rattle.st_canon.specs.Plain.{IsWhole, Plain, boolean, whole as whole_number};
 ghost use Rattle.st_canon.specs.Proper.{IsProper, ItemsAreProper, MembersAreProper};
 ghost use Rattle.st_canon.specs.Reading.{json_of};
 ghost use Rattle.st_canon.specs.View.{plain, plain_items, plain_members};
 
 use crate::escape::append_text;
+use crate::room::room_for_bytes;
 use crate::value::{Json, Object};
+use crate::whole::Whole;
 use st_base::{Bytes, List, WantOfMemory};
 use std::alloc::Global;
 
-/// The canonical text of a value (RFC 8785), as bytes in UTF-8.
+// Room that most texts do not outgrow, so that they are not moved while they are written: a delta has at
+// most 1,000 bytes in version 1, and 2,000 in version 2.
+const USUAL: usize = 1_000;
+
+/// The canonical text of a value (RFC 8785), as bytes in UTF-8. It has room for 1,000 bytes at least, so
+/// who keeps a short one copies it.
 pub fn write(alloc: Global, value: &Json) -> Result<Bytes, WantOfMemory>
     ensures text { IfOk result (λ text. text ≡ canonical (plain value.now)) }
     ensures proper { OnOk result (IsProper (plain value.now)) }
@@ -23,7 +29,7 @@ pub fn write(alloc: Global, value: &Json) -> Result<Bytes, WantOfMemory>
     // No other value has this text.
     ensures only { IfOk result (λ text. (other : Plain) → IsProper other → canonical other ≡ text → other ≡ plain value.now) }
 {
-    let mut out = Bytes::new(alloc);
+    let mut out = room_for_bytes(alloc, USUAL)?;
     append(alloc, &mut out, value)?;
     Ok(out)
 }
@@ -35,12 +41,8 @@ fn append(alloc: Global, out: &mut Bytes, value: &Json) -> Result<(), WantOfMemo
 {
     match value {
         Json::Null => out.push_all(alloc, b"null"),
-        Json::Bool(b) => if *b {
-            out.push_all(alloc, b"true")
-        } else {
-            out.push_all(alloc, b"false")
-        },
-        Json::Whole(w) => append_whole(alloc, out, w.value()),
+        Json::Bool(b) => append_bool(alloc, out, *b),
+        Json::Whole(w) => append_whole(alloc, out, *w),
         Json::Text(text) => append_text(alloc, out, text.as_str()),
         Json::List(items) => {
             out.push_all(alloc, b"[")?;
@@ -62,9 +64,7 @@ fn append_items(alloc: Global, out: &mut Bytes, items: &List<Json>) -> Result<()
 {
     let mut comma = false;
     for item in items.as_slice() {
-        if comma {
-            out.push_all(alloc, b",")?;
-        }
+        append_comma(alloc, out, comma)?;
         append(alloc, out, item)?;
         comma = true;
     }
@@ -79,9 +79,7 @@ fn append_members(alloc: Global, out: &mut Bytes, members: &Object) -> Result<()
 {
     let mut comma = false;
     for (name, member) in members.pairs() {
-        if comma {
-            out.push_all(alloc, b",")?;
-        }
+        append_comma(alloc, out, comma)?;
         append_text(alloc, out, name.as_str())?;
         out.push_all(alloc, b":")?;
         append(alloc, out, member)?;
@@ -90,9 +88,31 @@ fn append_members(alloc: Global, out: &mut Bytes, members: &Object) -> Result<()
     Ok(())
 }
 
-fn append_whole(alloc: Global, out: &mut Bytes, value: i64) -> Result<(), WantOfMemory>
-    ensures { OnOk result (out.new ≡ out.old ++ signed_decimal value) }
+// The comma before what is not the first.
+pub(crate) fn append_comma(alloc: Global, out: &mut Bytes, comma: bool) -> Result<(), WantOfMemory>
+    ensures { OnOk result (out.new ≡ out.old ++ comma_text comma) }
 {
-    let digits = value.to_string(alloc)?;
+    if comma {
+        out.push_all(alloc, b",")
+    } else {
+        Ok(())
+    }
+}
+
+pub(crate) fn append_bool(alloc: Global, out: &mut Bytes, b: bool) -> Result<(), WantOfMemory>
+    ensures { OnOk result (out.new ≡ out.old ++ canonical (boolean b)) }
+{
+    if b {
+        out.push_all(alloc, b"true")
+    } else {
+        out.push_all(alloc, b"false")
+    }
+}
+
+pub(crate) fn append_whole(alloc: Global, out: &mut Bytes, whole: Whole) -> Result<(), WantOfMemory>
+    ensures text { OnOk result (out.new ≡ out.old ++ canonical (whole_number whole)) }
+    ensures proper { OnOk result (IsWhole whole) }
+{
+    let digits = whole.value().to_string(alloc)?;
     out.push_all(alloc, digits.as_bytes())
 }

@@ -1,6 +1,7 @@
 use super::{is_respelled, is_written};
-use crate::{MAX_DEPTH, ReadStopped, read_value};
+use crate::{MAX_DEPTH, ReadStopped, read_value, rewrite};
 use json::{Reader, Scratch};
+use st_base::Bytes;
 use std::alloc::Global;
 use std::test::Fail;
 
@@ -31,6 +32,52 @@ fn values_are_read_one_after_another(rt: HostRuntime) -> Result<(), Fail> {
             Err(ReadStopped::Left)
         )
     );
+    Ok(())
+}
+
+// The next values, one behind another, as they go out, up to the first that is left.
+fn rewritten(rt: &HostRuntime, text: &str, depth: usize) -> Result<Bytes, Fail> {
+    let mut scratch = Scratch::new(rt.alloc());
+    let mut reader = Reader::new(text, &mut scratch)?;
+    let mut all = Bytes::new(rt.alloc());
+    loop {
+        let mut out = Bytes::new(rt.alloc());
+        match rewrite(rt.alloc(), &mut out, &mut reader, depth) {
+            Ok(()) => all.push_all(rt.alloc(), out.as_slice())?,
+            Err(_) => return Ok(all),
+        }
+    }
+}
+
+// A text, and what goes out of it.
+const REWRITTEN: &[(&str, &str)] = &[
+    (
+        r#"{"a" : [ ], "b":[1, -9007199254740991]}"#,
+        r#"{"a":[],"b":[1,-9007199254740991]}"#,
+    ),
+    (
+        r#"{"a":{"b":"\u0078","c":null},"d":true}"#,
+        r#"{"a":{"b":"x","c":null},"d":true}"#,
+    ),
+    // The units of U+1F600 begin with D83D, which is below FB33 and above 20AC.
+    (
+        r#"{"\u20ac":1,"\ud83d\ude00":false,"\ufb33":3}"#,
+        "{\"\u{20ac}\":1,\"\u{1f600}\":false,\"\u{fb33}\":3}",
+    ),
+    // names that do not ascend
+    (r#"{"b":1,"a":2}"#, ""),
+    (r#"{"a":1,"a":2}"#, ""),
+    (r#"{"\ufb33":1,"\ud83d\ude00":2}"#, ""),
+    ("1.5", ""),
+    ("[[[0]]]", ""),
+];
+
+#[test]
+fn values_go_out_as_they_come(rt: HostRuntime) -> Result<(), Fail> {
+    for (text, wanted) in REWRITTEN {
+        let out = rewritten(&rt, text, 2)?;
+        assert_eq!(rt; out.as_slice(), wanted.as_bytes());
+    }
     Ok(())
 }
 
