@@ -1,5 +1,6 @@
--- An object whose only member is a list is read from the tokens around the items, and from those.
-use Rattle.std.proofs.Common.{◌≡◌, ℕ, ◌-◌, ◌<◌, ◌≤◌, List, [], ◌∷◌, length, Some, Ok, refl, sym, ap, ◌∙◌, arith}
+-- An object whose only member is a list is read from the tokens around the items, and from those; and what goes out of
+-- them is read again.
+use Rattle.std.proofs.Common.{◌≡◌, ℕ, ◌-◌, List, [], ◌∷◌, length, Some, Ok, refl, sym, ap, ◌∙◌, arith}
 use Rattle.std.specs.Result.{result_ok}
 use Rattle.std.specs.Str.{IsUtf8}
 use Rattle.json.specs.Json as json
@@ -11,10 +12,13 @@ use Rattle.serde_json.specs.Read.{converted}
 use Rattle.st_canon.specs.Direct.{whole_json, whole_json_items}
 use Rattle.st_canon.specs.Plain.{Plain, list}
 use Rattle.st_canon.specs.Reading.{json_of}
+use Rattle.st_canon.specs.Rewritten.{IsNext}
 use Rattle.st_canon.specs.Shapes.{json_in}
-use Rattle.st_canon.specs.View.{items_of}
+use Rattle.st_canon.specs.View.{items_of, plain}
+use Rattle.st_canon.proofs.Back.{reads_back}
 use Rattle.st_canon.proofs.DirectLemmas.{list_value, one_member, text_read, was_read}
 use Rattle.st_packed.specs.Entries.{ends, object_of_list, opens_list}
+use Rattle.st_packed.specs.Packed.{IsReadAgain, value_read}
 
 module _ (name : List ℕ) (entries : List Plain) (inside : List Token)
     (read : converted whole_json_items (items (value 125) (length inside) inside) ≡ Some (items_of entries, ends)) where
@@ -31,3 +35,11 @@ module _ (name : List ℕ) (entries : List Plain) (inside : List Token)
   pub entries_read : (file : List ℕ) → IsUtf8 file → tokens file ≡ opens_list name inside → json_in file ≡ Some (object_of_list name entries)
   entries_read file utf8 is =
       ap result_ok (text_read file (object_of_list name entries) utf8 (ap (λ ts. converted whole_json (value 127 ts)) is ∙ all_read))
+
+-- the canonical text of the next value is read again as that value
+pub next_read_again : (old new : List Token) (text : List ℕ) (next : IsNext 125 old new [] text)
+    → IsReadAgain text × (value_read (json_of text) ≡ plain next.is)
+next_read_again old new text next =
+    let shallow = next.shallow in
+    let is : json_of text ≡ Ok (plain next.is) = ap json_of next.text ∙ reads_back (plain next.is) next.proper (omega (arith, shallow)) in
+    rw is ((next.proper, refl, sym next.text), refl)

@@ -99,7 +99,3 @@ mutual
 -- a plain value by its tree
 abbrev pub coded_plain : Coded Plain
 coded_plain = record { code = code_plain; inj = inj_plain }
-
--- deltas, as far as they are plain values
-abbrev pub coded_deltas : Coded (List Plain)
-coded_deltas = coded_list coded_plain

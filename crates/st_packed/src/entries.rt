@@ -1,6 +1,5 @@
-ghost use Rattle.std.specs.Prelude.{◌≡◌, [], ◌∷◌, ◌<◌, length, IfOk, IfSome, IsTrue, OnOk, Some};
+ghost use Rattle.std.specs.Prelude.{◌≡◌, [], ◌<◌, length, IfOk, IfSome, IsTrue, OnOk, Some};
 ghost use Rattle.json.specs.Json.{items, value};
-ghost use Rattle.json.specs.Token.{Token as SpecToken};
 ghost use Rattle.serde_json.specs.Read.{converted};
 ghost use Rattle.st_canon.specs.Direct.{whole_json, whole_json_items};
 ghost use Rattle.st_canon.specs.Shapes.{json_in};
@@ -11,19 +10,45 @@ use crate::packed::PackedJson;
 use crate::shared::Shared;
 use json::{Reader, Scratch, Token};
 use st_base::{Bytes, List, WantOfMemory};
-use st_canon::{MAX_DEPTH, ReadStopped, read_value};
+use st_canon::{MAX_DEPTH, ReadStopped, read_value, rewrite};
 use std::alloc::Global;
 
 // How deep the entries may nest, which stand in a list in an object.
 const INSIDE: usize = MAX_DEPTH - 2;
 
+// Room that most entries do not outgrow.
+const USUAL: usize = 1_000;
+
+// How an entry is packed: straight from its tokens, where its names are in order, or by way of a tree.
+#[derive(Clone, Copy)]
+enum Way {
+    Tokens,
+    Tree,
+}
+
 /// The entries of the list that is the only member, of this name, of the object that the file is. Each
-/// is packed as soon as it was read, and shares its text with the file where that is canonical.
+/// is packed as soon as it was read, and shares its text with the file where that is canonical. A file in
+/// which some names do not ascend is read a second time.
 /// `None` says nothing of the file: it is to be read by `read`.
 pub fn read_entries(
     alloc: Global,
     file: &Shared<Bytes>,
     name: &str,
+) -> Result<Option<List<PackedJson>>, WantOfMemory>
+    ensures { IfOk result (λ found. IfSome found (λ entries. json_in file.now ≡ Some (object_of_list name.now entries))) }
+{
+    match entries_by(alloc, file, name, Way::Tokens)? {
+        Some(entries) => Ok(Some(entries)),
+        None => entries_by(alloc, file, name, Way::Tree),
+    }
+}
+
+// The same in one of the two ways.
+fn entries_by(
+    alloc: Global,
+    file: &Shared<Bytes>,
+    name: &str,
+    way: Way,
 ) -> Result<Option<List<PackedJson>>, WantOfMemory>
     ensures { IfOk result (λ found. IfSome found (λ entries. json_in file.now ≡ Some (object_of_list name.now entries))) }
 {
@@ -37,7 +62,7 @@ pub fn read_entries(
     if !skip_opening(&mut reader, name) {
         return Ok(None);
     }
-    let entries = match pack_items(alloc, &mut reader, file) {
+    let entries = match pack_items(alloc, &mut reader, file, way) {
         Ok(entries) => entries,
         Err(ReadStopped::Left) => return Ok(None),
         Err(ReadStopped::WantOfMemory) => return Err(WantOfMemory),
@@ -65,29 +90,59 @@ fn pack_items(
     alloc: Global,
     reader: &mut Reader<'_>,
     file: &Shared<Bytes>,
+    way: Way,
 ) -> Result<List<PackedJson>, ReadStopped>
     ensures { IfOk result (λ found. converted whole_json_items (items (value 125) (length reader.old) reader.old) ≡ Some (items_of found, reader.new)) }
 {
     let mut found = List::new(alloc);
     'items: while !reader.take_end_array() {
-        let packed = pack_next(alloc, reader, file)?;
+        let packed = pack_next(alloc, reader, file, way)?;
         found.push(alloc, packed)?;
     }
     Ok(found)
 }
 
-// The next value, whose text is looked for in the file where the reader stands.
+// The next value.
 fn pack_next(
     alloc: Global,
     reader: &mut Reader<'_>,
     file: &Shared<Bytes>,
+    way: Way,
 ) -> Result<PackedJson, ReadStopped>
     ensures value { IfOk result (λ packed. converted whole_json (value 125 reader.old) ≡ Some (packed, reader.new)) }
     ensures shorter { OnOk result (length reader.new < length reader.old) }
 {
+    // Its text is looked for in the file where the reader stands.
     let at = reader.offset();
-    let json = read_value(alloc, reader, INSIDE)?;
-    Ok(PackedJson::pack_within(alloc, &json, file, at)?)
+    match way {
+        Way::Tokens => pack_tokens(alloc, reader, file, at),
+        Way::Tree => {
+            let json = read_value(alloc, reader, INSIDE)?;
+            Ok(PackedJson::pack_within(alloc, &json, file, at)?)
+        }
+    }
+}
+
+// The next value, straight from its tokens.
+fn pack_tokens(
+    alloc: Global,
+    reader: &mut Reader<'_>,
+    file: &Shared<Bytes>,
+    at: usize,
+) -> Result<PackedJson, ReadStopped>
+    ensures value { IfOk result (λ packed. converted whole_json (value 125 reader.old) ≡ Some (packed, reader.new)) }
+    ensures shorter { OnOk result (length reader.new < length reader.old) }
+{
+    let mut text = room_for(alloc, USUAL)?;
+    rewrite(alloc, &mut text, reader, INSIDE)?;
+    Ok(PackedJson::keep_within(alloc, text.as_slice(), file, at)?)
+}
+
+// No bytes yet, and memory for so many.
+fn room_for(alloc: Global, places: usize) -> Result<Bytes, WantOfMemory>
+    ensures { IfOk result (λ bytes. bytes ≡ []) }
+{
+    Ok(Bytes::from_vec(Vec::with_capacity(alloc, places)?))
 }
 
 // Whether the object is closed, and nothing follows.

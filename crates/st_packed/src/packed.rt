@@ -1,7 +1,7 @@
 ghost use Rattle.std.specs.Prelude.{◌≡◌, IfOk, Ok};
 ghost use Rattle.st_canon.specs.Reading.{json_of};
 ghost use Rattle.st_canon.specs.View.{plain};
-ghost use Rattle.st_packed.specs.Packed.{IsPacked, packed_value, value_read};
+ghost use Rattle.st_packed.specs.Packed.{IsPacked, IsReadAgain, packed_value, value_read};
 
 use crate::part::Part;
 use crate::shared::Shared;
@@ -57,14 +57,14 @@ impl PackedJson {
     pub fn pack(alloc: Global, value: &Json) -> Result<PackedJson, WantOfMemory>
         ensures { IfOk result (λ packed. packed ≡ plain value.now) }
     {
-        let form = form_of(alloc, value)?;
+        let form = form_of(alloc, value, None)?;
         Ok(PackedJson {
             form: Shared::new(alloc, form)?,
         })
     }
 
-    /// The value, whose canonical text is looked for in the file at this place, and shared with it where
-    /// it stands there.
+    /// The value. Where its canonical text stands in the file at this offset, in bytes, it is shared with
+    /// the file; elsewhere, an offset beyond the file's end included, it is kept by itself.
     pub fn pack_within(
         alloc: Global,
         value: &Json,
@@ -73,7 +73,23 @@ impl PackedJson {
     ) -> Result<PackedJson, WantOfMemory>
         ensures { IfOk result (λ packed. packed ≡ plain value.now) }
     {
-        let form = form_within(alloc, value, file, at)?;
+        let form = form_of(alloc, value, Some((file, at)))?;
+        Ok(PackedJson {
+            form: Shared::new(alloc, form)?,
+        })
+    }
+
+    /// The value whose canonical text this is, kept as by `pack_within`.
+    pub(crate) fn keep_within(
+        alloc: Global,
+        text: &[u8],
+        file: &Shared<Bytes>,
+        at: usize,
+    ) -> Result<PackedJson, WantOfMemory>
+        requires { IsReadAgain text.now }
+        ensures { IfOk result (λ packed. packed ≡ value_read (json_of text.now)) }
+    {
+        let form = form_of_text(alloc, text, Some((file, at)))?;
         Ok(PackedJson {
             form: Shared::new(alloc, form)?,
         })
@@ -127,23 +143,11 @@ impl Copied for PackedJson {
     }
 }
 
-fn form_of(alloc: Global, value: &Json) -> Result<Form, WantOfMemory>
-    ensures value { IfOk result (λ form. packed_value form ≡ plain value.now) }
-    ensures packed { IfOk result IsPacked }
-{
-    if depth(value) > READ_AGAIN {
-        return Ok(Form::Parts(value.copy(alloc)?));
-    }
-    let text = write(alloc, value)?;
-    // A copy has room for the text alone.
-    Ok(Form::Text(Bytes::from_slice(alloc, text.as_slice())?))
-}
-
-fn form_within(
+// What is kept of a value, whose text may stand in a file at this offset.
+fn form_of(
     alloc: Global,
     value: &Json,
-    file: &Shared<Bytes>,
-    at: usize,
+    place: Option<(&Shared<Bytes>, usize)>,
 ) -> Result<Form, WantOfMemory>
     ensures value { IfOk result (λ form. packed_value form ≡ plain value.now) }
     ensures packed { IfOk result IsPacked }
@@ -152,10 +156,26 @@ fn form_within(
         return Ok(Form::Parts(value.copy(alloc)?));
     }
     let text = write(alloc, value)?;
-    match Part::find(alloc, file, at, text.as_slice())? {
-        Some(part) => Ok(Form::Within(part)),
-        None => Ok(Form::Text(Bytes::from_slice(alloc, text.as_slice())?)),
+    form_of_text(alloc, text.as_slice(), place)
+}
+
+// The same of the value whose canonical text this is.
+fn form_of_text(
+    alloc: Global,
+    text: &[u8],
+    place: Option<(&Shared<Bytes>, usize)>,
+) -> Result<Form, WantOfMemory>
+    requires { IsReadAgain text.now }
+    ensures value { IfOk result (λ form. packed_value form ≡ value_read (json_of text.now)) }
+    ensures packed { IfOk result IsPacked }
+{
+    if let Some((file, at)) = place {
+        if let Some(part) = Part::find(alloc, file, at, text)? {
+            return Ok(Form::Within(part));
+        }
     }
+    // A copy has room for the text alone.
+    Ok(Form::Text(Bytes::from_slice(alloc, text)?))
 }
 
 // The value of a text that was written of one, so nothing but memory can be wanting.

@@ -24,7 +24,7 @@ impl Model for Part {
 }
 
 impl Part {
-    /// The part of the file from this place on that is this text.
+    /// The part of the file at this offset, in bytes, where that is this text.
     pub fn find(
         alloc: Global,
         file: &Shared<Bytes>,

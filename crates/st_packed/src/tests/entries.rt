@@ -27,9 +27,10 @@ fn told(rt: &HostRuntime, entries: &List<PackedJson>) -> Result<String, Fail> {
     Ok(all)
 }
 
-// A file and its entries, two spaces apart. The first is as it is written, the others are spelled
-// otherwise.
+// A file and its entries, two spaces apart. The first is canonical, the second has spaces and an escape, the
+// third has names out of order as well, the fourth is empty; the last seven are left.
 const FILES: &str = r#"{"deltas":[{"a":1,"b":"x"},null,[]]}  {"a":1,"b":"x"},null,[],
+{"deltas": [ {"a":1, "b":"\u0078"},[ 2 ] ] }  {"a":1,"b":"x"},[2],
 {"deltas": [ {"b":"\u0078" , "a":1},[ 2 ] ] }  {"a":1,"b":"x"},[2],
 {"deltas":[]}  
 {"deltas":[1.5]}  left

@@ -1,8 +1,7 @@
-use Rattle.std.proofs.Common.{◌≡◌, ◌-◌, ◌<◌, [], ◌∷◌, ◌++◌, length, Some, None, sym, ap, ◌∙◌, arith}
+use Rattle.std.proofs.Common.{◌≡◌, ◌-◌, ◌<◌, length, Some, None, sym, ap, ◌∙◌, arith}
 use Rattle.json.specs.Json.{after_end_array, items, parse_map, value}
 use Rattle.serde_json.specs.Read.{converted}
 use Rattle.st_canon.specs.Direct.{whole_json_items}
-use Rattle.st_canon.specs.View.{plain}
 use Rattle.st_canon.proofs.Converting.{items_after, items_after-nil}
 use Rattle.st_canon.proofs.DirectLemmas.{items_over, next_item_read, none_yet}
 use Rattle.st_packed.proofs.entries.pack_items.Goals as goal

@@ -1,9 +1,9 @@
-use Rattle.std.proofs.Common.{◌≡◌, ap, ◌∙◌, sym, subst, rules}
+use Rattle.std.proofs.Common.{◌≡◌, ap, ◌∙◌, sym, rules}
 use Rattle.std.specs.Str.{IsUtf8}
 use Rattle.json.specs.Lex.{tokens}
 use Rattle.st_packed.specs.Entries.{ends, opens_list}
 use Rattle.st_packed.proofs.EntryLemmas.{entries_read}
-use Rattle.st_packed.proofs.entries.read_entries.Goals as goal
+use Rattle.st_packed.proofs.entries.entries_by.Goals as goal
 
 pub returns-then-is_closed : goal.returns-then-is_closed
 returns-then-is_closed c =
