@@ -11,4 +11,4 @@ found_view found = record { payload = plain found.0; key = found.1 }
 
 -- what an opened text stands for
 abbrev pub opened_view : Signed → Opened
-opened_view signed = record { payload = plain signed.payload; key = signed.key }
+opened_view signed = record { payload = signed.payload; key = signed.key }

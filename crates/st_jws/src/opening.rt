@@ -18,6 +18,7 @@ use st_base::{Bytes, Copied, Text, WantOfMemory, Work};
 use st_canon::{Json, read_json};
 use st_hash::{DecRefused, dec};
 use st_lms::verify;
+use st_packed::PackedJson;
 use std::alloc::Global;
 
 /// A signed text whose signature holds under the key in its payload.
@@ -25,8 +26,8 @@ use std::alloc::Global;
 pub struct Signed {
     /// The text as it was.
     pub text: Text,
-    /// What was signed.
-    pub payload: Json,
+    /// What was signed, kept as its canonical text.
+    pub payload: PackedJson,
     /// The key of the payload, under which the signature holds.
     pub key: Jwk,
 }
@@ -52,12 +53,13 @@ pub fn open_signed(
 ) -> Result<Signed, SignedRefused>
     ensures opened { GivesAs opened_view refusal_of (opened text.now limit) result }
     ensures text { IfOk result (λ signed. signed.text ≡ text.now) }
-    ensures proper { IfOk result (λ signed. IsProper (plain signed.payload)) }
+    ensures proper { IfOk result (λ signed. IsProper signed.payload) }
     ensures counted { work.new ≡ one_proof work.old }
 {
     work.tick_proofs();
     let (payload, key) = open_text(alloc, text.as_str().as_bytes(), limit)?;
     let text = text.copy(alloc)?;
+    let payload = PackedJson::pack(alloc, &payload)?;
     Ok(Signed { text, payload, key })
 }
 

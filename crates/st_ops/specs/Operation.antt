@@ -1,7 +1,6 @@
 -- Operations (DIF Sidetree v1.0.0, "DID Operations") over plain values.
 use Rattle.std.specs.Prelude.{ℕ, List, Option, option_map}
 use Rattle.st_canon.specs.Plain.{Plain}
-use Rattle.st_canon.specs.View.{plain}
 use Rattle.st_hash.specs.Hash.{HashValue}
 use Rattle.st_indexfiles.specs.SuffixData.{suffix_of as suffix_of_data}
 use Rattle.st_indexfiles.specs.declared.suffix_data.SuffixData.{SuffixData}
@@ -27,7 +26,7 @@ pub data PlainOperation : Type 0 where
 
 -- the proof that a `Signed` is
 abbrev pub plain_proof : Signed → Proof
-plain_proof signed = record { text = signed.text; payload = plain signed.payload; key = signed.key }
+plain_proof signed = record { text = signed.text; payload = signed.payload; key = signed.key }
 
 -- the plain operation that an `Operation` stands for
 abbrev pub plain_operation : Operation → PlainOperation

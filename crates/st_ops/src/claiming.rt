@@ -1,5 +1,4 @@
 ghost use Rattle.std.specs.Prelude.{◌≡◌, ◌≤◌, IfOk, option_map};
-ghost use Rattle.std.specs.Option.{option_copied};
 ghost use Rattle.st_canon.specs.View.{plain};
 ghost use Rattle.st_ops.specs.Claim.{claim_of, deactivate_claim, is_revealed, recover_claim, revealed, update_claim};
 ghost use Rattle.st_ops.specs.Operation.{plain_operation, plain_proof};
@@ -31,11 +30,11 @@ pub fn claim_of(
     match operation {
         Operation::Create { .. } => Ok(None),
         Operation::Update { reveal, proof, .. } => match revealed(alloc, reveal, proof)? {
-            Some(payload) => Ok(update_claim(payload, version)),
+            Some(payload) => Ok(update_claim(&payload, version)),
             None => Ok(None),
         },
         Operation::Recover { reveal, proof, .. } => match revealed(alloc, reveal, proof)? {
-            Some(payload) => Ok(recover_claim(payload, version)),
+            Some(payload) => Ok(recover_claim(&payload, version)),
             None => Ok(None),
         },
         Operation::Deactivate {
@@ -43,26 +42,26 @@ pub fn claim_of(
             reveal,
             proof,
         } => match revealed(alloc, reveal, proof)? {
-            Some(payload) => Ok(deactivate_claim(payload, suffix, version)),
+            Some(payload) => Ok(deactivate_claim(&payload, suffix, version)),
             None => Ok(None),
         },
     }
 }
 
 // The payload of a proof whose key has this reveal value.
-fn revealed<'a>(
+fn revealed(
     alloc: Global,
     reveal: &Hash,
-    proof: &'a Option<Shared<Signed>>,
-) -> Result<Option<&'a Json>, WantOfMemory>
-    ensures { IfOk result (λ payload. option_map plain (option_copied payload) ≡ revealed reveal.now (option_map plain_proof proof.now)) }
+    proof: &Option<Shared<Signed>>,
+) -> Result<Option<Json>, WantOfMemory>
+    ensures { IfOk result (λ payload. option_map plain payload ≡ revealed reveal.now (option_map plain_proof proof.now)) }
 {
     let Some(proof) = proof else {
         return Ok(None);
     };
     let signed = proof.get();
     if is_revealed(alloc, reveal, &signed.key)? {
-        Ok(Some(&signed.payload))
+        Ok(Some(signed.payload.unpack(alloc)?))
     } else {
         Ok(None)
     }

@@ -20,7 +20,7 @@ use crate::signed::{proof_in, target_in};
 use st_base::{WantOfMemory, Work};
 use st_canon::{Json, Object, ReadRefused, read};
 use st_indexfiles::SuffixData;
-use st_packed::{PackedJson, Shared};
+use st_packed::PackedJson;
 use st_params::Params;
 use std::alloc::Global;
 
@@ -136,7 +136,7 @@ fn update_asked(
     let operation = Operation::Update {
         suffix: target.suffix,
         reveal: target.reveal,
-        proof: Some(Shared::new(alloc, proof)?),
+        proof: Some(proof),
         delta: delta_in(alloc, &request)?,
     };
     if has_claim(alloc, &operation, params)? {
@@ -169,7 +169,7 @@ fn recover_asked(
     let operation = Operation::Recover {
         suffix: target.suffix,
         reveal: target.reveal,
-        proof: Some(Shared::new(alloc, proof)?),
+        proof: Some(proof),
         delta: delta_in(alloc, &request)?,
     };
     if has_claim(alloc, &operation, params)? {
@@ -202,7 +202,7 @@ fn deactivate_asked(
     let operation = Operation::Deactivate {
         suffix: target.suffix,
         reveal: target.reveal,
-        proof: Some(Shared::new(alloc, proof)?),
+        proof: Some(proof),
     };
     if has_claim(alloc, &operation, params)? {
         Ok(operation)

@@ -10,6 +10,7 @@ use st_base::{Text, WantOfMemory, Work};
 use st_canon::{Json, Object};
 use st_indexfiles::{Target, hash_in};
 use st_jws::{Signed, SignedRefused, open_signed};
+use st_packed::Shared;
 use std::alloc::Global;
 
 /// What a request names: the suffix and the reveal value whose hash texts of the version stand in it.
@@ -33,7 +34,7 @@ pub(crate) fn proof_in(
     request: &Object,
     limit: usize,
     work: &mut Work,
-) -> Result<Option<Signed>, WantOfMemory>
+) -> Result<Option<Shared<Signed>>, WantOfMemory>
     requires { IsSome (text_at (codes "signedData") (Some (object (plain_members request.now)))) }
     ensures value { IfOk result (λ proof. option_map plain_proof proof ≡ proof_in limit (Some (object (plain_members request.now)))) }
     ensures counted { work.new ≡ one_proof work.old }
@@ -57,12 +58,12 @@ fn opened(
     text: &Text,
     limit: usize,
     work: &mut Work,
-) -> Result<Option<Signed>, WantOfMemory>
+) -> Result<Option<Shared<Signed>>, WantOfMemory>
     ensures value { IfOk result (λ proof. option_map plain_proof proof ≡ proof_of limit text.now) }
     ensures counted { work.new ≡ one_proof work.old }
 {
     match open_signed(alloc, text, limit, work) {
-        Ok(signed) => Ok(Some(signed)),
+        Ok(signed) => Ok(Some(Shared::new(alloc, signed)?)),
         Err(SignedRefused::BadForm) => Ok(None),
         Err(SignedRefused::BadHeader) => Ok(None),
         Err(SignedRefused::BadPayload) => Ok(None),

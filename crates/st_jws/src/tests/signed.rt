@@ -76,7 +76,7 @@ fn a_signed_text_opens_to_its_payload(rt: HostRuntime) -> Result<(), Fail> {
         let opened = opened.copy(rt.alloc())?;
         assert_eq!(rt; opened.text.as_str(), signed);
         assert_eq!(rt;
-            write(rt.alloc(), &opened.payload)?.as_slice(),
+            write(rt.alloc(), &opened.payload.unpack(rt.alloc())?)?.as_slice(),
             payload.as_bytes()
         );
         assert_eq!(rt;
