@@ -134,7 +134,7 @@ impl<K: Copy + Ord, F: Folder> Index<K, F> {
         ensures { result.now ≡ folded (F.next self.now.folder) (F.first self.now.folder) (items_at K.cmp key.now self.now.items) }
     {
         match self.rows.get(key) {
-            Some(row) => &row.last,
+            Some(row) => &row.get().last,
             None => &self.start,
         }
     }
@@ -145,7 +145,7 @@ impl<K: Copy + Ord, F: Folder> Index<K, F> {
         ensures ascend { Ascend result.now }
     {
         match self.rows.get(key) {
-            Some(row) => row.items.as_slice(),
+            Some(row) => row.get().items.as_slice(),
             None => &[],
         }
     }

@@ -3,6 +3,7 @@
 //! reading it takes none.
 #![tactic(auto)]
 
+mod boxed;
 mod folder;
 mod index;
 mod places;

@@ -6,14 +6,15 @@ ghost use Rattle.st_opindex.specs.Changed.{AreNamed, names_cost};
 ghost use Rattle.st_opindex.specs.Kept.{IsRow};
 ghost use Rattle.st_opindex.specs.Seen.{AreFolded, AreOwed, AreRows, FoldsKey, LeavesMore, left_at, left_of, seen_items};
 
+use crate::boxed::Boxed;
 use crate::folder::Folder;
 use crate::row::{Row, cut_row, empty_row, fold_row, put_row};
 use st_base::{WantOfMemory, Work};
 use std::alloc::Global;
 use std::collections::BTreeMap;
 
-/// The row of each key that has one.
-pub type Rows<K, F> = BTreeMap<K, Row<<F as Folder>::Item, <F as Folder>::State>>;
+/// The row of each key that has one, boxed, so that the tree moves keys and pointers where it makes room.
+pub type Rows<K, F> = BTreeMap<K, Boxed<Row<<F as Folder>::Item, <F as Folder>::State>>>;
 
 // Inserts the item at this place of the key, or replaces the one there. Nothing is applied.
 pub fn put_item<K: Copy + Ord, F: Folder>(
@@ -31,7 +32,7 @@ pub fn put_item<K: Copy + Ord, F: Folder>(
 {
     let row = take_row(alloc, folder, rows, key)?;
     let row = put_row(alloc, folder, row, place, item)?;
-    rows.insert(key, row)?;
+    rows.insert(key, Boxed::new(alloc, row)?)?;
     Ok(())
 }
 
@@ -51,7 +52,7 @@ fn take_row<K: Copy + Ord, F: Folder>(
     ensures folds { FoldsKey K.cmp key rows.old.entries rows.new.entries }
 {
     match rows.remove(&key) {
-        Some(row) => Ok(row),
+        Some(row) => Ok(row.take()),
         None => empty_row(alloc, folder),
     }
 }
@@ -94,8 +95,8 @@ fn fold_key<K: Copy + Ord, F: Folder>(
     let Some(row) = rows.remove(&key) else {
         return Ok(());
     };
-    let row = fold_row(alloc, folder, row, work)?;
-    rows.insert(key, row)?;
+    let row = fold_row(alloc, folder, row.take(), work)?;
+    rows.insert(key, Boxed::new(alloc, row)?)?;
     Ok(())
 }
 
@@ -136,10 +137,10 @@ fn cut_key<K: Copy + Ord, F: Folder>(
     let Some(row) = rows.remove(&key) else {
         return Ok(());
     };
-    let row = cut_row(alloc, folder, row, place, work)?;
+    let row = cut_row(alloc, folder, row.take(), place, work)?;
     if row.items.is_empty() {
         return Ok(());
     }
-    rows.insert(key, row)?;
+    rows.insert(key, Boxed::new(alloc, row)?)?;
     Ok(())
 }

@@ -16,11 +16,12 @@ returns-in_default-clause-items g c =
     (sym (ap (before c.args.place) (seen_found g.K.Ord.cmp c.args.key old None (sym (sym c.remove.ensures.value ∙ c.in_default.is)))))
 
 pub cut_row-requires : goal.cut_row-requires
-cut_row-requires g c = row_found c.requires c.args.key c.in-Some.row c.in-Some.ensures.value
+cut_row-requires g c = rw c.take.ensures (row_found c.requires c.args.key c.in-Some.row c.in-Some.ensures.value)
 
 pub returns-in_err-row-clause-bound : goal.returns-in_err-row-clause-bound
 returns-in_err-row-clause-bound g c =
-    rw (seen_found g.K.Ord.cmp c.args.key c.args.rows.now.entries (Some c.in-Some.row) c.in-Some.ensures.value) c.cut_row.ensures.bound
+    let bound = rw c.take.ensures at c.cut_row.ensures.bound in
+    rw (seen_found g.K.Ord.cmp c.args.key c.args.rows.now.entries (Some c.in-Some.row) c.in-Some.ensures.value) bound
 
 pub returns-then-is_empty : goal.returns-then-is_empty
 returns-then-is_empty g c =
@@ -29,17 +30,25 @@ returns-then-is_empty g c =
     let old = c.args.rows.now.entries in
     let taken = c.remove.new.self.entries in
     let found = seen_found g.K.Ord.cmp c.args.key old (Some c.in-Some.row) c.in-Some.ensures.value in
+    let cut = c.in_ok-row.ensures.items ∙ ap (λ row. before place row.items.items) c.take.ensures in
+    let bound = rw c.take.ensures at c.cut_row.ensures.bound in
     let empty : length c.in_ok-row.row.items.items ≡ 0 = omega (arith, eqb-true _ 0 (sym c.if-is_empty.ensures), c.in_ok-row.row.items.ok.0) in
     record {
       rows = rows_updated c.requires c.args.key None taken c.in-Some.ensures.updates.0 tt;
       items = seen_gone order c.args.key old taken (seen_taken order c.args.key old taken c.in-Some.ensures.updates.0) (before place)
-          (sym (sym (c.in_ok-row.ensures.items ∙ ap (before place) (sym found)) ∙ nil_from_length c.in_ok-row.row.items.items empty));
-      bound = rw found c.cut_row.ensures.bound;
+          (sym (sym (cut ∙ ap (before place) (sym found)) ∙ nil_from_length c.in_ok-row.row.items.items empty));
+      bound = rw found bound;
     }
+
+pub returns-in_err-new-clause-bound : goal.returns-in_err-new-clause-bound
+returns-in_err-new-clause-bound g c =
+    let bound = rw c.take.ensures at c.cut_row.ensures.bound in
+    rw (seen_found g.K.Ord.cmp c.args.key c.args.rows.now.entries (Some c.in-Some.row) c.in-Some.ensures.value) bound
 
 pub returns-in_err-insert-clause-bound : goal.returns-in_err-insert-clause-bound
 returns-in_err-insert-clause-bound g c =
-    rw (seen_found g.K.Ord.cmp c.args.key c.args.rows.now.entries (Some c.in-Some.row) c.in-Some.ensures.value) c.cut_row.ensures.bound
+    let bound = rw c.take.ensures at c.cut_row.ensures.bound in
+    rw (seen_found g.K.Ord.cmp c.args.key c.args.rows.now.entries (Some c.in-Some.row) c.in-Some.ensures.value) bound
 
 pub returns : goal.returns
 returns g c =
@@ -48,10 +57,14 @@ returns g c =
     let old = c.args.rows.now.entries in
     let taken = c.remove.new.self.entries in
     let found = seen_found g.K.Ord.cmp c.args.key old (Some c.in-Some.row) c.in-Some.ensures.value in
+    let row = c.in_ok-new.field-0 in
+    let is = c.in_ok-new.ensures in
+    let cut = ap (λ row. row.items.items) is ∙ c.in_ok-row.ensures.items ∙ ap (λ row. before place row.items.items) c.take.ensures in
+    let bound = rw c.take.ensures at c.cut_row.ensures.bound in
     record {
-      rows = rows_updated (rows_updated c.requires c.args.key None taken c.in-Some.ensures.updates.0 tt) c.args.key (Some c.in_ok-row.row) c.insert.new.self.entries
-          c.in_ok-insert.ensures.updates.0 c.in_ok-row.ensures.folded;
+      rows = rows_updated (rows_updated c.requires c.args.key None taken c.in-Some.ensures.updates.0 tt) c.args.key (Some row) c.insert.new.self.entries
+          c.in_ok-insert.ensures.updates.0 (rw is c.in_ok-row.ensures.folded);
       items = seen_changed order c.args.key old taken (seen_taken order c.args.key old taken c.in-Some.ensures.updates.0) (before place)
-          c.in_ok-row.row c.insert.new.self.entries (c.in_ok-row.ensures.items ∙ ap (before place) (sym found)) c.in_ok-insert.ensures.updates.0;
-      bound = rw found c.cut_row.ensures.bound;
+          row c.insert.new.self.entries (cut ∙ ap (before place) (sym found)) c.in_ok-insert.ensures.updates.0;
+      bound = rw found bound;
     }

@@ -1,5 +1,6 @@
 use Rattle.std.proofs.Common.{◌∙◌, ap, sym, Some, None}
 use Rattle.std.proofs.lemmas.Result.{IfOk-weaker}
+use Rattle.st_opindex.specs.Seen.{left_of}
 use Rattle.st_opindex.proofs.Keyed.{left_in, left_taken, row_found, rows_updated, seen_found, seen_taken}
 use Rattle.st_opindex.proofs.rows.take_row.Goals as goal
 
@@ -9,9 +10,9 @@ returns-in-Some g c =
     let old = c.args.rows.now.entries in
     let taken = c.remove.new.self.entries in
     record {
-      row = row_found c.requires c.args.key c.in-Some.row c.in-Some.ensures.value;
-      items = sym (seen_found cmp c.args.key old (Some c.in-Some.row) c.in-Some.ensures.value);
-      left = ap left_in c.in-Some.ensures.value;
+      row = rw c.take.ensures (row_found c.requires c.args.key c.in-Some.row c.in-Some.ensures.value);
+      items = ap (λ row. row.items.items) c.take.ensures ∙ sym (seen_found cmp c.args.key old (Some c.in-Some.row) c.in-Some.ensures.value);
+      left = ap left_of c.take.ensures ∙ ap left_in c.in-Some.ensures.value;
       rows = rows_updated c.requires c.args.key None taken c.in-Some.ensures.updates.0 tt;
       rest = seen_taken g.met.K.Ord.total c.args.key old taken c.in-Some.ensures.updates.0;
       folds = left_taken g.K.Ord.cmp c.args.key old taken c.in-Some.ensures.updates.0;

@@ -1,4 +1,4 @@
-use Rattle.std.proofs.Common.{◌∙◌, sym, Some, None}
+use Rattle.std.proofs.Common.{◌∙◌, ap, sym, Some, None}
 use Rattle.st_opindex.proofs.Keyed.{seen_found, row_found}
 use Rattle.st_opindex.proofs.index.Index.items.Goals as goal
 
@@ -7,8 +7,8 @@ returns-in-Some g c =
     let row = c.in-Some.row.now in
     let found = c.in-Some.ensures.value in
     record {
-      value = rw (← c.self.view_is) (c.as_slice.ensures.value ∙ sym (seen_found g.K.Ord.cmp c.args.key.now c.self.inside.rows.entries (Some row) found));
-      ascend = rw c.as_slice.ensures.value (row_found c.self.invariant.rows c.args.key.now row found).is.ascends;
+      value = rw (← c.self.view_is) (c.as_slice.ensures.value ∙ ap (λ row. row.items.items) c.get-in-Some.ensures ∙ sym (seen_found g.K.Ord.cmp c.args.key.now c.self.inside.rows.entries (Some row) found));
+      ascend = rw c.as_slice.ensures.value (rw c.get-in-Some.ensures (row_found c.self.invariant.rows c.args.key.now row found).is.ascends);
     }
 
 pub returns-in-None-clause-value : goal.returns-in-None-clause-value
