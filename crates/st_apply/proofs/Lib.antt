@@ -1,4 +1,5 @@
--- Private: what the laws rest on; and that a delta that is too long does not count.
+-- Private: what the laws rest on; that an operation that is not awaited leaves a state as it was, and that a
+-- delta that is too long does not count.
 mod AwaitingLemmas
 mod ChaseLemmas
 mod LongLemmas

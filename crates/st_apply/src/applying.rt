@@ -1,9 +1,9 @@
 ghost use Rattle.std.specs.Prelude.{◌≡◌, IfOk, true, unwrap_or};
 ghost use Rattle.st_apply.specs.Applied.{applied, beginning_at, reveal_meets, seen_as, seen_at, sidetree};
-ghost use Rattle.st_apply.specs.Awaited.{is_awaited, updated_by};
+ghost use Rattle.st_apply.specs.Awaited.{is_awaited};
 ghost use Rattle.st_apply.specs.Counting.{change_by};
 ghost use Rattle.st_apply.specs.Seen.{absent};
-ghost use Rattle.st_apply.specs.Shown.{shown_active};
+ghost use Rattle.st_apply.specs.Shown.{shown_active, shown_updated};
 ghost use Rattle.st_apply.specs.Step.{begun, step};
 ghost use Rattle.st_base.specs.Work.{one_apply};
 ghost use Rattle.st_doc.specs.Delta.{plain_delta};
@@ -150,7 +150,7 @@ fn updated(
     delta: Delta,
     params: &Params,
 ) -> Result<DidState, WantOfMemory>
-    ensures { IfOk result (λ next. next ≡ updated_by (change_by params.now (plain_delta delta)) active.now) }
+    ensures { IfOk result (λ next. next ≡ shown_updated (change_by params.now (plain_delta delta)) active.now) }
 {
     let update = delta.update;
     let document = changed_document(alloc, params, &active.document, delta)?;

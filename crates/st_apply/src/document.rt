@@ -9,7 +9,7 @@ use std::marker::Model;
 
 /// The document of a state, which states share: a copy costs nothing but a count. One that a create or a
 /// recover began is packed, since most identifiers are never updated. One that was updated is kept in its
-/// parts, since it may well be updated again. Contracts see the document.
+/// parts, since it may well be updated again, until the state is packed. Contracts see the document.
 #[derive(Drop)]
 pub struct KeptDocument {
     form: DocumentForm,
@@ -60,6 +60,18 @@ impl KeptDocument {
         Ok(KeptDocument {
             form: DocumentForm::Parts(Shared::new(alloc, document)?),
         })
+    }
+
+    /// The same document, packed.
+    pub(crate) fn packed(&self, alloc: Global) -> Result<KeptDocument, WantOfMemory>
+        ensures { IfOk result (λ kept. kept ≡ self.now) }
+    {
+        match &self.form {
+            DocumentForm::Packed(json) => Ok(KeptDocument {
+                form: DocumentForm::Packed(json.copy(alloc)?),
+            }),
+            DocumentForm::Parts(document) => KeptDocument::pack(alloc, document.get().copy(alloc)?),
+        }
     }
 
     /// The document, to be looked at. One that is packed is read, one in its parts is shared.

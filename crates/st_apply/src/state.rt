@@ -4,7 +4,7 @@ use st_hash::Hash;
 use std::alloc::Global;
 use std::marker::Model;
 
-/// The state of an identifier. It comes from `absent`, from `apply` and from `copy` alone. Contracts
+/// The state of an identifier. It comes from `absent`, `apply`, `pack` and `copy` alone. Contracts
 /// see it as `absent`, as `active` with a recovery commitment, an update commitment where there is
 /// one, and a document, or as `deactivated`.
 #[derive(Drop)]
@@ -61,7 +61,7 @@ pub enum StateParts<'a> {
 }
 
 impl DidState {
-    ghost use Rattle.std.specs.Prelude.{◌≡◌};
+    ghost use Rattle.std.specs.Prelude.{◌≡◌, IfOk};
     ghost use Rattle.st_apply.specs.Seen.{absent, active, deactivated};
     ghost use Rattle.st_apply.specs.Shown.{lent};
 
@@ -89,6 +89,22 @@ impl DidState {
     {
         DidState {
             kept: Kept::Deactivated,
+        }
+    }
+
+    /// The same state with its document packed: it takes less memory, and to open the document is to read
+    /// it.
+    pub fn pack(&self, alloc: Global) -> Result<DidState, WantOfMemory>
+        ensures { IfOk result (λ state. state ≡ self.now) }
+    {
+        match &self.kept {
+            Kept::Absent => Ok(DidState::absent()),
+            Kept::Active(active) => Ok(DidState::active(
+                active.recovery,
+                active.update,
+                active.document.packed(alloc)?,
+            )),
+            Kept::Deactivated => Ok(DidState::deactivated()),
         }
     }
 

@@ -2,7 +2,7 @@ ghost use Rattle.st_apply.specs.Seen.{absent};
 ghost use Rattle.st_observer.specs.States.{stepped};
 
 use st_apply::{DidState, apply};
-use st_base::{Copied, WantOfMemory, Work};
+use st_base::{WantOfMemory, Work};
 use st_opindex::Folder;
 use st_ops::Operation;
 use st_params::Schedule;
@@ -40,7 +40,8 @@ impl Folder for Steps {
         Ok(apply(alloc, state, &item.1, &params, work)?)
     }
 
+    // Many are kept, and few of them are looked at again.
     fn copy_state(&self, alloc: Global, state: &DidState) -> Result<DidState, WantOfMemory> {
-        state.copy(alloc)
+        state.pack(alloc)
     }
 }

@@ -110,8 +110,13 @@ fn both_ways(
         state = apply(rt.alloc(), &state, operation, &params, work)?;
     }
     let copied = state.copy(rt.alloc())?;
+    let packed = state.pack(rt.alloc())?;
     let walked = walk(rt.alloc(), operations, &params, &mut Work::new(rt))?;
-    Ok(shown(rt, &copied)?.as_str() == expected && shown(rt, &walked)?.as_str() == expected)
+    Ok(
+        shown(rt, &copied)?.as_str() == expected
+            && shown(rt, &packed)?.as_str() == expected
+            && shown(rt, &walked)?.as_str() == expected,
+    )
 }
 
 #[test]
