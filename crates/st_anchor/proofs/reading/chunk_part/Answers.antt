@@ -1,5 +1,4 @@
-use Rattle.std.proofs.Common.{◌∙◌, ◌+◌, ap, arith}
-use Rattle.st_anchor.specs.declared.part.Part.TheVariants.{Is}
+use Rattle.std.proofs.Common.{◌+◌, arith}
 use Rattle.st_anchor.proofs.JudgedLemmas.{chunk-fails, chunk-says}
 use Rattle.st_anchor.proofs.reading.chunk_part.Goals as goal
 

@@ -1,4 +1,4 @@
-use Rattle.std.proofs.Common.{◌≡◌, ◌==◌, Some, ap, length, true, false, sym, ◌∙◌, refl, arith}
+use Rattle.std.proofs.Common.{◌≡◌, ◌==◌, Some, ap, length, true, false, refl, arith}
 use Rattle.std.proofs.lemmas.Bool.Decides.{nat_tests}
 use Rattle.st_datafiles.proofs.EntryLemmas.{deltas_are, form_is}
 use Rattle.st_datafiles.proofs.chunk_reading.if_wanted.Goals as goal
