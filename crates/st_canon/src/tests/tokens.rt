@@ -35,17 +35,14 @@ fn values_are_read_one_after_another(rt: HostRuntime) -> Result<(), Fail> {
     Ok(())
 }
 
-// The next values, one behind another, as they go out, up to the first that is left.
+// What goes out of the next value, or nothing where it is left.
 fn rewritten(rt: &HostRuntime, text: &str, depth: usize) -> Result<Bytes, Fail> {
     let mut scratch = Scratch::new(rt.alloc());
     let mut reader = Reader::new(text, &mut scratch)?;
-    let mut all = Bytes::new(rt.alloc());
-    loop {
-        let mut out = Bytes::new(rt.alloc());
-        match rewrite(rt.alloc(), &mut out, &mut reader, depth) {
-            Ok(()) => all.push_all(rt.alloc(), out.as_slice())?,
-            Err(_) => return Ok(all),
-        }
+    let mut out = Bytes::new(rt.alloc());
+    match rewrite(rt.alloc(), &mut out, &mut reader, depth) {
+        Ok(()) => Ok(out),
+        Err(_) => Ok(Bytes::new(rt.alloc())),
     }
 }
 
