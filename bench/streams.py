@@ -15,6 +15,8 @@ from formats import bytes_of, hash_text
 from load import STREAMS, creates
 from measuring import best_times, build, node, peak, rows, write_lines
 
+# How often each program runs, of which the least time counts.
+ROUNDS = 9
 # The proof files of an entry: which index names them, and by which member.
 PROOFS = (("core", "coreProofFileUri"), ("provisional", "provisionalProofFileUri"))
 
@@ -65,19 +67,23 @@ class Files:
         return sum(verification(entry["signedData"]) for lists in proofs for entries in lists.values() for entry in entries)
 
 
+def compression(program):
+    """The least time of one compression, in seconds, in a few runs: some machines change their speed."""
+    return min(row[0] for _ in range(3) for row in rows(program)) / 1e12
+
+
 def measure(folder, origin=None):
     """Prints a line for each stream: those of the folder `origin`, or else generated ones."""
     given = os.path.join(folder, "given")
     ours, (bare, least, compress) = node(), build(folder, ["bare_cost", "least_cost", "compress_cost"])
-    one = min(row[0] for row in rows(compress)) / 1e12
     for name, lines in from_folder(origin) if origin else generated():
         if any(line.startswith(b"submit ") for line in lines):
             continue
         files = Files(lines)
         count = sum(files.compressions(line.rpartition(b".")[2].decode()) for line in lines if line.startswith(b"anchor "))
         write_lines(given, lines)
-        time, hashing, reading = best_times([(ours, given), ([bare], given), ([least], given)])
-        signing = count * one
+        time, hashing, reading = best_times([(ours, given), ([bare], given), ([least], given)], ROUNDS)
+        signing = count * compression(compress)
         memory = peak(ours, given)
         print("%s: %.2f s of processor time, %.2f times the bare cost (%.2f s for its bytes, %.2f s for %d compressions), "
               "%.2f times the least with its JSON read (%.2f s); %d MiB, %.1f times its files of %.1f MiB"
