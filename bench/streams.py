@@ -8,12 +8,13 @@ The bare programs are bench/programs/bare_cost.txt, least_cost.txt and compress_
 import functools
 import json
 import lzma
+import math
 import os
 
 import lms
 from formats import bytes_of, hash_text
 from load import STREAMS, creates
-from measuring import best_times, build, node, peak, rows, write_lines
+from measuring import build, node, peak, processor_seconds, rows, write_lines
 
 # How often each program runs, of which the least time counts.
 ROUNDS = 9
@@ -67,28 +68,42 @@ class Files:
         return sum(verification(entry["signedData"]) for lists in proofs for entries in lists.values() for entry in entries)
 
 
-def compression(program):
-    """The least time of one compression, in seconds, in a few runs: some machines change their speed."""
-    return min(row[0] for _ in range(3) for row in rows(program)) / 1e12
+class Stream:
+    """A stream that is measured: its lines in a file, the bytes of its files, and its signatures' compressions."""
+
+    def __init__(self, folder, name, lines):
+        files = Files(lines)
+        self.name, self.size = name, files.size
+        self.count = sum(files.compressions(line.rpartition(b".")[2].decode()) for line in lines if line.startswith(b"anchor "))
+        self.given = write_lines(os.path.join(folder, "given-" + name), lines)
+        self.times = [math.inf] * 3
+
+    def take_turn(self, programs):
+        self.times = list(map(min, self.times, (processor_seconds(program, self.given) for program in programs)))
+
+    def say(self, one, memory):
+        """Prints the figures, by the time of one compression and the memory at its peak."""
+        time, hashing, reading = self.times
+        signing = self.count * one
+        print("%s: %.2f s of processor time, %.2f times the bare cost (%.2f s for its bytes, %.2f s for %d compressions), "
+              "%.2f times the least with its JSON read (%.2f s); %d MiB, %.1f times its files of %.1f MiB"
+              % (self.name, time, time / (hashing + signing), hashing, signing, self.count, time / (reading + signing),
+                 reading + signing, memory >> 20, memory / self.size, self.size / 2 ** 20), flush=True)
 
 
 def measure(folder, origin=None):
-    """Prints a line for each stream: those of the folder `origin`, or else generated ones."""
-    given = os.path.join(folder, "given")
+    """Prints a line for each stream: those of the folder `origin`, or else generated ones. All of them take turns,
+    so that a slow time of the machine takes no stream's every round."""
     ours, (bare, least, compress) = node(), build(folder, ["bare_cost", "least_cost", "compress_cost"])
-    for name, lines in from_folder(origin) if origin else generated():
-        if any(line.startswith(b"submit ") for line in lines):
-            continue
-        files = Files(lines)
-        count = sum(files.compressions(line.rpartition(b".")[2].decode()) for line in lines if line.startswith(b"anchor "))
-        write_lines(given, lines)
-        time, hashing, reading = best_times([(ours, given), ([bare], given), ([least], given)], ROUNDS)
-        signing = count * compression(compress)
-        memory = peak(ours, given)
-        print("%s: %.2f s of processor time, %.2f times the bare cost (%.2f s for its bytes, %.2f s for %d compressions), "
-              "%.2f times the least with its JSON read (%.2f s); %d MiB, %.1f times its files of %.1f MiB"
-              % (name, time, time / (hashing + signing), hashing, signing, count, time / (reading + signing), reading + signing,
-                 memory >> 20, memory / files.size, files.size / 2 ** 20), flush=True)
+    streams = [Stream(folder, name, lines) for name, lines in (from_folder(origin) if origin else generated())
+               if not any(line.startswith(b"submit ") for line in lines)]
+    one = math.inf
+    for _ in range(ROUNDS):
+        one = min(one, min(row[0] for row in rows(compress)) / 1e12)
+        for stream in streams:
+            stream.take_turn([ours, [bare], [least]])
+    for stream in streams:
+        stream.say(one, peak(ours, stream.given))
 
 
 def memory(folder, few=8_000, many=80_000):
