@@ -11,7 +11,9 @@ returns-clause-rows g c =
 pub returns-clause-items : goal.returns-clause-items
 returns-clause-items g c =
     seen_changed g.met.K.Ord.total c.args.key c.args.rows.now.entries c.take_row.new.rows.entries c.take_row.ensures.rest (with_item c.args.place c.args.item)
-    c.in_ok-new.field-0 c.insert.new.self.entries (ap (λ row. row.items.items) c.in_ok-new.ensures ∙ c.in_ok-row-2.ensures.items ∙ ap (with_item c.args.place c.args.item) c.in_ok-row.ensures.items) c.in_ok-insert.ensures.updates.0
+    c.in_ok-new.field-0 c.insert.new.self.entries
+    (ap (λ row. row.items.items) c.in_ok-new.ensures ∙ c.in_ok-row-2.ensures.items ∙ ap (with_item c.args.place c.args.item) c.in_ok-row.ensures.items)
+    c.in_ok-insert.ensures.updates.0
 
 pub returns-clause-left : goal.returns-clause-left
 returns-clause-left g c =
