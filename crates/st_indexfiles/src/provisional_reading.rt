@@ -133,6 +133,10 @@ fn repeats_suffix(
 ) -> Result<bool, WantOfMemory>
     ensures { IfOk result (λ repeats. repeats ≡ repeats_suffix (suffixes_in index.now.updates) core.now) }
 {
+    // The suffixes of creates cost a hash each.
+    if index.updates.as_slice().is_empty() {
+        return Ok(false);
+    }
     let mut updated = List::new(alloc);
     push_targets(alloc, &mut updated, index.updates.as_slice())?;
     if has_twice(alloc, updated.as_slice())? {
