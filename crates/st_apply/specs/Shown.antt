@@ -1,14 +1,20 @@
--- What a `DidState` holds, and what it lends, as states.
+-- What a `DidState` holds, and what it is opened to, as states.
 use Rattle.std.specs.Prelude.{Some}
-use Rattle.st_doc.specs.Document.{PlainDocument}
+use Rattle.st_doc.specs.Document.{PlainDocument, plain_document}
 use Rattle.st_hash.specs.Hash.{HashValue}
+use Rattle.st_apply.specs.Applied.{beginning_at, sidetree}
 use Rattle.st_apply.specs.Seen.{Change, State, absent, active, deactivated}
-use Rattle.st_apply.specs.Step.{changed}
+use Rattle.st_apply.specs.Step.{begun, changed}
+use Rattle.st_apply.specs.declared.beginning.Begun.{Begun as BegunParts}
+use Rattle.st_apply.specs.declared.opening.StateParts.{StateParts}
+use Rattle.st_apply.specs.declared.opening.StateParts.TheVariants as parts
 use Rattle.st_apply.specs.declared.state.Active.{Active as ActiveParts}
 use Rattle.st_apply.specs.declared.state.Kept.{Kept}
-use Rattle.st_apply.specs.declared.state.Kept.TheVariants.{Absent, Active, Deactivated}
-use Rattle.st_apply.specs.declared.state.StateParts.{StateParts}
-use Rattle.st_apply.specs.declared.state.StateParts.TheVariants as parts
+use Rattle.st_apply.specs.declared.state.Kept.TheVariants.{Absent, Begun, Active, Deactivated}
+
+-- what a create or a recover begins, whether its delta was looked at or not
+abbrev pub shown_begun : BegunParts → State HashValue PlainDocument
+shown_begun parts = begun sidetree (beginning_at parts.params parts.recovery parts.delta_hash parts.delta)
 
 -- an active state by its parts
 abbrev pub shown_active : ActiveParts → State HashValue PlainDocument
@@ -21,11 +27,12 @@ shown_updated change parts = active parts.recovery (Some change.update) (changed
 -- what is kept, as a state
 abbrev pub shown : Kept → State HashValue PlainDocument
 shown Absent = absent
+shown (Begun parts) = shown_begun parts
 shown (Active parts) = shown_active parts
 shown Deactivated = deactivated
 
--- what is lent, as a state
-abbrev pub lent : StateParts → State HashValue PlainDocument
-lent parts.Absent = absent
-lent (parts.Active recovery update document) = active recovery update document.now
-lent parts.Deactivated = deactivated
+-- what a state is opened to, as a state
+abbrev pub opened : StateParts → State HashValue PlainDocument
+opened parts.Absent = absent
+opened (parts.Active recovery update document) = active recovery update (plain_document document)
+opened parts.Deactivated = deactivated

@@ -3,14 +3,14 @@ ghost use Rattle.st_apply.specs.Applied.{applied, beginning_at, reveal_meets, se
 ghost use Rattle.st_apply.specs.Awaited.{is_awaited};
 ghost use Rattle.st_apply.specs.Counting.{change_by};
 ghost use Rattle.st_apply.specs.Seen.{absent};
-ghost use Rattle.st_apply.specs.Shown.{shown_active, shown_updated};
+ghost use Rattle.st_apply.specs.Shown.{shown_active, shown_begun, shown_updated};
 ghost use Rattle.st_apply.specs.Step.{begun, step};
 ghost use Rattle.st_base.specs.Work.{one_apply};
 ghost use Rattle.st_doc.specs.Delta.{plain_delta};
 ghost use Rattle.st_ops.specs.Operation.{plain_operation};
 
-use crate::counting::{begun_document, changed_document, counted_delta};
-use crate::document::KeptDocument;
+use crate::beginning::{Begun, copy_delta};
+use crate::counting::{changed_document, counted_delta};
 use crate::state::{Active, DidState, Kept};
 use st_base::{Copied, WantOfMemory, Work};
 use st_doc::Delta;
@@ -22,7 +22,8 @@ use st_params::Params;
 use std::alloc::Global;
 
 /// The state that an operation leaves at these limits, by one step of resolution (DIF Sidetree v1.0.0,
-/// "Operation Compilation"). It counts as one operation applied, also where memory is wanting.
+/// "Operation Compilation"). It counts as one operation applied, also where memory is wanting. That counts
+/// for a delta that is looked at later, too.
 ///
 /// Where no create has acted, a create alone acts. After it a recover or a deactivate acts whose reveal
 /// value meets the recovery commitment, and an update whose reveal value meets the update commitment
@@ -42,6 +43,10 @@ pub fn apply(
     work.tick_applies();
     match &state.kept {
         Kept::Absent => on_absent(alloc, operation, params),
+        Kept::Begun(begun) => match on_begun(alloc, begun, operation, params)? {
+            Some(next) => Ok(next),
+            None => state.copy(alloc),
+        },
         Kept::Active(active) => match on_active(alloc, active, operation, params)? {
             Some(next) => Ok(next),
             None => state.copy(alloc),
@@ -67,6 +72,27 @@ fn on_absent(
             delta,
         ),
         _ => Ok(DidState::absent()),
+    }
+}
+
+// What an operation leaves of what a create or a recover began. None is one that does not act, where that
+// is known without a look at the delta.
+fn on_begun(
+    alloc: Global,
+    begun: &Begun,
+    operation: &Operation,
+    params: &Params,
+) -> Result<Option<DidState>, WantOfMemory>
+    ensures { IfOk result (λ next. unwrap_or next (shown_begun begun.now)
+        ≡ step sidetree (shown_begun begun.now) (seen_at params.now (plain_operation operation.now))) }
+{
+    if let Operation::Create { .. } = operation {
+        return Ok(None);
+    }
+    let active = begun.settled(alloc)?;
+    match on_active(alloc, &active, operation, params)? {
+        Some(next) => Ok(Some(next)),
+        None => Ok(Some(DidState::active(active))),
     }
 }
 
@@ -154,7 +180,11 @@ fn updated(
 {
     let update = delta.update;
     let document = changed_document(alloc, params, &active.document, delta)?;
-    Ok(DidState::active(active.recovery, Some(update), document))
+    Ok(DidState::active(Active {
+        recovery: active.recovery,
+        update: Some(update),
+        document,
+    }))
 }
 
 // What a create or a recover leaves, by its recovery commitment, its delta hash and its delta.
@@ -168,17 +198,12 @@ fn begin(
     ensures { IfOk result (λ next. next ≡ begun sidetree
         (beginning_at params.now recovery.now delta_hash.now delta.now)) }
 {
-    match counted_delta(alloc, params, delta_hash, delta)? {
-        None => {
-            let empty = KeptDocument::empty(alloc)?;
-            Ok(DidState::active(*recovery, None, empty))
-        }
-        Some(delta) => {
-            let update = delta.update;
-            let document = begun_document(alloc, params, delta)?;
-            Ok(DidState::active(*recovery, Some(update), document))
-        }
-    }
+    Ok(DidState::begun(Begun {
+        params: *params,
+        recovery: *recovery,
+        delta_hash: *delta_hash,
+        delta: copy_delta(alloc, delta)?,
+    }))
 }
 
 // Whether the reveal value meets the commitment.

@@ -70,7 +70,7 @@ pub(crate) fn begun_document(
     ensures { IfOk result (λ after. after ≡ changed empty_document (change_by params.now (plain_delta delta))) }
 {
     match apply_all(alloc, Document::empty(alloc), delta, params) {
-        Ok(after) => KeptDocument::pack(alloc, after),
+        Ok(after) => KeptDocument::share(alloc, after),
         Err(PatchRefused::PatchFailed(_)) => KeptDocument::empty(alloc),
         Err(PatchRefused::WantOfMemory) => Err(WantOfMemory),
     }

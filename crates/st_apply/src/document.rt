@@ -7,11 +7,10 @@ use st_packed::{PackedJson, Shared};
 use std::alloc::Global;
 use std::marker::Model;
 
-/// The document of a state, which states share: a copy costs nothing but a count. One that a create or a
-/// recover began is packed, since most identifiers are never updated. One that was updated is kept in its
-/// parts, since it may well be updated again, until the state is packed. Contracts see the document.
+/// The document of a state, which states share: a copy costs nothing but a count. It is kept in its parts,
+/// since it may well be updated again, until the state is packed. Contracts see the document.
 #[derive(Drop)]
-pub struct KeptDocument {
+pub(crate) struct KeptDocument {
     form: DocumentForm,
 }
 
@@ -39,7 +38,7 @@ impl KeptDocument {
     pub(crate) fn empty(alloc: Global) -> Result<KeptDocument, WantOfMemory>
         ensures { IfOk result (λ kept. kept ≡ empty_document) }
     {
-        KeptDocument::pack(alloc, Document::empty(alloc))
+        KeptDocument::share(alloc, Document::empty(alloc))
     }
 
     /// The document in little memory.

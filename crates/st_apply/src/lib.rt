@@ -3,15 +3,17 @@
 #![tactic(auto)]
 
 mod applying;
+mod beginning;
 mod counting;
 mod document;
 mod laws;
+mod opening;
 mod state;
 #[cfg(test)]
 mod tests;
 
 pub use applying::apply;
 pub use counting::counted_delta;
-pub use document::KeptDocument;
 pub use laws::{alike_law, anchored_law, given_law, resolution_laws};
-pub use state::{DidState, StateParts};
+pub use opening::StateParts;
+pub use state::DidState;

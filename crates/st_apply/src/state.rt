@@ -1,12 +1,14 @@
+use crate::beginning::Begun;
 use crate::document::KeptDocument;
 use st_base::{Copied, WantOfMemory};
 use st_hash::Hash;
 use std::alloc::Global;
 use std::marker::Model;
 
-/// The state of an identifier. It comes from `absent`, `apply`, `pack` and `copy` alone. Contracts
-/// see it as `absent`, as `active` with a recovery commitment, an update commitment where there is
-/// one, and a document, or as `deactivated`.
+/// The state of an identifier. It comes from `absent`, `apply`, `pack` and `copy` alone. The delta of a
+/// create or a recover is not looked at before the state is opened or the next operation comes, since most
+/// identifiers are created and never asked for. Contracts see the state as `absent`, as `active` with a
+/// recovery commitment, an update commitment where there is one, and a document, or as `deactivated`.
 #[derive(Drop)]
 pub struct DidState {
     pub(crate) kept: Kept,
@@ -15,11 +17,13 @@ pub struct DidState {
 #[derive(Drop)]
 pub(crate) enum Kept {
     Absent,
+    Begun(Begun),
     Active(Active),
     Deactivated,
 }
 
-// What is known after a create. States that share the document are copied at the cost of a count.
+// What is known once a delta was looked at. States that share the document are copied at the cost of a
+// count.
 #[derive(Drop)]
 pub(crate) struct Active {
     pub(crate) recovery: Hash,
@@ -42,28 +46,10 @@ impl Model for DidState {
     ghost view = { λ state. shown state.kept };
 }
 
-/// What a state holds.
-#[derive(Clone, Copy)]
-pub enum StateParts<'a> {
-    /// No create has acted.
-    Absent,
-    /// A create has acted.
-    Active {
-        /// The commitment to the key of the next recover or deactivate.
-        recovery: Hash,
-        /// The commitment to the key of the next update, where there is one.
-        update: Option<Hash>,
-        /// The document.
-        document: &'a KeptDocument,
-    },
-    /// A deactivate has acted.
-    Deactivated,
-}
-
 impl DidState {
     ghost use Rattle.std.specs.Prelude.{◌≡◌, IfOk};
     ghost use Rattle.st_apply.specs.Seen.{absent, active, deactivated};
-    ghost use Rattle.st_apply.specs.Shown.{lent};
+    ghost use Rattle.st_apply.specs.Shown.{shown_active, shown_begun};
 
     /// The state before any operation.
     pub fn absent() -> DidState
@@ -72,15 +58,19 @@ impl DidState {
         DidState { kept: Kept::Absent }
     }
 
-    pub(crate) fn active(recovery: Hash, update: Option<Hash>, document: KeptDocument) -> DidState
-        ensures { result ≡ active recovery update document }
+    pub(crate) fn begun(begun: Begun) -> DidState
+        ensures { result ≡ shown_begun begun }
     {
         DidState {
-            kept: Kept::Active(Active {
-                recovery,
-                update,
-                document,
-            }),
+            kept: Kept::Begun(begun),
+        }
+    }
+
+    pub(crate) fn active(active: Active) -> DidState
+        ensures { result ≡ shown_active active }
+    {
+        DidState {
+            kept: Kept::Active(active),
         }
     }
 
@@ -99,27 +89,13 @@ impl DidState {
     {
         match &self.kept {
             Kept::Absent => Ok(DidState::absent()),
-            Kept::Active(active) => Ok(DidState::active(
-                active.recovery,
-                active.update,
-                active.document.packed(alloc)?,
-            )),
-            Kept::Deactivated => Ok(DidState::deactivated()),
-        }
-    }
-
-    /// What it holds.
-    pub fn parts(&self) -> StateParts<'_>
-        ensures { lent result ≡ self.now }
-    {
-        match &self.kept {
-            Kept::Absent => StateParts::Absent,
-            Kept::Active(active) => StateParts::Active {
+            Kept::Begun(begun) => Ok(DidState::begun(begun.copy(alloc)?)),
+            Kept::Active(active) => Ok(DidState::active(Active {
                 recovery: active.recovery,
                 update: active.update,
-                document: &active.document,
-            },
-            Kept::Deactivated => StateParts::Deactivated,
+                document: active.document.packed(alloc)?,
+            })),
+            Kept::Deactivated => Ok(DidState::deactivated()),
         }
     }
 }
@@ -129,11 +105,12 @@ impl Copied for DidState {
     fn copy(&self, alloc: Global) -> Result<DidState, WantOfMemory> {
         match &self.kept {
             Kept::Absent => Ok(DidState::absent()),
-            Kept::Active(active) => Ok(DidState::active(
-                active.recovery,
-                active.update,
-                active.document.copy(alloc)?,
-            )),
+            Kept::Begun(begun) => Ok(DidState::begun(begun.copy(alloc)?)),
+            Kept::Active(active) => Ok(DidState::active(Active {
+                recovery: active.recovery,
+                update: active.update,
+                document: active.document.copy(alloc)?,
+            })),
             Kept::Deactivated => Ok(DidState::deactivated()),
         }
     }

@@ -1,5 +1,5 @@
 ghost use Rattle.std.specs.Prelude.{◌≡◌, IfOk, None, false};
-ghost use Rattle.st_apply.specs.Shown.{lent};
+ghost use Rattle.st_apply.specs.Shown.{opened};
 ghost use Rattle.st_base.specs.Answers.{GivesAs};
 ghost use Rattle.st_base.specs.Work.{AppliesAtMost};
 ghost use Rattle.st_canon.specs.Plain.{object};
@@ -38,7 +38,7 @@ pub fn render(
     ensures short { did.now.long ≡ None → work.new ≡ work.old }
     ensures known { is_absent state.now ≡ false → work.new ≡ work.old }
 {
-    let parts = state.parts();
+    let parts = state.open(alloc)?;
     if !is_absent(&parts) {
         return Ok(said_of(alloc, true, did, &parts)?);
     }
@@ -46,11 +46,11 @@ pub fn render(
         return Err(RenderRefused::NotFound);
     };
     let made = made_by(alloc, long, params, work)?;
-    Ok(said_of(alloc, false, did, &made.parts())?)
+    Ok(said_of(alloc, false, did, &made.open(alloc)?)?)
 }
 
-fn is_absent(state: &StateParts<'_>) -> bool
-    ensures { result ≡ is_absent (lent state.now) }
+fn is_absent(state: &StateParts) -> bool
+    ensures { result ≡ is_absent (opened state.now) }
 {
     match state {
         StateParts::Absent => true,
@@ -80,9 +80,9 @@ pub(crate) fn said_of(
     alloc: Global,
     published: bool,
     did: &Did,
-    state: &StateParts<'_>,
+    state: &StateParts,
 ) -> Result<Json, WantOfMemory>
-    ensures { IfOk result (λ json. plain json ≡ said_of published (plain_did did.now) (lent state.now)) }
+    ensures { IfOk result (λ json. plain json ≡ said_of published (plain_did did.now) (opened state.now)) }
 {
     Ok(Json::Object(said_members(alloc, published, did, state)?))
 }
@@ -91,9 +91,9 @@ fn said_members(
     alloc: Global,
     published: bool,
     did: &Did,
-    state: &StateParts<'_>,
+    state: &StateParts,
 ) -> Result<Object, WantOfMemory>
-    ensures { IfOk result (λ members. object (plain_members members) ≡ said_of published (plain_did did.now) (lent state.now)) }
+    ensures { IfOk result (λ members. object (plain_members members) ≡ said_of published (plain_did did.now) (opened state.now)) }
 {
     let mut members = Object::new(alloc);
     let document = did_document(alloc, did.text.as_str(), state)?;

@@ -78,7 +78,7 @@ fn services(rt: &HostRuntime, document: &Document) -> Result<String, Fail> {
 }
 
 fn shown(rt: &HostRuntime, state: &DidState) -> Result<String, Fail> {
-    match state.parts() {
+    match state.open(rt.alloc())? {
         StateParts::Absent => Ok(String::from_str(rt.alloc(), "absent")?),
         StateParts::Deactivated => Ok(String::from_str(rt.alloc(), "deactivated")?),
         StateParts::Active {
@@ -91,7 +91,7 @@ fn shown(rt: &HostRuntime, state: &DidState) -> Result<String, Fail> {
                 Some(update) => name_of(rt, &update)?,
                 None => "none",
             };
-            let services = services(rt, document.open(rt.alloc())?.get())?;
+            let services = services(rt, document.get())?;
             Ok(format!(in rt.alloc(); "active {recovery} {update} ({services})")?)
         }
     }

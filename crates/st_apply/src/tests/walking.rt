@@ -44,17 +44,17 @@ fn is_update_for(
     }
 }
 
-fn recovery_in(state: &DidState) -> Option<Hash> {
-    match state.parts() {
-        StateParts::Active { recovery, .. } => Some(recovery),
-        _ => None,
+fn recovery_in(alloc: Global, state: &DidState) -> Result<Option<Hash>, WantOfMemory> {
+    match state.open(alloc)? {
+        StateParts::Active { recovery, .. } => Ok(Some(recovery)),
+        _ => Ok(None),
     }
 }
 
-fn update_in(state: &DidState) -> Option<Hash> {
-    match state.parts() {
-        StateParts::Active { update, .. } => update,
-        _ => None,
+fn update_in(alloc: Global, state: &DidState) -> Result<Option<Hash>, WantOfMemory> {
+    match state.open(alloc)? {
+        StateParts::Active { update, .. } => Ok(update),
+        _ => Ok(None),
     }
 }
 
@@ -66,7 +66,7 @@ fn next_full<'a>(
     state: &DidState,
     params: &Params,
 ) -> Result<Option<(usize, &'a Operation)>, WantOfMemory> {
-    let Some(commitment) = recovery_in(state) else {
+    let Some(commitment) = recovery_in(alloc, state)? else {
         return Ok(None);
     };
     for (at, operation) in operations.iter().enumerate() {
@@ -85,7 +85,7 @@ fn next_update<'a>(
     state: &DidState,
     params: &Params,
 ) -> Result<Option<(usize, &'a Operation)>, WantOfMemory> {
-    let Some(commitment) = update_in(state) else {
+    let Some(commitment) = update_in(alloc, state)? else {
         return Ok(None);
     };
     for (at, operation) in operations.iter().enumerate() {

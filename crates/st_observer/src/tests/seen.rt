@@ -45,16 +45,19 @@ fn suffix(name: &str) -> Option<Hash> {
     }
 }
 
-fn has_active(observer: &Observer, name: &str) -> bool {
+fn has_active(alloc: Global, observer: &Observer, name: &str) -> bool {
     match suffix(name) {
-        Some(suffix) => matches!(observer.state(&suffix).parts(), StateParts::Active { .. }),
+        Some(suffix) => matches!(
+            observer.state(&suffix).open(alloc),
+            Ok(StateParts::Active { .. })
+        ),
         None => false,
     }
 }
 
-fn has_absent(observer: &Observer, name: &str) -> bool {
+fn has_absent(alloc: Global, observer: &Observer, name: &str) -> bool {
     match suffix(name) {
-        Some(suffix) => matches!(observer.state(&suffix).parts(), StateParts::Absent),
+        Some(suffix) => matches!(observer.state(&suffix).open(alloc), Ok(StateParts::Absent)),
         None => false,
     }
 }
@@ -122,12 +125,9 @@ fn has_services(document: &Document, ids: &str) -> bool {
 }
 
 fn serves_in(alloc: Global, state: &DidState, ids: &str) -> bool {
-    let StateParts::Active { document, .. } = state.parts() else {
-        return false;
-    };
-    match document.open(alloc) {
-        Ok(document) => has_services(document.get(), ids),
-        Err(_) => false,
+    match state.open(alloc) {
+        Ok(StateParts::Active { document, .. }) => has_services(document.get(), ids),
+        _ => false,
     }
 }
 
@@ -157,8 +157,8 @@ fn is_seen(alloc: Global, observer: &Observer, applied: u64, look: &str) -> bool
     };
     match what {
         "entry" => reports_so(observer, rest),
-        "active" => has_active(observer, rest),
-        "absent" => has_absent(observer, rest),
+        "active" => has_active(alloc, observer, rest),
+        "absent" => has_absent(alloc, observer, rest),
         "operations" => has_so_many(alloc, observer, rest),
         "wanted" => wants(alloc, observer, rest),
         "services" => serves(alloc, observer, rest),

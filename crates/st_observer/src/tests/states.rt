@@ -79,9 +79,9 @@ fn then_cut(alloc: Global, work: &mut Work) -> Result<States, WantOfMemory> {
 }
 
 // The recovery commitment that stands for a name is this one.
-fn commits(states: &States, name: &str, recovery: &str) -> bool {
-    match states.state(&hash_of(name)).parts() {
-        StateParts::Active { recovery: is, .. } => is == hash_of(recovery),
+fn commits(alloc: Global, states: &States, name: &str, recovery: &str) -> bool {
+    match states.state(&hash_of(name)).open(alloc) {
+        Ok(StateParts::Active { recovery: is, .. }) => is == hash_of(recovery),
         _ => false,
     }
 }
@@ -102,8 +102,8 @@ fn shows_puts(rt: &HostRuntime) -> bool {
     let alloc = rt.alloc();
     match three_puts(alloc, &mut Work::new(rt)) {
         Ok(states) => {
-            commits(&states, "a", "again")
-                && commits(&states, "b", "late")
+            commits(alloc, &states, "a", "again")
+                && commits(alloc, &states, "b", "late")
                 && stands_at(alloc, &states, "a", &[1, 3])
         }
         Err(_) => false,
@@ -114,8 +114,8 @@ fn shows_cut(rt: &HostRuntime) -> bool {
     let alloc = rt.alloc();
     match then_cut(alloc, &mut Work::new(rt)) {
         Ok(states) => {
-            commits(&states, "a", "again")
-                && !commits(&states, "b", "late")
+            commits(alloc, &states, "a", "again")
+                && !commits(alloc, &states, "b", "late")
                 && stands_at(alloc, &states, "a", &[1])
                 && stands_at(alloc, &states, "b", &[])
         }
