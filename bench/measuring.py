@@ -13,7 +13,7 @@ PROGRAMS = {"bare_cost": "base64 memchr sha2", "compress_cost": "sha2 anyhow", "
             "lms_cost": "st_base st_lms sha2 anyhow", "index_cost": "st_base st_opindex anyhow",
             "patch_cost": "st_base st_canon st_doc st_params anyhow",
             "files_cost": "st_base st_datafiles st_indexfiles st_packed st_params serde_json anyhow",
-            "submit_cost": "serde_json sha2 anyhow", "least_cost": "base64 json sha2 anyhow"}
+            "submit_cost": "serde_json sha2 anyhow"}
 
 
 def node():

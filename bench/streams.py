@@ -1,9 +1,9 @@
-"""Whole streams: the processor time of a node, beside the bare cost of hashing the bytes of all its files
-once and of as many compressions of SHA-256 as its signatures take; beside the least that it comes to with the
-kit's leanest tree of JSON, which also reads each file once and hashes as many bytes once more; and its memory
-beside its files.
+"""Whole streams: the processor time of a node, beside the bare cost of decoding and hashing the bytes of all its
+files once, and of as many compressions of SHA-256 as all else takes that resolution hashes: signatures, the keys
+that they are under, suffix data and deltas. Then beside that without suffix data and deltas, and its memory beside
+its files.
 
-The bare programs are bench/programs/bare_cost.txt, least_cost.txt and compress_cost.txt, over the same kit crates.
+The bare programs are bench/programs/bare_cost.txt and compress_cost.txt, over the same kit crates.
 """
 import functools
 import json
@@ -12,7 +12,7 @@ import math
 import os
 
 import lms
-from formats import bytes_of, hash_text
+from formats import bytes_of, canonical, hash_text
 from load import STREAMS, creates
 from measuring import build, node, peak, processor_seconds, rows, write_lines
 
@@ -39,13 +39,19 @@ def generated():
         yield name, [line.encode() for line in make()]
 
 
+def blocks(value):
+    """How many compressions the hash of the canonical text of a value takes."""
+    return lms.blocks(len(canonical(value)))
+
+
 @functools.lru_cache(None)
 def verification(text):
-    """How many compressions the verification of a signed text takes."""
+    """How many compressions a signed text takes: its verification, the reveal value of its key, and what that
+    has to meet."""
     front, _, signature = text.rpartition(".")
     payload = json.loads(bytes_of(front.partition(".")[2]))
     key = payload.get("updateKey") or payload.get("recoveryKey")
-    return lms.verification(bytes_of(key["pub"]), front.encode(), bytes_of(signature))
+    return lms.verification(bytes_of(key["pub"]), front.encode(), bytes_of(signature)) + blocks(key) + 1
 
 
 class Files:
@@ -60,48 +66,61 @@ class Files:
         return json.loads(self.by_uri[uri]) if uri in self.by_uri else {}
 
     @functools.lru_cache(None)
-    def compressions(self, core):
-        """Those of all signed texts of an entry with this core index file."""
+    def signed(self, core):
+        """The compressions of all signed texts of an entry with this core index file."""
         index = {"core": self.said(core)}
         index["provisional"] = self.said(index["core"].get("provisionalIndexFileUri"))
         proofs = [self.said(index[which].get(member)).get("operations", {}) for which, member in PROOFS]
         return sum(verification(entry["signedData"]) for lists in proofs for entries in lists.values() for entry in entries)
 
+    @functools.lru_cache(None)
+    def parts(self, core):
+        """The compressions of the suffix data and the deltas of an entry with this core index file."""
+        index = self.said(core)
+        chunks = self.said(index.get("provisionalIndexFileUri")).get("chunks", [])
+        deltas = [delta for chunk in chunks for delta in self.said(chunk["chunkFileUri"]).get("deltas", [])]
+        creates = index.get("operations", {}).get("create", [])
+        return sum(map(blocks, deltas + [create["suffixData"] for create in creates]))
+
 
 class Stream:
-    """A stream that is measured: its lines in a file, the bytes of its files, and its signatures' compressions."""
+    """A stream that is measured: its lines in a file, the bytes of its files, and the compressions that its
+    signatures take, and its suffix data and deltas."""
 
     def __init__(self, folder, name, lines):
         files = Files(lines)
         self.name, self.size = name, files.size
-        self.count = sum(files.compressions(line.rpartition(b".")[2].decode()) for line in lines if line.startswith(b"anchor "))
+        cores = [line.rpartition(b".")[2].decode() for line in lines if line.startswith(b"anchor ")]
+        self.signed, self.parts = sum(map(files.signed, cores)), sum(map(files.parts, cores))
         self.given = write_lines(os.path.join(folder, "given-" + name), lines)
-        self.times = [math.inf] * 3
+        self.times = [math.inf] * 2
 
     def take_turn(self, programs):
         self.times = list(map(min, self.times, (processor_seconds(program, self.given) for program in programs)))
 
     def say(self, one, memory):
         """Prints the figures, by the time of one compression and the memory at its peak."""
-        time, hashing, reading = self.times
-        signing = self.count * one
-        print("%s: %.2f s of processor time, %.2f times the bare cost (%.2f s for its bytes, %.2f s for %d compressions), "
-              "%.2f times the least with its JSON read (%.2f s); %d MiB, %.1f times its files of %.1f MiB"
-              % (self.name, time, time / (hashing + signing), hashing, signing, self.count, time / (reading + signing),
-                 reading + signing, memory >> 20, memory / self.size, self.size / 2 ** 20), flush=True)
+        time, hashing = self.times
+        signing, parts = self.signed * one, self.parts * one
+        bare = hashing + signing + parts
+        print("%s: %.3f s of processor time, %.2f times the bare cost (%.3f s: the files' bytes %.3f, %d compressions of "
+              "signatures %.3f, %d of suffix data and deltas %.3f), %.2f times that without the last; %d MiB, %.1f "
+              "times its files of %.1f MiB"
+              % (self.name, time, time / bare, bare, hashing, self.signed, signing, self.parts, parts,
+                 time / (hashing + signing), memory >> 20, memory / self.size, self.size / 2 ** 20), flush=True)
 
 
 def measure(folder, origin=None):
     """Prints a line for each stream: those of the folder `origin`, or else generated ones. All of them take turns,
     so that a slow time of the machine takes no stream's every round."""
-    ours, (bare, least, compress) = node(), build(folder, ["bare_cost", "least_cost", "compress_cost"])
+    ours, (bare, compress) = node(), build(folder, ["bare_cost", "compress_cost"])
     streams = [Stream(folder, name, lines) for name, lines in (from_folder(origin) if origin else generated())
                if not any(line.startswith(b"submit ") for line in lines)]
     one = math.inf
     for _ in range(ROUNDS):
         one = min(one, min(row[0] for row in rows(compress)) / 1e12)
         for stream in streams:
-            stream.take_turn([ours, [bare], [least]])
+            stream.take_turn([ours, [bare]])
     for stream in streams:
         stream.say(one, peak(ours, stream.given))
 
