@@ -45,15 +45,17 @@ fn is_update_for(
 }
 
 fn recovery_in(alloc: Global, state: &DidState) -> Result<Option<Hash>, WantOfMemory> {
-    match state.open(alloc)? {
-        StateParts::Active { recovery, .. } => Ok(Some(recovery)),
+    let parts = state.open(alloc)?;
+    match &parts {
+        StateParts::Active { recovery, .. } => Ok(Some(*recovery)),
         _ => Ok(None),
     }
 }
 
 fn update_in(alloc: Global, state: &DidState) -> Result<Option<Hash>, WantOfMemory> {
-    match state.open(alloc)? {
-        StateParts::Active { update, .. } => Ok(update),
+    let parts = state.open(alloc)?;
+    match &parts {
+        StateParts::Active { update, .. } => Ok(*update),
         _ => Ok(None),
     }
 }

@@ -80,8 +80,11 @@ fn then_cut(alloc: Global, work: &mut Work) -> Result<States, WantOfMemory> {
 
 // The recovery commitment that stands for a name is this one.
 fn commits(alloc: Global, states: &States, name: &str, recovery: &str) -> bool {
-    match states.state(&hash_of(name)).open(alloc) {
-        Ok(StateParts::Active { recovery: is, .. }) => is == hash_of(recovery),
+    let Ok(parts) = states.state(&hash_of(name)).open(alloc) else {
+        return false;
+    };
+    match &parts {
+        StateParts::Active { recovery: is, .. } => *is == hash_of(recovery),
         _ => false,
     }
 }
