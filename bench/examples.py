@@ -135,6 +135,31 @@ def whole():
         anchor_line(32, changes), *asked]
 
 
+def explained():
+    """One identifier whose operations come to each of the ends that an operation can come to: before its create, its
+    create, an update whose chunk comes late, the create and the update anchored again, an update that another signed,
+    a recover whose chunk comes late, an update behind it, a deactivate, and a recover after that."""
+    ines, other = Person("Ines"), Person("Other")
+    one = ines.create(add_services(HOME))
+    early = ines.update(one.suffix, 0)
+    added = ines.update(one.suffix, 0, add_services(SHOP))
+    made = delta([add_services(HOME)], other.key("update 1"))
+    forged = update(one.suffix, other.key("update 0"), other.next(), made)
+    forged = forged._replace(entry={**forged.entry, "revealValue": ines.key("update 1").reveal()})
+    recovered = ines.recover(one.suffix, 0, add_services(HOME))
+    again = delta([add_services(SHOP)], ines.key("update again"))
+    behind = update(one.suffix, ines.key("update after recovery 0"), ines.next(), again)
+    batches = [batch([operation]) for operation in (
+        early, one, added, one, added, forged, recovered, behind, ines.deactivate(one.suffix, 1), ines.recover(one.suffix, 1))]
+    asked = "explain " + short_form(one)
+    late = [batches[2], batches[6]]
+    fed = dict.fromkeys(line for made in batches for line in contents(made, *["chunk"] * (made in late)))
+    return [
+        *[anchor_line(40 + n, made) for n, made in enumerate(batches)], asked, "explain " + long_form(one),
+        *fed, asked, *[content_line(made.files["chunk"]) for made in late], asked,
+        "rollback 8", asked, "resolve " + short_form(one), "explain did:other:abc", "explain"]
+
+
 def folder(path):
     """Two identifiers in three batches: their files, the list of entries, the identifiers."""
     people = [Person("Erin"), Person("Frank")]
@@ -156,7 +181,7 @@ def write(path, data):
 
 def main():
     for name, make in (("life", life), ("recovery", recovery), ("rejected", rejected), ("names", names),
-                       ("whole", whole)):
+                       ("whole", whole), ("explained", explained)):
         write(os.path.join(EXAMPLES, name + ".in"), "".join(line + "\n" for line in make()).encode())
     folder(os.path.join(EXAMPLES, "folder"))
 

@@ -1,7 +1,7 @@
-"""Single libraries: canonical JSON, LMS, the index that keeps states, patches of documents.
+"""Single libraries: canonical JSON, LMS, the index that keeps states, patches of documents, the journal.
 
-The programs are json_cost, lms_cost, index_cost and patch_cost of bench/programs. The last three take
-their own times.
+The programs are json_cost, lms_cost, index_cost, patch_cost and journal_cost of bench/programs. All but
+the first take their own times.
 """
 import hashlib
 import os
@@ -105,3 +105,11 @@ def patches(folder):
         what = "%d copies in one patch" % steps if steps else "%d patches that remove nothing" % count
         print("a delta of %d bytes with %s, on a document of 16,276 bytes: %d us, %.1f times the time for copying the document"
               % (size, what, apply // 1000, apply / copy), flush=True)
+
+
+def journal(folder):
+    """Prints what opening a journal in memory costs, against copying its records, and against an eighth of it."""
+    (program,) = build(folder, ["journal_cost"])
+    (_, (_, small)), (records, (copy, great)) = sorted((count, times) for (count,), times in best_rows(program, 1, 3).items())
+    print("a journal of %d records of 100 bytes: opened in %.1f ms, %.2f times the time for copying them, %.2f times that for an eighth"
+          % (records, great / 1e6, great / copy, great / small), flush=True)

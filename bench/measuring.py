@@ -12,8 +12,9 @@ TOP = os.path.dirname(os.path.dirname(os.path.abspath(__file__)))
 PROGRAMS = {"bare_cost": "base64 memchr sha2", "compress_cost": "sha2 anyhow", "json_cost": "st_base st_canon",
             "lms_cost": "st_base st_lms sha2 anyhow", "index_cost": "st_base st_opindex anyhow",
             "patch_cost": "st_base st_canon st_doc st_params anyhow",
-            "files_cost": "st_base st_datafiles st_indexfiles st_packed st_params serde_json anyhow",
-            "submit_cost": "serde_json sha2 anyhow"}
+            "files_cost": "st_base st_datafiles st_indexfiles st_params serde_json anyhow",
+            "submit_cost": "serde_json sha2 anyhow", "disk_probe": "st_io",
+            "journal_cost": "st_base st_io st_journal anyhow"}
 
 
 def node():

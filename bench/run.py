@@ -13,7 +13,7 @@ NAME is one of
     reading    great files of a batch, against the bare reading of their JSON
     submit     requests and their batches, against the bare reading and hashing of the requests; a great flush
                against small ones
-    json, signatures, index, patches    single libraries
+    json, signatures, index, patches, journal    single libraries
 
 and without one all are measured. --from FOLDER measures the streams NAME.in or NAME.in.xz of a folder in
 place of generated ones. --instructions also counts instructions for content lines, which takes valgrind and
@@ -44,7 +44,7 @@ def main():
                 "resolves": growth.resolves, "hostile": growth.hostile, "reading": reading.measure,
                 "submit": submitting.measure,
                 "json": libraries.json, "signatures": libraries.signatures, "index": libraries.index,
-                "patches": libraries.patches}
+                "patches": libraries.patches, "journal": libraries.journal}
     for name in options.names or measures:
         if name not in measures:
             parser.error("%s is none of %s" % (name, ", ".join(measures)))

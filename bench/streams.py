@@ -1,7 +1,7 @@
 """Whole streams: the processor time of a node, beside the bare cost of decoding and hashing the bytes of all its
-files once, and of as many compressions of SHA-256 as all else takes that resolution hashes: signatures, the keys
-that they are under, suffix data and deltas. Then beside that without suffix data and deltas, and its memory beside
-its files.
+files once, and of as many compressions of SHA-256 as all else takes that has to be hashed for the replies: signatures,
+the keys that they are under, suffix data, and deltas, but for those of identifiers that are created and neither changed
+nor asked for. Then beside that with all deltas, beside the files and signatures alone, and its memory beside its files.
 
 The bare programs are bench/programs/bare_cost.txt and compress_cost.txt, over the same kit crates.
 """
@@ -73,14 +73,28 @@ class Files:
         proofs = [self.said(index[which].get(member)).get("operations", {}) for which, member in PROOFS]
         return sum(verification(entry["signedData"]) for lists in proofs for entries in lists.values() for entry in entries)
 
-    @functools.lru_cache(None)
-    def parts(self, core):
-        """The compressions of the suffix data and the deltas of an entry with this core index file."""
+    def operations(self, core):
+        """What an entry with this core index file says of operations, by their kinds."""
         index = self.said(core)
-        chunks = self.said(index.get("provisionalIndexFileUri")).get("chunks", [])
-        deltas = [delta for chunk in chunks for delta in self.said(chunk["chunkFileUri"]).get("deltas", [])]
-        creates = index.get("operations", {}).get("create", [])
-        return sum(map(blocks, deltas + [create["suffixData"] for create in creates]))
+        return {**index.get("operations", {}), **self.said(index.get("provisionalIndexFileUri")).get("operations", {})}
+
+    def deltas(self, core):
+        """The deltas of the entry, those of its creates first."""
+        chunks = self.said(self.said(core).get("provisionalIndexFileUri")).get("chunks", [])
+        return [delta for chunk in chunks for delta in self.said(chunk["chunkFileUri"]).get("deltas", [])]
+
+    def changed(self, core):
+        """The suffixes that the entry changes."""
+        listed = self.operations(core)
+        return {one["didSuffix"] for kind in ("recover", "deactivate", "update") for one in listed.get(kind, [])}
+
+    def parts(self, core, wanted):
+        """The compressions of the suffix data and the deltas of the entry. Of its creates the deltas of the suffixes
+        that are wanted count alone, or all where that is None."""
+        made = [create["suffixData"] for create in self.operations(core).get("create", [])]
+        deltas = self.deltas(core)
+        return sum(map(blocks, made + deltas[len(made):])) + sum(
+            blocks(delta) for data, delta in zip(made, deltas) if wanted is None or hash_text(canonical(data)) in wanted)
 
 
 class Stream:
@@ -91,7 +105,10 @@ class Stream:
         files = Files(lines)
         self.name, self.size = name, files.size
         cores = [line.rpartition(b".")[2].decode() for line in lines if line.startswith(b"anchor ")]
-        self.signed, self.parts = sum(map(files.signed, cores)), sum(map(files.parts, cores))
+        asked = {line.split(b":")[2].decode() for line in lines if line.startswith(b"resolve did:sidetree:")}
+        wanted = asked.union(*map(files.changed, cores))
+        self.signed = sum(map(files.signed, cores))
+        self.parts, self.all_parts = (sum(files.parts(core, which) for core in cores) for which in (wanted, None))
         self.given = write_lines(os.path.join(folder, "given-" + name), lines)
         self.times = [math.inf] * 2
 
@@ -101,13 +118,14 @@ class Stream:
     def say(self, one, memory):
         """Prints the figures, by the time of one compression and the memory at its peak."""
         time, hashing = self.times
-        signing, parts = self.signed * one, self.parts * one
+        signing, parts, all_parts = self.signed * one, self.parts * one, self.all_parts * one
         bare = hashing + signing + parts
-        print("%s: %.3f s of processor time, %.2f times the bare cost (%.3f s: the files' bytes %.3f, %d compressions of "
-              "signatures %.3f, %d of suffix data and deltas %.3f), %.2f times that without the last; %d MiB, %.1f "
-              "times its files of %.1f MiB"
+        print("%s: %.3f s of processor time, %.2f times the bare cost (%.3f s: the files' bytes %.4f, %d compressions of "
+              "signatures %.3f, %d of suffix data and deltas %.4f); %.2f times it with all deltas (%d), %.2f times it "
+              "without suffix data and deltas; %d MiB, %.1f times its files of %.1f MiB"
               % (self.name, time, time / bare, bare, hashing, self.signed, signing, self.parts, parts,
-                 time / (hashing + signing), memory >> 20, memory / self.size, self.size / 2 ** 20), flush=True)
+                 time / (hashing + signing + all_parts), self.all_parts, time / (hashing + signing),
+                 memory >> 20, memory / self.size, self.size / 2 ** 20), flush=True)
 
 
 def measure(folder, origin=None):

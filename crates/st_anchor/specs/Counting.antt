@@ -23,7 +23,8 @@ one_file_with proofs work = record work { files = counted work.files; proofs = c
 abbrev pub more_proofs : ℕ → Counts → Counts
 more_proofs proofs work = record work { proofs = counted_more proofs work.proofs }
 
--- at most so many files were read and so many signed texts opened, each of which was counted
+-- At most so many files were read and so many signed texts opened, each of which was counted. So no count
+-- fell.
 pub record WorkedAtMost (files proofs : ℕ) (old new : Counts) : Type 0 where
   pub files_read : ℕ
   pub proofs_opened : ℕ

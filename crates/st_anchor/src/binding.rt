@@ -9,10 +9,9 @@ use crate::branches::{Context, CoreBranch, ProvisionalBranch};
 use crate::part::Part;
 use crate::reading::{chunk_part, core_proof_part, provisional_part, provisional_proof_part};
 use crate::role_state::RoleState;
-use st_base::{Bytes, WantOfMemory, Work};
+use st_base::{Bytes, Shared, WantOfMemory, Work};
 use st_datafiles::Role;
 use st_indexfiles::CoreIndex;
-use st_packed::Shared;
 use std::alloc::Global;
 
 impl CoreBranch {

@@ -1,7 +1,7 @@
 ghost use Rattle.std.specs.Prelude.{◌≡◌, IfOk, drop, slice_get};
 
 use st_base::{Copied, List, WantOfMemory};
-use st_packed::PackedJson;
+use st_canon::PackedJson;
 use std::alloc::Global;
 
 /// The deltas of a chunk file. They are kept once, in little memory, and shared with the operations that

@@ -8,12 +8,12 @@ use crate::deltas::{delta_at, deltas_from};
 use crate::given::Given;
 use crate::opened::Proofs;
 use crate::part::Part;
-use st_base::{List, WantOfMemory};
+use st_base::{List, Shared, WantOfMemory};
+use st_canon::PackedJson;
 use st_hash::Hash;
 use st_indexfiles::{CoreIndex, SuffixData, Target, suffix_of};
 use st_jws::Signed;
 use st_ops::Operation;
-use st_packed::{PackedJson, Shared};
 use std::alloc::Global;
 
 // The kinds of operations that are signed.

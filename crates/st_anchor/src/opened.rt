@@ -4,9 +4,8 @@ ghost use Rattle.st_anchor.specs.Counting.{WorkedAtMost, more_proofs};
 ghost use Rattle.st_anchor.specs.SignedTexts.{proof_of};
 ghost use Rattle.st_ops.specs.Operation.{plain_proof};
 
-use st_base::{Copied, List, Text, WantOfMemory, Work};
+use st_base::{Copied, List, Shared, Text, WantOfMemory, Work};
 use st_jws::{Signed, SignedRefused, open_signed};
-use st_packed::Shared;
 use std::alloc::Global;
 use std::marker::Model;
 

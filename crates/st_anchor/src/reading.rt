@@ -11,10 +11,9 @@ use crate::deltas::Deltas;
 use crate::opened::Proofs;
 use crate::part::Part;
 use crate::rule::Rule;
-use st_base::{Bytes, FileRefused, WantOfMemory, Work};
+use st_base::{Bytes, FileRefused, Shared, WantOfMemory, Work};
 use st_datafiles::{CoreProofs, read_chunk, read_core_proof, read_provisional_proof};
 use st_indexfiles::{CoreIndex, ProvisionalIndex, read_core, read_provisional};
-use st_packed::Shared;
 use std::alloc::Global;
 
 /// What the bytes of a core index file make of their role.

@@ -5,10 +5,9 @@ ghost use Rattle.st_anchor.specs.Known.{known_from};
 
 use crate::bound::Bound;
 use crate::role_state::RoleState;
-use st_base::{Bytes, WantOfMemory, Work};
+use st_base::{Bytes, Shared, WantOfMemory, Work};
 use st_content::Content;
 use st_datafiles::Role;
-use st_packed::Shared;
 use std::alloc::Global;
 
 // All roles, in their order.

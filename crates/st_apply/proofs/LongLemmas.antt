@@ -1,11 +1,11 @@
 -- A delta that is too long does not count.
-use Rattle.std.proofs.Common.{◌≡◌, ℕ, ◌-◌, ◌<◌, ◌^◌, min, nat_lt, Bool, true, false, if◌then◌else◌, Option, Some, None, Result, Err, refl, arith}
+use Rattle.std.proofs.Common.{◌≡◌, ℕ, ◌-◌, ◌<◌, ◌^◌, min, nat_lt, Bool, true, false, if◌then◌else◌, Some, None, Result, Err, refl, arith}
 use Rattle.std.specs.Result.{result_ok}
 use Rattle.std.proofs.lemmas.Bool.Decides.{nat_tests}
 use Rattle.st_canon.specs.Canonical.{canonical}
 use Rattle.st_canon.specs.Measure.{size_of}
 use Rattle.st_canon.specs.Plain.{Plain}
-use Rattle.st_doc.specs.Delta.{PlainDelta, delta_of, is_too_long}
+use Rattle.st_doc.specs.Delta.{PlainDelta, is_too_long}
 use Rattle.st_doc.specs.declared.refused.DeltaRefused.{DeltaRefused}
 use Rattle.st_doc.specs.declared.refused.DeltaRefused.TheVariants.{TooLong}
 use Rattle.st_hash.specs.Hash.{HashValue, hash_of_with, same_hash}

@@ -12,7 +12,7 @@ use Rattle.st_apply.specs.Counting.{counted_change}
 use Rattle.st_apply.specs.Seen.{Rules, Beginning, Seen, creates, recovers, deactivates, updates, unclaimed, State}
 use Rattle.st_apply.specs.Step.{step}
 
--- the commitment is the hash of the digest of the reveal value, by the algorithm of that (DIF Sidetree
+-- the commitment is the hash of the digest of the reveal value, by the algorithm of that (after DIF Sidetree
 -- v1.0.0, "Public Key Commitment Scheme")
 abbrev pub reveal_meets : HashValue → HashValue → Bool
 reveal_meets reveal commitment = same_hash (hash_of_with reveal.code reveal.digest) commitment

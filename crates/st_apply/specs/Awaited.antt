@@ -11,7 +11,8 @@ awaits_update (Some commitment) reveal = reveal_meets reveal commitment
 awaits_update None reveal = false
 
 -- An active state with these commitments awaits the operation: its reveal value meets the commitment
--- that its kind reveals (DIF Sidetree v1.0.0, "Operation Compilation"). A create reveals none.
+-- that its kind reveals, after DIF Sidetree v1.0.0, "Operation Compilation"; the rules are this project's own.
+-- A create reveals none.
 abbrev pub is_awaited : HashValue → Option HashValue → PlainOperation → Bool
 is_awaited recovery update (creating suffix_data delta) = false
 is_awaited recovery update (updating target proof delta) = awaits_update update target.reveal

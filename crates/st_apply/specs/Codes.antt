@@ -4,7 +4,7 @@ use Rattle.std.specs.Coded.{Coded, code_by, coded×, coded_list, coded_option, c
 use Rattle.st_canon.specs.Plain.{Plain}
 use Rattle.st_doc.specs.Document.{PlainDocument}
 use Rattle.st_hash.specs.Hash.{HashValue}
-use Rattle.st_packed.specs.PlainCodes.{coded_plain}
+use Rattle.st_canon.specs.PlainCodes.{coded_plain}
 use Rattle.st_apply.specs.Seen.{State, absent, active, deactivated}
 
 abbrev hash_code : Coded HashValue

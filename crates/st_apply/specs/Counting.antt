@@ -1,4 +1,5 @@
--- Deltas that count, and what they change (DIF Sidetree v1.0.0, "Operation Compilation").
+-- Deltas that count, and what they change, after DIF Sidetree v1.0.0, "Operation Compilation"; the rules are
+-- this project's own.
 use Rattle.std.specs.Prelude.{IsTrue, Option, is_some, option_map}
 use Rattle.std.specs.Result.{result_ok}
 use Rattle.st_base.specs.Options.{◌>>=◌, ◌>>◌}

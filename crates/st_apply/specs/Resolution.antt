@@ -1,4 +1,5 @@
--- Resolution from nothing (DIF Sidetree v1.0.0, "Operation Compilation"). It follows the commitments:
+-- Resolution from nothing, after DIF Sidetree v1.0.0, "Operation Compilation"; the rules are this project's
+-- own. It follows the commitments:
 -- from the create to the operation that reveals what the create commits to, and so on, first over
 -- recovers and deactivates, and then, from the last of these, over updates.
 use Rattle.std.specs.Prelude.{ℕ, zero, suc, nat_lt, length, List, find, Bool, true, false, ◌&&◌, is_some, Option, Some, None, option_map}

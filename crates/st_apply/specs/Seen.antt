@@ -1,6 +1,6 @@
--- What the resolution of an identifier sees (DIF Sidetree v1.0.0, "Operation Compilation"): its
--- operations, each at the limits of its height, and the state that they leave.
-use Rattle.std.specs.Prelude.{Bool, Option}
+-- What the resolution of an identifier sees, after DIF Sidetree v1.0.0, "Operation Compilation"; the rules are
+-- this project's own: its operations, each at the limits of its height, and the state that they leave.
+use Rattle.std.specs.Prelude.{Bool, true, false, Option}
 
 -- what is said elsewhere: whether a reveal value meets a commitment, and the document without entries
 pub record Rules (Hash Document : Type 0) : Type 0 where
@@ -40,3 +40,8 @@ pub data State (Hash Document : Type 0) : Type 0 where
   active : Hash → Option Hash → Document → State Hash Document
   -- a deactivate has acted
   deactivated : State Hash Document
+
+-- a create has acted, and no deactivate
+abbrev pub is_active : {Hash Document : Type 0} → State Hash Document → Bool
+is_active (active recovery update document) = true
+is_active state = false

@@ -1,5 +1,5 @@
--- One step of resolution: the state that an operation leaves (DIF Sidetree v1.0.0, "Operation
--- Compilation").
+-- One step of resolution: the state that an operation leaves, after DIF Sidetree v1.0.0, "Operation
+-- Compilation"; the rules are this project's own.
 use Rattle.std.specs.Prelude.{List, fold, Option, Some, option_map, unwrap_or, if◌then◌else◌}
 use Rattle.std.specs.Option.{option_map_or}
 use Rattle.st_apply.specs.Seen.{Rules, Change, Beginning, Seen, creates, recovers, deactivates, updates, State, absent, active, deactivated}

@@ -13,17 +13,18 @@ use crate::beginning::{Begun, copy_delta};
 use crate::counting::{changed_document, counted_delta};
 use crate::state::{Active, DidState, Kept};
 use st_base::{Copied, WantOfMemory, Work};
+use st_canon::PackedJson;
 use st_doc::Delta;
 use st_hash::Hash;
 use st_jws::meets;
 use st_ops::{Claim, Operation, claim_of};
-use st_packed::PackedJson;
 use st_params::Params;
 use std::alloc::Global;
 
-/// The state that an operation leaves at these limits, by one step of resolution (DIF Sidetree v1.0.0,
-/// "Operation Compilation"). It counts as one operation applied, also where memory is wanting. That counts
-/// for a delta that is looked at later, too.
+/// The state that an operation leaves at these limits, by one step of resolution, after DIF Sidetree
+/// v1.0.0, "Operation Compilation"; the rules are this project's own. It counts as one operation applied,
+/// also where memory is wanting. Where no step has looked at the delta of the create or the recover before
+/// it, that is looked at under the same count.
 ///
 /// Where no create has acted, a create alone acts. After it a recover or a deactivate acts whose reveal
 /// value meets the recovery commitment, and an update whose reveal value meets the update commitment
@@ -206,9 +207,9 @@ fn begin(
     }))
 }
 
-// Whether the reveal value meets the commitment.
+/// Whether the reveal value meets the commitment.
 #[tactic(auto, using(crate::proofs::MeetingLemmas::meets_is))]
-fn reveals(reveal: &Hash, commitment: &Hash) -> bool
+pub fn reveals(reveal: &Hash, commitment: &Hash) -> bool
     ensures { result ≡ reveal_meets reveal.now commitment.now }
 {
     meets(reveal, commitment)

@@ -4,8 +4,8 @@ use crate::counting::{begun_document, counted_delta};
 use crate::document::KeptDocument;
 use crate::state::Active;
 use st_base::{Copied, WantOfMemory};
+use st_canon::PackedJson;
 use st_hash::Hash;
-use st_packed::PackedJson;
 use st_params::Params;
 use std::alloc::Global;
 

@@ -1,20 +1,23 @@
-ghost use Rattle.std.specs.Prelude.{◌≡◌, IfOk, IfSome, option_map};
+ghost use Rattle.std.specs.Prelude.{◌≡◌, IfOk, IfSome, OnOk, option_map};
 ghost use Rattle.st_apply.specs.Counting.{change_by, counted};
 ghost use Rattle.st_apply.specs.Step.{changed};
+ghost use Rattle.st_canon.specs.Canonical.{canonical};
 ghost use Rattle.st_canon.specs.Proper.{IsProper};
 ghost use Rattle.st_doc.specs.Delta.{plain_delta};
 ghost use Rattle.st_doc.specs.Document.{empty_document};
+ghost use Rattle.st_hash.specs.Hash.{IsCode, hash_of_with};
 
 use crate::document::KeptDocument;
 use st_base::{Copied, WantOfMemory};
+use st_canon::{PackedJson, write};
 use st_doc::{Delta, DeltaRefused, Document, PatchRefused, apply_all, check_delta};
-use st_hash::Hash;
-use st_packed::PackedJson;
+use st_hash::{Hash, hash_with};
 use st_params::Params;
 use std::alloc::Global;
 
-/// The delta, where it counts for the delta hash (DIF Sidetree v1.0.0, "Operation Compilation"): one is
-/// there, its hash is the delta hash, and it is a delta at these limits.
+/// The delta, where it counts for the delta hash: one is there, its hash is the delta hash, and it is a
+/// delta at these limits. That is after DIF Sidetree v1.0.0, "Operation Compilation"; the rules are this
+/// project's own.
 pub fn counted_delta(
     alloc: Global,
     params: &Params,
@@ -32,7 +35,7 @@ pub fn counted_delta(
     if delta.size() > params.max_delta() {
         return Ok(None);
     }
-    if delta.hash(alloc, delta_hash.code())? != *delta_hash {
+    if hash_of_delta(alloc, delta, delta_hash.code())? != *delta_hash {
         return Ok(None);
     }
     let value = delta.unpack(alloc)?;
@@ -43,6 +46,20 @@ pub fn counted_delta(
         Err(DeltaRefused::BadPatch(_)) => Ok(None),
         Err(DeltaRefused::WantOfMemory) => Err(WantOfMemory),
     }
+}
+
+// The hash of the canonical text of a delta by the algorithm with this code.
+fn hash_of_delta(alloc: Global, delta: &PackedJson, code: u8) -> Result<Hash, WantOfMemory>
+    requires { IsCode code }
+    ensures value { IfOk result (λ hash. hash ≡ hash_of_with code (canonical delta.now)) }
+    ensures proper { OnOk result (IsProper delta.now) }
+{
+    if let Some(text) = delta.text() {
+        return Ok(hash_with(text, code));
+    }
+    let value = delta.unpack(alloc)?;
+    let text = write(alloc, &value)?;
+    Ok(hash_with(text.as_slice(), code))
 }
 
 // The document after all patches of the delta, or as it was where one of them fails.

@@ -1,9 +1,9 @@
 ghost use Rattle.std.specs.Prelude.{◌≡◌, IfOk};
 ghost use Rattle.st_doc.specs.Document.{document_in, empty_document, plain_document};
 
-use st_base::{Copied, WantOfMemory};
+use st_base::{Copied, Shared, WantOfMemory};
+use st_canon::PackedJson;
 use st_doc::Document;
-use st_packed::{PackedJson, Shared};
 use std::alloc::Global;
 use std::marker::Model;
 

@@ -4,6 +4,7 @@
 
 mod applying;
 mod beginning;
+mod comparing;
 mod counting;
 mod document;
 mod laws;
@@ -12,8 +13,8 @@ mod state;
 #[cfg(test)]
 mod tests;
 
-pub use applying::apply;
+pub use applying::{apply, reveals};
 pub use counting::counted_delta;
 pub use laws::{alike_law, anchored_law, given_law, resolution_laws};
-pub use opening::StateParts;
+pub use opening::{StateParts, open_applied, open_created};
 pub use state::DidState;

@@ -1,11 +1,20 @@
-ghost use Rattle.std.specs.Prelude.{◌≡◌, IfOk};
-ghost use Rattle.st_apply.specs.Shown.{opened, shown_active};
+ghost use Rattle.std.specs.Prelude.{◌≡◌, IfOk, false};
+ghost use Rattle.st_apply.specs.Applied.{applied};
+ghost use Rattle.st_apply.specs.Seen.{absent, is_active};
+ghost use Rattle.st_apply.specs.Shown.{opened, shown_active, shown_begun};
+ghost use Rattle.st_base.specs.Work.{one_apply, AppliesAtMost};
+ghost use Rattle.st_ops.specs.Operation.{creating, plain_operation};
 
+use crate::applying::apply;
+use crate::beginning::Begun;
 use crate::state::{Active, DidState, Kept};
-use st_base::{Copied, WantOfMemory};
+use st_base::{Copied, Shared, WantOfMemory, Work};
+use st_canon::PackedJson;
 use st_doc::Document;
 use st_hash::Hash;
-use st_packed::Shared;
+use st_indexfiles::SuffixData;
+use st_ops::Operation;
+use st_params::Params;
 use std::alloc::Global;
 
 /// What a state holds.
@@ -26,13 +35,51 @@ pub enum StateParts {
     Deactivated,
 }
 
-impl DidState {
-    ghost use Rattle.std.specs.Prelude.{◌≡◌, IfOk};
-    ghost use Rattle.st_apply.specs.Shown.{opened};
+impl Copied for StateParts {
+    /// The same parts, with one owner more of the document.
+    fn copy(&self, alloc: Global) -> Result<StateParts, WantOfMemory> {
+        match self {
+            StateParts::Absent => Ok(StateParts::Absent),
+            StateParts::Active {
+                recovery,
+                update,
+                document,
+            } => Ok(StateParts::Active {
+                recovery: *recovery,
+                update: *update,
+                document: document.copy(alloc)?,
+            }),
+            StateParts::Deactivated => Ok(StateParts::Deactivated),
+        }
+    }
+}
 
-    /// What it holds. A document that is packed is read for this, and a delta that was not looked at yet is
-    /// looked at.
-    pub fn open(&self, alloc: Global) -> Result<StateParts, WantOfMemory>
+impl DidState {
+    ghost use Rattle.std.specs.Prelude.{◌≡◌, IfOk, false};
+    ghost use Rattle.st_apply.specs.Seen.{is_active};
+    ghost use Rattle.st_apply.specs.Shown.{opened};
+    ghost use Rattle.st_base.specs.Work.{AppliesAtMost};
+
+    /// What it holds. A document that is packed is read for this. Where the last operation that acted is a
+    /// create or a recover, no step may have looked at its delta yet. It is looked at then, each time, and
+    /// that counts as one operation applied, also where memory is wanting. Else nothing is counted.
+    pub fn open(&self, alloc: Global, work: &mut Work) -> Result<StateParts, WantOfMemory>
+        ensures parts { IfOk result (λ parts. opened parts ≡ self.now) }
+        ensures work { AppliesAtMost 1 work.old work.new }
+
+        // Nothing is counted of a state that has no document.
+        ensures idle { is_active self.now ≡ false → work.new ≡ work.old }
+    {
+        match &self.kept {
+            Kept::Absent => Ok(StateParts::Absent),
+            Kept::Begun(begun) => open_begun(alloc, begun, work),
+            Kept::Active(active) => open_active(alloc, active),
+            Kept::Deactivated => Ok(StateParts::Deactivated),
+        }
+    }
+
+    // The same where nothing is to be counted for it.
+    pub(crate) fn look(&self, alloc: Global) -> Result<StateParts, WantOfMemory>
         ensures { IfOk result (λ parts. opened parts ≡ self.now) }
     {
         match &self.kept {
@@ -42,6 +89,77 @@ impl DidState {
             Kept::Deactivated => Ok(StateParts::Deactivated),
         }
     }
+}
+
+/// What the state holds that a create makes of none: what `apply` makes of `DidState::absent`, opened.
+/// Together that counts as one operation applied, also where memory is wanting.
+#[tactic(auto, unfolding(crate::specs::Applied::applied))]
+pub fn open_created(
+    alloc: Global,
+    suffix_data: &SuffixData,
+    delta: Option<PackedJson>,
+    params: &Params,
+    work: &mut Work,
+) -> Result<StateParts, WantOfMemory>
+    ensures parts { IfOk result (λ parts. opened parts ≡ applied params.now absent (creating suffix_data.now delta)) }
+    ensures work { work.new ≡ one_apply work.old }
+{
+    let begun = Begun {
+        params: *params,
+        recovery: suffix_data.recovery_commitment,
+        delta_hash: suffix_data.delta_hash,
+        delta,
+    };
+    open_begun(alloc, &begun, work)
+}
+
+/// What `apply` leaves of a state, and what that holds. Together that counts as one operation applied, also
+/// where memory is wanting. The delta of a create or a recover is looked at once for both.
+pub fn open_applied(
+    alloc: Global,
+    state: &DidState,
+    operation: &Operation,
+    params: &Params,
+    work: &mut Work,
+) -> Result<(DidState, StateParts), WantOfMemory>
+    ensures state { IfOk result (λ made. made.0 ≡ applied params.now state.now (plain_operation operation.now)) }
+    ensures parts { IfOk result (λ made. opened made.1 ≡ made.0) }
+    ensures work { work.new ≡ one_apply work.old }
+{
+    let next = apply(alloc, state, operation, params, work)?;
+    settled(alloc, next)
+}
+
+// The state with its delta looked at, and what it holds.
+fn settled(alloc: Global, state: DidState) -> Result<(DidState, StateParts), WantOfMemory>
+    ensures state { IfOk result (λ made. made.0 ≡ state) }
+    ensures parts { IfOk result (λ made. opened made.1 ≡ made.0) }
+{
+    let DidState { kept } = state;
+    match kept {
+        Kept::Absent => Ok((DidState::absent(), StateParts::Absent)),
+        Kept::Begun(begun) => open_settled(alloc, begun.settled(alloc)?),
+        Kept::Active(active) => open_settled(alloc, active),
+        Kept::Deactivated => Ok((DidState::deactivated(), StateParts::Deactivated)),
+    }
+}
+
+fn open_settled(alloc: Global, active: Active) -> Result<(DidState, StateParts), WantOfMemory>
+    ensures state { IfOk result (λ made. made.0 ≡ shown_active active) }
+    ensures parts { IfOk result (λ made. opened made.1 ≡ made.0) }
+{
+    let parts = open_active(alloc, &active)?;
+    Ok((DidState::active(active), parts))
+}
+
+// What a create or a recover began. Its delta is looked at, which counts.
+fn open_begun(alloc: Global, begun: &Begun, work: &mut Work) -> Result<StateParts, WantOfMemory>
+    ensures parts { IfOk result (λ parts. opened parts ≡ shown_begun begun.now) }
+    ensures work { work.new ≡ one_apply work.old }
+{
+    work.tick_applies();
+    let active = begun.settled(alloc)?;
+    open_active(alloc, &active)
 }
 
 fn open_active(alloc: Global, active: &Active) -> Result<StateParts, WantOfMemory>

@@ -51,4 +51,4 @@ count_passing test (x ∷ xs) (suc at) within front back =
 
 -- what few operations bound, many do
 pub applies-few : (few many : ℕ) {old new : Counts} → few ≤ many → AppliesAtMost few old new → AppliesAtMost many old new
-applies-few few many le bound = record { files = bound.files; proofs = bound.proofs; applies = omega (arith, bound.applies) }
+applies-few few many le bound = record { files = bound.files; proofs = bound.proofs; least = bound.least; applies = omega (arith, bound.applies) }

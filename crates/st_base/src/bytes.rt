@@ -28,6 +28,14 @@ impl Bytes {
         }
     }
 
+    /// No bytes yet, with memory for so many.
+    pub fn with_room(alloc: Global, places: usize) -> Result<Bytes, WantOfMemory>
+        ensures { IfOk result (λ bytes. bytes ≡ []) }
+    {
+        let items = Vec::with_capacity(alloc, places)?;
+        Ok(Bytes { items })
+    }
+
     /// A copy of these bytes.
     pub fn from_slice(alloc: Global, bytes: &[u8]) -> Result<Bytes, WantOfMemory>
         ensures { IfOk result (λ copied. copied ≡ bytes.now) }

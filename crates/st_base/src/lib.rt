@@ -1,26 +1,35 @@
 //! The plain values that every layer shares: lists, texts and bytes that contracts see as lists,
-//! the words and numbers that texts are cut into, want of memory and the refusals of files, copies,
-//! and counters of work.
+//! values that several owners share or that stand in a box, the words and numbers that lines are cut
+//! into and the replies that are put together of them, want of memory and the refusals of files,
+//! copies, and counters of work.
 #![tactic(auto)]
 
+mod boxed;
 mod bytes;
 mod copied;
 mod cut;
 mod list;
 mod number;
 mod refused;
+mod replies;
+mod shared;
 #[cfg(test)]
 mod tests;
 mod text;
 mod want;
+mod words;
 mod work;
 
+pub use boxed::Boxed;
 pub use bytes::Bytes;
 pub use copied::Copied;
 pub use cut::cut_at;
 pub use list::List;
 pub use number::read_number;
 pub use refused::FileRefused;
+pub use replies::{push_word, reply};
+pub use shared::Shared;
 pub use text::Text;
 pub use want::WantOfMemory;
+pub use words::cut_word;
 pub use work::Work;

@@ -1,4 +1,8 @@
-use crate::{Bytes, Copied, List, Text, Work, cut_at, read_number};
+use crate::{
+    Boxed, Bytes, Copied, List, Shared, Text, WantOfMemory, Work, cut_at, cut_word, push_word,
+    read_number, reply,
+};
+use std::alloc::Global;
 use std::test::Fail;
 
 #[test]
@@ -110,4 +114,39 @@ fn a_number_has_one_spelling(rt: HostRuntime) -> Result<(), Fail> {
         assert_eq!(rt; read_number(text.as_bytes(), 1000), None, "{text}");
     }
     Ok(())
+}
+
+#[test]
+fn a_word_is_the_text_up_to_a_separator_or_to_its_end(rt: HostRuntime) -> Result<(), Fail> {
+    let others = b"5 4".as_slice();
+    assert!(rt; cut_word(b"format 5 4", b' ') == (b"format".as_slice(), Some(others)));
+    assert!(rt; cut_word(b"left", b' ') == (b"left".as_slice(), None));
+    Ok(())
+}
+
+#[test]
+fn words_are_put_together_to_a_reply(rt: HostRuntime) -> Result<(), Fail> {
+    assert!(rt; has_told(rt.alloc())?);
+    Ok(())
+}
+
+fn has_told(alloc: Global) -> Result<bool, WantOfMemory> {
+    let mut words = Bytes::with_room(alloc, 8)?.into_vec();
+    push_word(&mut words, b"1")?;
+    push_word(&mut words, b"uri")?;
+    let told = reply(alloc, "wanted", words.as_slice())?;
+    Ok(told.as_slice() == b"wanted 1 uri\n".as_slice())
+}
+
+#[test]
+fn a_value_is_shared_and_boxed(rt: HostRuntime) -> Result<(), Fail> {
+    assert!(rt; is_shared_and_boxed(rt.alloc())?);
+    Ok(())
+}
+
+fn is_shared_and_boxed(alloc: Global) -> Result<bool, WantOfMemory> {
+    let shared = Shared::new(alloc, 7u64)?;
+    let boxed = Boxed::new(alloc, *shared.copy(alloc)?.get())?;
+    let copied = boxed.copy(alloc)?;
+    Ok(*boxed.get() == 7 && copied.take() == 7)
 }

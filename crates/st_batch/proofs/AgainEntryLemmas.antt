@@ -13,7 +13,7 @@ use Rattle.st_indexfiles.specs.SuffixData.{create_json, create_of}
 use Rattle.st_indexfiles.specs.Target.{target_json, target_of}
 use Rattle.st_indexfiles.specs.declared.suffix_data.SuffixData.{SuffixData}
 use Rattle.st_indexfiles.specs.declared.target.Target.{Target}
-use Rattle.st_ops.specs.Accepted.{IsReadAt}
+use Rattle.st_ops.proofs.Accepted.{IsReadAt}
 use Rattle.st_batch.proofs.AgainHashLemmas.{hash_readable, hash_text_utf8}
 use Rattle.st_batch.proofs.AgainObjectLemmas.{IsReadable, IsReadableThere, deeper}
 use lib.Utf8.{encode, encodes, scalars}

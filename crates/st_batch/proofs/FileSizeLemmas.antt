@@ -1,5 +1,5 @@
 -- How long the files of operations are, by the sums of their entries.
-use Rattle.std.proofs.Common.{◌≡◌, ◌≢◌, ◌∙◌, ℕ, ◌+◌, ◌≤◌, ◌&&◌, Bool, true, nat_le, List, [], ◌∷◌, ◌++◌, codes, length, map, Option, Some, option_map, refl, ap, sym, arith}
+use Rattle.std.proofs.Common.{◌≡◌, ◌≢◌, ◌∙◌, ℕ, ◌+◌, ◌≤◌, ◌&&◌, Bool, true, nat_le, List, [], ◌∷◌, ◌++◌, codes, length, map, Option, Some, None, option_map, refl, ap, sym, arith}
 use Rattle.std.specs.List.{filter_map, list_all, sum_by}
 use Rattle.std.proofs.Math.Bool.{and-true}
 use Rattle.std.proofs.lemmas.Bool.{ne_eqb}
@@ -22,8 +22,8 @@ use Rattle.st_indexfiles.specs.declared.core_index.CoreIndex.{CoreIndex}
 use Rattle.st_ops.specs.Operation.{PlainOperation}
 use Rattle.st_ops.specs.RequestText.{delta_there}
 use Rattle.st_params.specs.Limits.{Limits}
-use Rattle.st_batch.specs.BatchFiles.{chunk_file, chunk_text, core_file, core_index, core_proof_file, filed, files_of, if_any, provisional_file, provisional_index, provisional_proof_file}
-use Rattle.st_batch.specs.FileSizes.{are_sizes_small, chunk_size, core_proof_size, core_size, in_brackets, member_size, provisional_proof_size, provisional_size, uri_size, where_any, with_core_proof_size, with_delta_size}
+use Rattle.st_batch.specs.BatchFiles.{bytes_there, chunk_text, core_file, core_index, core_proof_file, file_in, filed, files_of, if_any, provisional_file, provisional_index, provisional_proof_file}
+use Rattle.st_batch.specs.FileSizes.{are_sizes_small, chunk_size, core_proof_size, core_size, file_size, in_brackets, member_size, provisional_proof_size, provisional_size, uri_size, where_any, with_core_proof_size, with_delta_size}
 use Rattle.st_batch.specs.Groups.{Grouped, grouped, signed_text_in, with_core_proof, with_delta}
 use Rattle.st_batch.specs.OperationSizes.{create_size, deactivate_proof_size, deactivate_size, delta_size, recover_proof_size, recover_size, sizes_of, update_proof_size, update_size}
 use Rattle.st_batch.specs.Prefix.{are_files_small, is_small, most_bytes}
@@ -56,13 +56,17 @@ list_of name entries size bare is = list_there name entries bare ∙ ap (member_
 zero_passes : (most : ℕ) → nat_le 0 most ≡ true
 zero_passes most = grind (arith, nat_tests)
 
--- whether a file that is there where there are operations is small
-filed_test : (limits : Limits) (role : Role) (operations : List PlainOperation) (entries size : ℕ) (said : List ℕ)
-    → IsAnyBy operations entries → length said ≡ size
-    → list_all (is_small limits) (filed role (if_any operations said)) ≡ nat_le (where_any entries size) (most_bytes limits role)
-filed_test limits role [] entries size said any long = rw any (sym (zero_passes (most_bytes limits role)))
-filed_test limits role (operation ∷ operations) entries size said any long =
-    and-true (nat_le (length said) (most_bytes limits role)) ∙ ap (λ n. nat_le n (most_bytes limits role)) (long ∙ sym (any_some entries size any))
+-- whether a file is small
+filed_test : (limits : Limits) (role : Role) (file : Option (List ℕ))
+    → list_all (is_small limits) (filed role file) ≡ nat_le (bytes_there file) (most_bytes limits role)
+filed_test limits role None = sym (zero_passes (most_bytes limits role))
+filed_test limits role (Some bytes) = and-true (nat_le (length bytes) (most_bytes limits role))
+
+-- how long a file is that is there where there are operations
+there_long : (operations : List PlainOperation) (entries size : ℕ) (said : List ℕ) → IsAnyBy operations entries → length said ≡ size
+    → bytes_there (if_any operations said) ≡ where_any entries size
+there_long [] entries size said any long = rw any refl
+there_long (operation ∷ operations) entries size said any long = long ∙ sym (any_some entries size any)
 
 -- ---- all of several lists
 
@@ -185,26 +189,32 @@ module _ (operations : List PlainOperation) where
       ∷ (codes "operations", some_object (provisional_operations index)) ∷ [] in
       object_size (some_listed pairs) ∙ ap in_brackets (omega (arith, members, first, second, third))
 
+  -- how long the file of a role is, 0 where it is not there
+  pub file_long : (role : Role) → bytes_there (file_in role groups) ≡ file_size role (sizes_of operations)
+  unfolding core_proof_file provisional_file provisional_proof_file core_proof_size provisional_size provisional_proof_size chunk_size grouped
+  file_long Core = core_long
+  file_long CoreProof =
+      there_long (with_core_proof groups) (with_core_proof_size (sizes_of operations)) _ (core_proof_text groups)
+      (any_with_core_proof operations) core_proof_long
+  file_long Provisional =
+      there_long (with_delta groups) (with_delta_size (sizes_of operations)) _ (canonical (provisional_json (provisional_index groups)))
+      (any_with_delta operations) provisional_long
+  file_long ProvisionalProof =
+      there_long groups.updates (sum_by update_size operations) _ (canonical (provisional_proof_json (filter_map signed_text_in groups.updates)))
+      (any_update operations) provisional_proof_long
+  file_long Chunk =
+      there_long (with_delta groups) (with_delta_size (sizes_of operations)) _ (chunk_text groups) (any_with_delta operations) chunk_long
+
+  -- whether it is small
+  file_test : (limits : Limits) (role : Role)
+      → list_all (is_small limits) (filed role (file_in role groups)) ≡ nat_le (file_size role (sizes_of operations)) (most_bytes limits role)
+  file_test limits role = filed_test limits role (file_in role groups) ∙ ap (λ n. nat_le n (most_bytes limits role)) (file_long role)
+
   -- no file of the operations is longer than it may be, if and only if the sums of their entries are so small
   pub files_small : (limits : Limits) → are_files_small limits operations ≡ are_sizes_small limits (sizes_of operations)
-  unfolding are_files_small files_of core_proof_file provisional_file provisional_proof_file core_proof_size provisional_size
-      provisional_proof_size chunk_size grouped
+  unfolding are_files_small files_of
   files_small limits =
-      let test = is_small limits in
-      let sizes = sizes_of operations in
-      let core = filed Core (Some (core_file groups)) in
-      let core_proof = filed CoreProof (core_proof_file groups) in
-      let provisional = filed Provisional (provisional_file groups) in
-      let provisional_proof = filed ProvisionalProof (provisional_proof_file groups) in
-      let chunk = filed Chunk (chunk_file groups) in
-      let one = and-true (nat_le (length (core_file groups)) limits.max_index) ∙ ap (λ n. nat_le n limits.max_index) core_long in
-      let two = filed_test limits CoreProof (with_core_proof groups) (with_core_proof_size sizes) _ (core_proof_text groups)
-      (any_with_core_proof operations) core_proof_long in
-      let three = filed_test limits Provisional (with_delta groups) (with_delta_size sizes) _
-      (canonical (provisional_json (provisional_index groups))) (any_with_delta operations)
-      provisional_long in
-      let four = filed_test limits ProvisionalProof groups.updates sizes.updates _
-      (canonical (provisional_proof_json (filter_map signed_text_in groups.updates)))
-      (any_update operations) provisional_proof_long in
-      let five = filed_test limits Chunk (with_delta groups) (with_delta_size sizes) _ (chunk_text groups) (any_with_delta operations) chunk_long in
-      five_tests test core core_proof provisional provisional_proof chunk ∙ five_same one two three four five
+      five_tests (is_small limits) (filed Core (file_in Core groups)) (filed CoreProof (file_in CoreProof groups))
+      (filed Provisional (file_in Provisional groups)) (filed ProvisionalProof (file_in ProvisionalProof groups)) (filed Chunk (file_in Chunk groups))
+      ∙ five_same (file_test limits Core) (file_test limits CoreProof) (file_test limits Provisional) (file_test limits ProvisionalProof)
+      (file_test limits Chunk)

@@ -1,10 +1,11 @@
 -- What is flushed of a queue that is kept, and that what stays is kept.
 use Rattle.std.proofs.Common.{◌≡◌, ◌∙◌, ℕ, zero, suc, ◌<◌, ◌≤◌, ◌^◌, List, [], ◌∷◌, length, map, take, drop, refl, sym, ap, subst, arith}
-use Rattle.std.specs.List.{AllByRecursion, IsDistinct}
+use Rattle.std.specs.Prelude.{min}
+use Rattle.std.specs.List.{IsDistinct}
 use Rattle.std.proofs.lemmas.List.{drop-map, length-take-le, take-map}
 use Rattle.st_base.proofs.Quantifiers.{each-weaker}
 use Rattle.st_hash.specs.Hash.{same_hash}
-use Rattle.st_ops.specs.Operation.{PlainOperation, plain_operation}
+use Rattle.st_ops.specs.Operation.{plain_operation}
 use Rattle.st_params.specs.Limits.{Limits, limits_of}
 use Rattle.st_batch.specs.BatchFiles.{batch_of_groups, batch_with}
 use Rattle.st_batch.specs.BatchLaws.{AreBatched}
@@ -13,12 +14,12 @@ use Rattle.st_batch.specs.Flushed.{IsFlushed}
 use Rattle.st_batch.specs.Groups.{Grouped, grouped}
 use Rattle.st_batch.specs.Kept.{IsFormed, IsKept, IsQueued, operations_of}
 use Rattle.st_batch.specs.Prefix.{batch_count, batch_of, batched}
-use Rattle.st_batch.specs.ReadBack.{IsReadBack}
+use Rattle.st_batch.specs.ReadBack.{AreNamed, AscendFrom, IsReadBack}
 use Rattle.st_batch.specs.declared.batch.Batch.{Batch}
-use Rattle.st_batch.proofs.GivenPrefixLemmas.{batch_longest, prefix_batched}
+use Rattle.st_batch.proofs.GivenPrefixLemmas.{batch_ascends, batch_longest, batch_named, prefix_batched}
 use Rattle.st_batch.proofs.QueueLemmas.{Entry, different, length_operations}
 use Rattle.st_batch.proofs.ReadBackLemmas.{batch_is_read_back}
-use Rattle.st_batch.proofs.TakesTheFirstLemmas.{takes_the_first}
+use Rattle.st_batch.proofs.ThousandLemmas.{takes_a_thousand, takes_the_first}
 
 -- ---- parts of entries
 
@@ -27,12 +28,6 @@ taken_operations count entries = sym (take-map (λ entry. plain_operation entry.
 
 left_operations : (count : ℕ) (entries : List Entry) → operations_of (drop count entries) ≡ drop count (operations_of entries)
 left_operations count entries = sym (drop-map (λ entry. plain_operation entry.1) count entries)
-
-each_left : (P : PlainOperation → Type 0) (count : ℕ) (operations : List PlainOperation)
-    → AllByRecursion P operations → AllByRecursion P (drop count operations)
-each_left P zero operations all = all
-each_left P (suc count) [] all = tt
-each_left P (suc count) (operation ∷ operations) all = each_left P count operations all.1
 
 -- what is left of entries that are kept is kept
 pub kept_left : (count : ℕ) (entries : List Entry) → IsKept entries → IsKept (drop count entries)
@@ -70,6 +65,13 @@ some_taken limits (entry ∷ entries) may =
     (takes_the_first first.limits.version limits.version (plain_operation entry.1) (operations_of entries) first.formed.hashes
     (subst (λ these. Fits these (plain_operation entry.1)) first.versioned first.fitted))
 
+-- in version 1 the first 1,000 are taken, or all
+thousand_taken : (limits : Limits) (entries : List Entry) → MayFlush limits entries → limits.version ≡ 1
+    → batch_count limits (operations_of entries) ≡ min 1000 (length (operations_of entries))
+thousand_taken limits entries may first =
+    let is : limits ≡ limits_of 1 = may.versioned ∙ ap limits_of first in
+    ap (λ these. batch_count these (operations_of entries)) is ∙ takes_a_thousand (operations_of entries) may.kept.queued
+
 these_batched : (limits : Limits) (entries : List Entry) → MayFlush limits entries → AreBatched limits (batched limits (operations_of entries))
 these_batched limits entries may =
     prefix_batched limits (operations_of entries) (different entries may.kept may.apart)
@@ -100,6 +102,10 @@ flushed limits entries may {count} {taken} {left} {groups} {made} counted first 
       batch = is;
       rest = ap operations_of (others ∙ ap (λ many. drop many entries) counted) ∙ left_operations (batch_count limits (operations_of entries)) entries;
       some = some_taken limits entries may;
+      longest = batch_longest limits (operations_of entries);
+      thousand = λ first. thousand_taken limits entries may first;
+      named = subst (λ (batch : Batch). AreNamed batch.files) (sym is) (batch_named (batched limits (operations_of entries)));
+      ascend = subst (λ (batch : Batch). AscendFrom 0 batch.files) (sym is) (batch_ascends (batched limits (operations_of entries)));
       read_back = subst (λ batch. IsReadBack limits batch (batched limits (operations_of entries))) (sym is)
           (batch_is_read_back limits (batched limits (operations_of entries)) are are.few);
     }

@@ -11,9 +11,9 @@ use Rattle.st_datafiles.specs.declared.role.Role.TheVariants.{Core, CoreProof, P
 use Rattle.st_hash.specs.Hash.{same_hash, uri_of}
 use Rattle.st_ops.specs.Operation.{PlainOperation, suffix_of}
 use Rattle.st_params.specs.Limits.{Limits}
-use Rattle.st_batch.specs.BatchFiles.{chunk_file, core_file, core_proof_file, filed, files_of, provisional_file, provisional_proof_file}
+use Rattle.st_batch.specs.BatchFiles.{batch_with, chunk_file, core_file, core_proof_file, filed, files_of, provisional_file, provisional_proof_file}
 use Rattle.st_batch.specs.BatchLaws.{AreBatched}
-use Rattle.st_batch.specs.Groups.{Grouped}
+use Rattle.st_batch.specs.Groups.{Grouped, grouped}
 use Rattle.st_batch.specs.Kept.{AreDifferent, IsFormed, suffixes_of}
 use Rattle.st_batch.specs.Prefix.{IsLongest, batch_count, batched, greatest, is_batch}
 use Rattle.st_batch.specs.ReadBack.{AreNamed, AscendFrom}
@@ -29,7 +29,7 @@ filed_named role (Some bytes) = (refl, tt)
 abbrev Named : BatchFile → Type 0
 Named file = file.uri ≡ uri_of file.bytes
 
-pub files_named : (groups : Grouped) → AreNamed (files_of groups)
+files_named : (groups : Grouped) → AreNamed (files_of groups)
 unfolding files_of
 files_named groups =
     let core = filed Core (Some (core_file groups)) in
@@ -41,7 +41,7 @@ files_named groups =
     let four = each-append Named (core ++ core_proof ++ provisional) provisional_proof three (filed_named ProvisionalProof (provisional_proof_file groups)) in
     each-append Named (core ++ core_proof ++ provisional ++ provisional_proof) (filed Chunk (chunk_file groups)) four (filed_named Chunk (chunk_file groups))
 
-pub files_ascend : (groups : Grouped) → AscendFrom 0 (files_of groups)
+files_ascend : (groups : Grouped) → AscendFrom 0 (files_of groups)
 unfolding files_of
 files_ascend groups = by (core_file groups) (core_proof_file groups) (provisional_file groups) (provisional_proof_file groups) (chunk_file groups)
   where
@@ -64,6 +64,15 @@ files_ascend groups = by (core_file groups) (core_proof_file groups) (provisiona
     by core (Some b) (Some c) None (Some e) = (omega arith, (omega arith, (omega arith, (omega arith, tt))))
     by core (Some b) (Some c) (Some d) None = (omega arith, (omega arith, (omega arith, (omega arith, tt))))
     by core (Some b) (Some c) (Some d) (Some e) = (omega arith, (omega arith, (omega arith, (omega arith, (omega arith, tt)))))
+
+-- the files of a batch
+pub batch_named : (operations : List PlainOperation) → AreNamed (batch_with operations).files
+unfolding batch_with
+batch_named operations = files_named (grouped operations)
+
+pub batch_ascends : (operations : List PlainOperation) → AscendFrom 0 (batch_with operations).files
+unfolding batch_with
+batch_ascends operations = files_ascend (grouped operations)
 
 -- ---- the longest prefix
 

@@ -19,16 +19,13 @@ mod GivenOperationsLemmas
 mod GivenPrefixLemmas
 mod ReadBackFitLemmas
 mod ReadBackLemmas
--- One operation goes into a batch alone.
-mod FirstSizeLemmas
-mod FirstTakenLemmas
-mod TakesTheFirstLemmas
 -- What a flush takes of a queue, by kind, and what it leaves.
 mod FlushLemmas
 mod GatheredLemmas
 mod GroupingLemmas
 mod WrittenLemmas
 -- How long files are, by what stands in them, and how many operations go into a batch by that.
+mod FirstSizeLemmas
 mod ExactSizeLemmas
 mod HashSizeLemmas
 mod MemberSizeLemmas
@@ -39,3 +36,8 @@ mod MoreSizeLemmas
 mod SaturatedSizeLemmas
 mod PrefixSizeLemmas
 mod CountingLemmas
+-- Up to 1,000 operations always go into one batch of version 1.
+mod DecodedLemmas
+mod SignedSizeLemmas
+mod LowSizeLemmas
+mod ThousandLemmas

@@ -2,8 +2,10 @@
 use Rattle.std.proofs.Common.{◌≡◌, ℕ, ◌+◌, ◌≤◌, ◌&&◌, Bool, true, List, length, codes, nat_le, refl, arith}
 use Rattle.std.proofs.lemmas.Bool.{and_parts}
 use Rattle.std.proofs.lemmas.Bool.Decides.{nat_tests}
+use Rattle.st_datafiles.specs.declared.role.Role.{Role}
+use Rattle.st_datafiles.specs.declared.role.Role.TheVariants.{Core, CoreProof, Provisional, ProvisionalProof, Chunk}
 use Rattle.st_params.specs.Limits.{Limits}
-use Rattle.st_batch.specs.FileSizes.{are_sizes_small, chunk_size, core_proof_size, core_size, member_size, provisional_proof_size, provisional_size, uri_size, where_any, with_core_proof_size, with_delta_size}
+use Rattle.st_batch.specs.FileSizes.{are_sizes_small, chunk_size, core_proof_size, core_size, file_size, member_size, provisional_proof_size, provisional_size, uri_size, where_any, with_core_proof_size, with_delta_size}
 use Rattle.st_batch.specs.declared.sizes.Sizes.{Sizes}
 
 -- each size is at most the other
@@ -82,6 +84,14 @@ module _ (few many : Sizes) (within : AreWithin few many) where
       any_more (with_delta_size few) (with_delta_size many) _ _ (omega (arith, within.creates, within.recovers, within.updates)) (omega (arith, deltas))
 
 -- ---- all files
+
+-- the file of any role
+pub file_more : (role : Role) (few many : Sizes) → AreWithin few many → file_size role few ≤ file_size role many
+file_more Core few many within = core_more few many within
+file_more CoreProof few many within = core_proof_more few many within
+file_more Provisional few many within = provisional_more few many within
+file_more ProvisionalProof few many within = provisional_proof_more few many within
+file_more Chunk few many within = chunk_more few many within
 
 still_passes : (a b limit : ℕ) → a ≤ b → nat_le b limit ≡ true → nat_le a limit ≡ true
 still_passes a b limit less passes = grind (arith, nat_tests)

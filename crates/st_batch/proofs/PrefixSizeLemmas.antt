@@ -9,13 +9,14 @@ use Rattle.std.proofs.lemmas.List.Sums.{sum_by-cons, sum_by_more}
 use Rattle.st_canon.specs.Measure.{saturated}
 use Rattle.st_ops.specs.Operation.{PlainOperation}
 use Rattle.st_params.specs.Limits.{Limits}
+use Rattle.st_batch.specs.BatchLaws.{NeverShorter}
 use Rattle.st_batch.specs.OperationSizes.{create_size, deactivate_proof_size, deactivate_size, delta_size, recover_proof_size, recover_size, sizes_in, sizes_of, update_proof_size, update_size}
 use Rattle.st_batch.specs.Prefix.{are_files_small, batch_count, is_batch}
 use Rattle.st_batch.specs.Sums.{both_sizes, saturated_sizes}
-use Rattle.st_batch.proofs.FileSizeLemmas.{files_small}
+use Rattle.st_batch.proofs.FileSizeLemmas.{file_long, files_small}
 use Rattle.st_batch.proofs.GivenPrefixLemmas.{batch_longest}
 use Rattle.st_batch.proofs.KnownRuleLemmas.{both}
-use Rattle.st_batch.proofs.MoreSizeLemmas.{AreWithin, fewer_small}
+use Rattle.st_batch.proofs.MoreSizeLemmas.{AreWithin, fewer_small, file_more}
 
 -- ---- sums over a prefix
 
@@ -43,6 +44,14 @@ sizes_within few many operations less = record {
   update_proofs = sum_within update_proof_size few many operations less;
   deltas = sum_within delta_size few many operations less;
 }
+
+-- a longer prefix has no shorter file
+pub never_shorter : NeverShorter
+never_shorter role queue fewer more less =
+    let few = file_long (take fewer queue) role in
+    let many = file_long (take more queue) role in
+    let within = file_more role (sizes_of (take fewer queue)) (sizes_of (take more queue)) (sizes_within fewer more queue less) in
+    rw (few, many) within
 
 -- ---- one operation more
 

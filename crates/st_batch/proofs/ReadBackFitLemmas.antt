@@ -8,7 +8,7 @@ use Rattle.st_canon.specs.Plain.{Plain}
 use Rattle.st_canon.specs.Proper.{IsProper}
 use Rattle.st_hash.specs.Hash.{HashValue, same_hash}
 use Rattle.st_indexfiles.specs.declared.target.Target.{Target}
-use Rattle.st_ops.specs.Accepted.{IsAccepted}
+use Rattle.st_ops.proofs.Accepted.{IsAccepted}
 use Rattle.st_ops.specs.Claim.{claim_of, deactivate_claim, revealed}
 use Rattle.st_ops.specs.Operation.{PlainOperation, Proof, creating, updating, recovering, deactivating}
 use Rattle.st_ops.specs.RequestText.{delta_there, request_text}

@@ -11,7 +11,8 @@ use Rattle.st_batch.proofs.MoreSizeLemmas.{AreWithin, chunk_more, core_more, cor
 
 -- ---- parts of files
 
-any_within : (p x : ℕ) → where_any p x ≤ x
+-- what is left out has no bytes
+pub any_within : (p x : ℕ) → where_any p x ≤ x
 any_within p x = grind (arith, nat_tests)
 
 any_same : (p q x : ℕ) → (p ≡ 0 → q ≡ 0) → (q ≡ 0 → p ≡ 0) → where_any p x ≡ where_any q x

@@ -76,6 +76,19 @@ core_file groups = canonical (core_json (core_index groups))
 
 -- ---- all of them
 
+-- the file of a role, where it is there
+abbrev pub file_in : Role → Grouped → Option (List ℕ)
+file_in Core groups = Some (core_file groups)
+file_in CoreProof groups = core_proof_file groups
+file_in Provisional groups = provisional_file groups
+file_in ProvisionalProof groups = provisional_proof_file groups
+file_in Chunk groups = chunk_file groups
+
+-- how many bytes a file has, 0 where it is not there
+abbrev pub bytes_there : Option (List ℕ) → ℕ
+bytes_there None = 0
+bytes_there (Some bytes) = length bytes
+
 -- a file in its role under its URI, where it is there
 abbrev pub filed : Role → Option (List ℕ) → List BatchFile
 filed role None = []
@@ -84,9 +97,9 @@ filed role (Some bytes) = record { role = role; uri = uri_of bytes; bytes = byte
 -- the files in the order of their roles
 unfoldable pub files_of : Grouped → List BatchFile
 files_of groups =
-    filed Core (Some (core_file groups)) ++ filed CoreProof (core_proof_file groups)
-    ++ filed Provisional (provisional_file groups) ++ filed ProvisionalProof (provisional_proof_file groups)
-    ++ filed Chunk (chunk_file groups)
+    filed Core (file_in Core groups) ++ filed CoreProof (file_in CoreProof groups)
+    ++ filed Provisional (file_in Provisional groups) ++ filed ProvisionalProof (file_in ProvisionalProof groups)
+    ++ filed Chunk (file_in Chunk groups)
 
 -- an anchor string: the number of operations, a dot, the URI of the core index file
 abbrev pub anchor_text : ℕ → HashValue → List ℕ

@@ -4,7 +4,7 @@ use Rattle.std.specs.Coded.{Coded, code_by, coded×, coded_bool, coded_list, cod
 use Rattle.st_canon.specs.Plain.{Plain}
 use Rattle.st_hash.specs.Hash.{HashValue}
 use Rattle.st_ops.specs.Codes.{coded_proof}
-use Rattle.st_packed.specs.PlainCodes.{coded_plain}
+use Rattle.st_canon.specs.PlainCodes.{coded_plain}
 use Rattle.st_ops.specs.Operation.{PlainOperation, Proof, creating, updating, recovering, deactivating}
 
 -- two hashes, and a proof and a delta that may be there

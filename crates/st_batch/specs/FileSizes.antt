@@ -2,6 +2,8 @@
 -- Sidetree v1.0.0, "File Structures").
 -- No public call speaks of them.
 use Rattle.std.specs.Prelude.{ℕ, ◌+◌, ◌==◌, ◌&&◌, Bool, nat_le, max, List, length, codes, if◌then◌else◌}
+use Rattle.st_datafiles.specs.declared.role.Role.{Role}
+use Rattle.st_datafiles.specs.declared.role.Role.TheVariants.{Core, CoreProof, Provisional, ProvisionalProof, Chunk}
 use Rattle.st_params.specs.Limits.{Limits}
 use Rattle.st_batch.specs.declared.sizes.Sizes.{Sizes}
 
@@ -64,6 +66,14 @@ provisional_proof_size sizes = where_any sizes.updates (in_brackets (
 -- the chunk file
 unfoldable pub chunk_size : Sizes → ℕ
 chunk_size sizes = where_any (with_delta_size sizes) (in_brackets (member_size (codes "deltas") sizes.deltas))
+
+-- the file of a role
+abbrev pub file_size : Role → Sizes → ℕ
+file_size Core sizes = core_size sizes
+file_size CoreProof sizes = core_proof_size sizes
+file_size Provisional sizes = provisional_size sizes
+file_size ProvisionalProof sizes = provisional_proof_size sizes
+file_size Chunk sizes = chunk_size sizes
 
 -- no file is longer than it may be
 abbrev pub are_sizes_small : Limits → Sizes → Bool

@@ -1,19 +1,25 @@
 -- What a flush makes of a queue.
-use Rattle.std.specs.Prelude.{◌≡◌, ◌≤◌, List, [], length}
+use Rattle.std.specs.Prelude.{◌≡◌, ◌≤◌, List, [], length, min}
 use Rattle.st_ops.specs.Operation.{PlainOperation}
 use Rattle.st_params.specs.Limits.{Limits}
-use Rattle.st_batch.specs.Prefix.{batch_count, batch_of, batched, rest_of}
-use Rattle.st_batch.specs.ReadBack.{IsReadBack}
+use Rattle.st_batch.specs.Prefix.{IsLongest, batch_count, batch_of, batched, rest_of}
+use Rattle.st_batch.specs.ReadBack.{AreNamed, AscendFrom, IsReadBack}
 use Rattle.st_batch.specs.declared.batch.Batch.{Batch}
 use Rattle.st_batch.specs.declared.refused.FlushRefused.{FlushRefused}
 use Rattle.st_batch.specs.declared.refused.FlushRefused.TheVariants.{Nothing, WantOfMemory}
 
--- What is made is the batch of the queue at these limits, what is left is what stays queued, at least
--- one operation was taken, and the batch is read back as those that were taken.
+-- What is made is the batch of the queue at these limits, what is left is what stays queued, and at least
+-- one operation was taken. No longer prefix goes into one batch; in version 1 it is the first 1,000, or
+-- all where there are fewer. Each file stands under its own URI, no role comes twice, and the batch is read
+-- back as the operations that were taken.
 pub record IsFlushed (limits : Limits) (queue left : List PlainOperation) (made : Batch) : Type 0 where
   pub batch : made ≡ batch_of limits queue
   pub rest : left ≡ rest_of limits queue
   pub some : 1 ≤ batch_count limits queue
+  pub longest : IsLongest limits queue (batch_count limits queue)
+  pub thousand : limits.version ≡ 1 → batch_count limits queue ≡ min 1000 (length queue)
+  pub named : AreNamed made.files
+  pub ascend : AscendFrom 0 made.files
   pub read_back : IsReadBack limits made (batched limits queue)
 
 -- Nothing is flushed of an empty queue, which comes back. Memory is wanting only where something is

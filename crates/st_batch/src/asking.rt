@@ -11,7 +11,7 @@ ghost use Rattle.st_ops.specs.RequestText.{delta_there};
 ghost use Rattle.st_params.specs.Limits.{limits_of};
 
 use crate::delta_checking::has_right_delta;
-use crate::knowing::{know_limits, know_operation};
+use crate::knowing::know_operation;
 use crate::refused::SubmitRefused;
 use st_base::Work;
 use st_ops::{Operation, read_request};
@@ -32,7 +32,8 @@ pub(crate) fn ask(
     ensures versioned { OnOk result (params.now ≡ limits_of params.now.version) }
     ensures counted { ProofsAtMost 1 work.old work.new }
 {
-    know_limits(params)?;
+    // For proofs: the limits are those of their version.
+    let _version = params.version();
     let operation = read_request(alloc, bytes, params, work)?;
     want_right_delta(alloc, &operation, params)?;
     know_operation(&operation);

@@ -7,9 +7,9 @@ ghost use Rattle.st_ops.specs.RequestText.{delta_there};
 
 use st_apply::counted_delta;
 use st_base::WantOfMemory;
+use st_canon::PackedJson;
 use st_hash::Hash;
 use st_ops::{Claim, Operation, claim_of};
-use st_packed::PackedJson;
 use st_params::Params;
 use std::alloc::Global;
 

@@ -6,7 +6,6 @@ use crate::batch::Batch;
 use crate::counting::batch_count;
 use crate::entries::Entries;
 use crate::grouping::groups_of;
-use crate::knowing::know_limits;
 use crate::writing::write_batch;
 use st_base::WantOfMemory;
 use st_params::Params;
@@ -23,8 +22,8 @@ pub(crate) fn flush(
     ensures flushed { IfOk result (λ done. IsFlushed params.now (operations_of queued.entries) (operations_of done.0.entries) done.1) }
     ensures kept { IfOk result (λ done. IsKept done.0.entries) }
 {
-    know_limits(params)?;
-    // For proofs: no suffix stands twice.
+    // For proofs: the limits are those of their version, and no suffix stands twice.
+    let _version = params.version();
     let _length = queued.len();
     let count = batch_count(alloc, &queued, params)?;
     let (taken, rest) = split(queued, count)?;

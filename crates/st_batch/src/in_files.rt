@@ -3,10 +3,10 @@ ghost use Rattle.st_batch.specs.Groups.{suffix_data_in, target_in};
 ghost use Rattle.st_ops.specs.Operation.{plain_operation};
 ghost use Rattle.st_ops.specs.RequestText.{delta_there};
 
+use st_canon::PackedJson;
 use st_hash::Hash;
 use st_indexfiles::{SuffixData, Target};
 use st_ops::Operation;
-use st_packed::PackedJson;
 
 /// The suffix data of a create.
 pub(crate) fn suffix_data_in(operation: &Operation) -> Option<SuffixData>

@@ -1,15 +1,12 @@
-ghost use Rattle.std.specs.Prelude.{◌≡◌, IfSome, OnOk, option_map};
+ghost use Rattle.std.specs.Prelude.{◌≡◌, IfSome, option_map};
 ghost use Rattle.std.specs.Option.{option_copied};
 ghost use Rattle.std.specs.Str.{IsUtf8};
 ghost use Rattle.st_batch.specs.Groups.{signed_text_in};
 ghost use Rattle.st_ops.specs.KnownHashes.{HasHashes};
 ghost use Rattle.st_ops.specs.Operation.{plain_operation};
-ghost use Rattle.st_params.specs.Limits.{limits_of};
 
 use crate::parts::signed_text_in;
-use st_base::WantOfMemory;
 use st_ops::{Operation, know_hashes};
-use st_params::Params;
 
 /// For proofs: the hashes of an operation have the values that hashes have, and its signed text is
 /// UTF-8. Nothing is done.
@@ -27,12 +24,4 @@ fn know_text(text: &str)
     ensures { IsUtf8 text.now }
 {
     let _length = text.len();
-}
-
-/// For proofs: limits are those of their version. A copy of them is made, for what a copy is known by.
-pub(crate) fn know_limits(params: &Params) -> Result<(), WantOfMemory>
-    ensures { OnOk result (params.now ≡ limits_of params.now.version) }
-{
-    let _same = params.clone()?;
-    Ok(())
 }

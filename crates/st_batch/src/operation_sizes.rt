@@ -10,13 +10,12 @@ ghost use Rattle.st_indexfiles.specs.Target.{target_json};
 ghost use Rattle.st_ops.specs.Operation.{plain_operation, plain_proof};
 
 use crate::sizes::Sizes;
-use st_base::{Copied, Text, WantOfMemory};
-use st_canon::{Json, size};
+use st_base::{Copied, Shared, Text, WantOfMemory};
+use st_canon::{Json, PackedJson, size};
 use st_hash::{Hash, SHA_512};
 use st_indexfiles::SuffixData;
 use st_jws::Signed;
 use st_ops::Operation;
-use st_packed::{PackedJson, Shared};
 use std::alloc::Global;
 
 // What of an entry stands round its hash texts or its signed text, and the comma behind it.

@@ -2,10 +2,9 @@ ghost use Rattle.std.specs.Prelude.{◌≡◌, option_map};
 ghost use Rattle.st_batch.specs.Groups.{signed_text_in};
 ghost use Rattle.st_ops.specs.Operation.{plain_operation, plain_proof};
 
-use st_base::Text;
+use st_base::{Shared, Text};
 use st_jws::Signed;
 use st_ops::Operation;
-use st_packed::Shared;
 
 /// The signed text of an operation that has a proof.
 pub(crate) fn signed_text_in(operation: &Operation) -> Option<&Text>

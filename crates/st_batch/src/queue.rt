@@ -81,8 +81,9 @@ impl Queue {
     }
 
     /// Makes a batch of the first operations, as many as go into one at these limits: no more than a
-    /// batch may declare, and none of its files longer than it may be. It gives what stays queued, in
-    /// order, and the batch. No file is read and nothing is counted.
+    /// batch may declare, and none of its files longer than it may be. In version 1 these are the first
+    /// 1,000, or all where there are fewer. It gives what stays queued, in order, and the batch. No file
+    /// is read and nothing is counted.
     ///
     /// Wherever the files of the batch are known, an entry with its anchor string, at a height with
     /// these limits, gives exactly the operations that were taken, if each of them fits these limits.

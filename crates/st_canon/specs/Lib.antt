@@ -10,8 +10,10 @@ pub mod Measure
 pub mod Names
 pub mod Objects
 pub mod ObjectsOfLists
+pub mod Packed
 pub mod Place
 pub mod Plain
+pub mod PlainCodes
 pub mod Proper
 pub mod Reading
 pub mod Rewritten

@@ -1,5 +1,5 @@
-//! JSON values with whole numbers: read from any spelling, edited by name, and written as the
-//! canonical text of RFC 8785.
+//! JSON values with whole numbers: read from any spelling, edited by name, written as the canonical
+//! text of RFC 8785, and kept in little memory as that text, or as a part of a file that is kept anyway.
 #![tactic(auto)]
 
 mod comparing;
@@ -14,6 +14,8 @@ mod members;
 mod names;
 mod nesting;
 mod object;
+mod packed;
+mod part;
 mod place;
 mod reading;
 mod refused;
@@ -35,6 +37,7 @@ pub use direct::{MAX_DEPTH, ReadStopped, read_value};
 pub use fitting::fits;
 pub use lists::is_object_of_lists_if_there;
 pub use nesting::depth;
+pub use packed::PackedJson;
 pub use reading::{read, read_json};
 pub use refused::ReadRefused;
 pub use rewriting::rewrite;

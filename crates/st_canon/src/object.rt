@@ -1,4 +1,4 @@
-ghost use Rattle.std.specs.Prelude.{◌≡◌, Some, None, map, option_map, OnOk, OnErr};
+ghost use Rattle.std.specs.Prelude.{◌≡◌, Some, None, map, option_map, IfNone, OnOk, OnErr};
 ghost use Rattle.std.specs.List.{list_any};
 ghost use Rattle.std.specs.Map.{lookup};
 ghost use Rattle.std.specs.Option.{option_copied};
@@ -95,6 +95,7 @@ impl Object {
         ensures rest { plain_members self.new ≡ without name.now (plain_members self.old) }
         ensures gone { member_at name.now (plain_members self.new) ≡ None }
         ensures others { OthersStay name.now (plain_members self.old) (plain_members self.new) }
+        ensures same { IfNone result (self.new ≡ self.old) }
     {
         match place_of(self.pairs.as_slice(), name) {
             Ok(at) => {

@@ -1,6 +1,6 @@
 ghost use Rattle.std.specs.Prelude.{◌≡◌, [], IfOk};
 
-use st_base::{Bytes, List, WantOfMemory};
+use st_base::{List, WantOfMemory};
 use std::alloc::Global;
 
 // No items yet, and memory for exactly so many: a list that grows keeps up to twice its items.
@@ -8,11 +8,4 @@ pub(crate) fn room_for<T>(alloc: Global, places: usize) -> Result<List<T>, WantO
     ensures { IfOk result (λ list. list ≡ []) }
 {
     Ok(List::from_vec(Vec::with_capacity(alloc, places)?))
-}
-
-// No bytes yet, and memory for so many.
-pub(crate) fn room_for_bytes(alloc: Global, places: usize) -> Result<Bytes, WantOfMemory>
-    ensures { IfOk result (λ bytes. bytes ≡ []) }
-{
-    Ok(Bytes::from_vec(Vec::with_capacity(alloc, places)?))
 }

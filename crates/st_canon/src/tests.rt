@@ -6,6 +6,7 @@ ghost use Rattle.st_canon.specs.View.{plain, plain_members};
 
 mod measures;
 mod members;
+mod packed;
 mod shapes;
 mod spelling;
 mod tokens;

@@ -7,7 +7,6 @@ ghost use Rattle.st_canon.specs.Reading.{json_of};
 ghost use Rattle.st_canon.specs.View.{plain, plain_items, plain_members};
 
 use crate::escape::append_text;
-use crate::room::room_for_bytes;
 use crate::value::{Json, Object};
 use crate::whole::Whole;
 use st_base::{Bytes, List, WantOfMemory};
@@ -29,7 +28,7 @@ pub fn write(alloc: Global, value: &Json) -> Result<Bytes, WantOfMemory>
     // No other value has this text.
     ensures only { IfOk result (λ text. (other : Plain) → IsProper other → canonical other ≡ text → other ≡ plain value.now) }
 {
-    let mut out = room_for_bytes(alloc, USUAL)?;
+    let mut out = Bytes::with_room(alloc, USUAL)?;
     append(alloc, &mut out, value)?;
     Ok(out)
 }

@@ -1,6 +1,6 @@
 -- What a node means to a run of lines: it replies as the reference machine, it comes to the machine that
 -- the lines leave, and what is counted on the way is no more than what is due.
-use Rattle.std.specs.Prelude.{◌≡◌, ℕ, ◌+◌, List}
+use Rattle.std.specs.Prelude.{◌≡◌, ⊤, ℕ, ◌+◌, List}
 use Rattle.st_base.specs.Work.{Counts}
 use Rattle.st_drive.specs.Meaning.{Meaning}
 use Rattle.st_node.specs.Command.{longest_line}
@@ -12,14 +12,16 @@ abbrev pub kept_of_line : ℕ
 kept_of_line = longest_line + 1
 
 -- over these lines the node came to that machine, and no more was counted than was due
-pub record RanLines (machine : Machine) (work : Counts) (lines : List (List ℕ)) (next : Machine) (counted : Counts) : Type 0 where
+pub record RanLines (machine : Machine) (work : Counts × Unit {0}) (lines : List (List ℕ))
+    (next : Machine) (counted : Counts × Unit {0}) : Type 0 where
   pub came : next ≡ after machine lines
-  pub due : DueOver machine lines work counted
+  pub due : DueOver machine lines work.0 counted.0
 
 -- What a node means to a run: it replies as the reference machine does, and counts no more than was due.
-abbrev pub node_meaning : Meaning Machine Counts
+abbrev pub node_meaning : Meaning Machine (Counts × Unit {0})
 node_meaning = record {
   answers = replies;
+  told = λ work. ⊤;
   ran = RanLines;
-  gave_up = λ machine work lines counted. DueOver machine lines work counted;
+  gave_up = λ machine work lines counted. DueOver machine lines work.0 counted.0;
 }

@@ -1,10 +1,15 @@
 ghost use Rattle.std.specs.Prelude.{◌≡◌, ⊤};
+ghost use Rattle.st_cli.specs.Journalled.{node_answering};
+ghost use Rattle.st_cli.specs.JournalledLaws.{answering_laws};
+ghost use Rattle.st_node.specs.Machine.{new_machine};
 ghost use Rattle.st_cli.specs.NodeLaws.{node_laws};
 ghost use Rattle.st_cli.specs.NodeLines.{kept_of_line, node_meaning};
 
-use st_base::{Bytes, Work};
+use st_base::{Bytes, WantOfMemory, Work};
 use st_drive::{Machine, StepError};
-use st_node::{LONGEST_LINE, Node};
+use st_journal_lines::Replayable;
+use st_node::{LONGEST_LINE, Node, changing};
+use st_params::Schedule;
 use std::alloc::Global;
 use std::marker::Model;
 
@@ -38,13 +43,15 @@ impl NodeLines {
 impl Machine for NodeLines {
     type Context = Work;
 
+    type Device = ();
+
     ghost meaning = { node_meaning };
 
     ghost CAP = { kept_of_line };
 
     const CAP: usize = LONGEST_LINE + 1;
 
-    ghost fits = { λ _ _. ⊤ };
+    ghost fits = { λ _ _ _. ⊤ };
 
     ghost faults = { λ _. 0 };
 
@@ -52,6 +59,7 @@ impl Machine for NodeLines {
         self,
         alloc: Global,
         context: &mut Work,
+        _device: &mut (),
         line: &[u8],
     ) -> Result<(NodeLines, Bytes), StepError> {
         match self.node.answer(alloc, line, context) {
@@ -60,5 +68,43 @@ impl Machine for NodeLines {
         }
     }
 
+    ghost fewer = { λ m c many few le fits. fits };
+
     ghost laws = { node_laws };
+}
+
+impl Replayable for NodeLines {
+    type Context = Work;
+
+    type Seed = Schedule;
+
+    ghost start = { new_machine };
+
+    ghost answering = { node_answering };
+
+    ghost CAP = { kept_of_line };
+
+    const CAP: usize = LONGEST_LINE + 1;
+
+    fn start(alloc: Global, seed: &Schedule) -> Result<NodeLines, WantOfMemory> {
+        let node = Node::new(alloc, *seed)?;
+        Ok(NodeLines::new(node))
+    }
+
+    fn answer(
+        self,
+        alloc: Global,
+        context: &mut Work,
+        line: &[u8],
+    ) -> Result<(NodeLines, Bytes, bool), WantOfMemory> {
+        match self.node.answer(alloc, line, context) {
+            Ok((node, reply)) => {
+                let changes = changing(reply.as_slice());
+                Ok((NodeLines { node }, reply, changes))
+            }
+            Err(want) => Err(want),
+        }
+    }
+
+    ghost laws = { answering_laws };
 }

@@ -6,9 +6,8 @@ ghost use Rattle.std.specs.Ordering.{nat_cmp};
 ghost use Rattle.st_hash.specs.Hash.{HashValue, uri_of};
 ghost use Rattle.st_content.specs.Files.{AreNamed, file_at, with_entry, with_file};
 
-use st_base::{Bytes, WantOfMemory};
+use st_base::{Bytes, Shared, WantOfMemory};
 use st_hash::{Hash, sha256};
-use st_packed::Shared;
 use std::alloc::Global;
 use std::collections::BTreeMap;
 use std::collections::btree_map::Entry;

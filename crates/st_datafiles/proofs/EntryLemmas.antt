@@ -2,7 +2,7 @@
 use Rattle.std.proofs.Common.{◌≡◌, List, Some, codes, true, refl}
 use Rattle.st_canon.specs.Plain.{Plain}
 use Rattle.st_canon.proofs.ItemLists.{entries-items_of}
-use Rattle.st_packed.specs.Entries.{object_of_list}
+use Rattle.st_datafiles.specs.OnlyList.{object_of_list}
 use Rattle.st_datafiles.specs.Chunk.{deltas_of, has_chunk_form}
 
 pub form_is : (deltas : List Plain) → has_chunk_form (Some (object_of_list (codes "deltas") deltas)) ≡ true

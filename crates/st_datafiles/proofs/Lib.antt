@@ -1,4 +1,6 @@
 -- Private: a chunk file that is nothing but a list.
 mod EntryLemmas
+-- Private: an object whose only member is a list, over its tokens.
+mod OnlyListLemmas
 -- For the crates above.
 pub mod ProofLemmas

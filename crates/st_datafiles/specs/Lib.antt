@@ -1,3 +1,4 @@
 pub mod Chunk
+pub mod OnlyList
 pub mod ProofFiles
 pub mod ProofRules

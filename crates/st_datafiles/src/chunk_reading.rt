@@ -4,13 +4,13 @@ ghost use Rattle.st_base.specs.Work.{one_file};
 ghost use Rattle.st_canon.specs.Shapes.{json_in};
 ghost use Rattle.st_canon.specs.View.{plain};
 ghost use Rattle.st_datafiles.specs.Chunk.{chunk_json_rules, chunk_rules, deltas_of, has_chunk_form};
-ghost use Rattle.st_packed.specs.Entries.{object_of_list};
+ghost use Rattle.st_datafiles.specs.OnlyList.{object_of_list};
 
 use crate::chunk_rule::{ChunkRefused, ChunkRule};
+use crate::entries::read_entries;
 use crate::taking::{take_entries, take_member};
-use st_base::{Bytes, FileRefused, List, WantOfMemory, Work};
-use st_canon::{Json, entries_in, read_json};
-use st_packed::{PackedJson, Shared, read_entries};
+use st_base::{Bytes, FileRefused, List, Shared, WantOfMemory, Work};
+use st_canon::{Json, PackedJson, entries_in, read_json};
 use st_params::Params;
 use std::alloc::Global;
 

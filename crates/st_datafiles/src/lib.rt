@@ -7,6 +7,7 @@ mod chunk_reading;
 mod chunk_rule;
 mod chunk_writing;
 mod core_proofs;
+mod entries;
 mod proof_reading;
 mod proof_rule;
 mod proof_writing;

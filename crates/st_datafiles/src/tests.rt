@@ -1,4 +1,5 @@
 mod chunk_files;
+mod entries;
 mod proof_files;
 
 use st_base::{Bytes, WantOfMemory, read_number};

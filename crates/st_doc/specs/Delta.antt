@@ -1,4 +1,5 @@
--- Deltas (Sidetree v1.0.0, "Create" to "Recover"): patches, and the commitment to the next update.
+-- Deltas, after DIF Sidetree v1.0.0, "Create" to "Recover"; the rules are this project's own. A delta is its
+-- patches, and the commitment to the next update.
 use Rattle.std.specs.Prelude.{ℕ, ◌+◌, Bool, not, nat_le, nat_lt, List, [], ◌∷◌, map, codes, if◌then◌else◌, Option, Some, None, is_some, ok_or, option_and_then, Result, Ok, Err}
 use Rattle.st_base.specs.Answers.{◌>>=◌}
 use Rattle.st_canon.specs.Depth.{depth_of}

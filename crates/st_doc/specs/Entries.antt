@@ -1,4 +1,4 @@
--- The forms of the keys and services of a document (Sidetree v1.0.0, "DID State Patches", in bounds of
+-- The forms of the keys and services of a document (after DIF Sidetree v1.0.0, "DID State Patches", in bounds of
 -- this project's own). `None` is a value that is not there.
 use Rattle.std.specs.Prelude.{ℕ, ◌==◌, Bool, true, false, ◌&&◌, ◌||◌, nat_le, List, [], ◌∷◌, length, codes, Option, Some, None, unwrap_or}
 use Rattle.std.specs.Char.{is_ascii_alphanumeric}
@@ -52,7 +52,7 @@ abbrev pub is_object : Option Plain → Bool
 is_object (Some (object _)) = true
 is_object other = false
 
--- what a key may be for (Sidetree v1.0.0, "add-public-keys")
+-- what a key may be for (after DIF Sidetree v1.0.0, "add-public-keys")
 abbrev pub purposes : List (List ℕ)
 purposes = codes "authentication" ∷ codes "assertionMethod" ∷ codes "keyAgreement"
     ∷ codes "capabilityInvocation" ∷ codes "capabilityDelegation" ∷ []

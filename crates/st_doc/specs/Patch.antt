@@ -1,5 +1,5 @@
--- The patches of a delta (Sidetree v1.0.0, "Standard Patch Actions"; those on names are this project's
--- own): each an object with exactly `action` and the member that this action needs.
+-- The patches of a delta, after DIF Sidetree v1.0.0, "Standard Patch Actions"; the rules, and the patches on
+-- names, are this project's own. Each is an object with exactly `action` and the member that this action needs.
 use Rattle.std.specs.Prelude.{ℕ, ◌&&◌, List, [], ◌∷◌, map, codes, if◌then◌else◌, bytes_eq, Option, Some, None, option_and_then}
 use Rattle.std.specs.List.{list_all}
 use Rattle.std.specs.Result.{result_ok}

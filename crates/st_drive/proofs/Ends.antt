@@ -10,13 +10,13 @@ use Rattle.st_drive.specs.declared.stop.Stop.TheVariants.{ReadFault, WriteFault,
 use Rattle.st_base.specs.Words.{HasNo}
 use Rattle.st_drive.specs.Lines.{split, capped, whole_lines, last_line, all_lines, CutTo}
 use Rattle.st_drive.specs.Meaning.{Meaning, Laws}
-use Rattle.st_drive.specs.Runs.{Begins, RanOver, GaveUpOver}
+use Rattle.st_drive.specs.Runs.{Begins, Course, course}
 use Rattle.st_drive.specs.Parts.{Goes, Stops, GoesOverCut, Wrote, WroteSome}
 use Rattle.st_drive.specs.Stops.{IsAnswerStop}
-use Rattle.st_drive.specs.Tables.{Answered, EndsEarly, Row, Table}
+use Rattle.st_drive.specs.Tables.{Answered, AnsweredFirst, SoFar, Row, Table}
 use Rattle.st_drive.proofs.LineLemmas.{split_append, capped_append, capped_rest, capped_nil}
 use Rattle.st_drive.proofs.CutLemmas.{whole_cut, all_cut}
-use Rattle.st_drive.proofs.RunLemmas.{went_none, went_more, stopped_more, stops_longer}
+use Rattle.st_drive.proofs.RunLemmas.{went_none, went_more, stopped_more, goes_stops, stops_longer}
 
 -- a machine and its context, what the source has left, and what the sink holds
 pub record Place (M C : Type 0) : Type 0 where
@@ -40,11 +40,11 @@ pub record Read (room : ℕ) (left rest : Option (List ℕ)) (piece extra : List
   pub fits : length piece ≤ room
   pub most : length (piece ++ extra) ≤ room + 1
 
-if_some : {X : Type 0} {P : X → Type 0} (o : Option X) → ((x : X) → P x) → IfSome o P
+pub if_some : {X : Type 0} {P : X → Type 0} (o : Option X) → ((x : X) → P x) → IfSome o P
 if_some None f = tt
 if_some (Some x) f = f x
 
-if_some_map : {X : Type 0} {P Q : X → Type 0} (o : Option X) → IfSome o P → ((x : X) → P x → Q x) → IfSome o Q
+pub if_some_map : {X : Type 0} {P Q : X → Type 0} (o : Option X) → IfSome o P → ((x : X) → P x → Q x) → IfSome o Q
 if_some_map None p f = tt
 if_some_map (Some x) p f = f x p
 
@@ -67,27 +67,32 @@ all_at_end bytes (Some rest) end =
     ([], append-nil (all_lines bytes) ∙ ap all_lines (sym (ap (λ xs. bytes ++ xs) end ∙ append-nil bytes)))
 
 -- the row of a run that was stopped while it answered
-early_row : {answers : List (List ℕ) → List ℕ} {ran_over gave_up_over : List (List ℕ) → Type 0} {left : Option (List ℕ)} {taken written : List ℕ}
-    (T : Type 0) (limit : ℕ) (rose device : Type 0) (stop : Stop) → IsAnswerStop rose device stop → length taken ≤ limit + 1
-    → EndsEarly answers ran_over gave_up_over left taken written
-    → Row {T = T} answers ran_over gave_up_over limit left taken written (Err stop)
-early_row T limit rose device ReadFault cause le early = absurd cause
-early_row T limit rose device WriteFault cause le early = (le, early)
-early_row T limit rose device DeviceFault cause le early = (le, early)
-early_row T limit rose device OverLimit cause le early = absurd cause
-early_row T limit rose device WantOfMemory cause le early = (le, early)
+early_row : (over : Course) (left : Option (List ℕ)) (taken written : List ℕ) (T : Type 0) (limit : ℕ) (rose device : Type 0) (stop : Stop)
+    → IsAnswerStop rose device stop → length taken ≤ limit + 1 → Row {T = T} over limit left taken written (Err stop)
+early_row over left taken written T limit rose device ReadFault cause le = absurd cause
+early_row over left taken written T limit rose device WriteFault cause le = le
+early_row over left taken written T limit rose device DeviceFault cause le = le
+early_row over left taken written T limit rose device OverLimit cause le = absurd cause
+early_row over left taken written T limit rose device WantOfMemory cause le = le
 
 module _ {M C : Type 0} {means : Meaning M C} {cap : ℕ} (laws : Laws means cap) where
+  -- no line was answered
+  none_answered : (m : M) (c : C) (lines : List (List ℕ)) → AnsweredFirst (course means m c c) [] lines
+  none_answered m c lines = record {
+    answered = [];
+    later = lines;
+    all = refl;
+    replies = λ told. (means.answers m [], refl);
+    context = inl (m, laws.ran_none m c);
+  }
+
   -- before its first read a run has done nothing
   pub nothing_yet : (m : M) (c : C) (left : Option (List ℕ))
-      → EndsEarly (means.answers m) (RanOver means m c c) (GaveUpOver means m c c) left [] []
+      → SoFar (course means m c c) left [] []
   nothing_yet m c left = record {
-    answered = [];
-    later = [];
-    lines = refl;
-    replies = (means.answers m [], refl);
-    all_replies = if_some left (λ rest. (means.answers m (all_lines rest), refl));
-    context = inl (m, laws.ran_none m c);
+    of_taken = none_answered m c [];
+    of_all = if_some left (λ rest. none_answered m c (all_lines rest));
+    all_replies = if_some left (λ rest told. (means.answers m (all_lines rest), refl));
   }
 
   pub taken_start : (start : Place M C) (limit : ℕ) → Taken means cap limit limit [] start start
@@ -138,42 +143,69 @@ module _ {M C : Type 0} {means : Meaning M C} {cap : ℕ} (laws : Laws means cap
         taken = t.taken ++ piece;
         takes = Consumes-trans start.left now.left new.left t.taken piece t.takes takes;
         line_is = line_is ∙ sym (ap (λ p. p.1) lines);
-        wrote = subst (λ ls. Wrote means cap start.machine start.context ls new.machine new.context start.holds new.holds) (sym (ap (λ p. p.0) lines)) (wrote_more t.wrote more);
+        wrote = subst (λ ls. Wrote means cap start.machine start.context ls new.machine new.context start.holds new.holds) (sym (ap (λ p. p.0) lines))
+            (wrote_more t.wrote more);
         budget = omega (arith, length-append t.taken piece);
       }
 
   -- what was written of lines that went
   answered_of : {m n : M} {c d : C} {lines : List (List ℕ)} {written : List ℕ} → Goes means m c lines written n d
-      → Answered (means.answers m) (RanOver means m c d) written lines
-  answered_of {m} {n} {c} {d} {lines} {written} p =
-      (sym (append-nil written) ∙ ap (λ xs. written ++ xs) (sym (laws.silent n)) ∙ sym (p.on []) ∙ ap (means.answers m) (append-nil lines), (n, p.context))
+      → Answered (course means m c d) written lines
+  answered_of {m} {n} {c} {d} {lines} {written} p = (
+    λ told. sym (append-nil written) ∙ ap (λ xs. written ++ xs) (sym (laws.silent n)) ∙ sym (p.on told []) ∙ ap (means.answers m)
+        (append-nil lines),
+    (n, p.context),
+  )
 
   answered_whole : {m n : M} {c d : C} {written : List ℕ} (bytes : List ℕ) → length bytes < 2 ^ 62
       → GoesOverCut means cap m c (capped cap bytes).0 written n d
-      → Answered (means.answers m) (RanOver means m c d) written (whole_lines bytes)
+      → Answered (course means m c d) written (whole_lines bytes)
   answered_whole bytes short p = answered_of (p.of (whole_lines bytes) (whole_cut cap bytes short))
 
-  -- a run that stopped within the first lines of what was taken ended early
-  ends_early : {m : M} {c d : C} {lines : List (List ℕ)} {written : List ℕ} (taken : List ℕ) (left : Option (List ℕ))
-      → Stops means m c lines written d → AreFirst lines taken → IfSome left (λ rest. AreFirst lines (taken ++ rest))
-      → EndsEarly (means.answers m) (RanOver means m c d) (GaveUpOver means m c d) left taken written
-  ends_early {m} {c} {d} {lines} {written} taken left stops now all =
-      let longer = stops_longer laws lines now.0 written stops in
+  -- lines that it went over it has stopped behind
+  stopped_behind : {m n : M} {c d : C} {lines : List (List ℕ)} {written : List ℕ} → Goes means m c lines written n d
+      → Stops means m c lines written d
+  stopped_behind {m} {n} {c} {d} {lines} {written} p = subst (λ ls. Stops means m c ls written d) (append-nil lines) (goes_stops laws lines [] written p)
+
+  -- a run that stopped within the first lines answered the first ones of all
+  answered_first : {m : M} {c d : C} {lines : List (List ℕ)} {written : List ℕ} (all : List (List ℕ))
+      → Stops means m c lines written d → (more : List (List ℕ)) × (lines ++ more ≡ all)
+      → AnsweredFirst (course means m c d) written all
+  answered_first {m} {c} {d} {lines} {written} all stops more =
+      let longer = stops_longer laws lines more.0 written stops in
       record {
         answered = longer.answered;
         later = longer.later;
-        lines = longer.all ∙ now.1;
-        replies = subst (λ ls. Begins written (means.answers m ls)) (append-nil longer.answered) (longer.off []);
-        all_replies =
-            if_some_map left all (λ rest more. subst (λ ls. Begins written (means.answers m ls)) (sym (append_assoc stops.answered stops.later more.0) ∙ ap (λ ls. ls ++ more.0) stops.all ∙ more.1) (stops.off (stops.later ++ more.0)));
+        all = longer.all ∙ more.1;
+        replies = λ told. subst (λ ls. Begins written (means.answers m ls)) (append-nil longer.answered) (longer.off told []);
         context = longer.context;
       }
+
+  -- so much has come about where a run stopped within the first lines of what was taken
+  comes_so_far : {m : M} {c d : C} {lines : List (List ℕ)} {written : List ℕ} (taken : List ℕ) (left : Option (List ℕ))
+      → Stops means m c lines written d → AreFirst lines taken → IfSome left (λ rest. AreFirst lines (taken ++ rest))
+      → SoFar (course means m c d) left taken written
+  comes_so_far {m} {c} {d} {lines} {written} taken left stops now all = record {
+    of_taken = answered_first (all_lines taken) stops now;
+    of_all = if_some_map left all (λ rest more. answered_first (all_lines (taken ++ rest)) stops more);
+    all_replies =
+        if_some_map left all (λ rest more told. subst (λ ls. Begins written (means.answers m ls))
+        (sym (append_assoc stops.answered stops.later more.0) ∙ ap (λ ls. ls ++ more.0) stops.all ∙ more.1) (stops.off told (stops.later ++ more.0)));
+  }
+
+  -- the whole lines of what was taken were answered
+  so_far_whole : {m n : M} {c d : C} {written : List ℕ} (bytes extra : List ℕ) (left : Option (List ℕ)) → length bytes < 2 ^ 62
+      → GoesOverCut means cap m c (capped cap bytes).0 written n d
+      → SoFar (course means m c d) left (bytes ++ extra) written
+  so_far_whole bytes extra left short p =
+      comes_so_far (bytes ++ extra) left (stopped_behind (p.of (whole_lines bytes) (whole_cut cap bytes short))) (whole_first bytes extra)
+      (if_some left (λ rest. let found = whole_first bytes (extra ++ rest) in (found.0, found.1 ∙ ap all_lines (sym (append_assoc bytes extra rest)))))
 
   -- ---- the table at each end
 
   pub table_read_fault : {T : Type 0} {limit room : ℕ} {line : List ℕ} {start now : Place M C} (rest : Option (List ℕ))
       → limit < 2 ^ 62 → Taken means cap limit room line start now → Keeps now.left rest
-      → Table {T = T} (means.answers start.machine) (RanOver means start.machine start.context now.context) (GaveUpOver means start.machine start.context now.context) limit start.left rest start.holds now.holds (Err ReadFault)
+      → Table {T = T} (course means start.machine start.context now.context) limit start.left rest start.holds now.holds (Err ReadFault)
   table_read_fault {start = start} {now = now} rest small t kept =
       let b = t.budget in
       record {
@@ -181,14 +213,17 @@ module _ {M C : Type 0} {means : Meaning M C} {cap : ℕ} (laws : Laws means cap
         written = t.wrote.written;
         takes = Consumes-kept start.left now.left rest t.taken t.takes kept;
         writes = t.wrote.writes;
+        so_far = subst (λ bytes. SoFar (course means start.machine start.context now.context) rest bytes t.wrote.written) (append-nil t.taken)
+            (so_far_whole t.taken [] rest (omega arith) t.wrote.went);
         row = (omega arith, answered_whole t.taken (omega arith) t.wrote.went);
       }
 
   -- the run stopped while it answered the lines of a piece; one byte more may have been taken
-  pub table_cut : {T : Type 0} {limit room : ℕ} {line piece extra : List ℕ} {start now : Place M C} {rest new : Option (List ℕ)} {e : C} (rose device : Type 0) (stop : Stop)
+  pub table_cut : {T : Type 0} {limit room : ℕ} {line piece extra : List ℕ} {start now : Place M C} {rest new : Option (List ℕ)} {e : C}
+      (rose device : Type 0) (stop : Stop)
       → limit < 2 ^ 62 → Taken means cap limit room line start now → Read room now.left rest piece extra
       → WroteSome means cap now.machine now.context (capped cap (line ++ piece)).0 e now.holds new → IsAnswerStop rose device stop
-      → Table {T = T} (means.answers start.machine) (RanOver means start.machine start.context e) (GaveUpOver means start.machine start.context e) limit start.left rest start.holds new (Err stop)
+      → Table {T = T} (course means start.machine start.context e) limit start.left rest start.holds new (Err stop)
   table_cut {T} {limit} {room} {line} {piece} {extra} {start} {now} {rest} {new} {e} rose device stop small t read cut cause =
       let bytes = t.taken ++ piece in
       let all = t.taken ++ (piece ++ extra) in
@@ -196,29 +231,35 @@ module _ {M C : Type 0} {means : Meaning M C} {cap : ℕ} (laws : Laws means cap
       let fits = read.fits in
       let most = read.most in
       let len = length-append t.taken piece in
-      let some = subst (λ ls. WroteSome means cap start.machine start.context ls e start.holds new) (sym (ap (λ p. p.0) (piece_lines t piece))) (wrote_less t.wrote cut) in
+      let some = subst (λ ls. WroteSome means cap start.machine start.context ls e start.holds new) (sym (ap (λ p. p.0) (piece_lines t piece)))
+      (wrote_less t.wrote cut) in
       let stops = some.stopped.of (whole_lines bytes) (whole_cut cap bytes (omega arith)) in
       let assoc : (more : List ℕ) → bytes ++ (extra ++ more) ≡ all ++ more =
-      λ more. append_assoc t.taken piece (extra ++ more) ∙ ap (λ xs. t.taken ++ xs) (sym (append_assoc piece extra more)) ∙ sym (append_assoc t.taken (piece ++ extra) more) in
+      λ more. append_assoc t.taken piece (extra ++ more) ∙ ap (λ xs. t.taken ++ xs) (sym (append_assoc piece extra more)) ∙ sym
+      (append_assoc t.taken (piece ++ extra) more) in
       let first = whole_first bytes extra in
-      let early = ends_early all rest stops (first.0, first.1 ∙ ap all_lines (append_assoc t.taken piece extra)) (if_some rest (λ more. let found = whole_first bytes (extra ++ more) in (found.0, found.1 ∙ ap all_lines (assoc more)))) in
+      let early = comes_so_far all rest stops (first.0, first.1 ∙ ap all_lines (append_assoc t.taken piece extra))
+      (if_some rest (λ more. let found = whole_first bytes (extra ++ more) in (found.0, found.1 ∙ ap all_lines (assoc more)))) in
       record {
         taken = all;
         written = some.written;
         takes = Consumes-trans start.left now.left rest t.taken (piece ++ extra) t.takes read.takes;
         writes = some.writes;
-        row = early_row T limit rose device stop cause (omega (arith, length-append t.taken (piece ++ extra))) early;
+        so_far = early;
+        row = early_row (course means start.machine start.context e) rest all some.written T limit rose device stop cause
+            (omega (arith, length-append t.taken (piece ++ extra)));
       }
 
   -- the source gave one byte more than there was room for
   pub table_over : {T : Type 0} {limit room : ℕ} {line piece extra : List ℕ} {start now : Place M C} {rest new : Option (List ℕ)} {o : M} {e : C}
       → limit < 2 ^ 62 → Taken means cap limit room line start now → Read room now.left rest piece extra
       → length piece ≡ room → length extra ≡ 1 → Wrote means cap now.machine now.context (capped cap (line ++ piece)).0 o e now.holds new
-      → Table {T = T} (means.answers start.machine) (RanOver means start.machine start.context e) (GaveUpOver means start.machine start.context e) limit start.left rest start.holds new (Err OverLimit)
+      → Table {T = T} (course means start.machine start.context e) limit start.left rest start.holds new (Err OverLimit)
   table_over {T} {limit} {room} {line} {piece} {extra} {start} {now} {rest} {new} {o} {e} small t read full one more =
       let bytes = t.taken ++ piece in
       let all = t.taken ++ (piece ++ extra) in
-      let wrote = subst (λ ls. Wrote means cap start.machine start.context ls o e start.holds new) (sym (ap (λ p. p.0) (piece_lines t piece))) (wrote_more t.wrote more) in
+      let wrote = subst (λ ls. Wrote means cap start.machine start.context ls o e start.holds new) (sym (ap (λ p. p.0) (piece_lines t piece)))
+      (wrote_more t.wrote more) in
       let b = t.budget in
       let len : length bytes ≡ limit = omega (arith, length-append t.taken piece) in
       let first : take limit all ≡ bytes = ap (take limit) (sym (append_assoc t.taken piece extra)) ∙ take_at bytes extra limit len in
@@ -228,9 +269,11 @@ module _ {M C : Type 0} {means : Meaning M C} {cap : ℕ} (laws : Laws means cap
         written = wrote.written;
         takes = Consumes-trans start.left now.left rest t.taken (piece ++ extra) t.takes read.takes;
         writes = wrote.writes;
+        so_far = subst (λ xs. SoFar (course means start.machine start.context e) rest xs wrote.written) (append_assoc t.taken piece extra)
+            (so_far_whole bytes extra rest (omega arith) wrote.went);
         row = (
           omega (arith, length-append t.taken (piece ++ extra), length-append piece extra, length-append t.taken piece),
-          subst (λ xs. Answered (means.answers start.machine) (RanOver means start.machine start.context e) wrote.written (whole_lines xs)) (sym first) answered,
+          subst (λ xs. Answered (course means start.machine start.context e) wrote.written (whole_lines xs)) (sym first) answered,
         );
       }
 
@@ -242,11 +285,12 @@ module _ {M C : Type 0} {means : Meaning M C} {cap : ℕ} (laws : Laws means cap
       subst (λ l. CutTo cap (all_lines t.taken) ((capped cap t.taken).0 ++ last_line l)) (sym t.line_is) (all_cut cap t.taken laws.positive (omega arith))
 
   -- the source is at its end, and the last line was answered, or the run stopped at it
-  pub table_of_end : {T : Type 0} {limit room : ℕ} {line : List ℕ} {start now : Place M C} {rest new : Option (List ℕ)} {e : C} (rose device : Type 0) (ending : Result T Stop)
+  pub table_of_end : {T : Type 0} {limit room : ℕ} {line : List ℕ} {start now : Place M C} {rest new : Option (List ℕ)} {e : C} (rose device : Type 0)
+      (ending : Result T Stop)
       → limit < 2 ^ 62 → Taken means cap limit room line start now → Consumes now.left rest [] × IsAtEnd rest
       → OnOk ending ((next : M) × Wrote means cap now.machine now.context (last_line line) next e now.holds new)
       → OnErr ending (WroteSome means cap now.machine now.context (last_line line) e now.holds new) × IfErr ending (IsAnswerStop rose device)
-      → Table (means.answers start.machine) (RanOver means start.machine start.context e) (GaveUpOver means start.machine start.context e) limit start.left rest start.holds new ending
+      → Table (course means start.machine start.context e) limit start.left rest start.holds new ending
   table_of_end {start = start} {now = now} {rest = rest} rose device (Ok x) small t end ok err =
       let b = t.budget in
       let wrote = wrote_more t.wrote ok.1 in
@@ -255,9 +299,11 @@ module _ {M C : Type 0} {means : Meaning M C} {cap : ℕ} (laws : Laws means cap
         written = wrote.written;
         takes = subst (Consumes start.left rest) (append-nil t.taken) (Consumes-trans start.left now.left rest t.taken [] t.takes end.0);
         writes = wrote.writes;
+        so_far = comes_so_far t.taken rest (stopped_behind (wrote.went.of (all_lines t.taken) (last_cut t small)))
+            ([], append-nil (all_lines t.taken)) (all_at_end t.taken rest end.1);
         row = (end.1, omega arith, answered_of (wrote.went.of (all_lines t.taken) (last_cut t small)));
       }
-  table_of_end {T = T} {limit = limit} {start = start} {now = now} {rest = rest} rose device (Err stop) small t end ok err =
+  table_of_end {T = T} {limit = limit} {start = start} {now = now} {rest = rest} {e = e} rose device (Err stop) small t end ok err =
       let b = t.budget in
       let some = wrote_less t.wrote err.0 in
       let stops = some.stopped.of (all_lines t.taken) (last_cut t small) in
@@ -266,5 +312,6 @@ module _ {M C : Type 0} {means : Meaning M C} {cap : ℕ} (laws : Laws means cap
         written = some.written;
         takes = subst (Consumes start.left rest) (append-nil t.taken) (Consumes-trans start.left now.left rest t.taken [] t.takes end.0);
         writes = some.writes;
-        row = early_row T limit rose device stop err.1 (omega arith) (ends_early t.taken rest stops ([], append-nil (all_lines t.taken)) (all_at_end t.taken rest end.1));
+        so_far = comes_so_far t.taken rest stops ([], append-nil (all_lines t.taken)) (all_at_end t.taken rest end.1);
+        row = early_row (course means start.machine start.context e) rest t.taken some.written T limit rose device stop err.1 (omega arith);
       }

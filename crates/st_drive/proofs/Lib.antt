@@ -2,5 +2,12 @@ pub mod LineLemmas
 pub mod CutLemmas
 pub mod RunLemmas
 pub mod ReplyLemmas
+pub mod FitsLemmas
 pub mod Fed
 pub mod Ends
+pub mod OnDiskLemmas
+pub mod ReleasedLemmas
+pub mod SpendingLemmas
+pub mod RecordingLemmas
+pub mod InputLemmas
+pub mod TestNumbersLemmas

@@ -1,12 +1,14 @@
 -- What a machine means to a run: what it replies to lines, what it does to its context over them, and
 -- what it promises of both. A line stands here as it is in the input, without its line feed and at its
 -- full length.
-use Rattle.std.specs.Prelude.{◌≡◌, ◌<◌, ◌^◌, ℕ, List, [], ◌∷◌, ◌++◌, length, take}
+use Rattle.std.specs.Prelude.{◌≡◌, ◌+◌, ◌≤◌, ◌<◌, ◌^◌, ℕ, List, [], ◌∷◌, ◌++◌, length, take}
 
 -- what a machine of type M with a context of type C means
 pub record Meaning (M C : Type 0) : Type 1 where
-  -- all that it replies to these lines, in order
+  -- all that it replies to these lines, in order, where that is told
   pub answers : M → List (List ℕ) → List ℕ
+  -- what it replies is told over this context: it may hang on a disk that doesn't tell what it reads as
+  pub told : C → Type 0
   -- From this machine and context over these lines it may come to that machine and context. It may say
   -- anything that holds of no lines and that composes, as a bound on the work done.
   pub ran : M → C → List (List ℕ) → M → C → Type 0
@@ -29,6 +31,8 @@ pub record Laws {M C : Type 0} (means : Meaning M C) (cap : ℕ) : Type 0 where
   -- where it may give up at the cut line, it may give up at the line
   pub cut_gave_up : (m : M) (c d : C) (line : List ℕ) → length line < 2 ^ 62
       → means.gave_up m c (take cap line ∷ []) d → means.gave_up m c (line ∷ []) d
+  -- what is told stays told
+  pub told_stays : (m n : M) (c d : C) (lines : List (List ℕ)) → means.ran m c lines n d → means.told c → means.told d
   -- over no lines it may stay as it is
   pub ran_none : (m : M) (c : C) → means.ran m c [] m c
   -- what it may do over some lines and then over others, it may do over all of them
@@ -37,3 +41,19 @@ pub record Laws {M C : Type 0} (means : Meaning M C) (cap : ℕ) : Type 0 where
   -- it may give up behind lines that it went over
   pub gave_up_more : (m n : M) (c d e : C) (lines more : List (List ℕ)) → means.ran m c lines n d
       → means.gave_up n d more e → means.gave_up m c (lines ++ more) e
+
+-- ---- how much more a machine may go on over
+
+-- it may go on over fewer bytes, where it may over more
+abbrev pub Fewer : {M C : Type 0} (fits : M → C → ℕ → Type 0) → Type 0
+Fewer {M} {C} fits = (m : M) (c : C) (many few : ℕ) → few ≤ many → fits m c many → fits m c few
+
+-- so many bytes were taken, and from n at d on it may go on over what was left besides
+abbrev pub FitsAfter : {M C : Type 0} (fits : M → C → ℕ → Type 0)
+    (m : M) (c : C) (taken : ℕ) (n : M) (d : C) → Type 0
+FitsAfter fits m c taken n d = (more : ℕ) → fits m c (taken + more) → fits n d more
+
+-- the same, where so many bytes of the next line are kept
+abbrev pub FitsBeside : {M C : Type 0} (fits : M → C → ℕ → Type 0)
+    (m : M) (c : C) (taken : ℕ) (n : M) (d : C) (kept : ℕ) → Type 0
+FitsBeside fits m c taken n d kept = (more : ℕ) → fits m c (taken + more) → fits n d (kept + more)

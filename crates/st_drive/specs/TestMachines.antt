@@ -1,6 +1,6 @@
 -- The machine of the tests. It numbers the lines by one digit and shows the first four bytes of each;
 -- its context has an allowance of lines.
-use Rattle.std.specs.Prelude.{◌≡◌, refl, ◌%◌, ◌+◌, ℕ, List, [], ◌∷◌, ◌++◌, length, take}
+use Rattle.std.specs.Prelude.{◌≡◌, refl, ⊤, ◌%◌, ◌+◌, ℕ, List, [], ◌∷◌, ◌++◌, length, take}
 use Rattle.std.proofs.Common.{ap, arith, length-append}
 use Rattle.std.proofs.lemmas.List.{take-take}
 use Rattle.st_drive.specs.Meaning.{Meaning, Laws}
@@ -20,16 +20,18 @@ pub record Allowance : Type 0 where
   pub faults : ℕ
 
 -- the allowance fell by one a line
-pub record Spends (m : ℕ) (c : Allowance) (lines : List (List ℕ)) (n : ℕ) (d : Allowance) : Type 0 where
-  pub spent : d.left + length lines ≡ c.left
+pub record Spends (m : ℕ) (c : Allowance × Unit {0}) (lines : List (List ℕ))
+    (n : ℕ) (d : Allowance × Unit {0}) : Type 0 where
+  pub spent : d.0.left + length lines ≡ c.0.left
 
 -- by one line fewer
-pub record SpendsLess (m : ℕ) (c : Allowance) (lines : List (List ℕ)) (d : Allowance) : Type 0 where
-  pub spent : d.left + length lines ≡ c.left + 1
+pub record SpendsLess (m : ℕ) (c : Allowance × Unit {0}) (lines : List (List ℕ))
+    (d : Allowance × Unit {0}) : Type 0 where
+  pub spent : d.0.left + length lines ≡ c.0.left + 1
 
 -- what the machine that numbers its replies means
-abbrev pub numbered_meaning : Meaning ℕ Allowance
-numbered_meaning = record { answers = numbered; ran = Spends; gave_up = SpendsLess }
+abbrev pub numbered_meaning : Meaning ℕ (Allowance × Unit {0})
+numbered_meaning = record { answers = numbered; told = λ c. ⊤; ran = Spends; gave_up = SpendsLess }
 
 pub numbered_laws : Laws numbered_meaning 4
 numbered_laws = record {
@@ -38,6 +40,7 @@ numbered_laws = record {
   cut_answers = λ m line more short. ap (λ front. ((48 + m) ∷ (front ++ 10 ∷ [])) ++ numbered ((m + 1) % 10) more) (take-take 4 4 line (omega arith));
   cut_ran = λ m n c d line short p. record { spent = p.spent };
   cut_gave_up = λ m c d line short p. record { spent = p.spent };
+  told_stays = λ m n c d lines p told. told;
   ran_none = λ m c. record { spent = omega arith };
   ran_more = λ m n o c d e lines more p q. record { spent = omega (arith, length-append lines more, p.spent, q.spent) };
   gave_up_more = λ m n c d e lines more p q. record { spent = omega (arith, length-append lines more, p.spent, q.spent) };

@@ -1,6 +1,6 @@
-ghost use Rattle.std.specs.Prelude.{◌≡◌, ◌≤◌, ℕ, List, [], ◌∷◌, ◌++◌, IfOk, OnErr, IsErrOf};
+ghost use Rattle.std.specs.Prelude.{◌≡◌, ◌+◌, ◌≤◌, ℕ, List, [], ◌∷◌, ◌++◌, length, IfOk, OnErr, IsErrOf};
 ghost use Rattle.st_io.specs.Causes.{Rose};
-ghost use Rattle.st_drive.specs.Meaning.{Meaning, Laws};
+ghost use Rattle.st_drive.specs.Meaning.{Meaning, Laws, Fewer, FitsAfter};
 
 use st_base::{Bytes, WantOfMemory};
 use std::alloc::Global;
@@ -12,7 +12,7 @@ pub enum StepError {
     /// Memory could not be had.
     #[error("out of memory")]
     WantOfMemory,
-    /// The context failed.
+    /// The device failed.
     #[error("a device failed")]
     DeviceFault,
 }
@@ -30,14 +30,17 @@ impl From<WantOfMemory> for StepError {
 
 /// What answers lines, one after the other.
 ///
-/// Its meaning says what it replies and what it does to its context over whole lists of lines, and
-/// its laws tie the two together.
+/// Its meaning says what it replies and what it does to its context and device over whole lists of
+/// lines, and its laws tie the two together.
 pub trait Machine: Sized + Drop {
-    /// What the machine works with and doesn't own, as a disk or a counter of work.
+    /// What the machine works with and doesn't own, as a counter of work.
     type Context;
 
-    /// What it replies to lines, and what it does to its context over them.
-    ghost meaning: { Meaning Self Self.Context };
+    /// What it works on and doesn't own, as a disk. A machine without one has `()`.
+    type Device;
+
+    /// What it replies to lines, and what it does to its context and its device over them.
+    ghost meaning: { Meaning Self (Self.Context × Self.Device) };
 
     /// How many bytes of a line it looks at.
     ghost CAP: { ℕ };
@@ -45,32 +48,39 @@ pub trait Machine: Sized + Drop {
     /// How many bytes of a line it looks at: the others are skipped.
     const CAP: usize;
 
-    /// The machine may go on with this context.
-    ghost fits: { Self → Self.Context → Type 0 };
+    /// The machine may go on with this context and this device over lines of so many bytes, with a
+    /// byte for the end of each.
+    ghost fits: { Self → Self.Context × Self.Device → ℕ → Type 0 };
 
-    /// How often the context has failed. It never falls, and stays at `u64::MAX`.
-    ghost faults: { Self.Context → ℕ };
+    /// How often they have failed. It never falls, and stays at `u64::MAX`.
+    ghost faults: { Self.Context × Self.Device → ℕ };
 
     /// Answers one line with a reply, and goes on as the machine that is given back.
     ///
-    /// `DeviceFault` comes only where the context's count of faults rose. Want of memory is free.
+    /// `DeviceFault` comes only where the count of faults rose. Want of memory is free. The reply is
+    /// that of the meaning where that is told, as where the device tells what it reads as.
     fn step(
         self,
         alloc: Global,
         context: &mut Self::Context,
+        device: &mut Self::Device,
         line: &[u8],
     ) -> Result<(Self, Bytes), StepError>
-        requires { fits self context.old }
-        ensures reply { IfOk result (λ done. (more : List (List ℕ))
+        requires { fits self (context.old, device.old) (length line.now + 1) }
+        ensures reply { IfOk result (λ done. meaning.told (context.old, device.old) → (more : List (List ℕ))
             → meaning.answers self (line.now ∷ more) ≡ done.1 ++ meaning.answers done.0 more) }
         ensures ran { IfOk result
-            (λ done. meaning.ran self context.old (line.now ∷ []) done.0 context.new) }
-        ensures fits { IfOk result (λ done. fits done.0 context.new) }
+            (λ done. meaning.ran self (context.old, device.old) (line.now ∷ []) done.0 (context.new, device.new)) }
+        ensures fits { IfOk result (λ done. FitsAfter fits self (context.old, device.old) (length line.now + 1)
+            done.0 (context.new, device.new)) }
         ensures gave_up { OnErr result
-            (meaning.gave_up self context.old (line.now ∷ []) context.new) }
-        ensures later { faults context.old ≤ faults context.new }
+            (meaning.gave_up self (context.old, device.old) (line.now ∷ []) (context.new, device.new)) }
+        ensures later { faults (context.old, device.old) ≤ faults (context.new, device.new) }
         ensures cause { IsErrOf result StepError.DeviceFault
-            → Rose (faults context.old) (faults context.new) };
+            → Rose (faults (context.old, device.old)) (faults (context.new, device.new)) };
+
+    /// It may go on over fewer bytes, where it may over more.
+    ghost fewer: { Fewer fits };
 
     /// What it promises of its meaning.
     ghost laws: { Laws meaning CAP };

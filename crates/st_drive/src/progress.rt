@@ -1,7 +1,9 @@
-ghost use Rattle.std.specs.Prelude.{◌≡◌, ◌≤◌, [], ◌∷◌, ◌++◌, take, vec_len, true, IfOk, OnOk, OnErr};
+ghost use Rattle.std.specs.Prelude.{◌≡◌, ◌+◌, ◌≤◌, [], ◌∷◌, ◌++◌, length, take, vec_len, true, IfOk, OnOk, OnErr};
+ghost use Rattle.std.proofs.Props.{props};
 ghost use Rattle.st_io.specs.Sinks.{FinishesNothing};
 ghost use Rattle.st_base.specs.Words.{HasNo};
 ghost use Rattle.st_drive.specs.Lines.{capped};
+ghost use Rattle.st_drive.specs.Meaning.{FitsAfter, FitsBeside};
 ghost use Rattle.st_drive.specs.Parts.{Wrote, WroteSome, Gathered, GatheredSome, Orderly, outlet};
 
 use crate::lines::{LINE_FEED, cut_front, keep_front};
@@ -17,25 +19,27 @@ fn answer_line<M: Machine, K: Sink>(
     alloc: Global,
     machine: M,
     context: &mut M::Context,
+    device: &mut M::Device,
     sink: &mut K,
     gathered: &mut Vec<u8>,
     line: &[u8],
 ) -> Result<M, Stop>
-    requires { M.fits machine context.old }
-    ensures fits { IfOk result (λ next. M.fits next context.new) }
+    requires { M.fits machine (context.old, device.old) (length line.now + 1) }
+    ensures fits { IfOk result (λ next. FitsAfter M.fits
+        machine (context.old, device.old) (length line.now + 1) next (context.new, device.new)) }
     ensures ok { IfOk result (λ next. Gathered M.meaning M.CAP
-        machine context.old (line.now ∷ []) next context.new
+        machine (context.old, device.old) (line.now ∷ []) next (context.new, device.new)
         (outlet (K.written sink.old) gathered.old.items
         (K.written sink.new) gathered.new.items)) }
     ensures err { OnErr result (GatheredSome M.meaning M.CAP
-        machine context.old (line.now ∷ []) context.new
+        machine (context.old, device.old) (line.now ∷ []) (context.new, device.new)
         (outlet (K.written sink.old) gathered.old.items
         (K.written sink.new) gathered.new.items)) }
     ensures unfinished { FinishesNothing (K.is_finished sink.old) (K.is_finished sink.new) }
     ensures faults { Orderly (K.faults sink.old) (K.faults sink.new)
-        (M.faults context.old) (M.faults context.new) result }
+        (M.faults (context.old, device.old)) (M.faults (context.new, device.new)) result }
 {
-    match machine.step(alloc, context, line) {
+    match machine.step(alloc, context, device, line) {
         Err(StepError::WantOfMemory) => Err(Stop::WantOfMemory),
         Err(StepError::DeviceFault) => Err(Stop::DeviceFault),
         Ok((next, reply)) => match gather(sink, gathered, reply) {
@@ -50,76 +54,95 @@ fn end_line<M: Machine, K: Sink>(
     alloc: Global,
     machine: M,
     context: &mut M::Context,
+    device: &mut M::Device,
     line: &mut Vec<u8>,
     sink: &mut K,
     gathered: &mut Vec<u8>,
     front: &[u8],
 ) -> Result<M, Stop>
     requires cap { vec_len line.old ≤ M.CAP }
-    requires fits { M.fits machine context.old }
-    ensures fits { IfOk result (λ next. M.fits next context.new) }
+    requires fits { M.fits machine (context.old, device.old) (vec_len line.old + length front.now + 1) }
+    ensures fits { IfOk result (λ next. FitsAfter M.fits
+        machine (context.old, device.old) (vec_len line.old + length front.now + 1) next (context.new, device.new)) }
     ensures ok { IfOk result (λ next. Gathered M.meaning M.CAP
-        machine context.old (take M.CAP (line.old.items ++ front.now) ∷ []) next context.new
+        machine (context.old, device.old) (take M.CAP (line.old.items ++ front.now) ∷ []) next (context.new, device.new)
         (outlet (K.written sink.old) gathered.old.items
         (K.written sink.new) gathered.new.items)) }
     ensures emptied { OnOk result (line.new.items ≡ []) }
     ensures err { OnErr result (GatheredSome M.meaning M.CAP
-        machine context.old (take M.CAP (line.old.items ++ front.now) ∷ []) context.new
+        machine (context.old, device.old) (take M.CAP (line.old.items ++ front.now) ∷ []) (context.new, device.new)
         (outlet (K.written sink.old) gathered.old.items
         (K.written sink.new) gathered.new.items)) }
     ensures unfinished { FinishesNothing (K.is_finished sink.old) (K.is_finished sink.new) }
     ensures faults { Orderly (K.faults sink.old) (K.faults sink.new)
-        (M.faults context.old) (M.faults context.new) result }
+        (M.faults (context.old, device.old)) (M.faults (context.new, device.new)) result }
 {
     if line.is_empty() {
         // The line stands whole in the piece, so it isn't copied.
         let front = cut_front(M::CAP, front);
-        return answer_line(alloc, machine, context, sink, gathered, front);
+        return answer_line(alloc, machine, context, device, sink, gathered, front);
     }
     if keep_front(M::CAP, line, front).is_err() {
         return Err(Stop::WantOfMemory);
     }
-    let next = answer_line(alloc, machine, context, sink, gathered, line)?;
+    let next = answer_line(alloc, machine, context, device, sink, gathered, line)?;
     line.clear();
     Ok(next)
 }
 
-// A machine, and the first bytes of the line that isn't whole yet.
+/// A run that is under way: its machine, and the line that isn't whole yet, of which at most `CAP`
+/// bytes are kept.
 #[derive(Drop)]
-pub struct Progress<M> {
+pub struct Progress<M: Machine> {
+    /// The machine, behind all lines that were whole.
     pub machine: M,
+    /// The first bytes of the line that isn't whole yet.
     pub line: Vec<u8>,
+    pub ghost capped: { vec_len line ≤ M.CAP },
+    pub ghost open: { HasNo 10 line.items } by { Prim.hlevel props },
 }
 
 impl<M: Machine> Progress<M> {
+    /// A run that has taken nothing. It takes no memory.
+    pub fn new(alloc: Global, machine: M) -> Self
+        ensures machine { result.machine ≡ machine }
+        ensures line { result.line.items ≡ [] }
+    {
+        Progress {
+            machine,
+            line: Vec::new(alloc),
+        }
+    }
+
     // Takes the next bytes, answers each line that is whole now, and gathers the replies.
     fn answer_lines<K: Sink>(
         self,
         alloc: Global,
         context: &mut M::Context,
+        device: &mut M::Device,
         sink: &mut K,
         gathered: &mut Vec<u8>,
         piece: &[u8],
     ) -> Result<Self, Stop>
-        requires cap { vec_len self.line ≤ M.CAP }
-        requires partial { HasNo 10 self.line.items }
-        requires fits { M.fits self.machine context.old }
-        ensures fits { IfOk result (λ next. M.fits next.machine context.new) }
+        requires fits { M.fits self.machine (context.old, device.old) (vec_len self.line + length piece.now) }
+        ensures fits { IfOk result (λ next. FitsBeside M.fits
+            self.machine (context.old, device.old) (vec_len self.line + length piece.now)
+            next.machine (context.new, device.new) (vec_len next.line)) }
         ensures ok { IfOk result (λ next. Gathered M.meaning M.CAP
-            self.machine context.old (capped M.CAP (self.line.items ++ piece.now)).0
-            next.machine context.new
+            self.machine (context.old, device.old) (capped M.CAP (self.line.items ++ piece.now)).0
+            next.machine (context.new, device.new)
             (outlet (K.written sink.old) gathered.old.items
             (K.written sink.new) gathered.new.items)) }
-        ensures cap { IfOk result (λ next. vec_len next.line ≤ M.CAP) }
         ensures line { IfOk result (λ next. next.line.items
             ≡ (capped M.CAP (self.line.items ++ piece.now)).1) }
         ensures err { OnErr result (GatheredSome M.meaning M.CAP
-            self.machine context.old (capped M.CAP (self.line.items ++ piece.now)).0 context.new
+            self.machine (context.old, device.old) (capped M.CAP (self.line.items ++ piece.now)).0
+            (context.new, device.new)
             (outlet (K.written sink.old) gathered.old.items
             (K.written sink.new) gathered.new.items)) }
         ensures unfinished { FinishesNothing (K.is_finished sink.old) (K.is_finished sink.new) }
         ensures faults { Orderly (K.faults sink.old) (K.faults sink.new)
-            (M.faults context.old) (M.faults context.new) result }
+            (M.faults (context.old, device.old)) (M.faults (context.new, device.new)) result }
     {
         let Progress {
             mut machine,
@@ -127,7 +150,9 @@ impl<M: Machine> Progress<M> {
         } = self;
         let mut rest = piece;
         'lines: while let Some((front, after)) = cut_at(rest, LINE_FEED) {
-            machine = end_line(alloc, machine, context, &mut line, sink, gathered, front)?;
+            machine = end_line(
+                alloc, machine, context, device, &mut line, sink, gathered, front,
+            )?;
             rest = after;
         }
         if keep_front(M::CAP, &mut line, rest).is_err() {
@@ -136,34 +161,39 @@ impl<M: Machine> Progress<M> {
         Ok(Progress { machine, line })
     }
 
-    // Takes the next bytes, answers each line that is whole now, and writes the replies. Where the
-    // machine gives up, the replies to the lines before are still written.
+    /// Takes the next bytes, answers each line that is whole now, and writes the replies.
+    ///
+    /// When it answers `Ok`, the replies to all lines that these bytes end are written, and of the line
+    /// that they begin at most `CAP` bytes are kept. When it answers `Err`, a beginning of these replies
+    /// is written: where the machine gave up, that of all lines before, unless the sink fails too.
+    /// `WriteFault` and `DeviceFault` come only where the count of faults of the sink or the device rose;
+    /// want of memory is free, and no other stop comes. The sink isn't finished.
     pub fn feed<K: Sink>(
         self,
         alloc: Global,
         context: &mut M::Context,
+        device: &mut M::Device,
         sink: &mut K,
         piece: &[u8],
     ) -> Result<Self, Stop>
-        requires cap { vec_len self.line ≤ M.CAP }
-        requires partial { HasNo 10 self.line.items }
-        requires fits { M.fits self.machine context.old }
-        ensures fits { IfOk result (λ next. M.fits next.machine context.new) }
+        requires fits { M.fits self.machine (context.old, device.old) (vec_len self.line + length piece.now) }
+        ensures fits { IfOk result (λ next. FitsBeside M.fits
+            self.machine (context.old, device.old) (vec_len self.line + length piece.now)
+            next.machine (context.new, device.new) (vec_len next.line)) }
         ensures ok { IfOk result (λ next. Wrote M.meaning M.CAP
-            self.machine context.old (capped M.CAP (self.line.items ++ piece.now)).0
-            next.machine context.new (K.written sink.old) (K.written sink.new)) }
-        ensures cap { IfOk result (λ next. vec_len next.line ≤ M.CAP) }
+            self.machine (context.old, device.old) (capped M.CAP (self.line.items ++ piece.now)).0
+            next.machine (context.new, device.new) (K.written sink.old) (K.written sink.new)) }
         ensures line { IfOk result (λ next. next.line.items
             ≡ (capped M.CAP (self.line.items ++ piece.now)).1) }
         ensures err { OnErr result (WroteSome M.meaning M.CAP
-            self.machine context.old (capped M.CAP (self.line.items ++ piece.now)).0
-            context.new (K.written sink.old) (K.written sink.new)) }
+            self.machine (context.old, device.old) (capped M.CAP (self.line.items ++ piece.now)).0
+            (context.new, device.new) (K.written sink.old) (K.written sink.new)) }
         ensures unfinished { FinishesNothing (K.is_finished sink.old) (K.is_finished sink.new) }
         ensures faults { Orderly (K.faults sink.old) (K.faults sink.new)
-            (M.faults context.old) (M.faults context.new) result }
+            (M.faults (context.old, device.old)) (M.faults (context.new, device.new)) result }
     {
         let mut gathered = Vec::new(alloc);
-        let outcome = self.answer_lines(alloc, context, sink, &mut gathered, piece);
+        let outcome = self.answer_lines(alloc, context, device, sink, &mut gathered, piece);
         if write_gathered(sink, &mut gathered).is_err() {
             return Err(Stop::WriteFault);
         }

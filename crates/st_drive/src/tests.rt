@@ -1,6 +1,8 @@
 ghost use Rattle.std.specs.Prelude.{◌≡◌, ◌<◌, ◌≤◌, ◌^◌, length, IfOk};
 
 mod machines;
+mod numbers;
+mod on_disk;
 
 use crate::{Stop, answer_all, drive};
 use machines::{Allowance, Numbered};
@@ -47,6 +49,7 @@ fn run(alloc: Global, script: &Script) -> Result<(Result<(), Stop>, Bytes), Want
         script.limit,
         Numbered::new(),
         &mut Allowance::new(script.allowed),
+        &mut (),
         &mut source,
         &mut sink,
     );
@@ -186,7 +189,7 @@ fn the_limit_is_the_most_that_is_answered(rt: HostRuntime) -> Result<(), Fail> {
 fn the_plain_program_replies_alike(rt: HostRuntime) -> Result<(), Fail> {
     let alloc = rt.alloc();
     let mut allowance = Allowance::new(20);
-    let replies = match answer_all(alloc, Numbered::new(), &mut allowance, INPUT) {
+    let replies = match answer_all(alloc, Numbered::new(), &mut allowance, &mut (), INPUT) {
         Ok(replies) => replies,
         Err(_) => return Err(Fail::from(WantOfMemory)),
     };
@@ -199,7 +202,7 @@ fn the_plain_program_replies_alike(rt: HostRuntime) -> Result<(), Fail> {
 fn many_short_lines_are_one_write(rt: HostRuntime) -> Result<(), Fail> {
     let alloc = rt.alloc();
     let mut source = PlainSource::new(Bytes::from_vec(vec![in alloc; b'\n'; 1000]?));
-    // The first call writes, and the second finishes.
+    // The first call writes, the second finishes, and there is no third.
     let mut sink = ScriptSink::new(alloc, 5000, one(alloc, 3)?);
     let mut buffer = [0u8; 1000];
     let end = drive(
@@ -208,10 +211,13 @@ fn many_short_lines_are_one_write(rt: HostRuntime) -> Result<(), Fail> {
         1000,
         Numbered::new(),
         &mut Allowance::new(1000),
+        &mut (),
         &mut source,
         &mut sink,
     );
     assert_eq!(rt; end, Ok(()));
     assert_eq!(rt; sink.written().as_slice().len(), 2000);
+    // So the sink is finished once.
+    assert_eq!(rt; sink.calls(), 2);
     Ok(())
 }

@@ -1,7 +1,7 @@
 -- Texts that are the base64url of so many bytes.
-use Rattle.std.proofs.Common.{◌≡◌, ◌≢◌, ◌∙◌, ℕ, ◌*◌, ◌/◌, ◌==◌, ◌<◌, nat_lt, Bool, true, false, List, length, if◌then◌else◌, Option, Some, None, option_and_then, refl, ap, arith}
+use Rattle.std.proofs.Common.{◌≡◌, ◌≢◌, ◌∙◌, ℕ, ◌*◌, ◌/◌, ◌==◌, ◌<◌, nat_lt, Bool, true, false, List, length, if◌then◌else◌, Option, Some, None, option_and_then, refl, sym, ap, arith}
 use Rattle.std.proofs.lemmas.Bool.{eq-eqb, eqb-true, ne_eqb}
-use Rattle.std.proofs.lemmas.Option.{cond_some}
+use Rattle.std.proofs.lemmas.Option.{cond_some, option_and_then_some}
 use Rattle.std.proofs.lemmas.Bool.Decides.{nat_tests}
 use Rattle.std.proofs.lemmas.List.{length-append}
 use Rattle.std.specs.declared.result.Result.{Result}
@@ -15,7 +15,7 @@ use Rattle.base64.specs.declared.decode.DecodeSliceError.{DecodeSliceError}
 use Rattle.base64.specs.declared.decode.DecodeSliceError.TheVariants.{OutputSliceTooSmall}
 use Rattle.base64.proofs.Decoding.{length-groups_bytes}
 use Rattle.st_hash.specs.Base64url.{base64url, bytes_of_text, fixed_of_text, so_many}
-use Rattle.st_hash.proofs.Spelling.{bytes_of_text-base64url}
+use Rattle.st_hash.proofs.Spelling.{bytes_of_text-base64url, spelled}
 
 -- what was written of so many bytes is read
 pub fixed_of_text-base64url : (n : ℕ) (bytes : List ℕ) → IsBytes bytes → length bytes ≡ n
@@ -87,3 +87,16 @@ pub fixed_of_text-error : (n room : ℕ) (text : List ℕ) (error : DecodeSliceE
     → answer ≡ decode_slice_of url_safe_no_pad text room → answer ≡ Err error → fixed_of_text n text ≡ None
 fixed_of_text-error n room text error answer long decoded refused =
     fixed_of_text-none n text (λ same. ok_no_error answer n error (decoded ∙ ap (decode_slice_of url_safe_no_pad text) long ∙ same) refused)
+
+-- a text that is read as so many bytes is their base64url
+pub fixed_spelled : (n : ℕ) (text bytes : List ℕ) → IsBytes text → fixed_of_text n text ≡ Some bytes → text ≡ base64url bytes
+fixed_spelled n text bytes are_bytes found =
+    option_and_then_some (so_many n) (bytes_of_text text) bytes found
+    (λ read e f. spelled text read are_bytes e ∙ ap base64url (cond_some (length read == n) read bytes f).1)
+
+-- and one that is read as no so many bytes is the base64url of none
+pub fixed_of_text-no : (n : ℕ) (text bytes : List ℕ) → fixed_of_text n text ≡ None → IsBytes bytes → length bytes ≡ n → text ≢ base64url bytes
+fixed_of_text-no n text bytes none are_bytes long same =
+    let read = fixed_of_text-base64url n bytes are_bytes long in
+    let refused : fixed_of_text n (base64url bytes) ≡ None = ap (fixed_of_text n) (sym same) ∙ none in
+    cc

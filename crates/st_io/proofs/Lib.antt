@@ -1,4 +1,5 @@
 mod CrashLemmas
 mod HistoryLemmas
 pub mod PastLemmas
+pub mod MomentLemmas
 pub mod TearLemmas

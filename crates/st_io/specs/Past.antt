@@ -62,3 +62,8 @@ Only past xs = (c : List ℕ) → Images past c → c ≡ xs
 pub record Leaves (P : List ℕ → Type 0) (old new : Past) : Type 0 where
   pub goes : GoesOn old new
   pub each : (c : List ℕ) → new.left_since old.now c → P c
+
+-- A disk goes on, and a stop at any moment since the old one leaves only what it might have left then.
+pub record AddsNoImage (old new : Past) : Type 0 where
+  pub goes : GoesOn old new
+  pub none : AddsNone old new

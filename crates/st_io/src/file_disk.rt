@@ -3,62 +3,125 @@ ghost use Rattle.st_io.specs.Untold.{untold_past};
 
 use crate::disk::Disk;
 use crate::failed::Failed;
-use std::fs::{Files, OpenFile, OpenOptions};
+use std::fs::{File, Files, OpenOptions};
 use std::io::{Read, Seek, SeekFrom, Write};
+use std::os::fd::AsRawFd;
+use std::os::unix::fs::{MetadataExt, OpenOptionsExt};
 use std::{fs, io};
 
-const NAME: &str = "sidetree.vault";
+const VAULT: &str = "sidetree.vault";
+
+const JOURNAL: &str = "sidetree.journal";
+
+/// Only the user who made a file may read and write it, since it may hold a secret key.
+const OWNER_ALONE: u32 = 0o600;
 
 /// The file of a disk.
 #[derive(Drop)]
-enum Slot<F> {
+enum Slot {
     /// No call has opened it yet.
     Unopened,
-    Open(F),
-    /// A sync has failed. What was written may then be gone without another error, so nothing more
-    /// is asked of the file.
+    Open(File),
+    /// Opening it or a sync has failed. What was written may then be gone without another error, so
+    /// nothing more is asked of the file.
     Lost,
 }
 
-/// The file `sidetree.vault` in the current folder as a disk. What it reads as isn't told.
+/// A file in the current folder as a disk. What it reads as isn't told.
 ///
-/// The first call opens the file, or makes it where there is none. A failure to do so is a fault of
-/// that call. After a sync that failed, every later call fails.
+/// The first call opens the file, or makes it with mode 0600 where there is none. It fails where what
+/// stands under the name is no regular file, is a link, or has a second name; where it may not be read
+/// or written; and where another process has it open as a disk. While it is open it is locked against
+/// them, and it is never one of the three standard streams, even where one of these was closed. It is
+/// synced, with its folder.
+///
+/// A failure to open is a fault of that call. After such a failure, and after a sync that failed, every
+/// later call fails.
 #[derive(Drop)]
-pub struct FileDisk<'a, R: Files> {
+pub struct FileDisk<'a, R> {
     rt: &'a R,
-    file: Slot<R::File>,
+    name: &'static str,
+    file: Slot,
     faults: u64,
 }
 
-impl<'a, R: Files> FileDisk<'a, R> {
-    /// Nothing is opened yet, and there is no fault.
+impl<'a, R: Files<File = File>> FileDisk<'a, R> {
+    /// The file `sidetree.vault`. Nothing is opened yet, and there is no fault.
     pub fn new(rt: &'a R) -> Self
+        ensures { ⟦<FileDisk<'a, R> as Disk>⟧.faults result ≡ 0 }
+    {
+        FileDisk::named(rt, VAULT)
+    }
+
+    /// The file `sidetree.journal`. Nothing is opened yet, and there is no fault.
+    pub fn journal(rt: &'a R) -> Self
+        ensures { ⟦<FileDisk<'a, R> as Disk>⟧.faults result ≡ 0 }
+    {
+        FileDisk::named(rt, JOURNAL)
+    }
+
+    fn named(rt: &'a R, name: &'static str) -> Self
         ensures { ⟦<FileDisk<'a, R> as Disk>⟧.faults result ≡ 0 }
     {
         FileDisk {
             rt,
+            name,
             file: Slot::Unopened,
             faults: 0,
         }
     }
 }
 
-// Opens the file, or makes it. A file that was just made outlives a stop only once its folder is
-// synced.
-fn open_or_make<R: Files>(rt: &R) -> io::Result<R::File> {
-    let file = OpenOptions::new()
+// A file of that name is made, or the regular file that is there is opened.
+fn make_or_open<R: Files<File = File>>(rt: &R, name: &str) -> io::Result<File> {
+    match OpenOptions::new()
         .read(true)
         .write(true)
-        .create(true)
-        .open(rt, NAME)?;
+        .create_new(true)
+        .mode(OWNER_ALONE)
+        .open(rt, name)
+    {
+        Err(error) if error.kind() == io::ErrorKind::AlreadyExists => {
+            if !fs::symlink_metadata(rt, name)?.is_file() {
+                return Err(lost());
+            }
+            OpenOptions::new().read(true).write(true).open(rt, name)
+        }
+        made => made,
+    }
+}
+
+// The one name of a regular file that no other process holds. It is no standard stream that was closed:
+// what is meant for that must not land in the file.
+fn open_locked<R: Files<File = File>>(rt: &R, name: &str) -> io::Result<File> {
+    let mut file = make_or_open(rt, name)?;
+    if file.as_raw_fd() <= 2 {
+        file = file.try_clone()?;
+    }
+    let (found, named) = (file.metadata()?, fs::symlink_metadata(rt, name)?);
+    let is_named = found.dev() == named.dev() && found.ino() == named.ino();
+    if !is_named || !found.is_file() || found.nlink() != 1 {
+        return Err(lost());
+    }
+    if file.try_lock().is_err() {
+        return Err(lost());
+    }
+    Ok(file)
+}
+
+// The file under a name that lasts: one that was just made outlives a stop only once its folder is synced.
+fn settled<R: Files<File = File>>(rt: &R, name: &str) -> io::Result<File> {
+    let file = open_locked(rt, name)?;
+    file.sync_all()?;
     fs::open(rt, ".")?.sync_all()?;
     Ok(file)
 }
 
-fn open_once<R: Files>(rt: &R, slot: &mut Slot<R::File>) -> io::Result<()> {
+// A failure is remembered: Linux reports that a write was lost once, and a second try would not see it.
+fn open_once<R: Files<File = File>>(rt: &R, name: &str, slot: &mut Slot) -> io::Result<()> {
     if let Slot::Unopened = slot {
-        *slot = Slot::Open(open_or_make(rt)?);
+        *slot = Slot::Lost;
+        *slot = Slot::Open(settled(rt, name)?);
     }
     Ok(())
 }
@@ -67,21 +130,22 @@ fn lost() -> io::Error {
     io::Error::from(io::ErrorKind::Other)
 }
 
-fn length_of<R: Files>(rt: &R, slot: &mut Slot<R::File>) -> io::Result<u64> {
-    open_once(rt, slot)?;
+fn length_of<R: Files<File = File>>(rt: &R, name: &str, slot: &mut Slot) -> io::Result<u64> {
+    open_once(rt, name, slot)?;
     match slot {
         Slot::Open(file) => Ok(file.metadata()?.len()),
         _ => Err(lost()),
     }
 }
 
-fn read_from<R: Files>(
+fn read_from<R: Files<File = File>>(
     rt: &R,
-    slot: &mut Slot<R::File>,
+    name: &str,
+    slot: &mut Slot,
     at: u64,
     into: &mut [u8],
 ) -> io::Result<()> {
-    open_once(rt, slot)?;
+    open_once(rt, name, slot)?;
     match slot {
         Slot::Open(file) => {
             file.seek(SeekFrom::Start(at))?;
@@ -91,8 +155,14 @@ fn read_from<R: Files>(
     }
 }
 
-fn write_to<R: Files>(rt: &R, slot: &mut Slot<R::File>, at: u64, from: &[u8]) -> io::Result<()> {
-    open_once(rt, slot)?;
+fn write_to<R: Files<File = File>>(
+    rt: &R,
+    name: &str,
+    slot: &mut Slot,
+    at: u64,
+    from: &[u8],
+) -> io::Result<()> {
+    open_once(rt, name, slot)?;
     match slot {
         Slot::Open(file) => {
             file.seek(SeekFrom::Start(at))?;
@@ -102,15 +172,15 @@ fn write_to<R: Files>(rt: &R, slot: &mut Slot<R::File>, at: u64, from: &[u8]) ->
     }
 }
 
-fn sync_to<R: Files>(rt: &R, slot: &mut Slot<R::File>) -> io::Result<()> {
-    open_once(rt, slot)?;
+fn sync_to<R: Files<File = File>>(rt: &R, name: &str, slot: &mut Slot) -> io::Result<()> {
+    open_once(rt, name, slot)?;
     match slot {
         Slot::Open(file) => file.sync_all(),
         _ => Err(lost()),
     }
 }
 
-impl<'a, R: Files> Disk for FileDisk<'a, R> {
+impl<'a, R: Files<File = File>> Disk for FileDisk<'a, R> {
     ghost reads = { λ _. None };
 
     ghost past = { λ _. untold_past };
@@ -120,7 +190,7 @@ impl<'a, R: Files> Disk for FileDisk<'a, R> {
     ghost is_image = { λ d xs told. tt };
 
     fn length(&mut self) -> Result<u64, Failed> {
-        match length_of(self.rt, &mut self.file) {
+        match length_of(self.rt, self.name, &mut self.file) {
             Ok(length) => Ok(length),
             Err(_) => {
                 self.faults = self.faults.saturating_add(1);
@@ -130,7 +200,7 @@ impl<'a, R: Files> Disk for FileDisk<'a, R> {
     }
 
     fn read_at(&mut self, at: u64, into: &mut [u8]) -> Result<(), Failed> {
-        match read_from(self.rt, &mut self.file, at, into) {
+        match read_from(self.rt, self.name, &mut self.file, at, into) {
             Ok(()) => Ok(()),
             Err(_) => {
                 self.faults = self.faults.saturating_add(1);
@@ -140,7 +210,7 @@ impl<'a, R: Files> Disk for FileDisk<'a, R> {
     }
 
     fn write_at(&mut self, at: u64, from: &[u8]) -> Result<(), Failed> {
-        match write_to(self.rt, &mut self.file, at, from) {
+        match write_to(self.rt, self.name, &mut self.file, at, from) {
             Ok(()) => Ok(()),
             Err(_) => {
                 self.faults = self.faults.saturating_add(1);
@@ -150,7 +220,7 @@ impl<'a, R: Files> Disk for FileDisk<'a, R> {
     }
 
     fn sync(&mut self) -> Result<(), Failed> {
-        match sync_to(self.rt, &mut self.file) {
+        match sync_to(self.rt, self.name, &mut self.file) {
             Ok(()) => Ok(()),
             Err(_) => {
                 self.file = Slot::Lost;

@@ -5,6 +5,7 @@
 
 mod crash;
 mod disk;
+mod durable;
 mod failed;
 mod file_disk;
 mod front;
@@ -26,6 +27,7 @@ mod std_source;
 mod tests;
 
 pub use disk::Disk;
+pub use durable::write_synced;
 pub use failed::Failed;
 pub use file_disk::FileDisk;
 pub use pick::Pick;

@@ -59,6 +59,13 @@ impl ScriptSink {
     {
         &self.bytes
     }
+
+    /// How many calls of `write` and `finish` there were: it stays at `u64::MAX`.
+    pub fn calls(&self) -> u64
+        ensures { result ≡ self.now.calls }
+    {
+        self.calls
+    }
 }
 
 impl Sink for ScriptSink {

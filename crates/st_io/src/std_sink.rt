@@ -7,6 +7,8 @@ use std::io;
 use std::io::Write;
 
 /// Standard output as a sink that flushes after each write. What was written isn't told.
+///
+/// A write that a signal interrupts is tried again, and is no fault.
 #[derive(Drop)]
 pub struct StdSink<'a, R> {
     rt: &'a R,
@@ -28,12 +30,26 @@ impl<'a, R: Print> StdSink<'a, R> {
     }
 }
 
-fn write_and_flush(rt: &impl Print, from: &[u8]) -> io::Result<usize>
+/// One write, which is tried again where a signal interrupts it before a byte is written.
+fn write_some(rt: &impl Print, from: &[u8]) -> io::Result<usize>
     ensures { WritesAtMost result from.now }
 {
     let mut writer = io::writer(rt);
-    let count = writer.write(from)?;
-    writer.flush()?;
+    'tries: for _ in 0..u64::MAX {
+        match writer.write(from) {
+            Ok(count) => return Ok(count),
+            Err(error) if error.kind() == io::ErrorKind::Interrupted => {}
+            Err(error) => return Err(error),
+        }
+    }
+    Err(io::Error::from(io::ErrorKind::Interrupted))
+}
+
+fn write_and_flush(rt: &impl Print, from: &[u8]) -> io::Result<usize>
+    ensures { WritesAtMost result from.now }
+{
+    let count = write_some(rt, from)?;
+    io::writer(rt).flush()?;
     Ok(count)
 }
 

@@ -1,10 +1,14 @@
 ghost use Rattle.std.specs.Prelude.{◌≡◌, None};
+ghost use Rattle.std.specs.Io.{ReadsAtMost};
 
 use crate::failed::Failed;
 use crate::source::Source;
+use std::io;
 use std::io::Read;
 
 /// Standard input as a source. What is left isn't told.
+///
+/// A read that a signal interrupts is tried again, and is no fault.
 #[derive(Drop)]
 pub struct StdSource<'a, R> {
     rt: &'a R,
@@ -20,13 +24,28 @@ impl<'a, R: Input> StdSource<'a, R> {
     }
 }
 
+/// One read, which is tried again where a signal interrupts it before a byte is read.
+fn read_some(rt: &impl Input, into: &mut [u8]) -> io::Result<usize>
+    ensures { ReadsAtMost result into.new }
+{
+    let mut reader = rt.reader();
+    'tries: for _ in 0..u64::MAX {
+        match reader.read(into) {
+            Ok(count) => return Ok(count),
+            Err(error) if error.kind() == io::ErrorKind::Interrupted => {}
+            Err(error) => return Err(error),
+        }
+    }
+    Err(io::Error::from(io::ErrorKind::Interrupted))
+}
+
 impl<'a, R: Input> Source for StdSource<'a, R> {
     ghost left = { λ _. None };
 
     ghost faults = { λ s. s.faults };
 
     fn read(&mut self, into: &mut [u8]) -> Result<usize, Failed> {
-        match self.rt.reader().read(into) {
+        match read_some(self.rt, into) {
             Ok(count) => Ok(count),
             Err(_) => {
                 self.faults = self.faults.saturating_add(1);

@@ -3,5 +3,4 @@ pub mod Joining
 pub mod JwkJson
 pub mod Opens
 pub mod SameMembers
-pub mod Spelled
 pub mod WrittenKeys

@@ -180,7 +180,7 @@ fn public_of_text(text: &[u8]) -> Option<Public>
     ensures value { result ≡ public_of_text text.now }
     ensures spelled { IfSome result (λ public. text.now ≡ base64url (public_text public)) }
 {
-    let bytes = fixed_bytes::<56>(text)?;
+    let bytes = read_fixed::<56>(text)?;
     match Public::read(&bytes) {
         Ok(public) => Some(public),
         Err(_) => None,
@@ -194,21 +194,10 @@ fn read_nonce(members: &Object) -> Option<Option<[u8; 16]>>
 {
     match members.get("nonce") {
         None => Some(None),
-        Some(Json::Text(text)) => match fixed_bytes::<16>(text.as_str().as_bytes()) {
+        Some(Json::Text(text)) => match read_fixed::<16>(text.as_str().as_bytes()) {
             Some(nonce) => Some(Some(nonce)),
             None => None,
         },
         Some(_) => None,
-    }
-}
-
-// The bytes whose base64url this is, which has no other spelling.
-fn fixed_bytes<const N: usize>(text: &[u8]) -> Option<[u8; N]>
-    ensures value { result ≡ fixed_of_text N text.now }
-    ensures spelled { IfSome result (λ bytes. text.now ≡ base64url bytes) }
-{
-    match read_fixed(text) {
-        Some(bytes) => Some(bytes),
-        None => None,
     }
 }

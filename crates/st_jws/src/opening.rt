@@ -15,10 +15,9 @@ use crate::payload::key_in;
 use crate::refused::SignedRefused;
 use crate::texts::texts_of;
 use st_base::{Bytes, Copied, Text, WantOfMemory, Work};
-use st_canon::{Json, read_json};
+use st_canon::{Json, PackedJson, read_json};
 use st_hash::{DecRefused, dec};
 use st_lms::verify;
-use st_packed::PackedJson;
 use std::alloc::Global;
 
 /// A signed text whose signature holds under the key in its payload.

@@ -14,3 +14,4 @@ pub mod Nodes
 pub mod PartLemmas
 pub mod Decided
 pub mod Law
+mod KeptLemmas

@@ -9,3 +9,4 @@ pub mod Inverses
 pub mod Parts
 pub mod PartsOf
 pub mod Decided
+pub mod KeptNodes

@@ -42,6 +42,14 @@ public_of secret = record {
 unfoldable pub randomizer_of : SecretKey → ℕ → List ℕ
 randomizer_of secret q = secret_element secret.id q randomizer_place secret.seed
 
+-- what stands before the path in the signature of a message by the one-time key q of a secret
+unfoldable pub front_of : SecretKey → ℕ → List ℕ → List ℕ
+front_of secret q message =
+    let digits = checked secret.ots (message_hash secret.id q (randomizer_of secret q) message) in
+    u32str q ++ u32str secret.ots ++ randomizer_of secret q
+    ++ signed_values secret.ots secret.id q secret.seed digits
+    ++ u32str secret.tree
+
 -- the signature of a message by the one-time key q of a secret (5.4.1)
 unfoldable pub signature_of : SecretKey → ℕ → List ℕ → List ℕ
 signature_of secret q message =

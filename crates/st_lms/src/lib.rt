@@ -5,6 +5,7 @@
 mod chain;
 mod digits;
 mod hasher;
+mod kept;
 mod one_time;
 mod parameters;
 mod public;
@@ -16,6 +17,7 @@ mod tests;
 mod tree;
 mod verification;
 
+pub use kept::Signer;
 pub use public::{Public, PublicRefused};
 pub use secret::{BadType, Secret};
 pub use sign::sign_at;

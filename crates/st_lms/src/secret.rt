@@ -151,7 +151,7 @@ pub(crate) fn randomizer_of(secret: &Secret, q: u32) -> [u8; 32]
 }
 
 /// The leaf with number `r` of the tree.
-fn leaf_of(secret: &Secret, r: u32) -> [u8; 32]
+pub(crate) fn leaf_of(secret: &Secret, r: u32) -> [u8; 32]
     requires { IsNode secret.now.tree 0 r }
     ensures { result ≡ node secret.now 0 r }
 {

@@ -1,7 +1,7 @@
 ghost use Rattle.std.specs.Prelude.{◌≡◌, ◌+◌, ◌^◌, ◌<◌, ◌++◌, IfOk, OnOk};
 ghost use Rattle.st_lms.specs.OneTime.{signed_values};
 ghost use Rattle.st_lms.specs.Parameters.{height};
-ghost use Rattle.st_lms.specs.Signature.{IsSignature, public_of, signature_of};
+ghost use Rattle.st_lms.specs.Signature.{IsSignature, front_of, public_of, signature_of};
 ghost use Rattle.st_lms.specs.Tree.{path_from, sibling};
 
 use crate::digits::{Digits, checked};
@@ -12,7 +12,7 @@ use st_base::{Bytes, WantOfMemory};
 use std::alloc::Global;
 
 /// Appends what is signed of each digit.
-fn push_values(
+pub(crate) fn push_values(
     alloc: Global,
     out: &mut Bytes,
     secret: &Secret,
@@ -30,8 +30,29 @@ fn push_values(
     Ok(())
 }
 
+/// What stands before the path in the signature of a message by the one-time key with number `q`.
+pub(crate) fn begin_signature(
+    alloc: Global,
+    secret: &Secret,
+    q: u32,
+    message: &[u8],
+) -> Result<Bytes, WantOfMemory>
+    ensures { IfOk result (λ front. front ≡ front_of secret.now q message.now) }
+{
+    let randomizer = randomizer_of(secret, q);
+    let hash = message_hash(&secret.id, q, &randomizer, message);
+    let digits = checked(&hash, secret.ots);
+    let mut signature = Bytes::new(alloc);
+    signature.push_all(alloc, &u32str(q))?;
+    signature.push_all(alloc, &u32str(secret.ots()))?;
+    signature.push_all(alloc, &randomizer)?;
+    push_values(alloc, &mut signature, secret, q, &digits)?;
+    signature.push_all(alloc, &u32str(secret.tree()))?;
+    Ok(signature)
+}
+
 #[tactic(auto, unfolding(crate::specs::Tree::sibling))]
-fn sibling(r: u32) -> u32
+pub(crate) fn sibling(r: u32) -> u32
     requires { r < 2 ^ 11 }
     ensures { result ≡ sibling r }
 {
@@ -56,7 +77,9 @@ fn push_path(alloc: Global, out: &mut Bytes, secret: &Secret, q: u32) -> Result<
 /// The signature of a message by the one-time key with number `q` (RFC 8554, section 5.4.1).
 ///
 /// A one-time key must sign no more than one message: whoever calls keeps the numbers that are
-/// spent. It computes all the leaves of the tree but one, as `Secret::public` computes them all.
+/// spent, so outside tests only the vault's counters and the keys that are made under a vault call
+/// this, or `Signer::sign`. It computes all the leaves of the tree but one, as `Secret::public`
+/// computes them all; where many messages are signed, a `Signer` keeps what it computes.
 pub fn sign_at(
     alloc: Global,
     secret: &Secret,
@@ -68,15 +91,7 @@ pub fn sign_at(
     ensures verifies { IfOk result (λ signature.
         IsSignature (public_of secret.now) message.now signature) }
 {
-    let randomizer = randomizer_of(secret, q);
-    let hash = message_hash(&secret.id, q, &randomizer, message);
-    let digits = checked(&hash, secret.ots);
-    let mut signature = Bytes::new(alloc);
-    signature.push_all(alloc, &u32str(q))?;
-    signature.push_all(alloc, &u32str(secret.ots()))?;
-    signature.push_all(alloc, &randomizer)?;
-    push_values(alloc, &mut signature, secret, q, &digits)?;
-    signature.push_all(alloc, &u32str(secret.tree()))?;
+    let mut signature = begin_signature(alloc, secret, q, message)?;
     push_path(alloc, &mut signature, secret, q)?;
     Ok(signature)
 }

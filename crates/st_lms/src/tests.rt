@@ -4,7 +4,7 @@ mod standard;
 mod types;
 mod vectors;
 
-use crate::{Public, Secret, sign_at, verify};
+use crate::{Public, Secret, Signer, sign_at, verify};
 use sha2::{Digest, Sha256};
 use std::alloc::Global;
 use std::process::Abort;
@@ -66,12 +66,18 @@ fn checks(
     let public = Public::read(text.as_slice())?;
     assert!(rt; secret.public() == public);
     assert_eq!(rt; public.write().as_slice(), text.as_slice());
+    let signer = Signer::new(alloc, &secret)?;
+    assert!(rt; signer.public() == public);
     let path_len = 32 * secret.height() as usize;
     for case in cases {
         assert!(rt; case.q < secret.leaf_count());
         let signature = sign_at(alloc, &secret, case.q, case.message)?;
         assert_eq!(rt; signature.as_slice().len(), public.signature_len());
         assert_eq!(rt; Sha256::digest(signature.as_slice()), case.digest);
+        assert_eq!(rt;
+            signer.sign(alloc, case.q, case.message)?.as_slice(),
+            signature.as_slice()
+        );
         assert!(rt; verify(&public, case.message, signature.as_slice()));
         let mut bytes = signature.into_vec();
         assert!(rt; no_damage_holds(&public, case.message, bytes.as_mut_slice(), path_len));

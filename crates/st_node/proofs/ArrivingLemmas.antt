@@ -15,6 +15,7 @@ use Rattle.st_node.proofs.EntryLemmas.{decided-small, decided-up, opened-few, op
 use Rattle.st_node.proofs.SumLemmas.{done_besides}
 use Rattle.st_node.specs.Machine.{all_arrived}
 use Rattle.st_node.specs.Work.{ArrivalCounts, ArrivalsCounts, declared_count, files_due, proofs_due}
+use Rattle.st_observer.proofs.FellLemmas.{fell-both, fell-none}
 use Rattle.st_observer.specs.Observed.{Observed, arrived, known_of}
 use Rattle.st_observer.specs.Work.{decided_in, opened_in}
 
@@ -91,12 +92,13 @@ arrivals_schedule (file ∷ files) observed = arrivals_schedule files (arrived f
 -- ---- what is counted
 
 pub arrivals_none : (observed : Observed) (files : List BatchFile) (work : Counts) → ArrivalsCounts observed files work work
-arrivals_none observed files work = record { read = omega arith; opened = omega arith; applied = omega arith }
+arrivals_none observed files work = record { least = fell-none work; read = omega arith; opened = omega arith; applied = omega arith }
 
 arrivals_more : (observed : Observed) (file : BatchFile) (files : List BatchFile) {old mid new : Counts}
     → ArrivalCounts observed file.bytes old mid → ArrivalsCounts (arrived file.bytes observed) files mid new
     → ArrivalsCounts observed (file ∷ files) old new
 arrivals_more observed file files first others = record {
+  least = fell-both first.least others.least;
   read = omega (arith, first.read, others.read, decided-rises observed file.bytes, all-decided-rise files (arrived file.bytes observed));
   opened = omega (arith, first.opened, others.opened, opened-rises observed file.bytes, all-opened-rise files (arrived file.bytes observed));
   applied = omega (arith, first.applied, others.applied);

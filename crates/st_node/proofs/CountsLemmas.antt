@@ -19,6 +19,7 @@ cut_counts : {observed : Observed} {n : ℕ} {old new : Counts} → CutSays obse
 cut_counts says = record {
   files = says.reads.read;
   proofs = says.reads.opened;
+  least = says.reads.least;
   applies = λ names losing. (says.bound names losing).applies;
 }
 

@@ -19,8 +19,9 @@ use Rattle.st_node.proofs.EntryLemmas.{decided-small, opened-few}
 use Rattle.st_node.specs.Machine.{Machine, all_arrived, answered_admitted, answered_batch, answered_command, answered_read, limits_now, refused, reported, rolled_back}
 use Rattle.st_node.specs.Work.{AdmittedCounts, ArrivalCounts, ArrivalsCounts, CommandCounts, CutCounts, EntryCounts, FittingCounts, LineCounts, QueueCounts, StaysDue, entry_admitted, entry_of_command, entry_of_read, files_due_for, proofs_due_for, submitted_by, submitted_by_read}
 use Rattle.st_node.specs.declared.command.Command.{Command}
-use Rattle.st_node.specs.declared.command.Command.TheVariants.{Content, Anchor, Rollback, Resolve, Wanted, Report, Submit, Flush}
+use Rattle.st_node.specs.declared.command.Command.TheVariants.{Content, Anchor, Rollback, Resolve, Explain, Wanted, Report, Submit, Flush}
 use Rattle.st_node.specs.declared.command.LineCause.{LineCause}
+use Rattle.st_observer.proofs.FellLemmas.{fell-none}
 use Rattle.st_observer.specs.Observed.{Observed, appended, arrived, cut_to, report}
 use Rattle.st_ops.specs.Operation.{PlainOperation}
 
@@ -94,6 +95,7 @@ module _ (machine : Machine) (old new : Counts) where
       admitted_due (record { height = height; text = text }) (admitted machine.observed.ledger height) counts
   command_due (Rollback n) counts = rollback_due n (nat_le n (length machine.observed.ledger)) counts
   command_due (Resolve did) counts = read_due machine.observed old new counts.files counts.proofs
+  command_due (Explain did) counts = read_due machine.observed old new counts.files counts.proofs
   command_due Wanted same = same_due machine.observed old new same
   command_due (Report n) same = reported_due (report n machine.observed) same
   command_due (Submit request) counts = submitted_due machine.observed old new counts
@@ -109,11 +111,11 @@ module _ (machine : Machine) (old new : Counts) where
 
 module _ (machine : Machine) (work : Counts) where
   none_admitted : (entry : Entry) (answer : Result Unit LedgerRefused) → AdmittedCounts machine.observed entry answer work work
-  none_admitted entry (Ok _) = record { read = omega arith; opened = omega arith; applied = omega arith }
+  none_admitted entry (Ok _) = record { least = fell-none work; read = omega arith; opened = omega arith; applied = omega arith }
   none_admitted entry (Err cause) = refl
 
   none_cut : (n : ℕ) (fits : Bool) → FittingCounts machine.observed n fits work work
-  none_cut n true = record { files = refl; proofs = refl; applies = λ names losing. omega arith }
+  none_cut n true = record { files = refl; proofs = refl; least = omega arith; applies = λ names losing. omega arith }
   none_cut n false = refl
 
   none_flushed : (queued : Bool) → QueueCounts machine queued work work
@@ -121,13 +123,14 @@ module _ (machine : Machine) (work : Counts) where
   none_flushed false = refl
 
   pub none_counted : (read : Result Command LineCause) → LineCounts machine read work work
-  none_counted (Ok (Content bytes)) = record { read = omega arith; opened = omega arith; applied = omega arith }
+  none_counted (Ok (Content bytes)) = record { least = fell-none work; read = omega arith; opened = omega arith; applied = omega arith }
   none_counted (Ok (Anchor height text)) =
       none_admitted (record { height = height; text = text }) (admitted machine.observed.ledger height)
   none_counted (Ok (Rollback n)) = none_cut n (nat_le n (length machine.observed.ledger))
-  none_counted (Ok (Resolve did)) = record { files = refl; proofs = refl; applies = omega arith }
+  none_counted (Ok (Resolve did)) = record { files = refl; proofs = refl; least = omega arith; applies = omega arith }
+  none_counted (Ok (Explain did)) = record { files = refl; proofs = refl; least = omega arith; applies = omega arith }
   none_counted (Ok Wanted) = refl
   none_counted (Ok (Report n)) = refl
-  none_counted (Ok (Submit request)) = record { files = refl; proofs = omega arith; applies = refl }
+  none_counted (Ok (Submit request)) = record { files = refl; least = omega arith; proofs = omega arith; applies = refl }
   none_counted (Ok Flush) = none_flushed (nat_le 1 (length machine.queue))
   none_counted (Err cause) = refl

@@ -2,10 +2,12 @@ mod AnchorLemmas
 mod ArrivingLemmas
 mod CountsLemmas
 mod DueLemmas
+mod ExplainLemmas
 mod EntryLemmas
 mod FlushLemmas
 mod IsolationLemmas
 mod SumLemmas
 mod TellingLemmas
+pub mod ChangingLemmas
 pub mod LineLemmas
 pub mod RunLemmas

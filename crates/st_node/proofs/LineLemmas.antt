@@ -12,7 +12,7 @@ use Rattle.st_base.specs.Answers.{◌>>◌, holds_or}
 use Rattle.st_ledger.specs.declared.entry.Entry.{Entry}
 use Rattle.st_node.specs.Command.{command_of, command_of_words, longest_line, space}
 use Rattle.st_node.specs.Machine.{Answered, Machine, after, answered, answered_read, replies}
-use Rattle.st_node.specs.Words.{first_word, other_words}
+use Rattle.st_base.specs.Words.{first_word, other_words}
 use Rattle.st_node.specs.Work.{entries_of, entry_of_line, entry_of_read, submitted_by_line, submitted_by_read, submitted_in}
 use Rattle.st_node.specs.declared.command.Command.{Command}
 use Rattle.st_node.specs.declared.command.LineCause.{LineCause}

@@ -20,7 +20,7 @@ use Rattle.st_node.specs.Command.{command_of, longest_line}
 use Rattle.st_node.specs.Machine.{Machine, after, answered, answered_admitted, answered_batch, answered_command, answered_read, limits_now, new_machine, refused, reported, rolled_back}
 use Rattle.st_node.specs.Work.{DueOver, RunCounts, StaysDue, declared_count, entries_of, entry_of_line, submitted_by_line, submitted_in}
 use Rattle.st_node.specs.declared.command.Command.{Command}
-use Rattle.st_node.specs.declared.command.Command.TheVariants.{Content, Anchor, Rollback, Resolve, Wanted, Report, Submit, Flush}
+use Rattle.st_node.specs.declared.command.Command.TheVariants.{Content, Anchor, Rollback, Resolve, Explain, Wanted, Report, Submit, Flush}
 use Rattle.st_node.specs.declared.command.LineCause.{LineCause}
 use Rattle.st_observer.specs.Observed.{Observed, report}
 use Rattle.st_ops.specs.Operation.{PlainOperation}
@@ -56,6 +56,7 @@ module _ (machine : Machine) where
       schedule-admitted (record { height = height; text = text }) (admitted machine.observed.ledger height)
   schedule-command (Rollback n) = schedule-rollback n (nat_le n (length machine.observed.ledger))
   schedule-command (Resolve did) = refl
+  schedule-command (Explain did) = refl
   schedule-command Wanted = refl
   schedule-command (Report n) = schedule-reported (report n machine.observed)
   schedule-command (Submit request) = refl

@@ -1,7 +1,7 @@
 -- Words that are put behind a text one by one, each after a space.
 use Rattle.std.proofs.Common.{◌≡◌, ◌∙◌, ℕ, ◌+◌, ◌<◌, List, ◌∷◌, ◌++◌, length, get_or, drop, map, codes, sym, ap, append_assoc}
 use Rattle.st_base.proofs.Lists.{next_item}
-use Rattle.st_node.specs.Machine.{spaced}
+use Rattle.st_base.specs.Replies.{spaced}
 
 -- one word more
 pub one_word : (text word : List ℕ) (words : List (List ℕ)) → (text ++ (codes " " ++ word)) ++ spaced words ≡ text ++ spaced (word ∷ words)

@@ -2,11 +2,10 @@
 use Rattle.std.specs.Prelude.{ℕ, ◌-◌, ◌^◌, nat_le, List, length, bytes_eq, codes, is_none, if◌then◌else◌, Option, Some, None, Result, Ok, Err}
 use Rattle.std.specs.Option.{ok_or}
 use Rattle.st_base.specs.Answers.{◌>>=◌, ◌>>◌, holds_or}
-use Rattle.st_base.specs.Words.{cut_at, number_of}
+use Rattle.st_base.specs.Words.{cut_at, first_word, number_of, other_words}
 use Rattle.st_hash.specs.Base64url.{bytes_of_text}
-use Rattle.st_node.specs.Words.{first_word, other_words}
 use Rattle.st_node.specs.declared.command.Command.{Command}
-use Rattle.st_node.specs.declared.command.Command.TheVariants.{Content, Anchor, Rollback, Resolve, Wanted, Report, Submit, Flush}
+use Rattle.st_node.specs.declared.command.Command.TheVariants.{Content, Anchor, Rollback, Resolve, Explain, Wanted, Report, Submit, Flush}
 use Rattle.st_node.specs.declared.command.LineCause.{LineCause}
 use Rattle.st_node.specs.declared.command.LineCause.TheVariants as cause
 use Rattle.st_node.specs.declared.command.LineRefused.{LineRefused}
@@ -54,6 +53,12 @@ resolve_of behind = do
   did ← ok_or behind cause.Words
   Ok (Resolve did)
 
+-- `explain <did>`
+abbrev pub explain_of : Option (List ℕ) → Result Command LineCause
+explain_of behind = do
+  did ← ok_or behind cause.Words
+  Ok (Explain did)
+
 -- `wanted`, and no space behind it
 abbrev pub wanted_of : Option (List ℕ) → Result Command LineCause
 wanted_of behind = do
@@ -88,6 +93,7 @@ command_of_words word behind =
     else if bytes_eq word (codes "anchor") then anchor_of behind
     else if bytes_eq word (codes "rollback") then rollback_of behind
     else if bytes_eq word (codes "resolve") then resolve_of behind
+    else if bytes_eq word (codes "explain") then explain_of behind
     else if bytes_eq word (codes "wanted") then wanted_of behind
     else if bytes_eq word (codes "report") then report_of behind
     else if bytes_eq word (codes "submit") then submit_of behind

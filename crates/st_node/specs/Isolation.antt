@@ -1,17 +1,24 @@
 -- Isolation: what is answered of an identifier follows from its own operations.
-use Rattle.std.specs.Prelude.{◌≡◌, ℕ, List, Ok}
+use Rattle.std.specs.Prelude.{◌≡◌, ℕ, List, Result, Ok}
 use Rattle.st_hash.specs.Hash.{HashValue}
 use Rattle.st_node.specs.Command.{command_of}
 use Rattle.st_node.specs.Machine.{Machine, answered, newest}
-use Rattle.st_node.specs.declared.command.Command.TheVariants.{Resolve}
+use Rattle.st_node.specs.declared.command.Command.{Command}
+use Rattle.st_node.specs.declared.command.LineCause.{LineCause}
+use Rattle.st_node.specs.declared.command.Command.TheVariants.{Resolve, Explain}
 use Rattle.st_observer.specs.Observed.{operations}
 use Rattle.st_resolve.specs.Identifier.{PlainDid, did_of}
 
--- the line asks a machine to resolve an identifier of this suffix
+-- what was read of a line asks to resolve a text, or to explain it
+pub data AsksAbout (text : List ℕ) : Result Command LineCause → Type 0 where
+  to_resolve : AsksAbout text (Ok (Resolve text))
+  to_explain : AsksAbout text (Ok (Explain text))
+
+-- the line asks a machine to resolve or to explain an identifier of this suffix
 pub record AsksFor (machine : Machine) (suffix : HashValue) (line : List ℕ) : Type 0 where
   pub text : List ℕ
   pub did : PlainDid
-  pub asks : command_of line ≡ Ok (Resolve text)
+  pub asks : AsksAbout text (command_of line)
   pub identifies : did_of (newest machine.observed).version text ≡ Ok did
   pub by_suffix : did.suffix ≡ suffix
 
@@ -20,10 +27,10 @@ pub record AgreeOn (suffix : HashValue) (first second : Machine) : Type 0 where
   pub same_schedule : first.observed.schedule ≡ second.observed.schedule
   pub same_operations : operations suffix first.observed ≡ operations suffix second.observed
 
--- Two machines that know the same operations of a suffix reply alike to each line that asks to resolve
--- an identifier of it. So no entry that gives no operation for it, no cut of such entries and no file
--- that leaves its operations changes a reply for it (by `isolation_law` of st_observer), and neither does
--- what is queued: no submission, and of a flush nothing but its files.
+-- Two machines that know the same operations of a suffix reply alike to each line that asks to resolve or
+-- to explain an identifier of it. So no entry that gives no operation for it, no cut of such entries and no
+-- file that leaves its operations changes a reply for it (by `isolation_law` of st_observer), and neither
+-- does what is queued: no submission, and of a flush nothing but its files.
 abbrev pub IsolatesIdentifiers : Type 0
 IsolatesIdentifiers = (suffix : HashValue) (first second : Machine) (line : List ℕ) → AgreeOn suffix first second
     → AsksFor first suffix line → (answered first line).reply ≡ (answered second line).reply

@@ -2,5 +2,5 @@ pub mod Codes
 pub mod Command
 pub mod Isolation
 pub mod Machine
-pub mod Words
+pub mod Changing
 pub mod Work

@@ -5,6 +5,8 @@ use Rattle.std.specs.Fmt.{decimal}
 use Rattle.st_anchor.specs.RuleNames.{rule_name}
 use Rattle.st_anchor.specs.declared.role_state.RoleState.{RoleState}
 use Rattle.st_anchor.specs.declared.role_state.RoleState.TheVariants as role_is
+use Rattle.st_apply.specs.Anchored.{Anchored}
+use Rattle.st_base.specs.Replies.{reply, spaced}
 use Rattle.st_base.specs.Answers.{◌>>=◌}
 use Rattle.st_batch.specs.Prefix.{batch_of, rest_of}
 use Rattle.st_batch.specs.Submitted.{submitted}
@@ -14,6 +16,9 @@ use Rattle.st_batch.specs.declared.refused.SubmitRefused.{SubmitRefused}
 use Rattle.st_batch.specs.declared.refused.SubmitRefused.TheVariants as submit_is
 use Rattle.st_canon.specs.Canonical.{canonical}
 use Rattle.st_canon.specs.Plain.{Plain}
+use Rattle.st_cert.specs.Certificate.{verdicts}
+use Rattle.st_cert.specs.declared.verdict.Verdict.{Verdict}
+use Rattle.st_cert.specs.declared.verdict.Verdict.TheVariants as verdict_is
 use Rattle.st_content.specs.Files.{Files, file_at}
 use Rattle.st_datafiles.specs.declared.role.Role.{Role}
 use Rattle.st_datafiles.specs.declared.role.Role.TheVariants.{Core, CoreProof, Provisional, ProvisionalProof, Chunk}
@@ -25,12 +30,12 @@ use Rattle.st_ledger.specs.declared.refused.LedgerRefused.{LedgerRefused}
 use Rattle.st_ledger.specs.declared.refused.LedgerRefused.TheVariants.{HeightFalls, LedgerFull}
 use Rattle.st_node.specs.Command.{command_of}
 use Rattle.st_node.specs.declared.command.Command.{Command}
-use Rattle.st_node.specs.declared.command.Command.TheVariants.{Content, Anchor, Rollback, Resolve, Wanted, Report, Submit, Flush}
+use Rattle.st_node.specs.declared.command.Command.TheVariants.{Content, Anchor, Rollback, Resolve, Explain, Wanted, Report, Submit, Flush}
 use Rattle.st_node.specs.declared.command.LineCause.{LineCause}
 use Rattle.st_node.specs.declared.command.LineCause.TheVariants as line_is
-use Rattle.st_observer.specs.Observed.{Observed, appended, arrived, cut_to, nothing_yet, report, state_of}
+use Rattle.st_observer.specs.Observed.{Observed, appended, arrived, cut_to, nothing_yet, operations, report, state_of}
 use Rattle.st_observer.specs.Wanted.{wanted}
-use Rattle.st_ops.specs.Operation.{PlainOperation}
+use Rattle.st_ops.specs.Operation.{PlainOperation, creating, updating, recovering, deactivating}
 use Rattle.st_params.specs.Limits.{Limits}
 use Rattle.st_params.specs.Schedule.{newest_of, params_at}
 use Rattle.st_resolve.specs.Identifier.{PlainDid, did_of}
@@ -53,15 +58,6 @@ new_machine schedule = record { observed = nothing_yet schedule; queue = [] }
 pub record Answered : Type 0 where
   pub next : Machine
   pub reply : List ℕ
-
--- a reply: a word, the rest, and the line end
-abbrev pub reply : List ℕ → List ℕ → List ℕ
-reply word rest = word ++ (rest ++ codes "\n")
-
--- words, with a space before each
-abbrev pub spaced : List (List ℕ) → List ℕ
-spaced [] = []
-spaced (word ∷ words) = codes " " ++ (word ++ spaced words)
 
 -- this reply, and nothing changes
 abbrev pub replied : Machine → List ℕ → Answered
@@ -145,10 +141,14 @@ newest observed = newest_of observed.schedule
 abbrev pub result_for : Observed → PlainDid → Result Plain (List ℕ)
 result_for observed did = or_word result_word (result_of (newest observed) did (state_of did.suffix observed))
 
+-- The identifier that a text is, or the word of the first cause for which it is none.
+abbrev pub asked_did : Observed → List ℕ → Result PlainDid (List ℕ)
+asked_did observed text = or_word did_word (did_of (newest observed).version text)
+
 -- What a text resolves to, or the word of the first cause for which it doesn't.
 abbrev pub resolution : Observed → List ℕ → Result Plain (List ℕ)
 resolution observed text = do
-  did ← or_word did_word (did_of (newest observed).version text)
+  did ← asked_did observed text
   result_for observed did
 
 -- the result as canonical text, or the cause
@@ -159,6 +159,54 @@ resolve_reply (Err cause) = reply (codes "unresolved ") cause
 -- what the text resolves to; nothing changes
 abbrev pub answered_resolve : Machine → List ℕ → Answered
 answered_resolve machine text = replied machine (resolve_reply (resolution machine.observed text))
+
+-- ---- `explain`: what became of each operation of an identifier
+
+-- the kind of an operation
+abbrev pub kind_word : PlainOperation → List ℕ
+kind_word (creating suffix_data delta) = codes "create"
+kind_word (updating target proof delta) = codes "update"
+kind_word (recovering target proof delta) = codes "recover"
+kind_word (deactivating target proof) = codes "deactivate"
+
+-- what became of an operation
+abbrev pub verdict_word : Verdict → List ℕ
+verdict_word verdict_is.Before = codes "before"
+verdict_word verdict_is.Again = codes "again"
+verdict_word verdict_is.Ended = codes "ended"
+verdict_word verdict_is.Unclaimed = codes "unclaimed"
+verdict_word verdict_is.NoUpdates = codes "noUpdates"
+verdict_word verdict_is.WrongReveal = codes "wrongReveal"
+verdict_word verdict_is.BadDelta = codes "badDelta"
+verdict_word verdict_is.Created = codes "created"
+verdict_word verdict_is.Updated = codes "updated"
+verdict_word verdict_is.Recovered = codes "recovered"
+verdict_word verdict_is.Deactivated = codes "deactivated"
+
+-- a line for an operation: its place, its height, its kind, and what became of it
+abbrev pub item_line : Anchored → Verdict → List ℕ
+item_line item verdict =
+    reply (codes "item")
+    (spaced (decimal item.place ∷ decimal item.height ∷ kind_word item.operation ∷ verdict_word verdict ∷ []))
+
+-- a line for each
+abbrev pub item_lines : List Anchored → List Verdict → List ℕ
+item_lines (item ∷ items) (verdict ∷ verdicts) = item_line item verdict ++ item_lines items verdicts
+item_lines items verdicts = []
+
+-- how many operations there are, and a line for each
+abbrev pub explained : Option ℕ → List Anchored → List ℕ
+explained schedule items =
+    reply (codes "explained ") (decimal (length items)) ++ item_lines items (verdicts schedule items)
+
+-- what became of the operations of an identifier that entries gave, or why a text is none
+abbrev pub explain_reply : Observed → Result PlainDid (List ℕ) → List ℕ
+explain_reply observed (Ok did) = explained observed.schedule (operations did.suffix observed)
+explain_reply observed (Err cause) = reply (codes "unresolved ") cause
+
+-- what became of those of the identifier that the text is; nothing changes
+abbrev pub answered_explain : Machine → List ℕ → Answered
+answered_explain machine text = replied machine (explain_reply machine.observed (asked_did machine.observed text))
 
 -- ---- `wanted`: how many files are missing, and the URI of each
 
@@ -278,6 +326,7 @@ answered_command machine (Content bytes) = answered_content machine bytes
 answered_command machine (Anchor height text) = answered_anchor machine (record { height = height; text = text })
 answered_command machine (Rollback n) = answered_rollback machine n
 answered_command machine (Resolve did) = answered_resolve machine did
+answered_command machine (Explain did) = answered_explain machine did
 answered_command machine Wanted = answered_wanted machine
 answered_command machine (Report n) = answered_report machine n
 answered_command machine (Submit request) = answered_submit machine request

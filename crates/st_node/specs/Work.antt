@@ -1,6 +1,7 @@
 -- Bounds on the work that is counted: of one line, and of a run of lines.
 use Rattle.std.specs.Prelude.{◌≡◌, ℕ, ◌+◌, ◌-◌, ◌*◌, ◌≤◌, nat_le, Bool, true, false, List, [], ◌∷◌, ◌++◌, length, sum_by, Option, option_map, unwrap_or, Result, Ok, Err}
 use Rattle.st_anchor.specs.States.{decided_roles, opened_proofs}
+use Rattle.st_apply.specs.Anchored.{Anchored}
 use Rattle.st_base.specs.Work.{Counts, AppliesAtMost, ProofsAtMost}
 use Rattle.st_batch.specs.Prefix.{batch_of}
 use Rattle.st_batch.specs.declared.batch.BatchFile.{BatchFile}
@@ -10,12 +11,13 @@ use Rattle.st_ledger.specs.Ledger.{admitted}
 use Rattle.st_ledger.specs.declared.entry.Entry.{Entry}
 use Rattle.st_ledger.specs.declared.refused.LedgerRefused.{LedgerRefused}
 use Rattle.st_node.specs.Command.{command_of}
-use Rattle.st_node.specs.Machine.{Machine, after, all_arrived, answered, limits_now}
+use Rattle.st_node.specs.Machine.{Machine, after, all_arrived, answered, asked_did, limits_now}
 use Rattle.st_node.specs.declared.command.Command.{Command}
-use Rattle.st_node.specs.declared.command.Command.TheVariants.{Content, Anchor, Rollback, Resolve, Wanted, Report, Submit, Flush}
+use Rattle.st_node.specs.declared.command.Command.TheVariants.{Content, Anchor, Rollback, Resolve, Explain, Wanted, Report, Submit, Flush}
 use Rattle.st_node.specs.declared.command.LineCause.{LineCause}
-use Rattle.st_observer.specs.Observed.{Observed, appended, arrived, known_of}
+use Rattle.st_observer.specs.Observed.{Observed, appended, arrived, known_of, operations}
 use Rattle.st_observer.specs.Work.{GrewAtMost, NamesLosing, arrival_cost, decided_in, entry_cost, opened_in}
+use Rattle.st_resolve.specs.Identifier.{PlainDid}
 use Rattle.st_params.specs.Schedule.{params_at}
 
 -- ---- what a command may cost
@@ -45,10 +47,11 @@ AdmittedCounts observed entry (Ok _) old new = EntryCounts observed entry old ne
 AdmittedCounts observed entry (Err cause) old new = new ≡ old
 
 -- A cut reads and opens nothing, and costs at most 7 applied operations for each identifier that loses
--- one.
+-- one. No count falls.
 pub record CutCounts (observed : Observed) (n : ℕ) (old new : Counts) : Type 0 where
   pub files : new.files ≡ old.files
   pub proofs : new.proofs ≡ old.proofs
+  pub least : old.applies ≤ new.applies
   pub applies : (names : List HashValue) → NamesLosing n observed names → new.applies ≤ old.applies + 7 * length names
 
 -- and where it is refused, nothing is counted
@@ -85,15 +88,26 @@ QueueCounts machine false old new = new ≡ old
 abbrev pub FlushCounts : Machine → Counts → Counts → Type 0
 FlushCounts machine old new = QueueCounts machine (nat_le 1 (length machine.queue)) old new
 
--- What is counted while a command is carried out. An identifier is resolved without a reading, and with
--- one applied operation at most; for a request that is submitted, one signed text is opened at most,
--- also where it is refused; what asks how things stand costs nothing.
+-- the operations of an identifier, or none where there is none
+abbrev pub operations_of_found : Observed → Result PlainDid (List ℕ) → List Anchored
+operations_of_found observed (Ok did) = operations did.suffix observed
+operations_of_found observed (Err cause) = []
+
+-- the operations of the identifier that a text is
+abbrev pub asked_operations : Observed → List ℕ → List Anchored
+asked_operations observed text = operations_of_found observed (asked_did observed text)
+
+-- What is counted while a command is carried out, and no count falls. An identifier is resolved without a
+-- reading, and with one applied operation at most; it is explained without a reading, and with as many applied
+-- operations at most as entries give for it; for a request that is submitted, one signed text is opened at
+-- most, also where it is refused; what asks how things stand costs nothing.
 abbrev pub CommandCounts : Machine → Command → Counts → Counts → Type 0
 CommandCounts machine (Content bytes) old new = ArrivalCounts machine.observed bytes old new
 CommandCounts machine (Anchor height text) old new =
     AdmittedCounts machine.observed (record { height = height; text = text }) (admitted machine.observed.ledger height) old new
 CommandCounts machine (Rollback n) old new = RollbackCounts machine.observed n old new
 CommandCounts machine (Resolve did) old new = AppliesAtMost 1 old new
+CommandCounts machine (Explain text) old new = AppliesAtMost (length (asked_operations machine.observed text)) old new
 CommandCounts machine Wanted old new = new ≡ old
 CommandCounts machine (Report n) old new = new ≡ old
 CommandCounts machine (Submit request) old new = ProofsAtMost 1 old new

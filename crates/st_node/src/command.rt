@@ -1,9 +1,8 @@
 ghost use Rattle.std.specs.Option.{option_copied};
 ghost use Rattle.st_base.specs.Answers.{Gives};
-ghost use Rattle.st_node.specs.Command.{anchor_of, cause_of, command_of, command_of_words, content_of, flush_of, report_of, resolve_of, rollback_of, submit_of, wanted_of};
+ghost use Rattle.st_node.specs.Command.{anchor_of, cause_of, command_of, command_of_words, content_of, explain_of, flush_of, report_of, resolve_of, rollback_of, submit_of, wanted_of};
 
-use crate::words::cut_word;
-use st_base::{Bytes, Copied, WantOfMemory, cut_at, read_number};
+use st_base::{Bytes, Copied, WantOfMemory, cut_at, cut_word, read_number};
 use st_hash::{DecRefused, dec};
 use std::alloc::Global;
 use thiserror::Error;
@@ -18,6 +17,8 @@ const ANCHOR: &[u8] = b"anchor";
 const ROLLBACK: &[u8] = b"rollback";
 
 const RESOLVE: &[u8] = b"resolve";
+
+const EXPLAIN: &[u8] = b"explain";
 
 const WANTED: &[u8] = b"wanted";
 
@@ -38,6 +39,8 @@ pub enum Command {
     Rollback(u32),
     /// `resolve <did>`: what does this identifier resolve to?
     Resolve(Bytes),
+    /// `explain <did>`: what became of each operation of this identifier?
+    Explain(Bytes),
     /// `wanted`: which files are missing?
     Wanted,
     /// `report <n>`: how does it stand with the five roles of this entry?
@@ -58,6 +61,7 @@ impl Copied for Command {
             }),
             Command::Rollback(n) => Ok(Command::Rollback(*n)),
             Command::Resolve(did) => Ok(Command::Resolve(did.copy(alloc)?)),
+            Command::Explain(did) => Ok(Command::Explain(did.copy(alloc)?)),
             Command::Wanted => Ok(Command::Wanted),
             Command::Report(n) => Ok(Command::Report(*n)),
             Command::Submit(request) => Ok(Command::Submit(request.copy(alloc)?)),
@@ -128,6 +132,8 @@ fn read_words(alloc: Global, word: &[u8], behind: Option<&[u8]>) -> Result<Comma
         read_rollback(behind)
     } else if word == RESOLVE {
         read_resolve(alloc, behind)
+    } else if word == EXPLAIN {
+        read_explain(alloc, behind)
     } else if word == WANTED {
         read_wanted(behind)
     } else if word == REPORT {
@@ -190,6 +196,16 @@ fn read_resolve(alloc: Global, behind: Option<&[u8]>) -> Result<Command, LineRef
     };
     let did = Bytes::from_slice(alloc, did)?;
     Ok(Command::Resolve(did))
+}
+
+fn read_explain(alloc: Global, behind: Option<&[u8]>) -> Result<Command, LineRefused>
+    ensures { Gives cause_of (explain_of (option_copied behind.entry)) result }
+{
+    let Some(did) = behind else {
+        return Err(LineRefused::BadLine(LineCause::Words));
+    };
+    let did = Bytes::from_slice(alloc, did)?;
+    Ok(Command::Explain(did))
 }
 
 fn read_wanted(behind: Option<&[u8]>) -> Result<Command, LineRefused>

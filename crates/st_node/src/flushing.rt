@@ -2,9 +2,8 @@ ghost use Rattle.std.specs.Prelude.{◌≡◌, ◌++◌, IfOk, OnOk, flat_map};
 ghost use Rattle.st_node.specs.Machine.{all_arrived, batch_line, batch_reply, file_line, role_word};
 ghost use Rattle.st_node.specs.Work.{ArrivalsCounts};
 
-use crate::telling::push_word;
 use itoa::Buffer;
-use st_base::{Bytes, List, WantOfMemory, Work};
+use st_base::{Bytes, List, WantOfMemory, Work, push_word};
 use st_batch::{Batch, BatchFile};
 use st_datafiles::Role;
 use st_hash::{enc, hash_text};
@@ -26,8 +25,8 @@ fn push_batch(text: &mut Vec<u8>, anchor: &str, files: usize) -> Result<(), Want
     ensures { OnOk result (text.new.items ≡ text.old.items ++ batch_line anchor.now files) }
 {
     text.extend_from_slice(b"batch")?;
-    push_word(text, anchor)?;
-    push_word(text, Buffer::new().format(files))?;
+    push_word(text, anchor.as_bytes())?;
+    push_word(text, Buffer::new().format(files).as_bytes())?;
     text.push(b'\n')?;
     Ok(())
 }
@@ -49,9 +48,9 @@ fn push_file(alloc: Global, text: &mut Vec<u8>, file: &BatchFile) -> Result<(), 
     let uri = hash_text(alloc, &file.uri)?;
     let bytes = enc(alloc, file.bytes.as_slice())?;
     text.extend_from_slice(b"file")?;
-    push_word(text, role_word(file.role))?;
-    push_word(text, uri.as_str())?;
-    push_word(text, bytes.as_str())?;
+    push_word(text, role_word(file.role).as_bytes())?;
+    push_word(text, uri.as_str().as_bytes())?;
+    push_word(text, bytes.as_str().as_bytes())?;
     text.push(b'\n')?;
     Ok(())
 }

@@ -3,18 +3,20 @@
 //! requests that are submitted to it.
 #![tactic(auto)]
 
+mod causes;
+mod changes;
 mod command;
+mod explaining;
 mod flushing;
 mod laws;
 mod node;
-mod reply;
 mod resolving;
 mod submitting;
 mod telling;
 #[cfg(test)]
 mod tests;
-mod words;
 
+pub use changes::changing;
 pub use command::{Command, LONGEST_LINE, LineCause, LineRefused, read_command};
 pub use laws::isolation_law;
 pub use node::Node;

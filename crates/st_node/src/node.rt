@@ -5,14 +5,15 @@ ghost use Rattle.st_node.specs.Machine.{AnswersWith, answered, answered_anchor, 
 ghost use Rattle.st_node.specs.Work.{AdmittedCounts, ArrivalCounts, CommandCounts, FlushCounts, LineCounts, RollbackCounts, StaysDue, entry_of_command, entry_of_line, submitted_by, submitted_by_line};
 ghost use Rattle.st_ledger.specs.Ledger.{admitted};
 
+use crate::causes::{cause_word, ledger_word};
 use crate::command::{Command, LineRefused, read_command};
+use crate::explaining::explain;
 use crate::flushing::{take_files, tell_batch};
-use crate::reply::{cause_word, ledger_word, reply};
 use crate::resolving::resolve;
 use crate::submitting::{limits_now, submit};
 use crate::telling::{tell_states, tell_wanted};
 use itoa::Buffer;
-use st_base::{Bytes, WantOfMemory, Work};
+use st_base::{Bytes, WantOfMemory, Work, reply};
 use st_batch::{Batch, FlushRefused, Queue};
 use st_content::Put;
 use st_hash::hash_text;
@@ -94,11 +95,12 @@ impl Node {
 
     /// Carries a command out, and gives the reply with its line end.
     ///
-    /// A `content` and an `anchor` read at most one file for each role that they decide, and open at
-    /// most the signed texts of the proof files that they read; a `rollback` reads and opens nothing; a
-    /// `resolve` does neither, and applies one operation at most; `wanted` and `report` count nothing. A
-    /// `submit` opens one signed text at most, also where it is refused; a `flush` counts as its files do
-    /// when they come one after the other, and nothing where nothing is queued.
+    /// A `content` and an `anchor` count at most one file for each role that they decide, and at most the
+    /// signed texts of the proof files that they read; a `rollback` counts neither; a `resolve` counts
+    /// neither, and one applied operation at most; an `explain` counts neither, and at most as many applied
+    /// operations as entries give for its identifier; `wanted` and `report` count nothing. A `submit` counts
+    /// one signed text at most, also where it is refused; a `flush` counts as its files do when they come
+    /// one after the other, and nothing where nothing is queued. No count ever falls.
     pub fn step(
         self,
         alloc: Global,
@@ -132,6 +134,10 @@ impl Node {
             Command::Rollback(n) => self.cut(alloc, n, work),
             Command::Resolve(did) => {
                 let text = resolve(alloc, &self.observer, did.as_slice(), work)?;
+                Ok((self, text))
+            }
+            Command::Explain(did) => {
+                let text = explain(alloc, &self.observer, did.as_slice(), work)?;
                 Ok((self, text))
             }
             Command::Wanted => self.wanted(alloc),

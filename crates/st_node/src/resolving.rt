@@ -3,15 +3,14 @@ ghost use Rattle.st_base.specs.Work.{AppliesAtMost};
 ghost use Rattle.st_node.specs.Machine.{resolution, resolve_reply, result_for};
 ghost use Rattle.st_resolve.specs.Identifier.{plain_did};
 
-use crate::reply::reply;
-use st_base::{Bytes, WantOfMemory, Work};
+use st_base::{Bytes, WantOfMemory, Work, reply};
 use st_canon::write;
 use st_observer::Observer;
 use st_resolve::{Did, DidRefused, RenderRefused, read_did, render};
 use std::alloc::Global;
 
-// The reply to a text that is to be resolved. No file is read, and at most the create of a long form is
-// applied.
+// The reply to a text that is to be resolved. No file and no signed text is counted, and at most one operation:
+// the create of a long form that no entry gave, or a delta that is looked at where the state is opened.
 pub fn resolve(
     alloc: Global,
     observer: &Observer,

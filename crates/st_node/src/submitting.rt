@@ -3,8 +3,7 @@ ghost use Rattle.st_base.specs.Work.{ProofsAtMost};
 ghost use Rattle.st_batch.specs.Submitted.{submitted};
 ghost use Rattle.st_node.specs.Machine.{limits_now, queue_after, submit_reply};
 
-use crate::reply::reply;
-use st_base::{Bytes, WantOfMemory, Work};
+use st_base::{Bytes, WantOfMemory, Work, reply};
 use st_batch::{Queue, SubmitRefused};
 use st_hash::hash_text;
 use st_observer::Observer;

@@ -1,11 +1,11 @@
-ghost use Rattle.std.specs.Prelude.{◌≡◌, ◌++◌, List, IfOk, OnOk, codes, map};
+ghost use Rattle.std.specs.Prelude.{◌≡◌, List, IfOk, codes, map};
 ghost use Rattle.st_hash.specs.Hash.{hash_text};
-ghost use Rattle.st_node.specs.Machine.{reply, spaced, state_word, wanted_reply};
+ghost use Rattle.st_base.specs.Replies.{reply, spaced};
+ghost use Rattle.st_node.specs.Machine.{state_word, wanted_reply};
 
-use crate::reply::reply;
 use itoa::Buffer;
 use st_anchor::RoleState;
-use st_base::{Bytes, WantOfMemory};
+use st_base::{Bytes, WantOfMemory, push_word, reply};
 use st_hash::{Hash, hash_text};
 use std::alloc::Global;
 
@@ -17,7 +17,7 @@ pub fn tell_wanted(alloc: Global, uris: &[Hash]) -> Result<Bytes, WantOfMemory>
     rest.extend_from_slice(Buffer::new().format(uris.len()).as_bytes())?;
     for uri in uris {
         let text = hash_text(alloc, uri)?;
-        push_word(&mut rest, text.as_str())?;
+        push_word(&mut rest, text.as_str().as_bytes())?;
     }
     reply(alloc, "wanted ", rest.as_slice())
 }
@@ -28,18 +28,9 @@ pub fn tell_states(alloc: Global, states: &[RoleState; 5]) -> Result<Bytes, Want
 {
     let mut rest = Vec::new(alloc);
     for state in states {
-        push_word(&mut rest, state_word(state))?;
+        push_word(&mut rest, state_word(state).as_bytes())?;
     }
     reply(alloc, "report", rest.as_slice())
-}
-
-// Puts a space and the word behind the text.
-pub fn push_word(text: &mut Vec<u8>, word: &str) -> Result<(), WantOfMemory>
-    ensures { OnOk result (text.new.items ≡ text.old.items ++ (codes " " ++ word.now)) }
-{
-    text.push(b' ')?;
-    text.extend_from_slice(word.as_bytes())?;
-    Ok(())
 }
 
 fn state_word(state: &RoleState) -> &'static str

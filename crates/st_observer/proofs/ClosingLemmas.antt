@@ -105,7 +105,7 @@ pub opened-few : (observed : Observed) (start : Kept) (opening : Going) (names :
 opened-few observed start opening names old new is grew =
     subst (λ (g : Going). GrewAtMost (decided_of (map (known_from observed.files) g.bounds.items) - decided_of g.bounds.items)
     (opened_of (map (known_from observed.files) g.bounds.items) - opened_of g.bounds.items) (named_cost observed names) old new) is
-    (record { read = grew.read; opened = grew.opened; applied = omega (arith, grew.applied) })
+    (record { least = grew.least; read = grew.read; opened = grew.opened; applied = omega (arith, grew.applied) })
 
 pub closed-exact : (start later : Kept) (opening going : Going) (old mid new : Counts) → opening ≡ opened start → later.bounds.items ≡ going.bounds.items
     → ReadExactly (decided_of going.bounds.items - decided_of opening.bounds.items) (opened_of going.bounds.items - opened_of opening.bounds.items) old mid

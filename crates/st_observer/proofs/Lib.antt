@@ -19,3 +19,6 @@ mod SettleLemmas
 mod AppendLemmas
 mod ArriveLemmas
 mod CutLemmas
+-- For the crates above.
+-- no count fell
+pub mod FellLemmas

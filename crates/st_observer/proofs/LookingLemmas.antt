@@ -102,7 +102,7 @@ module _ (entries : List ℕ) (at n : ℕ) (inside : at < length entries) (is : 
         same = going.same ∙ sym looking.going.same ∙ looking.same;
         reading =
             reading-settled observed.files start.bounds.items now.bounds.items after.bounds.items n 0 0 0 old mid new
-            room step.bounds looking.reading exactly (omega (arith, grew.applied)) (omega arith);
+            room step.bounds looking.reading exactly grew.least.applies (omega (arith, grew.applied)) (omega arith);
         named = λ names first where_given.
             changes names (looking.named names first where_given)
             (subst (λ (b : Known). AreNamedAt n (suffixes_given (given b)) names)

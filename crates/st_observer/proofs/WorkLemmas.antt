@@ -1,6 +1,6 @@
 -- Work that is counted while entries are looked at again.
---     counted_more-few   so many more are at most so many more
---     Reading            what was counted on the way, from where it began
+--     counted_more-few, counted_more-least   so many more are at most so many more, and no fewer than before
+--     Reading                                what was counted on the way, from where it began
 --     reading-settled, reading-few, reading-wanting
 use Rattle.std.proofs.Common.{◌≡◌, ◌∙◌, ℕ, zero, suc, ◌+◌, ◌-◌, ◌<◌, ◌≤◌, List, length, map, set, ap, subst, arith}
 use Rattle.std.specs.List.{sum_by}
@@ -15,7 +15,8 @@ use Rattle.st_anchor.proofs.CountingLemmas.{counted_more-both}
 use Rattle.st_base.specs.Work.{AppliesAtMost, Counts, counted}
 use Rattle.st_content.specs.Files.{Files}
 use Rattle.st_observer.specs.Steps.{bound_at, decided_of, opened_of, unknown}
-use Rattle.st_observer.specs.Work.{GrewAtMost, ReadExactly}
+use Rattle.st_observer.specs.Work.{GrewAtMost, NoneFell, ReadExactly}
+use Rattle.st_observer.proofs.FellLemmas.{fell-both}
 use Rattle.st_observer.proofs.GoingLemmas.{map-settled}
 
 counted-few : (count : ℕ) → counted count ≤ count + 1
@@ -25,12 +26,33 @@ pub counted_more-few : (more count : ℕ) → counted_more more count ≤ count 
 counted_more-few zero count = omega arith
 counted_more-few (suc more) count = omega (arith, counted-few (counted_more more count), counted_more-few more count)
 
+counted-least : (count : ℕ) → count ≤ counted count
+counted-least count = omega arith
+
+pub counted_more-least : (more count : ℕ) → count ≤ counted_more more count
+counted_more-least zero count = omega arith
+counted_more-least (suc more) count = omega (arith, counted-least (counted_more more count), counted_more-least more count)
+
+-- ---- no count fell
+
+worked-least : (files proofs : ℕ) (old new : Counts) → WorkedAtMost files proofs old new → NoneFell old new
+worked-least files proofs old new few = record {
+  files = omega (arith, ap (λ (w : Counts). w.files) few.counts, counted_more-least few.files_read old.files);
+  proofs = omega (arith, ap (λ (w : Counts). w.proofs) few.counts, counted_more-least few.proofs_opened old.proofs);
+  applies = omega (arith, ap (λ (w : Counts). w.applies) few.counts);
+}
+
+applied-least : (applies : ℕ) (old new : Counts) → AppliesAtMost applies old new → NoneFell old new
+applied-least applies old new applied =
+    record { files = omega (arith, applied.files); proofs = omega (arith, applied.proofs); applies = applied.least }
+
 -- ---- one entry
 
 -- what was counted exactly, and what was applied then
 pub grew-worked : (files proofs applies : ℕ) (old mid new : Counts) → WorkedAtMost files proofs old mid → AppliesAtMost applies mid new
     → GrewAtMost files proofs applies old new
 grew-worked files proofs applies old mid new few applied = record {
+  least = fell-both (worked-least files proofs old mid few) (applied-least applies mid new applied);
   read = omega (arith, applied.files, few.few_files, ap (λ (w : Counts). w.files) few.counts, counted_more-few few.files_read old.files);
   opened = omega (arith, applied.proofs, few.few_proofs, ap (λ (w : Counts). w.proofs) few.counts, counted_more-few few.proofs_opened old.proofs);
   applied = omega (arith, applied.applies, ap (λ (w : Counts). w.applies) few.counts);
@@ -38,6 +60,7 @@ grew-worked files proofs applies old mid new few applied = record {
 
 pub grew-only : (files proofs applies : ℕ) (old new : Counts) → WorkedAtMost files proofs old new → GrewAtMost files proofs applies old new
 grew-only files proofs applies old new few = record {
+  least = worked-least files proofs old new few;
   read = omega (arith, few.few_files, ap (λ (w : Counts). w.files) few.counts, counted_more-few few.files_read old.files);
   opened = omega (arith, few.few_proofs, ap (λ (w : Counts). w.proofs) few.counts, counted_more-few few.proofs_opened old.proofs);
   applied = omega (arith, ap (λ (w : Counts). w.applies) few.counts);
@@ -46,6 +69,7 @@ grew-only files proofs applies old new few = record {
 pub grew-more : (files proofs applies more_files more_proofs more : ℕ) (old new : Counts) → files ≤ more_files → proofs ≤ more_proofs → applies ≤ more
     → GrewAtMost files proofs applies old new → GrewAtMost more_files more_proofs more old new
 grew-more files proofs applies more_files more_proofs more old new fits_files fits_proofs fits grew = record {
+  least = grew.least;
   read = omega (arith, grew.read, fits_files);
   opened = omega (arith, grew.opened, fits_proofs);
   applied = omega (arith, grew.applied, fits);
@@ -55,6 +79,7 @@ grew-more files proofs applies more_files more_proofs more old new fits_files fi
 pub grew-then : (files proofs applies most : ℕ) (old mid new : Counts) → GrewAtMost files proofs 0 old mid → AppliesAtMost applies mid new → applies ≤ most
     → GrewAtMost files proofs most old new
 grew-then files proofs applies most old mid new grew applied fits = record {
+  least = fell-both grew.least (applied-least applies mid new applied);
   read = omega (arith, applied.files, grew.read);
   opened = omega (arith, applied.proofs, grew.opened);
   applied = omega (arith, applied.applies, grew.applied, fits);
@@ -91,7 +116,15 @@ pub record Reading (start bounds : List Known) (cost : ℕ) (old new : Counts) :
   pub opens : opened_of start ≤ opened_of bounds
   pub files : new.files ≡ counted_more (decided_of bounds - decided_of start) old.files
   pub proofs : new.proofs ≡ counted_more (opened_of bounds - opened_of start) old.proofs
+  pub least : old.applies ≤ new.applies
   pub applies : new.applies ≤ old.applies + cost
+
+reading-least : {start bounds : List Known} {cost : ℕ} {old new : Counts} → Reading start bounds cost old new → NoneFell old new
+reading-least {start} {bounds} {cost} {old} {new} reading = record {
+  files = omega (arith, reading.files, counted_more-least (decided_of bounds - decided_of start) old.files);
+  proofs = omega (arith, reading.proofs, counted_more-least (opened_of bounds - opened_of start) old.proofs);
+  applies = reading.least;
+}
 
 -- first so many, and then more
 then-more : (start now after before later old mid new : ℕ) → start ≤ now → before ≤ later → after + before ≡ now + later
@@ -103,9 +136,9 @@ then-more start now after before later old mid new up more sum first second =
 pub reading-settled : (files : Files) (start bounds after : List Known) (n cost applied total : ℕ) (old mid new : Counts) → n < length bounds
     → after ≡ set bounds n (known_from files (bound_at n bounds)) → Reading start bounds cost old mid
     → ReadExactly (newly_decided files (bound_at n bounds)) (newly_opened files (bound_at n bounds)) mid new
-    → new.applies ≤ mid.applies + applied → cost + applied ≤ total
+    → mid.applies ≤ new.applies → new.applies ≤ mid.applies + applied → cost + applied ≤ total
     → Reading start after total old new
-reading-settled files start bounds after n cost applied total old mid new inside is reading exactly few fits =
+reading-settled files start bounds after n cost applied total old mid new inside is reading exactly least few fits =
     let bound : Known = bound_at n bounds in
     let decided : decided_of after + decided_roles bound ≡ decided_of bounds + decided_roles (known_from files bound) =
     ap (λ xs. decided_of xs + decided_roles bound) is ∙ sum-settled decided_roles files (decided_roles-up files) bounds n inside in
@@ -122,6 +155,7 @@ reading-settled files start bounds after n cost applied total old mid new inside
           then-more (opened_of start) (opened_of bounds) (opened_of after) (opened_proofs bound)
           (opened_proofs (known_from files bound)) old.proofs mid.proofs new.proofs
           reading.opens (opened_proofs-up files bound) opened reading.proofs exactly.opened;
+      least = omega (arith, reading.least, least);
       applies = omega (arith, reading.applies, few, fits);
     }
 
@@ -137,6 +171,7 @@ reading-few files start bounds cost total old new same fits reading =
     let opened : opened_of bounds ≤ opened_of (map (known_from files) start) =
     subst (λ all. opened_of bounds ≤ opened_of all) same (sum-later opened_proofs files (opened_proofs-up files) bounds) in
     record {
+      least = reading-least reading;
       read = few-counted (decided_of start) (decided_of bounds) (decided_of (map (known_from files) start)) old.files new.files reading.decides decided
           reading.files;
       opened = few-counted (opened_of start) (opened_of bounds) (opened_of (map (known_from files) start)) old.proofs new.proofs reading.opens opened
@@ -154,6 +189,7 @@ pub reading-wanting : (files : Files) (start bounds : List Known) (n cost applie
     → GrewAtMost (newly_decided files (bound_at n bounds)) (newly_opened files (bound_at n bounds)) applied mid new → cost + applied ≤ total
     → GrewAtMost (decided_of (map (known_from files) start) - decided_of start) (opened_of (map (known_from files) start) - opened_of start) total old new
 reading-wanting files start bounds n cost applied total old mid new inside same reading grew fits = record {
+  least = fell-both (reading-least reading) grew.least;
   read =
       few-wanting (decided_of start) (decided_of bounds) (decided_of (map (known_from files) start))
       (newly_decided files (bound_at n bounds)) old.files mid.files new.files

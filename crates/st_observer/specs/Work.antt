@@ -13,8 +13,15 @@ use Rattle.st_observer.specs.Observed.{Observed, arrived, gives_of, known_of, op
 use Rattle.st_observer.specs.Wanted.{one_misses}
 use Rattle.st_opindex.specs.Changed.{IsNamed}
 
--- at most so many files were read, signed texts opened and operations applied
+-- no count fell
+pub record NoneFell (old new : Counts) : Type 0 where
+  pub files : old.files ≤ new.files
+  pub proofs : old.proofs ≤ new.proofs
+  pub applies : old.applies ≤ new.applies
+
+-- at most so many files were read, signed texts opened and operations applied, and no count fell
 pub record GrewAtMost (files proofs applies : ℕ) (old new : Counts) : Type 0 where
+  pub least : NoneFell old new
   pub read : new.files ≤ old.files + files
   pub opened : new.proofs ≤ old.proofs + proofs
   pub applied : new.applies ≤ old.applies + applies
@@ -24,8 +31,9 @@ pub record ReadExactly (files proofs : ℕ) (old new : Counts) : Type 0 where
   pub read : new.files ≡ counted_more files old.files
   pub opened : new.proofs ≡ counted_more proofs old.proofs
 
--- no file was read and no signed text opened
+-- no file was read and no signed text opened, and the count of operations did not fall
 pub record ReadsNothing (old new : Counts) : Type 0 where
+  pub least : old.applies ≤ new.applies
   pub read : new.files ≡ old.files
   pub opened : new.proofs ≡ old.proofs
 

@@ -18,10 +18,12 @@ use Rattle.st_opindex.proofs.Keyed.{items_at-same}
 abbrev pub reaching : {K Item : Type 0} → (K → K → Ordering) → ℕ → ByKey K Item → List K → ℕ
 reaching cmp place items names = count_by (λ name. reaches place (items_at cmp name items)) names
 
--- on the way: at most 7 operations were applied for each name that reaches the place no more
+-- on the way: at most 7 operations were applied for each name that reaches the place no more, and none was
+-- uncounted
 pub record Paid {K Item : Type 0} (cmp : K → K → Ordering) (place : ℕ) (names : List K) (old rows : ByKey K Item) (first now : Counts) : Type 0 where
   pub files : now.files ≡ first.files
   pub proofs : now.proofs ≡ first.proofs
+  pub least : first.applies ≤ now.applies
   pub applies : now.applies + 7 * reaching cmp place rows names ≤ first.applies + 7 * reaching cmp place old names
 
 -- what is paid for by the names that lose an item is paid for by all names
@@ -30,6 +32,7 @@ pub paid_all : {K Item : Type 0} {cmp : K → K → Ordering} {place : ℕ} {nam
 paid_all {cmp = cmp} {place = place} {names = names} {old = old} paid = record {
   files = paid.files;
   proofs = paid.proofs;
+  least = paid.least;
   applies = omega (arith, paid.applies, count_by-le-length (λ name. reaches place (items_at cmp name old)) names);
 }
 
@@ -51,6 +54,7 @@ module _ {K Item : Type 0} {cmp : K → K → Ordering} (order : IsTotalOrder cm
     paid_stopped = record {
       files = step.files ∙ paid.files;
       proofs = step.proofs ∙ paid.proofs;
+      least = omega (arith, step.least, paid.least);
       applies = applies;
     }
       where
@@ -118,6 +122,7 @@ module _ {K Item : Type 0} {cmp : K → K → Ordering} (order : IsTotalOrder cm
     paid_more {names} named {first} {rows_work} {after_work} paid step = record {
       files = step.files ∙ paid.files;
       proofs = step.proofs ∙ paid.proofs;
+      least = omega (arith, step.least, paid.least);
       applies = elim (cases_Bool (reaches place (items_at cmp key rows))) [
         | inl some ↦
             let seven : after_work.applies ≤ rows_work.applies + 7 = rw some at step.applies in

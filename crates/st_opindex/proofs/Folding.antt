@@ -84,10 +84,11 @@ module _ {K State Item : Type 0} (cmp : K → K → Ordering) where
   abbrev pub owing : ByKey K Item → List (K × Row Item State) → List (K × ℕ) → ℕ
   owing items now names = sum_by (λ name. min (left_at cmp name.0 now) (name_cost cmp items name)) names
 
-  -- at most so many operations were applied as the names have paid for
+  -- at most so many operations were applied as the names have paid for, and none was uncounted
   pub record HasPaid (names : List (K × ℕ)) (old now : List (K × Row Item State)) (first work : Counts) : Type 0 where
     pub files : work.files ≡ first.files
     pub proofs : work.proofs ≡ first.proofs
+    pub least : first.applies ≤ work.applies
     pub applies : work.applies + owing (seen_items old) now names ≤ first.applies + names_cost cmp (seen_items old) names
 
 module _ {K State Item : Type 0} {cmp : K → K → Ordering} where
@@ -98,6 +99,7 @@ module _ {K State Item : Type 0} {cmp : K → K → Ordering} where
   paid_start names old first = record {
     files = refl;
     proofs = refl;
+    least = omega arith;
     applies = omega (
       arith,
       sum_by-le-sum_by (λ name. min (left_at cmp name.0 old) (name_cost cmp (seen_items old) name)) (name_cost cmp (seen_items old)) names
@@ -107,7 +109,7 @@ module _ {K State Item : Type 0} {cmp : K → K → Ordering} where
 
   pub paid_folded : {names : List (K × ℕ)} {old now : List (K × Row Item State)} {first work : Counts} → HasPaid cmp names old now first work
       → AppliesAtMost (names_cost cmp (seen_items old) names) first work
-  paid_folded paid = record { files = paid.files; proofs = paid.proofs; applies = omega (arith, paid.applies) }
+  paid_folded paid = record { files = paid.files; proofs = paid.proofs; least = paid.least; applies = omega (arith, paid.applies) }
 
 -- the next key is folded
 module _ {K State Item : Type 0} {cmp : K → K → Ordering} (order : IsTotalOrder cmp) {taken : List (K × ℕ)} {old now : List (K × Row Item State)}
@@ -156,6 +158,7 @@ module _ {K State Item : Type 0} {cmp : K → K → Ordering} (order : IsTotalOr
       fold_stopped = record {
         files = step.files ∙ paid.files;
         proofs = step.proofs ∙ paid.proofs;
+        least = omega (arith, step.least, paid.least);
         applies = omega (arith, step.applies, paid.applies, pays (λ name. 0) (λ name. omega arith) (λ name same. refl));
       }
 
@@ -164,6 +167,7 @@ module _ {K State Item : Type 0} {cmp : K → K → Ordering} (order : IsTotalOr
       fold_paid new folds = record {
         files = step.files ∙ paid.files;
         proofs = step.proofs ∙ paid.proofs;
+        least = omega (arith, step.least, paid.least);
         applies = omega (
           arith,
           step.applies,

@@ -3,7 +3,6 @@
 //! reading it takes none.
 #![tactic(auto)]
 
-mod boxed;
 mod folder;
 mod index;
 mod places;

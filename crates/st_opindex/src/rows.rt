@@ -6,10 +6,9 @@ ghost use Rattle.st_opindex.specs.Changed.{AreNamed, names_cost};
 ghost use Rattle.st_opindex.specs.Kept.{IsRow};
 ghost use Rattle.st_opindex.specs.Seen.{AreFolded, AreOwed, AreRows, FoldsKey, LeavesMore, left_at, left_of, seen_items};
 
-use crate::boxed::Boxed;
 use crate::folder::Folder;
 use crate::row::{Row, cut_row, empty_row, fold_row, put_row};
-use st_base::{WantOfMemory, Work};
+use st_base::{Boxed, WantOfMemory, Work};
 use std::alloc::Global;
 use std::collections::BTreeMap;
 

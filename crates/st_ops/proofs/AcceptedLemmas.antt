@@ -7,7 +7,7 @@ use Rattle.st_canon.specs.Plain.{Plain}
 use Rattle.st_canon.specs.Shapes.{member_in, text_at}
 use Rattle.st_indexfiles.specs.declared.target.Target.{Target}
 use Rattle.st_jws.specs.Opening.{Opened, opened}
-use Rattle.st_ops.specs.Accepted.{IsAccepted, IsProved, IsReadAt}
+use Rattle.st_ops.proofs.Accepted.{IsAccepted, IsProved, IsReadAt}
 use Rattle.st_ops.specs.Claim.{claim_of}
 use Rattle.st_ops.specs.KnownHashes.{HasHashes}
 use Rattle.st_ops.specs.Operation.{PlainOperation, Proof}

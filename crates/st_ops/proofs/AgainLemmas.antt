@@ -12,7 +12,7 @@ use Rattle.st_canon.proofs.Back.{reads_back}
 use Rattle.st_canon.proofs.OnLiterals.{names_on_literals}
 use Rattle.st_indexfiles.specs.declared.suffix_data.SuffixData.{SuffixData}
 use Rattle.st_indexfiles.specs.declared.target.Target.{Target}
-use Rattle.st_ops.specs.Accepted.{IsAccepted, IsProved, IsReadAt}
+use Rattle.st_ops.proofs.Accepted.{IsAccepted, IsProved, IsReadAt}
 use Rattle.st_ops.specs.Claim.{claim_of}
 use Rattle.st_ops.specs.declared.claim.Claim.{Claim}
 use Rattle.st_ops.specs.Operation.{PlainOperation, Proof, creating, updating, recovering, deactivating}

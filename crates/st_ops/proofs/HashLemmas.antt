@@ -12,7 +12,7 @@ use Rattle.st_indexfiles.specs.Hashes.{hash_in}
 use Rattle.st_indexfiles.specs.SuffixData.{suffix_data_of}
 use Rattle.st_indexfiles.specs.declared.suffix_data.SuffixData.{SuffixData}
 use Rattle.st_indexfiles.specs.declared.target.Target.{Target}
-use Rattle.st_ops.specs.Accepted.{IsReadAt}
+use Rattle.st_ops.proofs.Accepted.{IsReadAt}
 use Rattle.st_ops.specs.SignedPart.{target_in}
 
 -- ---- of a version

@@ -6,7 +6,8 @@ mod ProperLemmas
 mod ReadAgainLemmas
 mod StepLemmas
 -- For the crates above.
--- what stands behind an operation that a request asks for
+-- what has to stand behind an operation that a request asks for, and that it does
+pub mod Accepted
 pub mod AcceptedLemmas
 -- the text of an operation asks for it again
 pub mod AgainLemmas

@@ -10,7 +10,7 @@ use Rattle.st_canon.specs.Shapes.{member_in}
 use Rattle.st_hash.specs.Hash.{hash_text}
 use Rattle.st_indexfiles.specs.declared.suffix_data.SuffixData.{SuffixData}
 use Rattle.st_indexfiles.specs.declared.target.Target.{Target}
-use Rattle.st_ops.specs.Accepted.{IsAccepted}
+use Rattle.st_ops.proofs.Accepted.{IsAccepted}
 use Rattle.st_ops.specs.Operation.{PlainOperation, Proof, creating}
 use Rattle.st_ops.specs.Request.{asked}
 use Rattle.st_ops.specs.RequestText.{request_json, signed_json, IsDeltaWithin, IsReadAgain}

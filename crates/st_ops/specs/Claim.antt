@@ -1,5 +1,5 @@
--- What operations claim (DIF Sidetree v1.0.0, "Update", "Recover" and "Deactivate", where the data that
--- each signs is described).
+-- What operations claim, after DIF Sidetree v1.0.0, "Update", "Recover" and "Deactivate", where the data that
+-- each signs is described; the rules are this project's own.
 use Rattle.std.specs.Prelude.{ℕ, Bool, ◌&&◌, List, [], ◌∷◌, codes, is_some, Option, Some, None}
 use Rattle.st_base.specs.Options.{◌>>=◌, ◌>>◌}
 use Rattle.st_canon.specs.Plain.{Plain}

@@ -5,7 +5,7 @@ use Rattle.st_canon.specs.Plain.{Plain}
 use Rattle.st_jws.specs.contracts.jwk.Jwk as jwk
 use Rattle.st_jws.specs.declared.jwk.Jwk.{Jwk}
 use Rattle.st_ops.specs.Operation.{Proof}
-use Rattle.st_packed.specs.PlainCodes.{coded_bytes, coded_plain}
+use Rattle.st_canon.specs.PlainCodes.{coded_bytes, coded_plain}
 
 -- a proof by the triple of its fields
 abbrev pub coded_proof : Coded Proof

@@ -1,4 +1,3 @@
-pub mod Accepted
 pub mod Claim
 pub mod Codes
 pub mod Counting

@@ -1,4 +1,4 @@
--- Operations (DIF Sidetree v1.0.0, "DID Operations") over plain values.
+-- Operations, after DIF Sidetree v1.0.0, "DID Operations", over plain values.
 use Rattle.std.specs.Prelude.{ℕ, List, Option, option_map}
 use Rattle.st_canon.specs.Plain.{Plain}
 use Rattle.st_hash.specs.Hash.{HashValue}

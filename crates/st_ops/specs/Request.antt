@@ -1,5 +1,5 @@
--- What requests ask for (DIF Sidetree v1.0.0, "Create", "Update", "Recover" and "Deactivate" of "DID
--- Operations"). `None` is a value that isn't there.
+-- What requests ask for, after DIF Sidetree v1.0.0, "Create", "Update", "Recover" and "Deactivate" of "DID
+-- Operations"; the rules are this project's own. `None` is a value that isn't there.
 use Rattle.std.specs.Prelude.{ℕ, List, codes, if◌then◌else◌, IsSome, Option, Some, None, Result, Ok, Err}
 use Rattle.std.specs.Option.{ok_or}
 use Rattle.std.specs.Result.{result_map_both}
@@ -27,7 +27,7 @@ with_claim limits operation = do
   claim ← ok_or (claim_of limits operation) BadProof
   Ok operation
 
--- the create that a request asks for (Sidetree v1.0.0, "Create")
+-- the create that a request asks for (after DIF Sidetree v1.0.0, "Create")
 abbrev pub create_asked : Limits → Option Plain → Result PlainOperation RequestRefused
 create_asked limits request = do
   holds_or (is_create_form request) BadForm

@@ -28,7 +28,7 @@ signed_json type target proof delta = object_of_some
     (named_members type target ++ (codes "signedData", option_map proof_json proof) ∷ (codes "delta", delta) ∷ [])
 
 -- The request for an operation: its type, what it names, and its proof and its delta, where they are
--- there (DIF Sidetree v1.0.0, "DID Operations").
+-- there (after DIF Sidetree v1.0.0, "DID Operations").
 abbrev pub request_json : PlainOperation → Plain
 request_json (creating suffix_data delta) = object_of_some
     ((codes "type", Some (text (codes "create")))

@@ -5,12 +5,11 @@ ghost use Rattle.st_ops.specs.Operation.{plain_operation, plain_proof};
 
 use crate::claim::Claim;
 use crate::operation::Operation;
-use st_base::WantOfMemory;
+use st_base::{Shared, WantOfMemory};
 use st_canon::Json;
 use st_hash::Hash;
 use st_indexfiles::hash_in;
 use st_jws::{Jwk, Signed, reveal_with};
-use st_packed::Shared;
 use st_params::Params;
 use std::alloc::Global;
 

@@ -1,14 +1,14 @@
 ghost use Rattle.std.specs.Prelude.{◌≡◌, IfOk};
 ghost use Rattle.st_ops.specs.Operation.{plain_operation, suffix_of};
 
-use st_base::{Copied, WantOfMemory};
+use st_base::{Copied, Shared, WantOfMemory};
+use st_canon::PackedJson;
 use st_hash::Hash;
 use st_indexfiles::{SuffixData, suffix_of};
 use st_jws::Signed;
-use st_packed::{PackedJson, Shared};
 use std::alloc::Global;
 
-/// An operation on an identifier (DIF Sidetree v1.0.0, "DID Operations"). A proof is the signed text of
+/// An operation on an identifier (after DIF Sidetree v1.0.0, "DID Operations"). A proof is the signed text of
 /// the operation, where that could be opened; a delta is the value that stands beside it, whatever it
 /// is, where one does.
 #[derive(Drop)]

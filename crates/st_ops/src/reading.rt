@@ -18,9 +18,8 @@ use crate::operation::Operation;
 use crate::refused::RequestRefused;
 use crate::signed::{proof_in, target_in};
 use st_base::{WantOfMemory, Work};
-use st_canon::{Json, Object, ReadRefused, read};
+use st_canon::{Json, Object, PackedJson, ReadRefused, read};
 use st_indexfiles::SuffixData;
-use st_packed::PackedJson;
 use st_params::Params;
 use std::alloc::Global;
 

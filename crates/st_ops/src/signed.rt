@@ -6,11 +6,10 @@ ghost use Rattle.st_canon.specs.View.{plain_members};
 ghost use Rattle.st_ops.specs.Operation.{plain_proof};
 ghost use Rattle.st_ops.specs.SignedPart.{proof_in, proof_of, target_in};
 
-use st_base::{Text, WantOfMemory, Work};
+use st_base::{Shared, Text, WantOfMemory, Work};
 use st_canon::{Json, Object};
 use st_indexfiles::{Target, hash_in};
 use st_jws::{Signed, SignedRefused, open_signed};
-use st_packed::Shared;
 use std::alloc::Global;
 
 /// What a request names: the suffix and the reveal value whose hash texts of the version stand in it.

@@ -11,12 +11,11 @@ ghost use Rattle.st_ops.specs.RequestText.{named_members, proof_json, request_js
 ghost use Rattle.st_params.specs.Limits.{Limits};
 
 use crate::operation::Operation;
-use st_base::{Bytes, Text, WantOfMemory};
-use st_canon::{Json, Object, write};
+use st_base::{Bytes, Shared, Text, WantOfMemory};
+use st_canon::{Json, Object, PackedJson, write};
 use st_hash::Hash;
 use st_indexfiles::{SuffixData, hash_json};
 use st_jws::Signed;
-use st_packed::{PackedJson, Shared};
 use std::alloc::Global;
 
 /// The canonical text of the request for an operation, which has its proof and its delta where its

@@ -39,6 +39,7 @@ impl Params {
         ensures value { result ≡ self.now.version }
         ensures first { 1 ≤ result }
         ensures last { result ≤ 2 }
+        ensures limits { self.now ≡ limits_of result }
     {
         self.version
     }

@@ -1,1 +1,2 @@
+mod OpenedLemmas
 mod SpellingLemmas

@@ -1,30 +1,30 @@
-ghost use Rattle.std.specs.Prelude.{◌≡◌, IfOk, None, false};
+ghost use Rattle.std.specs.Prelude.{◌≡◌, IfOk, IsSome, OnOk, None, true};
 ghost use Rattle.st_apply.specs.Shown.{opened};
 ghost use Rattle.st_base.specs.Answers.{GivesAs};
-ghost use Rattle.st_base.specs.Work.{AppliesAtMost};
+ghost use Rattle.st_base.specs.Work.{one_apply, AppliesAtMost};
 ghost use Rattle.st_canon.specs.Plain.{object};
 ghost use Rattle.st_canon.specs.View.{plain, plain_members};
 ghost use Rattle.st_resolve.specs.Identifier.{plain_did};
 ghost use Rattle.st_resolve.specs.LongForm.{plain_long};
-ghost use Rattle.st_resolve.specs.Result.{is_absent, made_by, refusal_of, result_of, said_of};
+ghost use Rattle.st_resolve.specs.Result.{is_absent, is_deactivated, made_by, refusal_of, result_of, said_of};
 
 use crate::described::did_document;
 use crate::identifier::{Did, LongForm};
 use crate::metadata::metadata_of;
 use crate::refused::RenderRefused;
-use st_apply::{DidState, StateParts, apply};
+use st_apply::{DidState, StateParts, open_created};
 use st_base::{Copied, WantOfMemory, Work};
 use st_canon::{Json, Object};
-use st_ops::Operation;
 use st_params::Params;
 use std::alloc::Global;
 
 /// The result of resolving an identifier whose suffix has this state, by the limits of the newest
-/// version. An identifier that no entry made is rendered from the create in its long form, which
-/// counts as one applied operation; a short form counts nothing.
+/// version. The state is opened, which counts what `DidState::open` counts. An identifier that no entry
+/// made is rendered from the create in its long form, which counts as one applied operation; a short form
+/// counts nothing then.
 ///
 /// `NotFound` comes exactly where the state is absent and the identifier is a short form.
-#[tactic(auto, unfolding(crate::specs::Result::result_of))]
+#[tactic(auto, unfolding(crate::specs::Result::result_of), using(crate::proofs::OpenedLemmas::absent_idle, crate::proofs::OpenedLemmas::deactivated_idle))]
 pub fn render(
     alloc: Global,
     did: &Did,
@@ -34,11 +34,14 @@ pub fn render(
 ) -> Result<Json, RenderRefused>
     ensures result { GivesAs plain refusal_of (result_of params.now (plain_did did.now) state.now) result }
     ensures work { AppliesAtMost 1 work.old work.new }
-    // Nothing is counted of a short form, nor of an identifier that entries made.
-    ensures short { did.now.long ≡ None → work.new ≡ work.old }
-    ensures known { is_absent state.now ≡ false → work.new ≡ work.old }
+
+    // Of an identifier that no entry made, one operation is counted for a long form, and none for a short one.
+    // None is counted of one that is deactivated.
+    ensures long { is_absent state.now ≡ true → IsSome did.now.long → OnOk result (work.new ≡ one_apply work.old) }
+    ensures short { is_absent state.now ≡ true → did.now.long ≡ None → work.new ≡ work.old }
+    ensures deactivated { is_deactivated state.now ≡ true → work.new ≡ work.old }
 {
-    let parts = state.open(alloc)?;
+    let parts = state.open(alloc, work)?;
     if !is_absent(&parts) {
         return Ok(said_of(alloc, true, did, &parts)?);
     }
@@ -46,7 +49,7 @@ pub fn render(
         return Err(RenderRefused::NotFound);
     };
     let made = made_by(alloc, long, params, work)?;
-    Ok(said_of(alloc, false, did, &made.open(alloc)?)?)
+    Ok(said_of(alloc, false, did, &made)?)
 }
 
 fn is_absent(state: &StateParts) -> bool
@@ -58,21 +61,20 @@ fn is_absent(state: &StateParts) -> bool
     }
 }
 
-// The state that the create in a long form makes of none.
+// What the state holds that the create in a long form makes of none.
 fn made_by(
     alloc: Global,
     long: &LongForm,
     params: &Params,
     work: &mut Work,
-) -> Result<DidState, WantOfMemory>
-    ensures state { IfOk result (λ state. state ≡ made_by params.now (plain_long long.now)) }
+) -> Result<StateParts, WantOfMemory>
+    ensures parts { IfOk result (λ parts. opened parts ≡ made_by params.now (plain_long long.now)) }
+    ensures ok { OnOk result (work.new ≡ one_apply work.old) }
     ensures work { AppliesAtMost 1 work.old work.new }
 {
-    let create = Operation::Create {
-        suffix_data: long.suffix_data,
-        delta: Some(long.delta.copy(alloc)?),
-    };
-    Ok(apply(alloc, &DidState::absent(), &create, params, work)?)
+    let delta = long.delta.copy(alloc)?;
+    let parts = open_created(alloc, &long.suffix_data, Some(delta), params, work)?;
+    Ok(parts)
 }
 
 /// What a state says of an identifier, which is published or not.

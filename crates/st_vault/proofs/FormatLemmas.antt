@@ -5,19 +5,19 @@ use Rattle.std.proofs.lemmas.Bool.{cases_eq}
 use Rattle.std.proofs.lemmas.List.{drop-drop, drop-replicate, drop_at, get_or-take, length-drop, length-replicate, length-take-le, replicate-append-replicate, take-replicate, take_at}
 use Rattle.st_base.specs.Answers.{holds_or}
 use Rattle.st_io.proofs.PastLemmas.{goes_on}
-use Rattle.st_io.specs.Past.{Past, Images, GoesOn, AddsNone, Follow, Only, Leaves}
+use Rattle.st_io.specs.Past.{Past, AddsNoImage, Images, GoesOn, AddsNone, Follow, Only, Leaves}
 use Rattle.st_io.specs.Tears.{Torn, Holds}
 use Rattle.st_lms.specs.Keys.{SecretKey, IsSecretKey}
 use Rattle.st_vault.proofs.HeaderLemmas.{key_of_header-header_of, length-header_of}
 use Rattle.st_vault.proofs.ImageLemmas.{IsVault, Parts, kind-blank, unformatted-short, unformatted-shut}
 use Rattle.st_vault.proofs.MapLemmas.{nonzero-zeros}
-use Rattle.st_vault.proofs.MomentLemmas.{after, only_after, over, stays_only, weaker}
+use Rattle.st_io.proofs.MomentLemmas.{only_after, over, stays_only, then_on, weaker}
 use Rattle.st_vault.proofs.OpeningLemmas.{opened-parts}
 use Rattle.st_vault.proofs.SpentLemmas.{spent-whole, spent-none}
-use Rattle.st_vault.specs.Formatting.{IsFilled, IsFresh, IsNew, IsOldOrBlank, IsOldOrFresh, IsShut, unformatted, zeros}
+use Rattle.st_vault.specs.Formatting.{IsFilled, IsFresh, IsNew, IsOldOrBlank, IsOldOrFresh, IsShut, behind_gate, formatted_image, unformatted, zeros}
 use Rattle.st_vault.specs.Image.{IsSpent, header_of, is_formatted, key_in, key_of_header, kind_of, map_in, next_counter, nonzero_from, one_past, open_gate, spent}
 use Rattle.st_vault.specs.Image.Kind.{Blank}
-use Rattle.st_vault.specs.Spent.{AddsNoImage, KeepsSpent}
+use Rattle.st_vault.specs.Spent.{KeepsSpent}
 use Rattle.st_vault.specs.Values.{count_of, new_vault}
 use Rattle.st_vault.specs.declared.refused.FormatRefused.TheVariants.{Formatted}
 
@@ -83,6 +83,18 @@ filled key old image known is holds =
       map_is = ap (take count) after ∙ take_at map rest count map_long;
     }
 
+-- and what stands behind the gate then
+pub filled_behind : (key : SecretKey) (old image : List ℕ) → IsSecretKey key → IsShut old → Holds 1 (header_of key ++ zeros (7 + count_of key)) old image
+    → drop 1 image ≡ behind_gate key old
+unfolding zeros
+filled_behind key old image known is holds =
+    let count = count_of key in
+    let row = header_of key ++ replicate (7 + count) 0 in
+    let one : length (take 1 old) ≡ 1 = length-take-le 1 old is.there in
+    let zeros_long : length (replicate {A = ℕ} (7 + count) 0) ≡ 7 + count = length-replicate {A = ℕ} (7 + count) 0 in
+    let long : 1 + length row ≡ 64 + count = omega (arith, length-append (header_of key) (replicate (7 + count) 0), length-header_of key known, zeros_long) in
+    ap (drop 1) (holds ∙ append_assoc (take 1 old) row (drop (1 + length row) old)) ∙ drop_at (take 1 old) _ 1 one ∙ ap (λ n. row ++ drop n old) long
+
 -- ---- the gate is opened
 
 next_none : (image : List ℕ) → spent image ≡ [] → next_counter image ≡ 0
@@ -120,7 +132,26 @@ opened_by key old image is holds =
     let long = ap length holds in
     opened_over key old image is (omega (arith, long, length-drop 1 old, is.long)) (ap (drop 1) holds) (ap (λ l. get_or l 0 0) holds)
 
+-- then nothing else has changed
+pub opened_bytes : (old image : List ℕ) → Holds 0 (open_gate ∷ []) old image → image ≡ open_gate ∷ drop 1 old
+opened_bytes old image holds = holds
+
 -- ---- the whole
+
+-- what is written behind the gate, and then the gate
+pub made_bytes : (key : SecretKey) (old filled image : List ℕ) → drop 1 filled ≡ behind_gate key old → image ≡ open_gate ∷ drop 1 filled
+    → image ≡ formatted_image key old
+made_bytes key old filled image behind opened = opened ∙ ap (λ l. open_gate ∷ l) behind
+
+-- where the gate was shut first
+pub formatted_bytes : (key : SecretKey) (old mid image : List ℕ) → drop 1 mid ≡ drop 1 old → image ≡ formatted_image key mid
+    → image ≡ formatted_image key old
+formatted_bytes key old mid image same made =
+    let count = count_of key in
+    let sum : 1 + (63 + count) ≡ 64 + count = omega arith in
+    let rest : drop (1 + (63 + count)) mid ≡ drop (1 + (63 + count)) old
+    = sym (drop-drop (63 + count) 1 mid) ∙ ap (drop (63 + count)) same ∙ drop-drop (63 + count) 1 old in
+    made ∙ ap (λ l. open_gate ∷ ((header_of key ++ zeros (7 + count)) ++ l)) (rw sum at rest)
 
 -- where the gate was shut at first, what is fresh may come of it
 pub blank_or_fresh : (key : SecretKey) (old image : List ℕ) → IsOldOrBlank old image → IsOldOrFresh key old image
@@ -164,7 +195,7 @@ shut-ok image is = unformatted-ok image (unformatted-shut image is.gate)
 pub shut_moments : (a b c : Past) (old : List ℕ) → Only a old → AddsNoImage a b → length old < 64 → GoesOn b c → Follow (Torn 0 1) b c
     → Leaves (IsOldOrBlank old) a c
 shut_moments a b c old only looked short goes follow =
-    after (IsOldOrBlank old) a b c (stays_only (IsOldOrBlank old) a b old only looked (λ x same. inl same))
+    then_on (IsOldOrBlank old) a b c (stays_only (IsOldOrBlank old) a b old only looked (λ x same. inl same))
     (over (IsOldOrBlank old) (Torn 0 1) b c old (only_after a b old only looked) goes follow (λ x torn. shutting old x short torn))
 
 -- ---- shut, filled and opened
@@ -179,6 +210,6 @@ ok_blank image done is = kind-blank image (by_test (is_formatted image) refl is)
 pub made_moments : (key : SecretKey) (old : List ℕ) (done : Unit {0}) (a b c : Past) → unformatted old ≡ Ok done
     → Leaves (IsOldOrBlank old) a b → Leaves (IsFresh key) b c → Leaves (IsOldOrFresh key old) a c
 made_moments key old done a b c is first second =
-    after (IsOldOrFresh key old) a b c
+    then_on (IsOldOrFresh key old) a b c
     (weaker (IsOldOrBlank old) (IsOldOrFresh key old) a b first (blank_or_fresh key old))
     (weaker (IsFresh key) (IsOldOrFresh key old) b c second (λ x fresh. inr (ok_blank old done is, fresh)))

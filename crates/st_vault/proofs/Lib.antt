@@ -5,5 +5,8 @@ mod SpentLemmas
 mod OpeningLemmas
 mod ReserveLemmas
 mod FormatLemmas
-mod MomentLemmas
+mod TornLemmas
+mod BlankLemmas
 pub mod VaultLemmas
+pub mod RunLemmas
+pub mod ChildLemmas

@@ -1,19 +1,20 @@
--- For crates above: what is spent over several calls, which counters are, and what a blank image is.
-use Rattle.std.proofs.Common.{◌≡◌, ◌<◌, ⊎_elim, ℕ, List, not, Ok, Err, ap, refl}
+-- For crates above: what is spent over several calls, which counters are, and what an image is by what it is
+-- opened as.
+use Rattle.std.proofs.Common.{◌≡◌, ◌∙◌, ◌<◌, ⊎_elim, ℕ, List, not, Result, Ok, Err, ap, refl, sym}
 use Rattle.st_base.specs.Answers.{◌>>=◌, ◌>>◌, holds_or}
 use Rattle.st_io.proofs.PastLemmas.{goes_on, now_too}
 use Rattle.st_io.specs.Past.{Past, Leaves}
 use Rattle.st_lms.specs.Keys.{SecretKey}
-use Rattle.st_vault.proofs.ImageLemmas.{blank-unformatted}
+use Rattle.st_vault.proofs.ImageLemmas.{blank-unformatted, kind-whole}
 use Rattle.st_vault.proofs.MapLemmas.{one_past-above}
-use Rattle.st_vault.proofs.OpeningLemmas.{opened-parts, opens_as}
+use Rattle.st_vault.proofs.OpeningLemmas.{opened-err, opened-parts, opens_as}
 use Rattle.st_vault.proofs.SpentLemmas.{marked}
 use Rattle.st_vault.specs.Formatting.{formatted}
-use Rattle.st_vault.specs.Image.{IsSpent, Kind, key_in, kind_of, next_counter, spent}
+use Rattle.st_vault.specs.Image.{IsSpent, Kind, key_in, kind_of, map_in, next_counter, spent}
 use Rattle.st_vault.specs.Image.Kind.{Blank, Damaged, Whole}
 use Rattle.st_vault.specs.Opening.{key_by_kind, key_of, opened}
 use Rattle.st_vault.specs.Spent.{KeepsSpent, SpentInAll}
-use Rattle.st_vault.specs.Values.{VaultValue, new_vault}
+use Rattle.st_vault.specs.Values.{VaultValue, count_of, new_vault}
 use Rattle.st_vault.specs.declared.refused.FormatRefused.TheVariants.{Formatted}
 use Rattle.st_vault.specs.declared.refused.OpenRefused.{OpenRefused}
 use Rattle.st_vault.specs.declared.refused.OpenRefused.TheVariants as refused
@@ -51,21 +52,51 @@ none_spent image q refusal none there =
     let is : opened image ≡ Ok vault = opened-parts image vault (record { parts = (marked image q there).parts; key_is = refl; next_is = refl }) in
     cc
 
--- ---- what is blank
+-- ---- what an image is
 
-opened-blank : (image : List ℕ) → opened image ≡ Err refused.Blank → kind_of image ≡ Blank
+-- what an image of this kind is opened as
+abbrev opened_kind : List ℕ → Kind → Result VaultValue OpenRefused
+opened_kind image kind = do
+  key ← key_by_kind kind
+  let vault : VaultValue = record { key = key; next = next_counter image }
+  Ok vault
+
+opened-by : (image : List ℕ) → opened image ≡ opened_kind image (kind_of image)
 unfolding opened key_of
-opened-blank image is = by_kind (kind_of image) refl is
+opened-by image = refl
+
+-- opened as blank, it is blank
+pub opened-blank : (image : List ℕ) → opened image ≡ Err refused.Blank → kind_of image ≡ Blank
+opened-blank image is = by_kind (kind_of image) refl (sym (opened-by image) ∙ is)
   where
-    by_kind : (kind : Kind) → kind_of image ≡ kind
-        → (do
-          key ← key_by_kind kind
-          let vault : VaultValue = record { key = key; next = next_counter image }
-          Ok vault) ≡ Err refused.Blank
-        → kind_of image ≡ Blank
+    by_kind : (kind : Kind) → kind_of image ≡ kind → opened_kind image kind ≡ Err refused.Blank → kind_of image ≡ Blank
     by_kind Blank blank same = blank
     by_kind Damaged damaged same = absurd (cc)
     by_kind (Whole key map) whole same = absurd (cc)
+
+pub blank-opened : (image : List ℕ) → kind_of image ≡ Blank → opened image ≡ Err refused.Blank
+unfolding key_of
+blank-opened image blank = opened-err image refused.Blank (ap key_by_kind blank)
+
+-- opened as damaged, it is damaged
+pub opened-damaged : (image : List ℕ) → opened image ≡ Err refused.Damaged → kind_of image ≡ Damaged
+opened-damaged image is = by_kind (kind_of image) refl (sym (opened-by image) ∙ is)
+  where
+    by_kind : (kind : Kind) → kind_of image ≡ kind → opened_kind image kind ≡ Err refused.Damaged → kind_of image ≡ Damaged
+    by_kind Blank blank same = absurd (cc)
+    by_kind Damaged damaged same = damaged
+    by_kind (Whole key map) whole same = absurd (cc)
+
+pub damaged-opened : (image : List ℕ) → kind_of image ≡ Damaged → opened image ≡ Err refused.Damaged
+unfolding key_of
+damaged-opened image damaged = opened-err image refused.Damaged (ap key_by_kind damaged)
+
+-- opened as a vault, it has the key of the vault, and its map
+pub opened-whole : (image : List ℕ) (vault : VaultValue) → opened image ≡ Ok vault
+    → kind_of image ≡ Whole vault.key (map_in (count_of vault.key) image)
+opened-whole image vault is =
+    let parts = opens_as image vault is in
+    kind-whole image parts.parts ∙ ap (λ key. Whole key (map_in (count_of key) image)) parts.key_is
 
 -- a disk that is opened as blank may be formatted
 pub formatted-blank : (key : SecretKey) (image : List ℕ) → opened image ≡ Err refused.Blank → formatted key image ≡ Ok (new_vault key)

@@ -1,13 +1,14 @@
 -- How a disk is formatted: the gate is shut, all that stands behind it is written, the gate is opened.
-use Rattle.std.specs.Prelude.{◌≡◌, ◌≢◌, ◌⊎◌, ℕ, ◌+◌, ◌≤◌, not, List, [], length, replicate, slice_index, Option, Some, None, Result, Ok}
+use Rattle.std.specs.Prelude.{◌≡◌, ◌≢◌, ◌⊎◌, ℕ, ◌+◌, ◌≤◌, not, List, [], ◌∷◌, ◌++◌, length, drop, replicate, slice_index, Option, Some, None, Result, Ok, Err}
 use Rattle.st_base.specs.Answers.{◌>>◌, holds_or}
 use Rattle.st_lms.specs.Keys.{SecretKey, IsSecretKey}
-use Rattle.st_vault.specs.Image.{kind_of, is_formatted, open_gate, key_in, map_in, spent}
+use Rattle.st_vault.specs.Image.{header_of, kind_of, is_formatted, open_gate, key_in, map_in, spent}
 use Rattle.st_vault.specs.Image.Kind.{Blank}
 use Rattle.st_vault.specs.Opening.{opened}
 use Rattle.st_vault.specs.Values.{VaultValue, count_of, new_vault}
 use Rattle.st_vault.specs.declared.refused.FormatRefused.{FormatRefused}
 use Rattle.st_vault.specs.declared.refused.FormatRefused.TheVariants.{Formatted, DiskFault}
+use Rattle.st_vault.specs.declared.refused.OpenRefused.TheVariants as open_refused
 
 -- a disk may be formatted where it is not yet
 abbrev pub unformatted : List ℕ → Result (Unit {0}) FormatRefused
@@ -24,6 +25,19 @@ abbrev pub refusal_of : FormatRefused → Option FormatRefused
 refusal_of Formatted = Some Formatted
 refusal_of DiskFault = None
 
+-- so many bytes that are 0
+unfoldable pub zeros : ℕ → List ℕ
+zeros n = replicate n 0
+
+-- what stands behind the gate of a new vault on a disk that read so: the header, zeros up to the end of
+-- the map, and then what stood there
+abbrev pub behind_gate : SecretKey → List ℕ → List ℕ
+behind_gate key old = (header_of key ++ zeros (7 + count_of key)) ++ drop (64 + count_of key) old
+
+-- what a disk that read so reads as once it is formatted: an open gate, and that
+abbrev pub formatted_image : SecretKey → List ℕ → List ℕ
+formatted_image key old = open_gate ∷ behind_gate key old
+
 -- a vault of this key of which nothing is spent
 pub record IsNew (key : SecretKey) (image : List ℕ) : Type 0 where
   pub opens : opened image ≡ Ok (new_vault key)
@@ -32,6 +46,10 @@ pub record IsNew (key : SecretKey) (image : List ℕ) : Type 0 where
 -- blank, or a vault of this key of which nothing is spent
 abbrev pub IsFresh : SecretKey → List ℕ → Type 0
 IsFresh key image = (kind_of image ≡ Blank) ⊎ IsNew key image
+
+-- it opens as blank, or as the new vault of this key
+abbrev pub IsBlankOrNew : SecretKey → List ℕ → Type 0
+IsBlankOrNew key image = (opened image ≡ Err open_refused.Blank) ⊎ (opened image ≡ Ok (new_vault key))
 
 -- what formatting may leave of a disk that read so: the same, or where that was blank what is fresh
 abbrev pub IsOldOrFresh : SecretKey → List ℕ → List ℕ → Type 0
@@ -42,10 +60,6 @@ IsOldOrFresh key old image = (image ≡ old) ⊎ ((kind_of old ≡ Blank) × IsF
 -- what shutting the gate may leave
 abbrev pub IsOldOrBlank : List ℕ → List ℕ → Type 0
 IsOldOrBlank old image = (image ≡ old) ⊎ ((kind_of old ≡ Blank) × (kind_of image ≡ Blank))
-
--- so many bytes that are 0
-unfoldable pub zeros : ℕ → List ℕ
-zeros n = replicate n 0
 
 -- there is a gate, and it is shut
 pub record IsShut (image : List ℕ) : Type 0 where

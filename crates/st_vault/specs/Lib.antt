@@ -5,3 +5,5 @@ pub mod Opening
 pub mod Formatting
 pub mod Reserving
 pub mod Start
+pub mod Children
+pub mod Runs

@@ -1,6 +1,7 @@
 -- What an image is opened as.
 use Rattle.std.specs.Prelude.{◌≡◌, ℕ, List, Option, Some, None, Result, Ok, Err}
 use Rattle.st_base.specs.Answers.{◌>>=◌}
+use Rattle.st_io.specs.Past.{Past, Images}
 use Rattle.st_io.specs.Tears.{IfTold}
 use Rattle.st_lms.specs.Keys.{SecretKey}
 use Rattle.st_vault.specs.Image.{Kind, kind_of, next_counter}
@@ -30,6 +31,10 @@ abbrev pub refusal_of : OpenRefused → Option OpenRefused
 refusal_of refused.Blank = Some refused.Blank
 refusal_of refused.Damaged = Some refused.Damaged
 refusal_of refused.DiskFault = None
+
+-- each image of now is opened so
+abbrev pub AllOpenAs : Result VaultValue OpenRefused → Past → Type 0
+AllOpenAs found past = (image : List ℕ) → Images past image → opened image ≡ found
 
 -- a disk reads as this vault, where it tells what it reads as
 abbrev pub ReadsAs : Option (List ℕ) → VaultValue → Type 0

@@ -1,6 +1,6 @@
 -- What is spent whatever a stop leaves of a disk.
 use Rattle.std.specs.Prelude.{ℕ, List}
-use Rattle.st_io.specs.Past.{Past, Images, GoesOn, AddsNone}
+use Rattle.st_io.specs.Past.{Past, Images, GoesOn}
 use Rattle.st_vault.specs.Image.{IsSpent}
 
 -- a counter is spent in every image of now
@@ -12,8 +12,3 @@ SpentInAll past q = (image : List ℕ) → Images past image → IsSpent image q
 pub record KeepsSpent (old new : Past) : Type 0 where
   pub goes : GoesOn old new
   pub stays : (q : ℕ) → SpentInAll old q → (image : List ℕ) → new.left_since old.now image → IsSpent image q
-
--- A disk goes on, and a stop at any moment since the old one leaves only what it might have left then.
-pub record AddsNoImage (old new : Past) : Type 0 where
-  pub goes : GoesOn old new
-  pub none : AddsNone old new

@@ -3,7 +3,7 @@ ghost use Rattle.st_lms.specs.Signature.{IsSignature, public_of, signature_of};
 ghost use Rattle.st_vault.specs.Values.{count_of};
 
 use st_base::{Bytes, WantOfMemory};
-use st_lms::{Secret, sign_at};
+use st_lms::{Secret, Signer, sign_at};
 use std::alloc::Global;
 use std::marker::Model;
 
@@ -50,5 +50,19 @@ impl Counter {
         ensures verifies { IfOk result (IsSignature (public_of self.key) message.now) }
     {
         sign_at(alloc, &self.secret, self.number, message)
+    }
+    /// The same signature, with a signer of the vault's key, as `Vault::signer` gives it: it computes this
+    /// key's chains and no leaf of the tree. After want of memory the counter is lost.
+    pub fn sign_with(
+        self,
+        alloc: Global,
+        signer: &Signer,
+        message: &[u8],
+    ) -> Result<Bytes, WantOfMemory>
+        requires { signer.now ≡ self.key }
+        ensures value { IfOk result (λ signature. signature ≡ signature_of self.key self.number message.now) }
+        ensures verifies { IfOk result (IsSignature (public_of self.key) message.now) }
+    {
+        signer.sign(alloc, self.number, message)
     }
 }

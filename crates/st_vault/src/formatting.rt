@@ -1,23 +1,22 @@
-ghost use Rattle.std.specs.Prelude.{◌≡◌, ◌+◌, ◌≤◌, ◌++◌, List, ℕ, length, take, drop, IsSome, IfOk, OnOk, IsErrOf};
+ghost use Rattle.std.specs.Prelude.{◌≡◌, ◌+◌, ◌≤◌, ◌++◌, ◌∷◌, List, ℕ, length, take, drop, IsSome, IfOk, OnOk, IsErrOf, Err};
 ghost use Rattle.st_base.specs.Answers.{Gives};
 ghost use Rattle.st_io.specs.Causes.{HasCause, Rose};
-ghost use Rattle.st_io.specs.Past.{Only, Leaves, LeftSinceSync};
+ghost use Rattle.st_io.specs.Past.{AddsNoImage, Only, Leaves, LeftSinceSync};
 ghost use Rattle.st_io.specs.Tears.{IfTold, Turns};
 ghost use Rattle.st_lms.specs.Keys.{SecretKey, IsSecretKey};
-ghost use Rattle.st_vault.specs.Formatting.{formatted, unformatted, refusal_of, zeros, IsFilled, IsFresh, IsNew, IsOldOrBlank, IsOldOrFresh, IsShut, OpensTo};
-ghost use Rattle.st_vault.specs.Image.{header_of, kind_of};
+ghost use Rattle.st_vault.specs.Formatting.{formatted, formatted_image, behind_gate, unformatted, refusal_of, zeros, IsBlankOrNew, IsFilled, IsFresh, IsNew, IsOldOrBlank, IsOldOrFresh, IsShut, OpensTo};
+ghost use Rattle.st_vault.specs.Image.{header_of, kind_of, open_gate};
 ghost use Rattle.st_vault.specs.Image.Kind.{Blank};
-ghost use Rattle.st_vault.specs.Opening.{ReadsAs};
-ghost use Rattle.st_vault.specs.Spent.{AddsNoImage, KeepsSpent};
+ghost use Rattle.st_vault.specs.Opening.{AllOpenAs, ReadsAs};
+ghost use Rattle.st_vault.specs.Spent.{KeepsSpent};
 ghost use Rattle.st_vault.specs.Start.{Begins};
 ghost use Rattle.st_vault.specs.Values.{count_of, new_vault};
 
-use crate::durable::put;
 use crate::header::write_header;
 use crate::layout::{HEADER_AT, MAP_AT, MOST_COUNTERS, OPEN_GATE, SHUT_GATE};
-use crate::refused::FormatRefused;
+use crate::refused::{FormatRefused, OpenRefused};
 use crate::vault::Vault;
-use st_io::{Disk, Failed};
+use st_io::{Disk, Failed, write_synced};
 use st_lms::Secret;
 
 /// Makes a new vault of a key on a blank disk, and gives it. It takes no memory, and computes the
@@ -32,7 +31,9 @@ pub fn format_vault<D: Disk>(disk: &mut D, secret: Secret) -> Result<Vault, Form
     ensures untouched { IsErrOf result FormatRefused.Formatted
         → (D.reads disk.new ≡ D.reads disk.old) × AddsNoImage (D.past disk.old) (D.past disk.new) }
 
-    // The disk reads as the vault that is given, and a stop leaves that.
+    // An open gate, the header, zeros up to the end of the map, and then what stood there: so the disk reads
+    // then. That is the vault that is given, and a stop leaves it.
+    ensures written { OnOk result (Turns (D.reads disk.old) (D.reads disk.new) (λ old image. image ≡ formatted_image secret old)) }
     ensures reads { IfOk result (ReadsAs (D.reads disk.new)) }
     ensures told { OnOk result (IfTold (D.reads disk.old) (λ old. IsSome (D.reads disk.new))) }
     ensures durable { OnOk result (IfTold (D.reads disk.new) (Only (D.past disk.new))) }
@@ -40,9 +41,17 @@ pub fn format_vault<D: Disk>(disk: &mut D, secret: Secret) -> Result<Vault, Form
     // What was spent in every image stays so at each moment of the call.
     ensures stays { IfTold (D.reads disk.old) (λ old. KeepsSpent (D.past disk.old) (D.past disk.new)) }
 
+    // Where a stop before the call leaves a blank disk, a stop at any moment of it leaves that or the new vault.
+    ensures moments { IfTold (D.reads disk.old) (λ old. AllOpenAs (Err OpenRefused.Blank) (D.past disk.old)
+        → Leaves (IsBlankOrNew secret) (D.past disk.old) (D.past disk.new)) }
+
     // On a blank disk every image is blank or the new vault, at each moment from the first good sync on.
     ensures fresh { IfTold (D.reads disk.old) (λ old. kind_of old ≡ Blank → (image : List ℕ)
         → LeftSinceSync (D.past disk.new) (D.past disk.old).now image → IsFresh secret image) }
+    // On any disk every image is what the disk read as, or where that was blank as `fresh` has it, at each
+    // moment from the first good sync on.
+    ensures synced { IfTold (D.reads disk.old) (λ old. (image : List ℕ)
+        → LeftSinceSync (D.past disk.new) (D.past disk.old).now image → IsOldOrFresh secret old image) }
     ensures fault { IsErrOf result FormatRefused.DiskFault → Rose (D.faults disk.old) (D.faults disk.new) }
     ensures later { D.faults disk.old ≤ D.faults disk.new }
 {
@@ -58,6 +67,7 @@ fn format_synced<D: Disk>(disk: &mut D, secret: &Secret) -> Result<(), FormatRef
     ensures untouched { IsErrOf result FormatRefused.Formatted
         → (D.reads disk.new ≡ D.reads disk.old) × AddsNoImage (D.past disk.old) (D.past disk.new) }
     ensures new { OnOk result (Turns (D.reads disk.old) (D.reads disk.new) (λ old image. IsNew secret.now image)) }
+    ensures written { OnOk result (Turns (D.reads disk.old) (D.reads disk.new) (λ old image. image ≡ formatted_image secret.now old)) }
     ensures durable { OnOk result (IfTold (D.reads disk.new) (Only (D.past disk.new))) }
     ensures moments { IfTold (D.reads disk.old) (λ old. Leaves (IsOldOrFresh secret.now old) (D.past disk.old) (D.past disk.new)) }
     ensures fault { IsErrOf result FormatRefused.DiskFault → Rose (D.faults disk.old) (D.faults disk.new) }
@@ -107,6 +117,7 @@ fn shut_gate<D: Disk>(disk: &mut D) -> Result<(), FormatRefused>
     ensures untouched { IsErrOf result FormatRefused.Formatted
         → (D.reads disk.new ≡ D.reads disk.old) × AddsNoImage (D.past disk.old) (D.past disk.new) }
     ensures shut { OnOk result (Turns (D.reads disk.old) (D.reads disk.new) (λ old image. IsShut image)) }
+    ensures same { OnOk result (Turns (D.reads disk.old) (D.reads disk.new) (λ old image. drop 1 image ≡ drop 1 old)) }
     ensures durable { OnOk result (IfTold (D.reads disk.new) (Only (D.past disk.new))) }
     ensures moments { IfTold (D.reads disk.old) (λ old. Leaves (IsOldOrBlank old) (D.past disk.old) (D.past disk.new)) }
     ensures fault { IsErrOf result FormatRefused.DiskFault → Rose (D.faults disk.old) (D.faults disk.new) }
@@ -115,7 +126,7 @@ fn shut_gate<D: Disk>(disk: &mut D) -> Result<(), FormatRefused>
     match look(disk)? {
         Start::Formatted => Err(FormatRefused::Formatted),
         Start::Short => {
-            put(disk, 0, &[SHUT_GATE])?;
+            write_synced(disk, 0, &[SHUT_GATE])?;
             Ok(())
         }
         Start::Shut => Ok(()),
@@ -126,6 +137,7 @@ fn shut_gate<D: Disk>(disk: &mut D) -> Result<(), FormatRefused>
 fn make<D: Disk>(disk: &mut D, secret: &Secret) -> Result<(), Failed>
     requires { IfTold (D.reads disk.old) (λ old. IsShut old × Only (D.past disk.old) old) }
     ensures new { OnOk result (Turns (D.reads disk.old) (D.reads disk.new) (λ old image. IsNew secret.now image)) }
+    ensures written { OnOk result (Turns (D.reads disk.old) (D.reads disk.new) (λ old image. image ≡ formatted_image secret.now old)) }
     ensures durable { OnOk result (IfTold (D.reads disk.new) (Only (D.past disk.new))) }
     ensures moments { IfTold (D.reads disk.old) (λ old. Leaves (IsFresh secret.now) (D.past disk.old) (D.past disk.new)) }
     ensures cause { HasCause (D.faults disk.old) (D.faults disk.new) result }
@@ -138,13 +150,14 @@ fn make<D: Disk>(disk: &mut D, secret: &Secret) -> Result<(), Failed>
 fn fill<D: Disk>(disk: &mut D, secret: &Secret) -> Result<(), Failed>
     requires { IfTold (D.reads disk.old) (λ old. IsShut old × Only (D.past disk.old) old) }
     ensures filled { OnOk result (Turns (D.reads disk.old) (D.reads disk.new) (λ old image. IsFilled secret.now image)) }
+    ensures written { OnOk result (Turns (D.reads disk.old) (D.reads disk.new) (λ old image. drop 1 image ≡ behind_gate secret.now old)) }
     ensures durable { OnOk result (IfTold (D.reads disk.new) (Only (D.past disk.new))) }
     ensures moments { IfTold (D.reads disk.old) (λ old. Leaves (λ image. kind_of image ≡ Blank) (D.past disk.old) (D.past disk.new)) }
     ensures cause { HasCause (D.faults disk.old) (D.faults disk.new) result }
 {
     let mut row = no_row();
     let len = fill_row(&mut row, secret);
-    put(disk, HEADER_AT, &row[..len])
+    write_synced(disk, HEADER_AT, &row[..len])
 }
 
 /// Room for all behind the gate, with the largest map.
@@ -182,10 +195,11 @@ fn fill_row(row: &mut [u8], secret: &Secret) -> usize
 fn open_gate<D: Disk>(disk: &mut D) -> Result<(), Failed>
     requires { IfTold (D.reads disk.old) (Only (D.past disk.old)) }
     ensures opens { OnOk result (Turns (D.reads disk.old) (D.reads disk.new) OpensTo) }
+    ensures written { OnOk result (Turns (D.reads disk.old) (D.reads disk.new) (λ old image. image ≡ open_gate ∷ drop 1 old)) }
     ensures durable { OnOk result (IfTold (D.reads disk.new) (Only (D.past disk.new))) }
     ensures moments { IfTold (D.reads disk.old) (λ old. (key : SecretKey) → IsFilled key old
         → Leaves (IsFresh key) (D.past disk.old) (D.past disk.new)) }
     ensures cause { HasCause (D.faults disk.old) (D.faults disk.new) result }
 {
-    put(disk, 0, &[OPEN_GATE])
+    write_synced(disk, 0, &[OPEN_GATE])
 }

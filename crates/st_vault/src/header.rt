@@ -7,7 +7,7 @@ use crate::layout::HEADER_LEN;
 use st_lms::{BadType, Secret};
 
 /// These bytes as an array.
-fn copied<const N: usize>(bytes: &[u8]) -> [u8; N]
+pub(crate) fn copied<const N: usize>(bytes: &[u8]) -> [u8; N]
     requires { length bytes.now ≡ N }
     ensures { result ≡ bytes.now }
 {
@@ -26,7 +26,7 @@ fn put_in(row: &mut [u8], at: usize, bytes: &[u8])
 
 /// A number as 4 bytes, high first (RFC 8554, section 3.1.1).
 #[tactic(auto, unfolding(st_lms::specs::Strings::u32str))]
-fn u32str(n: u32) -> [u8; 4]
+pub(crate) fn u32str(n: u32) -> [u8; 4]
     ensures { result ≡ u32str n }
 {
     n.to_be_bytes()

@@ -2,10 +2,11 @@
 //! it: a one-time key of RFC 8554 must not sign twice, whatever a stop leaves of the disk.
 #![tactic(auto)]
 
+mod child;
 mod counter;
-mod durable;
 mod formatting;
 mod header;
+mod laws;
 mod layout;
 mod map;
 mod opening;
@@ -16,6 +17,7 @@ mod vault;
 
 pub use counter::Counter;
 pub use formatting::format_vault;
+pub use laws::no_counter_comes_twice;
 pub use opening::open_vault;
 pub use refused::{FormatRefused, OpenRefused, ReserveRefused};
 pub use vault::Vault;

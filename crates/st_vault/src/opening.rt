@@ -1,11 +1,11 @@
 ghost use Rattle.std.specs.Prelude.{◌≡◌, ◌+◌, ◌≤◌, List, ℕ, length, take, drop, IfOk, OnOk, IsErrOf};
 ghost use Rattle.st_base.specs.Answers.{Gives};
 ghost use Rattle.st_io.specs.Causes.{HasCause, Rose};
-ghost use Rattle.st_io.specs.Past.{Only};
+ghost use Rattle.st_io.specs.Past.{AddsNoImage, Only};
 ghost use Rattle.st_io.specs.Tears.{IfTold};
 ghost use Rattle.st_vault.specs.Image.{map_in, nonzero_from, one_past};
 ghost use Rattle.st_vault.specs.Opening.{ReadsAs, key_of, opened, refusal_of};
-ghost use Rattle.st_vault.specs.Spent.{AddsNoImage, KeepsSpent};
+ghost use Rattle.st_vault.specs.Spent.{KeepsSpent};
 
 use crate::header::read_header;
 use crate::layout::{MAP_AT, MOST_COUNTERS, OPEN_GATE};
@@ -24,7 +24,7 @@ pub fn open_vault<D: Disk>(disk: &mut D) -> Result<Vault, OpenRefused>
     ensures gives { IfTold (D.reads disk.old) (λ image. Gives refusal_of (opened image) result) }
     ensures reads_as { IfOk result (ReadsAs (D.reads disk.new)) }
     ensures reads { D.reads disk.new ≡ D.reads disk.old }
-    ensures durable { OnOk result (IfTold (D.reads disk.new) (Only (D.past disk.new))) }
+    ensures durable { (IsErrOf result OpenRefused.DiskFault → ⊥) → IfTold (D.reads disk.new) (Only (D.past disk.new)) }
     ensures images { AddsNoImage (D.past disk.old) (D.past disk.new) }
     ensures stays { KeepsSpent (D.past disk.old) (D.past disk.new) }
     ensures fault { IsErrOf result OpenRefused.DiskFault → Rose (D.faults disk.old) (D.faults disk.new) }

@@ -1,18 +1,22 @@
-ghost use Rattle.std.specs.Prelude.{◌≡◌, ◌<◌, ◌≤◌, IsSome, IfOk, OnOk};
-ghost use Rattle.st_io.specs.Past.{Only};
-ghost use Rattle.st_io.specs.Tears.{IfTold};
+ghost use Rattle.std.specs.Prelude.{◌≡◌, ◌<◌, ◌≤◌, ◌+◌, [], ◌∷◌, IsSome, IfOk, OnOk, Ok};
+ghost use Rattle.st_io.specs.Past.{Follow, Leaves, Only};
+ghost use Rattle.st_io.specs.Tears.{IfTold, Turns, Holds, Torn};
+ghost use Rattle.st_lms.specs.Keys.{IsSecretKey};
 ghost use Rattle.st_lms.specs.Signature.{public_of};
+ghost use Rattle.st_vault.specs.Children.{child_of};
 ghost use Rattle.st_vault.specs.Image.{IsSpent};
-ghost use Rattle.st_vault.specs.Opening.{ReadsAs};
+ghost use Rattle.st_vault.specs.Opening.{AllOpenAs, ReadsAs};
 ghost use Rattle.st_vault.specs.Spent.{SpentInAll, KeepsSpent};
 ghost use Rattle.st_vault.specs.Values.{count_of, left_of, vault_after, counter_of};
 
+use crate::child::child_of;
 use crate::counter::Counter;
-use crate::durable::put;
 use crate::layout::{MAP_AT, SPENT};
 use crate::refused::ReserveRefused;
-use st_io::Disk;
-use st_lms::{Public, Secret};
+use st_base::WantOfMemory;
+use st_io::{Disk, write_synced};
+use st_lms::{Public, Secret, Signer};
+use std::alloc::Global;
 use std::fmt;
 use std::marker::Model;
 
@@ -46,7 +50,7 @@ impl fmt::Debug for Vault {
 }
 
 impl Vault {
-    ghost use Rattle.st_vault.specs.Reserving.{ReserveGives};
+    ghost use Rattle.st_vault.specs.Reserving.{IsBeforeOrAfter, ReserveGives};
 
     /// The vault of this key with this next counter. It computes the public key.
     pub(crate) fn new(secret: Secret, next: u32) -> Vault
@@ -78,6 +82,23 @@ impl Vault {
         self.public
     }
 
+    /// The vault's key with the nodes of its tree, with which `Counter::sign_with` takes the time of one
+    /// one-time key. It computes all of them, and fails where there is no memory for the nodes.
+    pub fn signer(&self, alloc: Global) -> Result<Signer, WantOfMemory>
+        ensures { IfOk result (λ signer. signer ≡ self.now.key) }
+    {
+        Signer::new(alloc, &self.secret)
+    }
+
+    /// Child `n` of the vault's key: a secret key with a tree of height 5 and with the same LM-OTS
+    /// type, whose identifier and seed are hashes of the vault's key. It takes no memory.
+    pub fn child(&self, n: u32) -> Secret
+        ensures value { result ≡ child_of self.now.key n }
+        ensures known { IsSecretKey result }
+    {
+        child_of(&self.secret, n)
+    }
+
     /// Spends the next counter on the disk, and then gives it, with the vault that has one less.
     ///
     /// `Exhausted` comes exactly where none is left; it hands the vault back, and the disk is as it
@@ -97,6 +118,15 @@ impl Vault {
         ensures durable { OnOk result (IfTold (D.reads disk.new) (Only (D.past disk.new))) }
         ensures spent { OnOk result (IfTold (D.reads disk.old) (λ image. SpentInAll (D.past disk.new) self.next)) }
 
+        // The counter's byte is written as 1, and no other byte is, at any moment and whatever comes.
+        ensures written { OnOk result (Turns (D.reads disk.old) (D.reads disk.new) (Holds (64 + self.next) (1 ∷ []))) }
+        ensures images { 0 < left_of self → Follow (Torn (64 + self.next) 1) (D.past disk.old) (D.past disk.new) }
+
+        // Where a stop before the call leaves the vault, a stop at any moment of the call leaves the vault
+        // before its next counter was spent, or after.
+        ensures moments { AllOpenAs (Ok self) (D.past disk.old)
+            → Leaves (IsBeforeOrAfter self) (D.past disk.old) (D.past disk.new) }
+
         // What was spent in every image stays so at each moment of the call.
         ensures stays { IfTold (D.reads disk.old) (λ image. KeepsSpent (D.past disk.old) (D.past disk.new)) }
         ensures later { D.faults disk.old ≤ D.faults disk.new }
@@ -105,8 +135,10 @@ impl Vault {
             return Err(ReserveRefused::Exhausted(self));
         }
         let place = MAP_AT + u64::from(self.next());
-        put(disk, place, &[SPENT])?;
-        Ok(self.spend())
+        match write_synced(disk, place, &[SPENT]) {
+            Ok(()) => Ok(self.spend()),
+            Err(_) => Err(ReserveRefused::DiskFault),
+        }
     }
 
     fn next(&self) -> u32

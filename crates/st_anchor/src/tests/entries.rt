@@ -4,9 +4,8 @@ use super::files::{
 use super::{after, stands};
 use crate::{Bound, entry_laws};
 use st_base::{Bytes, WantOfMemory, Work};
-use st_canon::write;
+use st_canon::{PackedJson, write};
 use st_ops::Operation;
-use st_packed::PackedJson;
 use std::alloc::Global;
 use std::test::Fail;
 

@@ -78,7 +78,7 @@ fn services(rt: &HostRuntime, document: &Document) -> Result<String, Fail> {
 }
 
 fn shown(rt: &HostRuntime, state: &DidState) -> Result<String, Fail> {
-    match state.open(rt.alloc())? {
+    match state.open(rt.alloc(), &mut Work::new(rt))? {
         StateParts::Absent => Ok(String::from_str(rt.alloc(), "absent")?),
         StateParts::Deactivated => Ok(String::from_str(rt.alloc(), "deactivated")?),
         StateParts::Active {
@@ -117,6 +117,38 @@ fn both_ways(
             && shown(rt, &packed)?.as_str() == expected
             && shown(rt, &walked)?.as_str() == expected,
     )
+}
+
+// The state that an operation leaves, which is written as a line.
+fn stepped(rt: &HostRuntime, state: &DidState, line: &str) -> Result<DidState, Fail> {
+    let operation = operation(rt, line)?;
+    let params = Schedule::new().at(0);
+    let state = apply(rt.alloc(), state, &operation, &params, &mut Work::new(rt))?;
+    Ok(state)
+}
+
+// How many operations are counted where the state is opened that these operations leave, a line each.
+fn counted_by_opening(rt: &HostRuntime, lines: &str) -> Result<u64, Fail> {
+    let mut state = DidState::absent();
+    for line in lines.lines() {
+        state = stepped(rt, &state, line)?;
+    }
+    let mut work = Work::new(rt);
+    let parts = state.open(rt.alloc(), &mut work)?;
+    let _same = parts.copy(rt.alloc())?;
+    Ok(work.applies())
+}
+
+// What a create began is looked at where it is opened; what an update left was looked at.
+#[test]
+fn opening_counts_a_delta_that_was_not_looked_at(rt: HostRuntime) -> Result<(), Fail> {
+    assert_eq!(rt; counted_by_opening(&rt, "")?, 0);
+    assert_eq!(rt; counted_by_opening(&rt, "create - r u a")?, 1);
+    assert_eq!(rt;
+        counted_by_opening(&rt, "create - r u a\nupdate u - v b")?,
+        0
+    );
+    Ok(())
 }
 
 #[test]

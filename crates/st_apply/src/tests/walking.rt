@@ -44,16 +44,24 @@ fn is_update_for(
     }
 }
 
-fn recovery_in(alloc: Global, state: &DidState) -> Result<Option<Hash>, WantOfMemory> {
-    let parts = state.open(alloc)?;
+fn recovery_in(
+    alloc: Global,
+    state: &DidState,
+    work: &mut Work,
+) -> Result<Option<Hash>, WantOfMemory> {
+    let parts = state.open(alloc, work)?;
     match &parts {
         StateParts::Active { recovery, .. } => Ok(Some(*recovery)),
         _ => Ok(None),
     }
 }
 
-fn update_in(alloc: Global, state: &DidState) -> Result<Option<Hash>, WantOfMemory> {
-    let parts = state.open(alloc)?;
+fn update_in(
+    alloc: Global,
+    state: &DidState,
+    work: &mut Work,
+) -> Result<Option<Hash>, WantOfMemory> {
+    let parts = state.open(alloc, work)?;
     match &parts {
         StateParts::Active { update, .. } => Ok(*update),
         _ => Ok(None),
@@ -67,8 +75,9 @@ fn next_full<'a>(
     after: usize,
     state: &DidState,
     params: &Params,
+    work: &mut Work,
 ) -> Result<Option<(usize, &'a Operation)>, WantOfMemory> {
-    let Some(commitment) = recovery_in(alloc, state)? else {
+    let Some(commitment) = recovery_in(alloc, state, work)? else {
         return Ok(None);
     };
     for (at, operation) in operations.iter().enumerate() {
@@ -86,8 +95,9 @@ fn next_update<'a>(
     after: usize,
     state: &DidState,
     params: &Params,
+    work: &mut Work,
 ) -> Result<Option<(usize, &'a Operation)>, WantOfMemory> {
-    let Some(commitment) = update_in(alloc, state)? else {
+    let Some(commitment) = update_in(alloc, state, work)? else {
         return Ok(None);
     };
     for (at, operation) in operations.iter().enumerate() {
@@ -121,14 +131,16 @@ pub(crate) fn walk(
     };
     state = apply(alloc, &state, create, params, work)?;
     for _turn in operations {
-        let Some((next, operation)) = next_full(alloc, operations, place, &state, params)? else {
+        let Some((next, operation)) = next_full(alloc, operations, place, &state, params, work)?
+        else {
             break;
         };
         state = apply(alloc, &state, operation, params, work)?;
         place = next;
     }
     for _turn in operations {
-        let Some((next, operation)) = next_update(alloc, operations, place, &state, params)? else {
+        let Some((next, operation)) = next_update(alloc, operations, place, &state, params, work)?
+        else {
             break;
         };
         state = apply(alloc, &state, operation, params, work)?;

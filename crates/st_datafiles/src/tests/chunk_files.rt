@@ -1,8 +1,7 @@
 use super::{case_of, spaces};
 use crate::{Role, read_chunk, write_chunk};
-use st_base::{Bytes, Copied, FileRefused, List, Work};
+use st_base::{Bytes, Copied, FileRefused, List, Shared, Work};
 use st_canon::{equal, read};
-use st_packed::Shared;
 use st_params::Schedule;
 use std::test::Fail;
 

@@ -3,6 +3,8 @@ use crate::{Disk, Failed, FileDisk, Pick, PlainDisk, ScriptDisk};
 use st_base::{Bytes, List};
 use std::alloc::Global;
 use std::fs;
+use std::fs::{File, Files};
+use std::os::unix::fs::{MetadataExt, symlink};
 use std::test::Fail;
 
 fn leaves(alloc: Global, disk: &ScriptDisk, pick: Pick, want: &[u8]) -> bool {
@@ -80,5 +82,34 @@ fn a_file_disk_outlives_its_value(rt: HostRuntime) -> Result<(), Fail> {
     fs::create_dir(&rt, "sidetree.vault")?;
     assert_eq!(rt; FileDisk::new(&rt).sync(), Err(Failed));
     fs::remove_dir(&rt, "sidetree.vault")?;
+    Ok(())
+}
+
+/// Whether a new disk over the journal fails at its first call and at the next.
+fn is_refused(rt: &impl Files<File = File>) -> bool {
+    let mut disk = FileDisk::journal(rt);
+    disk.length().is_err() && disk.sync().is_err()
+}
+
+#[test]
+fn a_file_disk_is_private_and_held_by_one(rt: HostRuntime) -> Result<(), Fail> {
+    let _ = fs::remove_file(&rt, "sidetree.journal");
+    let mut disk = FileDisk::journal(&rt);
+    assert_eq!(rt; disk.length(), Ok(0));
+    let made = fs::metadata(&rt, "sidetree.journal")?;
+    assert_eq!(rt; made.mode() & 0o777, 0o600);
+    assert!(rt; is_refused(&rt));
+    drop(disk);
+    assert!(rt; !is_refused(&rt));
+    // A link to the file and a second name of it are not opened.
+    fs::rename(&rt, "sidetree.journal", "other.journal")?;
+    symlink(&rt, "other.journal", "sidetree.journal")?;
+    assert!(rt; is_refused(&rt));
+    fs::remove_file(&rt, "sidetree.journal")?;
+    fs::hard_link(&rt, "other.journal", "sidetree.journal")?;
+    assert!(rt; is_refused(&rt));
+    fs::remove_file(&rt, "other.journal")?;
+    assert!(rt; !is_refused(&rt));
+    fs::remove_file(&rt, "sidetree.journal")?;
     Ok(())
 }

@@ -60,6 +60,7 @@ fn a_scripted_sink_takes_pieces_and_fails_at_its_calls(rt: HostRuntime) -> Resul
     assert_eq!(rt; sink.write(b"c"), Ok(1));
     assert_eq!(rt; sink.finish(), Err(Failed));
     assert_eq!(rt; sink.finish(), Ok(()));
+    assert_eq!(rt; sink.calls(), 5);
     assert_eq!(rt; sink.written().as_slice(), b"abc".as_slice());
     Ok(())
 }

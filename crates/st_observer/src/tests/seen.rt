@@ -4,7 +4,7 @@ use super::steps::found;
 use crate::Observer;
 use st_anchor::RoleState;
 use st_apply::{DidState, StateParts};
-use st_base::read_number;
+use st_base::{Work, read_number};
 use st_canon::Json;
 use st_doc::Document;
 use st_hash::{Hash, read_hash};
@@ -45,19 +45,22 @@ fn suffix(name: &str) -> Option<Hash> {
     }
 }
 
-fn has_active(alloc: Global, observer: &Observer, name: &str) -> bool {
+fn has_active(rt: &HostRuntime, observer: &Observer, name: &str) -> bool {
     match suffix(name) {
         Some(suffix) => matches!(
-            observer.state(&suffix).open(alloc),
+            observer.state(&suffix).open(rt.alloc(), &mut Work::new(rt)),
             Ok(StateParts::Active { .. })
         ),
         None => false,
     }
 }
 
-fn has_absent(alloc: Global, observer: &Observer, name: &str) -> bool {
+fn has_absent(rt: &HostRuntime, observer: &Observer, name: &str) -> bool {
     match suffix(name) {
-        Some(suffix) => matches!(observer.state(&suffix).open(alloc), Ok(StateParts::Absent)),
+        Some(suffix) => matches!(
+            observer.state(&suffix).open(rt.alloc(), &mut Work::new(rt)),
+            Ok(StateParts::Absent)
+        ),
         None => false,
     }
 }
@@ -124,20 +127,20 @@ fn has_services(document: &Document, ids: &str) -> bool {
     document.services().iter().map(id).eq(ids.split(' '))
 }
 
-fn serves_in(alloc: Global, state: &DidState, ids: &str) -> bool {
-    match state.open(alloc) {
+fn serves_in(rt: &HostRuntime, state: &DidState, ids: &str) -> bool {
+    match state.open(rt.alloc(), &mut Work::new(rt)) {
         Ok(StateParts::Active { document, .. }) => has_services(document.get(), ids),
         _ => false,
     }
 }
 
 // Whether the document of a suffix has exactly these services in this order.
-fn serves(alloc: Global, observer: &Observer, name_and_ids: &str) -> bool {
+fn serves(rt: &HostRuntime, observer: &Observer, name_and_ids: &str) -> bool {
     let Some((name, ids)) = name_and_ids.split_once(' ') else {
         return false;
     };
     match suffix(name) {
-        Some(suffix) => serves_in(alloc, observer.state(&suffix), ids),
+        Some(suffix) => serves_in(rt, observer.state(&suffix), ids),
         None => false,
     }
 }
@@ -151,26 +154,26 @@ fn is_within(applied: u64, most: &str) -> bool {
 }
 
 // Whether this is seen where the steps before it applied so many operations.
-fn is_seen(alloc: Global, observer: &Observer, applied: u64, look: &str) -> bool {
+fn is_seen(rt: &HostRuntime, observer: &Observer, applied: u64, look: &str) -> bool {
     let Some((what, rest)) = look.split_once(' ') else {
         return false;
     };
     match what {
         "entry" => reports_so(observer, rest),
-        "active" => has_active(alloc, observer, rest),
-        "absent" => has_absent(alloc, observer, rest),
-        "operations" => has_so_many(alloc, observer, rest),
-        "wanted" => wants(alloc, observer, rest),
-        "services" => serves(alloc, observer, rest),
+        "active" => has_active(rt, observer, rest),
+        "absent" => has_absent(rt, observer, rest),
+        "operations" => has_so_many(rt.alloc(), observer, rest),
+        "wanted" => wants(rt.alloc(), observer, rest),
+        "services" => serves(rt, observer, rest),
         "applied" => is_within(applied, rest),
         _ => false,
     }
 }
 
 // Whether all of these are seen, which stand between bars.
-pub(super) fn are_seen(alloc: Global, observer: &Observer, applied: u64, looks: &str) -> bool {
+pub(super) fn are_seen(rt: &HostRuntime, observer: &Observer, applied: u64, looks: &str) -> bool {
     for look in looks.split('|') {
-        if !is_seen(alloc, observer, applied, look) {
+        if !is_seen(rt, observer, applied, look) {
             return false;
         }
     }

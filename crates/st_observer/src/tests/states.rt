@@ -79,8 +79,9 @@ fn then_cut(alloc: Global, work: &mut Work) -> Result<States, WantOfMemory> {
 }
 
 // The recovery commitment that stands for a name is this one.
-fn commits(alloc: Global, states: &States, name: &str, recovery: &str) -> bool {
-    let Ok(parts) = states.state(&hash_of(name)).open(alloc) else {
+fn commits(rt: &HostRuntime, states: &States, name: &str, recovery: &str) -> bool {
+    let state = states.state(&hash_of(name));
+    let Ok(parts) = state.open(rt.alloc(), &mut Work::new(rt)) else {
         return false;
     };
     match &parts {
@@ -105,8 +106,8 @@ fn shows_puts(rt: &HostRuntime) -> bool {
     let alloc = rt.alloc();
     match three_puts(alloc, &mut Work::new(rt)) {
         Ok(states) => {
-            commits(alloc, &states, "a", "again")
-                && commits(alloc, &states, "b", "late")
+            commits(rt, &states, "a", "again")
+                && commits(rt, &states, "b", "late")
                 && stands_at(alloc, &states, "a", &[1, 3])
         }
         Err(_) => false,
@@ -117,8 +118,8 @@ fn shows_cut(rt: &HostRuntime) -> bool {
     let alloc = rt.alloc();
     match then_cut(alloc, &mut Work::new(rt)) {
         Ok(states) => {
-            commits(alloc, &states, "a", "again")
-                && !commits(alloc, &states, "b", "late")
+            commits(rt, &states, "a", "again")
+                && !commits(rt, &states, "b", "late")
                 && stands_at(alloc, &states, "a", &[1])
                 && stands_at(alloc, &states, "b", &[])
         }

@@ -5,7 +5,6 @@ use super::steps::{after, are_known};
 use crate::Observer;
 use st_base::Work;
 use st_params::Schedule;
-use std::alloc::Global;
 
 fn steps_of(line: &str) -> &str {
     match line.split_once('|') {
@@ -15,10 +14,10 @@ fn steps_of(line: &str) -> &str {
 }
 
 // Whether it stands as the line says, or where it says nothing, as the words say that stand for all lines.
-fn is_so(alloc: Global, observer: &Observer, applied: u64, line: &str, all: &str) -> bool {
+fn is_so(rt: &HostRuntime, observer: &Observer, applied: u64, line: &str, all: &str) -> bool {
     match line.split_once('|') {
-        Some((steps, looks)) => { are_known(steps) && are_seen(alloc, observer, applied, looks) }
-        None => are_known(line) && are_seen(alloc, observer, applied, all),
+        Some((steps, looks)) => { are_known(steps) && are_seen(rt, observer, applied, looks) }
+        None => are_known(line) && are_seen(rt, observer, applied, all),
     }
 }
 
@@ -46,7 +45,7 @@ pub(super) fn first_other_under(
             None => return Some(line),
         };
         let applied = work.applies().saturating_sub(before);
-        if !is_so(alloc, &observer, applied, line, all) {
+        if !is_so(rt, &observer, applied, line, all) {
             return Some(line);
         }
     }

@@ -1,5 +1,9 @@
+ghost use Rattle.st_vault.specs.Opening.{ReadsAs};
+
 use super::{Left, disk_of, key, left_of, spend};
-use crate::{FormatRefused, OpenRefused, ReserveRefused, format_vault};
+use crate::{FormatRefused, OpenRefused, ReserveRefused, Vault, format_vault};
+use st_base::Bytes;
+use st_io::Disk;
 use st_lms::verify;
 use std::alloc::Global;
 use std::process::Abort;
@@ -86,5 +90,44 @@ fn counters_come_in_order_until_none_is_left(rt: HostRuntime) -> Result<(), Fail
         Err(ReserveRefused::Exhausted(vault)) => assert_eq!(rt; vault.left(), 0),
         _ => return Err(Fail::from("not exhausted")),
     }
+    Ok(())
+}
+
+/// The signature of a message by a vault's next counter, with a signer of its key.
+fn signed<D: Disk>(alloc: Global, disk: &mut D, vault: Vault) -> Result<Bytes, Fail>
+    requires { ReadsAs (D.reads disk.old) vault }
+{
+    let signer = vault.signer(alloc)?;
+    let (_vault, counter) = vault.reserve(disk)?;
+    Ok(counter.sign_with(alloc, &signer, b"message")?)
+}
+
+#[test]
+fn a_counter_signs_with_a_signer_of_its_vault(rt: HostRuntime) -> Result<(), Fail> {
+    let alloc = rt.alloc();
+    let mut disk = disk_of(alloc, b"", u64::MAX)?;
+    let vault = format_vault(&mut disk, key()?)?;
+    let public = vault.public();
+    let signature = signed(alloc, &mut disk, vault)?;
+    assert!(rt; verify(&public, b"message", signature.as_slice()));
+    Ok(())
+}
+
+// Identifier and seed are the SHA-256 of the key's identifier, the number, 0xfff0 or 0xfff1, and its seed.
+#[test]
+fn a_child_is_made_of_its_vaults_key(rt: HostRuntime) -> Result<(), Fail> {
+    let mut disk = disk_of(rt.alloc(), b"", u64::MAX)?;
+    let vault = format_vault(&mut disk, key()?)?;
+    let child = vault.child(3);
+    assert_eq!(rt; child.ots(), 2);
+    assert_eq!(rt; child.tree(), 5);
+    assert_eq!(rt;
+        child.id(),
+        *b"\x09\x59\xa7\xb4\x99\x19\x62\x25\x5f\x6c\x68\x66\xc1\x44\x32\x01"
+    );
+    assert_eq!(rt;
+        child.seed(),
+        *b"\x35\x68\xfb\x6e\x90\x24\x87\x17\xac\x4d\x81\x5b\x1e\x65\x15\x91\x02\x67\xa9\x6c\x42\x98\xf5\x46\xc6\x67\xe0\x7d\x55\x3b\x01\xcd"
+    );
     Ok(())
 }

@@ -1,4 +1,5 @@
-use Rattle.std.proofs.Common.{sym, subst, arith}
+use Rattle.std.proofs.Common.{◌∙◌, sym, ap, subst, arith}
+use Rattle.st_params.specs.Limits.{limits_of}
 use Rattle.st_batch.specs.Kept.{IsKept}
 use Rattle.st_batch.proofs.FlushLemmas.{MayFlush, count_within, flushed, kept_left}
 use Rattle.st_batch.proofs.flushing.flush.Goals as goal
@@ -12,7 +13,7 @@ returns-clause-flushed c =
       kept = c.requires.kept;
       some = c.requires.some;
       apart = c.len-length.ensures.unique;
-      versioned = c.in_ok-know_limits.ensures;
+      versioned = c.version-version.ensures.limits ∙ ap limits_of c.version-version.ensures.value;
     } in
     flushed c.args.params.now c.args.queued.entries may c.in_ok-count.ensures c.in_ok-taken.ensures.first c.in_ok-taken.ensures.others
     c.in_ok-groups.ensures c.in_ok-batch.ensures

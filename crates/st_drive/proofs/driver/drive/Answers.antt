@@ -1,19 +1,26 @@
-use Rattle.std.proofs.Common.{◌≡◌, ◌∙◌, ◌≤◌, ◌+◌, ◌++◌, List, ℕ, [], take, drop, length, sym, subst, ap, arith, take-append-drop, append-nil}
+use Rattle.std.proofs.Common.{◌≡◌, ◌∙◌, ◌≤◌, ◌+◌, ◌-◌, ◌++◌, List, ℕ, [], vec_len, take, drop, length, sym, subst, ap, arith, take-append-drop, append-nil}
 use Rattle.std.proofs.lemmas.List.{length-take-le, length-drop, take-take}
 use Rattle.std.specs.Io.KnownBytes.{Consumes}
 use Rattle.std.specs.declared.option.Option.{Option}
-use Rattle.st_drive.proofs.Ends.{Read, taken_start, taken_open, taken_more, table_read_fault, table_cut, table_over, table_of_end}
+use Rattle.st_drive.proofs.Ends.{Read, taken_start, taken_more, table_read_fault, table_cut, table_over, table_of_end}
+use Rattle.st_drive.proofs.FitsLemmas.{fed_piece}
 use Rattle.st_drive.proofs.driver.drive.Goals as goal
 
 pub pieces-init : goal.pieces-init
 pieces-init g c = record {
-  cap = (let e = ap length c.new.ensures.items in omega arith);
-  fits = c.requires.fits;
+  fits = (let e = ap length c.new-progress.ensures.line in rw c.new-progress.ensures.machine (g.met.M.Machine.fewer _ _ _ _ (omega arith) c.requires.fits));
   context_later = omega arith;
   source_later = omega arith;
   sink_later = omega arith;
   unfinished = λ done. done;
-  taken = rw c.new.ensures.items (taken_start g.met.M.Machine.laws (record { machine = c.args.machine; context = c.args.context.now; left = g.S.Source.left c.args.source.now; holds = g.K.Sink.written c.args.sink.now }) c.args.limit);
+  taken = rw (c.new-progress.ensures.machine, c.new-progress.ensures.line)
+      (taken_start g.met.M.Machine.laws (record {
+        machine = c.args.machine;
+        context =
+            (c.args.context.now, c.args.device.now);
+        left = g.S.Source.left c.args.source.now;
+        holds = g.K.Sink.written c.args.sink.now;
+      }) c.args.limit);
 }
 
 -- what was read all fits
@@ -31,7 +38,8 @@ read_over : (buffer : List ℕ) (room count : ℕ) (had left : Option (List ℕ)
 read_over buffer room count had left bound over takes =
     let len : length (take count buffer) ≡ count = length-take-le count buffer bound in
     let front : length (take room buffer) ≡ room = length-take-le room buffer (omega arith) in
-    let both : take room buffer ++ drop room (take count buffer) ≡ take count buffer = ap (λ xs. xs ++ drop room (take count buffer)) (sym (take-take room count buffer (omega arith))) ∙ take-append-drop room (take count buffer) in
+    let both : take room buffer ++ drop room (take count buffer) ≡ take count buffer = ap (λ xs. xs ++ drop room (take count buffer))
+    (sym (take-take room count buffer (omega arith))) ∙ take-append-drop room (take count buffer) in
     let same = ap length both in
     record { takes = subst (Consumes had left) (sym both) takes; fits = omega arith; most = omega arith }
 
@@ -44,23 +52,20 @@ pieces-preserved g c =
     let count = c.in-Ok.count in
     let len : length (take count buffer) ≡ count = length-take-le count buffer (omega (arith, read.count)) in
     record {
-      cap = fed.cap;
-      fits = fed.fits;
+      fits = fed_piece g.met.M.Machine.fewer (vec_len c.pieces.progress.line) (length (take count buffer)) c.pieces.room (c.pieces.room - count)
+          (vec_len c.in-Ok-feed-2.next.line) fed.fits i.fits (omega arith);
       context_later = omega (arith, fed.faults.context_later);
       source_later = omega (arith, read.cause.later);
       sink_later = omega (arith, fed.faults.later);
       unfinished = λ done. i.unfinished (fed.unfinished done);
-      taken = taken_more g.met.M.Machine.laws (record { machine = c.in-Ok-feed-2.next.machine; context = c.feed-in-pieces.new.context; left = g.S.Source.left c.read_some.new.source; holds = g.K.Sink.written c.feed-in-pieces.new.sink }) (take count buffer) i.taken read.bytes (omega arith) fed.ok fed.line;
+      taken = taken_more g.met.M.Machine.laws (record {
+        machine = c.in-Ok-feed-2.next.machine;
+        context =
+            (c.feed-in-pieces.new.context, c.feed-in-pieces.new.device);
+        left = g.S.Source.left c.read_some.new.source;
+        holds = g.K.Sink.written c.feed-in-pieces.new.sink;
+      }) (take count buffer) i.taken read.bytes (omega arith) fed.ok fed.line;
     }
-
-pub end_run-requires-clause-partial : goal.end_run-requires-clause-partial
-end_run-requires-clause-partial g c = taken_open g.met.M.Machine.laws c.pieces.invariant.taken
-
-pub feed-requires-clause-partial : goal.feed-requires-clause-partial
-feed-requires-clause-partial g c = taken_open g.met.M.Machine.laws c.pieces.invariant.taken
-
-pub feed-requires-in-pieces-clause-partial : goal.feed-requires-in-pieces-clause-partial
-feed-requires-in-pieces-clause-partial g c = taken_open g.met.M.Machine.laws c.pieces.invariant.taken
 
 pub returns-in-Err-clause-table : goal.returns-in-Err-clause-table
 returns-in-Err-clause-table g c = table_read_fault g.met.M.Machine.laws _ c.requires.limit c.pieces.invariant.taken c.in-Err.ensures.err
@@ -70,7 +75,8 @@ returns-then-count-eq0-clause-table g c =
     let read = c.in-Ok.ensures in
     let end = c.end_run.ensures in
     let zero = c.if-count-eq0.true in
-    let none = subst (λ n. Consumes (g.S.Source.left c.pieces.source) (g.S.Source.left c.read_some.new.source) (take n c.read_some.new.buffer)) zero read.bytes in
+    let none = subst (λ n. Consumes (g.S.Source.left c.pieces.source) (g.S.Source.left c.read_some.new.source)
+    (take n c.read_some.new.buffer)) zero read.bytes in
     table_of_end g.met.M.Machine.laws _ _ c.end_run.result c.requires.limit c.pieces.invariant.taken (none, read.end zero) end.ok (end.err, end.faults.cause)
 
 pub returns-in-Ok-feed-clause-table : goal.returns-in-Ok-feed-clause-table

@@ -1,19 +1,18 @@
-use Rattle.std.proofs.Common.{vec_len, ◌≤◌}
+use Rattle.std.proofs.Common.{vec_len, ◌+◌, ◌≤◌}
 use Rattle.st_io.specs.Sinks.{FinishesNothing}
 use Rattle.st_drive.proofs.Ends.{Taken}
 use Rattle.st_drive.proofs.driver.drive.Given as goal
 
 abbrev pub invariant-pieces : goal.invariant-pieces
 invariant-pieces g l = record {
-  fits : g.M.Machine.fits l.progress.machine l.context;
-  context_later : g.M.Machine.faults l.fn.context ≤ g.M.Machine.faults l.context;
+  fits : g.M.Machine.fits l.progress.machine (l.context, l.device) (vec_len l.progress.line + l.room + 1);
+  context_later : g.M.Machine.faults (l.fn.context, l.fn.device) ≤ g.M.Machine.faults (l.context, l.device);
   source_later : g.S.Source.faults l.fn.source ≤ g.S.Source.faults l.source;
   sink_later : g.K.Sink.faults l.fn.sink ≤ g.K.Sink.faults l.sink;
   unfinished : FinishesNothing (g.K.Sink.is_finished l.fn.sink) (g.K.Sink.is_finished l.sink);
-  cap : vec_len l.progress.line ≤ g.M.Machine.CAP;
   taken : Taken g.M.Machine.meaning g.M.Machine.CAP l.limit l.room l.progress.line.items
-      (record { machine = l.fn.machine; context = l.fn.context; left = g.S.Source.left l.fn.source; holds = g.K.Sink.written l.fn.sink })
-      (record { machine = l.progress.machine; context = l.context; left = g.S.Source.left l.source; holds = g.K.Sink.written l.sink });
+      (record { machine = l.fn.machine; context = (l.fn.context, l.fn.device); left = g.S.Source.left l.fn.source; holds = g.K.Sink.written l.fn.sink })
+      (record { machine = l.progress.machine; context = (l.context, l.device); left = g.S.Source.left l.source; holds = g.K.Sink.written l.sink });
 }
 
 abbrev pub decreases-pieces : goal.decreases-pieces

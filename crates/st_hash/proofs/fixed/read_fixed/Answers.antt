@@ -1,12 +1,11 @@
-use Rattle.std.proofs.Common.{sym}
-use Rattle.std.proofs.lemmas.List.{length-replicate}
-use Rattle.st_hash.proofs.FixedLemmas.{fixed_of_text-count, fixed_of_text-error}
+use Rattle.std.proofs.Common.{◌∙◌, sym, arith}
+use Rattle.st_hash.proofs.FixedLemmas.{fixed_of_text-no, fixed_spelled}
 use Rattle.st_hash.proofs.fixed.read_fixed.Goals as goal
 
-pub returns-else-count : goal.returns-else-count
-returns-else-count g c =
-    sym (fixed_of_text-count g.row.N _ c.args.text.now c.in-Ok.count c.decode_slice.result (length-replicate g.row.N 0) c.decode_slice.ensures.value c.in-Ok.is c.if-count.false)
+pub returns-in-Some-clause-spelled : goal.returns-in-Some-clause-spelled
+returns-in-Some-clause-spelled g c =
+    fixed_spelled g.row.N c.args.text.now c.in-Some.bytes (λ i. let fits = c.type_inv.text i in omega arith) (sym c.decoded.ensures ∙ c.in-Some.is)
 
-pub returns-in-Err : goal.returns-in-Err
-returns-in-Err g c =
-    sym (fixed_of_text-error g.row.N _ c.args.text.now c.in-Err.field-0 c.decode_slice.result (length-replicate g.row.N 0) c.decode_slice.ensures.value c.in-Err.is)
+pub returns-in-None-clause-no_spelling : goal.returns-in-None-clause-no_spelling
+returns-in-None-clause-no_spelling g c bytes are_bytes long =
+    fixed_of_text-no g.row.N c.args.text.now bytes (sym c.decoded.ensures ∙ c.in-None.is) are_bytes long

@@ -7,22 +7,22 @@ use Rattle.st_hash.proofs.text.read_digest.Goals as goal
 
 pub returns-in-None : goal.returns-in-None
 returns-in-None g c =
-    sym (read-none c.args.code g.row.MULTIHASH g.row.DIGEST c.args.text.now c.requires.multihash c.requires.digest (sym c.read_fixed.ensures ∙ c.in-None.is))
+    sym (read-none c.args.code g.row.MULTIHASH g.row.DIGEST c.args.text.now c.requires.multihash c.requires.digest (sym c.read_fixed.ensures.value ∙ c.in-None.is))
 
 pub returns-then-bytes-code : goal.returns-then-bytes-code
 returns-then-bytes-code g c =
-    let read = read-some c.args.code g.row.MULTIHASH g.row.DIGEST c.args.text.now c.in-Some.bytes c.requires.multihash c.requires.digest (sym c.read_fixed.ensures ∙ c.in-Some.is) in
+    let read = read-some c.args.code g.row.MULTIHASH g.row.DIGEST c.args.text.now c.in-Some.bytes c.requires.multihash c.requires.digest (sym c.read_fixed.ensures.value ∙ c.in-Some.is) in
     sym (read ∙ hash_of_multihash-code c.args.code c.in-Some.bytes c.if-bytes-code.true)
 
 pub returns-then-bytes : goal.returns-then-bytes
 returns-then-bytes g c =
-    let read = read-some c.args.code g.row.MULTIHASH g.row.DIGEST c.args.text.now c.in-Some.bytes c.requires.multihash c.requires.digest (sym c.read_fixed.ensures ∙ c.in-Some.is) in
+    let read = read-some c.args.code g.row.MULTIHASH g.row.DIGEST c.args.text.now c.in-Some.bytes c.requires.multihash c.requires.digest (sym c.read_fixed.ensures.value ∙ c.in-Some.is) in
     sym (read ∙ hash_of_multihash-size c.args.code c.in-Some.bytes (λ same. c.if-bytes.true (same ∙ sym c.requires.digest)))
 
 pub returns : goal.returns
 returns g c =
     let bytes = c.in-Some.bytes in
-    let found = sym c.read_fixed.ensures ∙ c.in-Some.is in
+    let found = sym c.read_fixed.ensures.value ∙ c.in-Some.is in
     let read = read-some c.args.code g.row.MULTIHASH g.row.DIGEST c.args.text.now bytes c.requires.multihash c.requires.digest found in
     let long : length bytes ≡ 2 + g.row.DIGEST = fixed_of_text-length g.row.MULTIHASH c.args.text.now bytes found ∙ c.requires.multihash in
     let copied : c.copy_from_slice.new.self ≡ drop 2 bytes =

@@ -1,5 +1,6 @@
 use Rattle.std.proofs.Common.{◌≡◌, map}
-use Rattle.st_node.specs.Machine.{spaced, state_word}
+use Rattle.st_base.specs.Replies.{spaced}
+use Rattle.st_node.specs.Machine.{state_word}
 use Rattle.st_node.proofs.TellingLemmas.{with_words}
 use Rattle.st_node.proofs.telling.tell_states.Given as goal
 

@@ -1,6 +1,6 @@
 use Rattle.std.proofs.Common.{◌≡◌, ◌++◌, decimal, length, map}
 use Rattle.st_hash.specs.Hash.{hash_text}
-use Rattle.st_node.specs.Machine.{spaced}
+use Rattle.st_base.specs.Replies.{spaced}
 use Rattle.st_node.proofs.TellingLemmas.{with_words}
 use Rattle.st_node.proofs.telling.tell_wanted.Given as goal
 

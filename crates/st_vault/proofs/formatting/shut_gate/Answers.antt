@@ -1,26 +1,26 @@
 use Rattle.std.proofs.Common.{subst}
 use Rattle.st_vault.proofs.FormatLemmas.{short-ok, shut-ok, shut_moments, unformatted-not}
-use Rattle.st_vault.proofs.MomentLemmas.{turns_same}
+use Rattle.st_io.proofs.MomentLemmas.{turns_same}
 use Rattle.st_vault.specs.Formatting.{IsShut}
 use Rattle.st_vault.specs.Start.{Begins}
 use Rattle.st_vault.proofs.formatting.shut_gate.Goals as goal
 
-pub returns-in_err-put-in-Short-clause-moments : goal.returns-in_err-put-in-Short-clause-moments
-returns-in_err-put-in-Short-clause-moments g c old told =
+pub returns-in_err-write_synced-in-Short-clause-moments : goal.returns-in_err-write_synced-in-Short-clause-moments
+returns-in_err-write_synced-in-Short-clause-moments g c old told =
     let short = subst (λ start. Begins start old) c.in-Short.is (c.in_ok-look.ensures.begins old told) in
-    shut_moments _ _ _ old (c.requires old told) c.look.ensures.images short c.put.ensures.time c.put.ensures.images
+    shut_moments _ _ _ old (c.requires old told) c.look.ensures.images short c.write_synced.ensures.time c.write_synced.ensures.images
 
-pub returns-in_ok-put-in-Short-clause-moments : goal.returns-in_ok-put-in-Short-clause-moments
-returns-in_ok-put-in-Short-clause-moments g c old told =
+pub returns-in_ok-write_synced-in-Short-clause-moments : goal.returns-in_ok-write_synced-in-Short-clause-moments
+returns-in_ok-write_synced-in-Short-clause-moments g c old told =
     let short = subst (λ start. Begins start old) c.in-Short.is (c.in_ok-look.ensures.begins old told) in
-    shut_moments _ _ _ old (c.requires old told) c.look.ensures.images short c.put.ensures.time c.put.ensures.images
+    shut_moments _ _ _ old (c.requires old told) c.look.ensures.images short c.write_synced.ensures.time c.write_synced.ensures.images
 
 pub returns-in-Formatted-clause-gives : goal.returns-in-Formatted-clause-gives
 returns-in-Formatted-clause-gives g c old told =
     unformatted-not old (subst (λ start. Begins start old) c.in-Formatted.is (c.in_ok-look.ensures.begins old told))
 
-pub returns-in_ok-put-in-Short-clause-gives : goal.returns-in_ok-put-in-Short-clause-gives
-returns-in_ok-put-in-Short-clause-gives g c old told =
+pub returns-in_ok-write_synced-in-Short-clause-gives : goal.returns-in_ok-write_synced-in-Short-clause-gives
+returns-in_ok-write_synced-in-Short-clause-gives g c old told =
     short-ok old (subst (λ start. Begins start old) c.in-Short.is (c.in_ok-look.ensures.begins old told))
 
 pub returns-in-Shut-clause-gives : goal.returns-in-Shut-clause-gives

@@ -1,21 +1,28 @@
-use Rattle.std.proofs.Common.{◌≡◌, ◌∙◌, ◌++◌, [], length, take, rules, ap, sym, subst, arith}
+use Rattle.std.proofs.Common.{◌≡◌, ◌∙◌, ◌+◌, ◌++◌, [], ◌∷◌, vec_len, length, length-append, take, rules, ap, sym, subst, arith}
 use Rattle.st_base.specs.Words.{HasNo}
 use Rattle.st_drive.specs.Parts.{Gathered, outlet}
 use Rattle.st_drive.proofs.LineLemmas.{open_append}
 use Rattle.st_drive.proofs.Fed.{no_pieces, one_more, all_pieces, gathered_none, gathered_more, gathered_less, gathered_some, some_of_all}
 use Rattle.st_drive.proofs.RunLemmas.{on_err}
+use Rattle.st_drive.proofs.FitsLemmas.{as_many, fed_line}
 use Rattle.st_drive.proofs.progress.Progress.answer_lines.Goals as goal
 
 pub lines-init : goal.lines-init
 lines-init g c = record {
-  fits = c.requires.fits;
-  cap = c.requires.cap;
-  partial = c.requires.partial;
+  fits = λ more fits. fits;
+  cap = c.args.self.capped;
+  partial = c.args.self.open;
   later = omega arith;
   context_later = omega arith;
   unfinished = λ done. done;
   answered = ([], no_pieces _ _, gathered_none g.met.M.Machine.laws _ _ _ _);
 }
+
+pub end_line-requires-clause-fits : goal.end_line-requires-clause-fits
+end_line-requires-clause-fits g c =
+    let whole = ap length c.in-Some.ensures.whole in
+    as_many g.met.M.Machine.fewer (vec_len c.lines.line + length c.lines.rest.now + 0) (vec_len c.lines.line + length c.in-Some.front.now + 1)
+    (omega (arith, length-append c.in-Some.front.now (10 ∷ c.in-Some.after.now))) (c.lines.invariant.fits 0 (as_many g.met.M.Machine.fewer _ _ (omega arith) c.requires.fits))
 
 pub lines-preserved : goal.lines-preserved
 lines-preserved g c =
@@ -24,7 +31,7 @@ lines-preserved g c =
     let ended = c.in_ok-machine.ensures in
     let pieces = one_more i.answered.1 (record { open_line = i.partial; open_front = cut.first; cut = cut.whole }) in
     record {
-      fits = ended.fits;
+      fits = λ more fits. fed_line g.met.M.Machine.fewer more (vec_len c.lines.line) (length c.in-Some.front.now) (length c.lines.rest.now) (length c.in-Some.after.now) (vec_len c.end_line.new.line) ended.fits (i.fits more fits) (let whole = ap length cut.whole in omega (arith, length-append c.in-Some.front.now (10 ∷ c.in-Some.after.now))) (let none = ap length ended.emptied in omega arith);
       cap = (let n = ap length ended.emptied in omega arith);
       partial = subst (HasNo 10) (sym ended.emptied) tt;
       later = omega (arith, ended.faults.later);
@@ -49,7 +56,7 @@ pub returns-clause-ok : goal.returns-clause-ok
 returns-clause-ok g c =
     let i = c.lines.invariant in
     let all = all_pieces i.answered.1 (open_append c.lines.line.items c.lines.rest.now i.partial c.in_default.ensures.none) in
-    subst (λ ls. Gathered g.M.Machine.meaning g.M.Machine.CAP c.args.self.machine c.args.context.now ls c.lines.machine c.lines.context (outlet (g.K.Sink.written c.args.sink.now) c.args.gathered.now.items (g.K.Sink.written c.lines.sink) c.lines.gathered.items)) (sym (ap (λ p. p.0) all)) i.answered.2
+    subst (λ ls. Gathered g.M.Machine.meaning g.M.Machine.CAP c.args.self.machine (c.args.context.now, c.args.device.now) ls c.lines.machine (c.lines.context, c.lines.device) (outlet (g.K.Sink.written c.args.sink.now) c.args.gathered.now.items (g.K.Sink.written c.lines.sink) c.lines.gathered.items)) (sym (ap (λ p. p.0) all)) i.answered.2
 
 pub returns-clause-line : goal.returns-clause-line
 returns-clause-line g c =

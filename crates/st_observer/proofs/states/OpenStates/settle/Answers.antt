@@ -28,9 +28,9 @@ returns-in_err-index-clause-bound c =
 pub returns-clause-reads : goal.returns-clause-reads
 returns-clause-reads c =
     let bound = c.settle.ensures.bound c.self.inside.index.changes (named-itself c.self.inside.index.changes) in
-    record { read = bound.files; opened = bound.proofs }
+    record { least = bound.least; read = bound.files; opened = bound.proofs }
 
 pub returns-in_err-index-clause-reads : goal.returns-in_err-index-clause-reads
 returns-in_err-index-clause-reads c =
     let bound = c.settle.ensures.bound c.self.inside.index.changes (named-itself c.self.inside.index.changes) in
-    record { read = bound.files; opened = bound.proofs }
+    record { least = bound.least; read = bound.files; opened = bound.proofs }

@@ -1,0 +1,55 @@
+use crate::copied::Copied;
+use crate::want::WantOfMemory;
+use std::alloc::Global;
+use std::marker::Model;
+
+/// A value behind a pointer, so that moving it moves the pointer alone. Contracts see the value.
+#[derive(Drop)]
+pub struct Boxed<T> {
+    inner: Box<T>,
+}
+
+impl<T> Model for Boxed<T> {
+    ghost Value = { T };
+
+    ghost coded = { T.code };
+
+    ghost view = { λ boxed. boxed.inner.value };
+}
+
+impl<T: Drop> Boxed<T> {
+    ghost use Rattle.std.specs.Prelude.{◌≡◌, IfOk};
+
+    /// Takes memory for the value, which is dropped where none can be had.
+    pub fn new(alloc: Global, value: T) -> Result<Boxed<T>, WantOfMemory>
+        ensures { IfOk result (λ boxed. boxed ≡ value) }
+    {
+        match Box::new(alloc, value) {
+            Ok(inner) => Ok(Boxed { inner }),
+            Err(_) => Err(WantOfMemory),
+        }
+    }
+
+    /// The value.
+    pub fn get(&self) -> &T
+        ensures { result.now ≡ self.now }
+    {
+        &*self.inner
+    }
+
+    /// The value, taken out.
+    pub fn take(self) -> T
+        ensures { result ≡ self }
+    {
+        let Boxed { inner } = self;
+        Box::into_inner(inner)
+    }
+}
+
+impl<T: Copied + Drop> Copied for Boxed<T> {
+    /// A box of its own round a copy of the value.
+    fn copy(&self, alloc: Global) -> Result<Boxed<T>, WantOfMemory> {
+        let value = self.get().copy(alloc)?;
+        Boxed::new(alloc, value)
+    }
+}

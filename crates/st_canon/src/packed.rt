@@ -1,0 +1,188 @@
+ghost use Rattle.std.specs.Prelude.{◌≡◌, IfOk, Ok};
+ghost use Rattle.st_canon.specs.Reading.{json_of};
+ghost use Rattle.st_canon.specs.View.{plain};
+ghost use Rattle.st_canon.specs.Packed.{IsPacked, IsReadAgain, packed_value, value_read};
+
+use crate::counting::size;
+use crate::nesting::depth;
+use crate::part::Part;
+use crate::reading::read;
+use crate::value::Json;
+use crate::writing::write;
+use st_base::{Bytes, Copied, Shared, WantOfMemory};
+use std::alloc::Global;
+use std::marker::Model;
+
+// How deep a value may nest whose text is read again for sure.
+const READ_AGAIN: u64 = 127;
+
+/// A JSON value in little memory, which several owners share: it is kept as its canonical text, which
+/// takes a sixth of what its parts would, and is read again where they are wanted. Where that text
+/// stands in a file that is kept, it takes next to nothing. A copy costs nothing but a count. Contracts
+/// see the plain value.
+#[derive(Drop)]
+pub struct PackedJson {
+    form: Shared<Form>,
+}
+
+// What is kept of a value: its canonical text, by itself or in a file where it stands, or where that nests
+// too deep to be read again, its parts.
+#[derive(Drop)]
+pub(crate) enum Form {
+    Text(Bytes),
+    Within(Part),
+    Parts(Json),
+}
+
+impl Model for PackedJson {
+    ghost use Rattle.st_canon.specs.Plain.{Plain};
+    ghost use Rattle.st_canon.specs.PlainCodes.{coded_plain};
+    ghost use Rattle.st_canon.specs.Packed.{IsPacked, packed_value};
+
+    ghost Value = { Plain };
+
+    ghost coded = { coded_plain };
+
+    ghost view = { λ packed. packed_value packed.form };
+
+    ghost invariant = { λ packed. IsPacked packed.form };
+}
+
+impl PackedJson {
+    ghost use Rattle.std.specs.Prelude.{IfSome, min, ◌^◌, ◌-◌};
+    ghost use Rattle.st_canon.specs.Canonical.{canonical};
+    ghost use Rattle.st_canon.specs.Measure.{size_of};
+    ghost use Rattle.st_canon.specs.Proper.{IsProper};
+
+    /// The value in little memory.
+    pub fn pack(alloc: Global, value: &Json) -> Result<PackedJson, WantOfMemory>
+        ensures { IfOk result (λ packed. packed ≡ plain value.now) }
+    {
+        let form = form_of(alloc, value, None)?;
+        Ok(PackedJson {
+            form: Shared::new(alloc, form)?,
+        })
+    }
+
+    /// The value. Where its canonical text stands in the file at this offset, in bytes, it is shared with
+    /// the file; elsewhere, an offset beyond the file's end included, it is kept by itself.
+    pub fn pack_within(
+        alloc: Global,
+        value: &Json,
+        file: &Shared<Bytes>,
+        at: usize,
+    ) -> Result<PackedJson, WantOfMemory>
+        ensures { IfOk result (λ packed. packed ≡ plain value.now) }
+    {
+        let form = form_of(alloc, value, Some((file, at)))?;
+        Ok(PackedJson {
+            form: Shared::new(alloc, form)?,
+        })
+    }
+
+    /// The value whose canonical text this is, kept as by `pack_within`.
+    pub fn keep_within(
+        alloc: Global,
+        text: &[u8],
+        file: &Shared<Bytes>,
+        at: usize,
+    ) -> Result<PackedJson, WantOfMemory>
+        requires { IsReadAgain text.now }
+        ensures { IfOk result (λ packed. packed ≡ value_read (json_of text.now)) }
+    {
+        let form = form_of_text(alloc, text, Some((file, at)))?;
+        Ok(PackedJson {
+            form: Shared::new(alloc, form)?,
+        })
+    }
+
+    /// The value in its parts.
+    pub fn unpack(&self, alloc: Global) -> Result<Json, WantOfMemory>
+        ensures { IfOk result (λ value. plain value ≡ self.now) }
+    {
+        match self.form.get() {
+            Form::Text(text) => read_again(alloc, text.as_slice()),
+            Form::Within(part) => read_again(alloc, part.as_slice()),
+            Form::Parts(value) => value.copy(alloc),
+        }
+    }
+
+    /// Its canonical text, where it is kept as that. `None` says nothing of the value: its text is to be
+    /// written of what `unpack` gives.
+    pub fn text(&self) -> Option<&[u8]>
+        ensures value { IfSome result (λ text. text.now ≡ canonical self.now) }
+        ensures proper { IfSome result (λ _. IsProper self.now) }
+    {
+        match self.form.get() {
+            Form::Text(text) => Some(text.as_slice()),
+            Form::Within(part) => Some(part.as_slice()),
+            Form::Parts(_) => None,
+        }
+    }
+
+    /// The length of its canonical text, or `u64::MAX` where that is longer.
+    pub fn size(&self) -> u64
+        ensures { result ≡ min (size_of self.now) (2 ^ 64 - 1) }
+    {
+        match self.form.get() {
+            Form::Text(text) => text.as_slice().len() as u64,
+            Form::Within(part) => part.as_slice().len() as u64,
+            Form::Parts(value) => size(value),
+        }
+    }
+}
+
+impl Copied for PackedJson {
+    /// One owner more of the same value.
+    fn copy(&self, alloc: Global) -> Result<PackedJson, WantOfMemory> {
+        Ok(PackedJson {
+            form: self.form.copy(alloc)?,
+        })
+    }
+}
+
+// What is kept of a value, whose text may stand in a file at this offset.
+fn form_of(
+    alloc: Global,
+    value: &Json,
+    place: Option<(&Shared<Bytes>, usize)>,
+) -> Result<Form, WantOfMemory>
+    ensures value { IfOk result (λ form. packed_value form ≡ plain value.now) }
+    ensures packed { IfOk result IsPacked }
+{
+    if depth(value) > READ_AGAIN {
+        return Ok(Form::Parts(value.copy(alloc)?));
+    }
+    let text = write(alloc, value)?;
+    form_of_text(alloc, text.as_slice(), place)
+}
+
+// The same of the value whose canonical text this is.
+fn form_of_text(
+    alloc: Global,
+    text: &[u8],
+    place: Option<(&Shared<Bytes>, usize)>,
+) -> Result<Form, WantOfMemory>
+    requires { IsReadAgain text.now }
+    ensures value { IfOk result (λ form. packed_value form ≡ value_read (json_of text.now)) }
+    ensures packed { IfOk result IsPacked }
+{
+    if let Some((file, at)) = place {
+        if let Some(part) = Part::find(alloc, file, at, text)? {
+            return Ok(Form::Within(part));
+        }
+    }
+    // A copy has room for the text alone.
+    Ok(Form::Text(Bytes::from_slice(alloc, text)?))
+}
+
+// The value of a text that was written of one, so nothing but memory can be wanting.
+fn read_again(alloc: Global, text: &[u8]) -> Result<Json, WantOfMemory>
+    requires { json_of text.now ≡ Ok (value_read (json_of text.now)) }
+    ensures { IfOk result (λ value. plain value ≡ value_read (json_of text.now)) }
+{
+    match read(alloc, text) {
+        Ok(value) => Ok(value),
+        Err(_) => Err(WantOfMemory),
+    }
+}

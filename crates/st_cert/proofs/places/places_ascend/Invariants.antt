@@ -1,0 +1,10 @@
+use Rattle.std.proofs.Common.{◌↔◌, drop}
+use Rattle.st_apply.specs.Anchored.{place_of}
+use Rattle.st_apply.specs.Laws.{PlacesAscend}
+use Rattle.st_cert.specs.Certificate.{anchored_items}
+use Rattle.st_cert.proofs.AscendLemmas.{AscendFrom}
+use Rattle.st_cert.proofs.places.places_ascend.Given as goal
+
+abbrev pub invariant-loop-item : goal.invariant-loop-item
+invariant-loop-item l =
+    PlacesAscend place_of (anchored_items l.items) ↔ AscendFrom l.least (anchored_items (drop l.item-index l.items))

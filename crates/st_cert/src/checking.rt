@@ -1,0 +1,68 @@
+ghost use Rattle.std.specs.Prelude.{◌≡◌, ◌↔◌, IfOk, IsTrue};
+ghost use Rattle.st_base.specs.Work.{AppliesAtMost};
+ghost use Rattle.st_cert.specs.Certificate.{IsCertificate, acting_count, anchored_items};
+ghost use Rattle.st_cert.specs.Following.{Follows};
+
+use crate::certificate::Certificate;
+use crate::item::CertItem;
+use crate::places::places_ascend;
+use crate::standing::Standing;
+use crate::verdict::Verdict;
+use st_base::{WantOfMemory, Work};
+use st_params::Schedule;
+use std::alloc::Global;
+
+/// Whether the certificate is that of the operations: their places ascend strictly, each has its verdict, and
+/// the state is what they resolve to from nothing. Whoever made it need not be trusted. An operation is applied
+/// only where its verdict in the certificate acts and is the right one, and nothing else is counted.
+pub fn check_certificate(
+    alloc: Global,
+    schedule: &Schedule,
+    items: &[CertItem],
+    certificate: &Certificate,
+    work: &mut Work,
+) -> Result<bool, WantOfMemory>
+    ensures accepts { IfOk result (λ yes. IsTrue yes
+        ↔ IsCertificate schedule.now (anchored_items items.now) certificate.now) }
+    ensures acting { AppliesAtMost (acting_count certificate.now.verdicts) work.old work.new }
+{
+    if !places_ascend(items) {
+        return Ok(false);
+    }
+    let verdicts = certificate.verdicts.as_slice();
+    match follow(alloc, schedule, items, verdicts, work)? {
+        Some(standing) => standing.is(alloc, &certificate.finish),
+        None => Ok(false),
+    }
+}
+
+// Where the items lead to, if these are their verdicts.
+fn follow(
+    alloc: Global,
+    schedule: &Schedule,
+    items: &[CertItem],
+    verdicts: &[Verdict],
+    work: &mut Work,
+) -> Result<Option<Standing>, WantOfMemory>
+    ensures found { IfOk result (Follows schedule.now (anchored_items items.now) verdicts.now) }
+    ensures acting { AppliesAtMost (acting_count verdicts.now) work.old work.new }
+{
+    if items.len() != verdicts.len() {
+        return Ok(None);
+    }
+    let mut standing = Standing::absent();
+    for (at, item) in items.iter().enumerate() {
+        let verdict = standing.judge(alloc, schedule, item)?;
+        if !same_verdict(verdict, verdicts[at]) {
+            return Ok(None);
+        }
+        standing = standing.behind(alloc, schedule, item, verdict, work)?;
+    }
+    Ok(Some(standing))
+}
+
+fn same_verdict(first: Verdict, second: Verdict) -> bool
+    ensures { IsTrue result ↔ (first ≡ second) }
+{
+    first == second
+}

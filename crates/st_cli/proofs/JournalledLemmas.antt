@@ -1,0 +1,46 @@
+-- A run of a node with a journal, in the words of the node.
+use Rattle.std.proofs.Common.{◌≡◌, ◌∙◌, ⊎_elim, ◌++◌, ℕ, List, [], ◌∷◌, refl, ap, subst, sym, append_assoc}
+use Rattle.std.specs.declared.option.Option.{Option}
+use Rattle.st_base.specs.Work.{Counts}
+use Rattle.st_io.specs.Past.{Past}
+use Rattle.st_drive.specs.Lines.{all_lines}
+use Rattle.st_journal_lines.specs.Answering.{behind}
+use Rattle.st_journal_lines.specs.Journalled.{JournalTable as TableBy, KeepsLines, WentWithin, replies_by}
+use Rattle.st_node.specs.Machine.{Machine, after, answered, replies}
+use Rattle.st_status.proofs.TableLemmas.{table_by}
+use Rattle.st_cli.specs.declared.form.NodeOptions.{NodeOptions}
+use Rattle.st_cli.specs.Journalled.{JournalTable, KeepsRecords, node_answering, node_from}
+use Rattle.st_cli.specs.Node.{LinesCount, new_node}
+use Rattle.st_cli.proofs.CountLemmas.{from_beginning, within_more}
+
+behind_is : (machine : Machine) (lines : List (List ℕ)) → behind node_answering machine lines ≡ after machine lines
+behind_is machine [] = refl
+behind_is machine (line ∷ lines) = behind_is (answered machine line).next lines
+
+replies_are : (machine : Machine) (lines : List (List ℕ)) → replies_by node_answering machine lines ≡ replies machine lines
+replies_are machine [] = refl
+replies_are machine (line ∷ lines) = ap (λ more. (answered machine line).reply ++ more) (replies_are (answered machine line).next lines)
+
+-- what was counted is within the bound over all lines
+counts_within : (options : NodeOptions) (work counted : Counts) (lines : List (List ℕ))
+    → WentWithin node_answering (new_node options) work counted lines → LinesCount options lines work counted
+counts_within options work counted lines went =
+    let begun : LinesCount options went.0 work counted =
+    from_beginning options work counted went.0 (⊎_elim (λ ran. ran.1.due) (λ gave. gave) went.2) in
+    subst (λ ls. LinesCount options ls work counted) went.1.1 (within_more options work counted went.0 went.1.0 begun)
+
+pub table_of : (options : NodeOptions) (r : List (List ℕ)) {work counted : Counts} {had left held holds : Option (List ℕ)} {status : ℕ}
+    → TableBy node_answering (new_node options) r work counted options.limit had left held holds status
+    → JournalTable options r work counted had left held holds status
+table_of options r {work} {counted} = table_by (record {
+  told = λ t. t;
+  answers = λ lines. replies_are (behind node_answering (new_node options) r) lines ∙ ap (λ machine. replies machine lines) (behind_is (new_node options) r);
+  ran_over = λ lines went. counts_within options work counted (r ++ lines) went;
+  gave_up_over = λ lines went. counts_within options work counted (r ++ lines) went;
+})
+
+pub keeps_of : (options : NodeOptions) (r : List (List ℕ)) (input written : List ℕ) {old new : Past}
+    → KeepsLines node_answering (behind node_answering (new_node options) r) r (all_lines input) written old new
+    → KeepsRecords options r input written old new
+keeps_of options r input written {old} {new} keeps =
+    subst (λ (machine : Machine). KeepsLines node_answering machine r (all_lines input) written old new) (behind_is (new_node options) r) keeps

@@ -1,0 +1,45 @@
+-- A run of a node with a journal: the machine that its records bring back, the table of the run, and what it
+-- leaves of the disk.
+use Rattle.std.specs.Prelude.{ℕ, List, ◌++◌}
+use Rattle.std.specs.declared.option.Option.{Option}
+use Rattle.st_base.specs.Work.{Counts}
+use Rattle.st_drive.specs.Lines.{all_lines}
+use Rattle.st_io.specs.Past.{Past}
+use Rattle.st_journal_lines.specs.Answering.{Answering}
+use Rattle.st_journal_lines.specs.Journalled.{KeepsLines}
+use Rattle.st_node.specs.Changing.{is_changing}
+use Rattle.st_node.specs.Machine.{Machine, after, answered, replies}
+use Rattle.st_node.specs.Work.{DueOver}
+use Rattle.st_status.specs.Status.{StatusTable, replying}
+use Rattle.st_cli.specs.declared.form.NodeOptions.{NodeOptions}
+use Rattle.st_cli.specs.Node.{LinesCount, new_node}
+use Rattle.st_cli.specs.NodeLines.{RanLines}
+
+-- a node as a machine that lines bring back: a line changes it where its reply says so
+abbrev pub node_answering : Answering Machine Counts
+node_answering = record {
+  reply = λ machine line. (answered machine line).reply;
+  next = λ machine line. (answered machine line).next;
+  changes = λ machine line. is_changing (answered machine line).reply;
+  effect = record {
+    ran = λ machine work lines next counted. RanLines machine (work, tt) lines next (counted, tt);
+    gave_up = λ machine work lines counted. DueOver machine lines work counted;
+  };
+}
+
+-- the machine that these records bring back
+abbrev pub node_from : NodeOptions → (r : List (List ℕ)) → Machine
+node_from options r = after (new_node options) r
+
+-- what the run of such a node has taken and written, and what became of the counters of work: the records count
+-- as the lines do
+abbrev pub JournalTable : NodeOptions → (r : List (List ℕ)) → (work counted : Counts)
+    → (had left held holds : Option (List ℕ)) → ℕ → Type 0
+JournalTable options r work counted =
+    StatusTable (replying (replies (node_from options r)) (λ lines. LinesCount options (r ++ lines) work counted)) options.limit
+
+-- What the run leaves of its disk over an input: the records r, and then those of the input's lines that change
+-- the machine.
+abbrev pub KeepsRecords : NodeOptions → (r : List (List ℕ)) → (input written : List ℕ) → (old new : Past) → Type 0
+KeepsRecords options r input written old new =
+    KeepsLines node_answering (node_from options r) r (all_lines input) written old new

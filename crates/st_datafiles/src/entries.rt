@@ -1,0 +1,144 @@
+ghost use Rattle.std.specs.Prelude.{◌≡◌, ◌<◌, length, IfOk, IfSome, IsTrue, OnOk, Some};
+ghost use Rattle.json.specs.Json.{items, value};
+ghost use Rattle.serde_json.specs.Read.{converted};
+ghost use Rattle.st_canon.specs.Direct.{whole_json, whole_json_items};
+ghost use Rattle.st_canon.specs.Shapes.{json_in};
+ghost use Rattle.st_canon.specs.View.{items_of};
+ghost use Rattle.st_datafiles.specs.OnlyList.{ends, object_of_list, opens_list};
+
+use json::{Reader, Scratch, Token};
+use st_base::{Bytes, List, Shared, WantOfMemory};
+use st_canon::{MAX_DEPTH, PackedJson, ReadStopped, read_value, rewrite};
+use std::alloc::Global;
+
+// How deep the entries may nest, which stand in a list in an object.
+const INSIDE: usize = MAX_DEPTH - 2;
+
+// Room that most entries do not outgrow.
+const USUAL: usize = 1_000;
+
+// How an entry is packed: straight from its tokens, where its names are in order, or by way of a tree.
+#[derive(Clone, Copy)]
+enum Way {
+    Tokens,
+    Tree,
+}
+
+/// The entries of the list that is the only member, of this name, of the object that the file is. Each
+/// is packed as soon as it was read, and shares its text with the file where that is canonical. A file in
+/// which some names do not ascend is read a second time.
+/// `None` says nothing of the file: it is to be read by `read`.
+pub(crate) fn read_entries(
+    alloc: Global,
+    file: &Shared<Bytes>,
+    name: &str,
+) -> Result<Option<List<PackedJson>>, WantOfMemory>
+    ensures { IfOk result (λ found. IfSome found (λ entries. json_in file.now ≡ Some (object_of_list name.now entries))) }
+{
+    match entries_by(alloc, file, name, Way::Tokens)? {
+        Some(entries) => Ok(Some(entries)),
+        None => entries_by(alloc, file, name, Way::Tree),
+    }
+}
+
+// The same in one of the two ways.
+fn entries_by(
+    alloc: Global,
+    file: &Shared<Bytes>,
+    name: &str,
+    way: Way,
+) -> Result<Option<List<PackedJson>>, WantOfMemory>
+    ensures { IfOk result (λ found. IfSome found (λ entries. json_in file.now ≡ Some (object_of_list name.now entries))) }
+{
+    let Ok(text) = simdutf8::compat::from_utf8(file.get().as_slice()) else {
+        return Ok(None);
+    };
+    let mut scratch = Scratch::new(alloc);
+    let Ok(mut reader) = Reader::new(text, &mut scratch) else {
+        return Err(WantOfMemory);
+    };
+    if !skip_opening(&mut reader, name) {
+        return Ok(None);
+    }
+    let entries = match pack_items(alloc, &mut reader, file, way) {
+        Ok(entries) => entries,
+        Err(ReadStopped::Left) => return Ok(None),
+        Err(ReadStopped::WantOfMemory) => return Err(WantOfMemory),
+    };
+    if is_closed(&mut reader) {
+        Ok(Some(entries))
+    } else {
+        Ok(None)
+    }
+}
+
+// Whether an object is opened with a member of this name, and in that a list.
+fn skip_opening(reader: &mut Reader<'_>, name: &str) -> bool
+    ensures { IsTrue result → reader.old ≡ opens_list name.now reader.new }
+{
+    let (object, key, list) = (reader.next(), reader.next(), reader.next());
+    match (object, key, list) {
+        (Some(Token::BeginObject), Some(Token::Key(key)), Some(Token::BeginArray)) => key == name,
+        _ => false,
+    }
+}
+
+// The items up to the bracket that closes their list.
+fn pack_items(
+    alloc: Global,
+    reader: &mut Reader<'_>,
+    file: &Shared<Bytes>,
+    way: Way,
+) -> Result<List<PackedJson>, ReadStopped>
+    ensures { IfOk result (λ found. converted whole_json_items (items (value 125) (length reader.old) reader.old) ≡ Some (items_of found, reader.new)) }
+{
+    let mut found = List::new(alloc);
+    'items: while !reader.take_end_array() {
+        let packed = pack_next(alloc, reader, file, way)?;
+        found.push(alloc, packed)?;
+    }
+    Ok(found)
+}
+
+// The next value.
+fn pack_next(
+    alloc: Global,
+    reader: &mut Reader<'_>,
+    file: &Shared<Bytes>,
+    way: Way,
+) -> Result<PackedJson, ReadStopped>
+    ensures value { IfOk result (λ packed. converted whole_json (value 125 reader.old) ≡ Some (packed, reader.new)) }
+    ensures shorter { OnOk result (length reader.new < length reader.old) }
+{
+    // Its text is looked for in the file where the reader stands.
+    let at = reader.offset();
+    match way {
+        Way::Tokens => pack_tokens(alloc, reader, file, at),
+        Way::Tree => {
+            let json = read_value(alloc, reader, INSIDE)?;
+            Ok(PackedJson::pack_within(alloc, &json, file, at)?)
+        }
+    }
+}
+
+// The next value, straight from its tokens.
+fn pack_tokens(
+    alloc: Global,
+    reader: &mut Reader<'_>,
+    file: &Shared<Bytes>,
+    at: usize,
+) -> Result<PackedJson, ReadStopped>
+    ensures value { IfOk result (λ packed. converted whole_json (value 125 reader.old) ≡ Some (packed, reader.new)) }
+    ensures shorter { OnOk result (length reader.new < length reader.old) }
+{
+    let mut text = Bytes::with_room(alloc, USUAL)?;
+    rewrite(alloc, &mut text, reader, INSIDE)?;
+    Ok(PackedJson::keep_within(alloc, text.as_slice(), file, at)?)
+}
+
+// Whether the object is closed, and nothing follows.
+fn is_closed(reader: &mut Reader<'_>) -> bool
+    ensures { IsTrue result → reader.old ≡ ends }
+{
+    matches!(reader.next(), Some(Token::EndObject)) && reader.next().is_none()
+}

@@ -1,0 +1,174 @@
+-- A machine on a disk: one step, the end of its run, and the run from before its disk is opened.
+use Rattle.std.proofs.Common.{◌≡◌, ◌∙◌, ◌⊎◌, inl, inr, ⊎_elim, ◌++◌, ◌+◌, ◌≤◌, ℕ, List, [], ◌∷◌, refl, ap, sym, arith, append_assoc, append-nil, length, length-append}
+use Rattle.std.proofs.lemmas.List.{nil_from_length}
+use Rattle.st_io.specs.Past.{Past, Leaves}
+use Rattle.st_io.proofs.PastLemmas.{stands, goes_on, splits_since_sync}
+use Rattle.st_drive.specs.DiskLaws.{head_is}
+use Rattle.st_drive.specs.Runs.{Begins, RanOver, GaveUpOver, EndsWithin, course}
+use Rattle.st_drive.specs.Tables.{AnsweredFirst}
+use Rattle.st_drive.specs.OnDisk.{Rules, replies, after, AllHold, HoldsEither, HoldsFirst, Went, GaveUp, Store, IsTold, disk_meaning, HasReleased, LeavesOnDisk, Opens, RunLeaves}
+use Rattle.st_drive.proofs.RunLemmas.{begins_trans}
+
+-- ---- lists that begin others
+
+abbrev tail_of : {A : Type 0} → List A → List A
+tail_of [] = []
+tail_of (z ∷ zs) = zs
+
+-- a list is cut in two, and round an item: the item is in the first part, or the first part begins what stands before it
+pub before_or_after : {A : Type 0} (first rest before : List A) (item : A) (later : List A) → first ++ rest ≡ before ++ item ∷ later
+    → Begins (before ++ item ∷ []) first ⊎ Begins first before
+before_or_after [] rest before item later e = inr (before, refl)
+before_or_after (x ∷ first) rest [] item later e = inl (first, ap (λ y. y ∷ first) (sym (head_is x item (first ++ rest) later e)))
+before_or_after (x ∷ first) rest (y ∷ before) item later e =
+    let same = head_is x y (first ++ rest) (before ++ item ∷ later) e in
+    ⊎_elim
+    (λ b. inl (b.0, ap (λ xs. y ∷ xs) b.1 ∙ ap (λ z. z ∷ first) (sym same)))
+    (λ b. inr (b.0, ap (λ xs. x ∷ xs) b.1 ∙ ap (λ z. z ∷ before) same))
+    (before_or_after first rest before item later (ap tail_of e))
+
+begins_length : {A : Type 0} (first all : List A) → Begins first all → length first ≤ length all
+begins_length first all b = omega (arith, ap length b.1, length-append first b.0)
+
+-- what begins another and is no shorter is that
+begins_all : {A : Type 0} (first all : List A) → Begins first all → length all ≤ length first → all ≡ first
+begins_all first all b long =
+    let none : b.0 ≡ [] = nil_from_length b.0 (omega (arith, ap length b.1, length-append first b.0)) in
+    sym b.1 ∙ ap (λ xs. first ++ xs) none ∙ append-nil first
+
+-- the lines that were answered and the next one are the first of all
+behind : (answered : List (List ℕ)) (line : List ℕ) (rest later lines : List (List ℕ)) → later ≡ line ∷ rest → answered ++ later ≡ lines
+    → Begins (answered ++ line ∷ []) lines
+behind answered line rest later lines next all = (rest, append_assoc answered (line ∷ []) rest ∙ ap (λ xs. answered ++ xs) (sym next) ∙ all)
+
+-- of lines and one more, those at which only the last may be missing begin with the others
+nearly : (answered : List (List ℕ)) (line : List ℕ) (first : List (List ℕ)) → Begins first (answered ++ line ∷ [])
+    → length (answered ++ line ∷ []) ≤ length first + 1 → Begins answered first
+nearly answered line first b long = ⊎_elim
+    (λ more. begins_trans answered (answered ++ line ∷ []) first (line ∷ [], refl) more)
+    (λ less.
+    let same = begins_all first answered less (omega (arith, long, length-append answered (line ∷ []))) in
+    ([], append-nil answered ∙ same))
+    (before_or_after first b.0 answered line [] b.1)
+
+-- ---- one line, for the step of a machine
+
+module _ {M C K : Type 0} (rules : Rules M C K) (m : M) (k : K) (line : List ℕ) where
+  first_of_one : (image : List ℕ) → HoldsEither rules m k line image → HoldsFirst rules m k (line ∷ []) image
+  first_of_one image either = ⊎_elim (λ before. ([], (line ∷ [], refl), before)) (λ now. (line ∷ [], ([], refl), now)) either
+
+  -- the line was answered
+  pub line_went : (a b : Past) → Leaves (HoldsEither rules m k line) a b → AllHold rules (rules.keep m k line) b → Went rules m k (line ∷ []) a b
+  line_went a b leaves all = record {
+    goes = leaves.goes;
+    moments = λ image left. first_of_one image (leaves.each image left);
+    now = all;
+  }
+
+  -- the machine gave up at it
+  pub line_gave : (a b : Past) → Leaves (HoldsEither rules m k line) a b → GaveUp rules m k (line ∷ []) a b
+  line_gave a b leaves = record {
+    goes = leaves.goes;
+    moments = λ image left. first_of_one image (leaves.each image left);
+    now = λ image is.
+        let h = first_of_one image (leaves.each image (b.earlier a.now b.now image leaves.goes.later is)) in
+        (h.0, h.1, omega arith, h.2);
+  }
+
+  -- nothing was done to the disk
+  pub line_stays : (a : Past) → AllHold rules k a → Leaves (HoldsEither rules m k line) a a
+  line_stays a all = record { goes = stands a; each = λ image left. inl (all image left) }
+
+-- the machine has replied to a line
+pub replied : {M C K : Type 0} (rules : Rules M C K) (m n : M) (line reply : List ℕ) → reply ≡ rules.reply m line → n ≡ rules.next m line
+    → (more : List (List ℕ)) → replies rules m (line ∷ more) ≡ reply ++ replies rules n more
+replied rules m n line reply is next more =
+    ap (λ x. x ++ replies rules (rules.next m line) more) (sym is) ∙ ap (λ x. reply ++ replies rules x more) (sym next)
+
+module _ {M C K : Type 0} (rules : Rules M C K) where
+  pub replies_more : (m : M) (lines more : List (List ℕ)) → replies rules m (lines ++ more) ≡ replies rules m lines ++ replies rules (after rules m lines) more
+  replies_more m [] more = refl
+  replies_more m (line ∷ lines) more =
+      ap (λ xs. rules.reply m line ++ xs) (replies_more (rules.next m line) lines more)
+      ∙ sym (append_assoc (rules.reply m line) (replies rules (rules.next m line) lines) (replies rules (after rules (rules.next m line) lines) more))
+
+  -- the first lines are replied to first
+  pub replies_begin : (m : M) (first lines : List (List ℕ)) → Begins first lines → Begins (replies rules m first) (replies rules m lines)
+  replies_begin m first lines b = (replies rules (after rules m first) b.0, sym (replies_more m first b.0) ∙ ap (replies rules m) b.1)
+
+module _ {M C K D : Type 0} (rules : Rules M C K) (store : Store D) where
+  -- ---- the end of a run
+
+  -- the context went by the effect over the lines that were answered, or also over the next one
+  pub effect_within : {m : M} {c d : C × D} (answered later : List (List ℕ))
+      → EndsWithin (RanOver (disk_meaning rules store) m c d) (GaveUpOver (disk_meaning rules store) m c d) answered later
+      → EndsWithin (λ lines. (n : M) × rules.effect.ran m c.0 lines n d.0) (λ lines. rules.effect.gave_up m c.0 lines d.0) answered later
+  effect_within answered later (inl ran) = inl (ran.0, ran.1.effect)
+  effect_within answered later (inr gave) = inr (gave.0, gave.1, gave.2, gave.3.effect)
+
+  module _ {m : M} {c d : C × D} {written : List ℕ} {lines : List (List ℕ)} (told : IsTold store c.1)
+      (first : AnsweredFirst (course (disk_meaning rules store) m c d) written lines) where
+    -- each line of whose reply a byte was written was answered
+    released : HasReleased rules m lines written first.answered
+    released before line later e out = ⊎_elim
+        (λ b. b)
+        (λ b. absurd (
+        let some = begins_length written (replies rules m first.answered) (first.replies told) in
+        let more = begins_length (replies rules m first.answered) (replies rules m before) (replies_begin rules m first.answered before b) in
+        omega (arith, some, more, out)))
+        (before_or_after first.answered first.later before line later (first.all ∙ sym e))
+
+    pub leaves_on_disk : (k : K) → AllHold rules k (store.past c.1) → LeavesOnDisk rules m k lines written (store.past c.1) (store.past d.1)
+    leaves_on_disk k all = ⊎_elim
+        (λ ran.
+        let went = ran.1.disk told k all in
+        record {
+          goes = went.goes;
+          moments = λ image left. let h = went.moments image left in (h.0, begins_trans h.0 first.answered lines h.1 (first.later, first.all), h.2);
+          end = λ image is. (first.answered, (first.later, first.all), released, went.now image is);
+        })
+        (λ gave.
+        let gone = gave.3.disk told k all in
+        let here = behind first.answered gave.0 gave.1 first.later lines gave.2 first.all in
+        record {
+          goes = gone.goes;
+          moments = λ image left. let h = gone.moments image left in (h.0, begins_trans h.0 (first.answered ++ gave.0 ∷ []) lines h.1 here, h.2);
+          end = λ image is.
+              let h = gone.now image is in
+              let had = nearly first.answered gave.0 h.0 h.1 h.2 in (
+                h.0,
+                begins_trans h.0 (first.answered ++ gave.0 ∷ []) lines h.1 here,
+                λ before line later e out. begins_trans
+                    (before ++ line ∷ []) first.answered h.0 (released before line later e out) had,
+                h.3,
+              );
+        })
+        first.context
+
+-- ---- a run, from before its disk is opened
+
+module _ {M C K : Type 0} (rules : Rules M C K) where
+  -- the disk was opened, and then lines were answered
+  pub run_leaves : (m : M) (k : K) (lines : List (List ℕ)) (written : List ℕ) (a b c : Past) → Opens rules k a b
+      → LeavesOnDisk rules m k lines written b c → RunLeaves rules m k lines written a c
+  run_leaves m k lines written a b c opens leaves = record {
+    goes = goes_on a b c opens.goes leaves.goes;
+    moments = λ image left. ⊎_elim
+        (λ was. ⊎_elim inl (λ holds. inr ([], (lines, refl), holds)) (opens.moments image was))
+        (λ new. inr (leaves.moments image new))
+        (leaves.goes.splits a.now image opens.goes.later left);
+    synced = λ image left. ⊎_elim
+        (λ was. ([], (lines, refl), opens.synced image was))
+        (λ new. leaves.moments image new)
+        (splits_since_sync b c leaves.goes a.now image left);
+    end = λ some image is. leaves.end image is;
+  }
+
+  -- the disk could not be opened, and nothing was written
+  pub run_opens : (m : M) (k : K) (lines : List (List ℕ)) (a b : Past) → Opens rules k a b → RunLeaves rules m k lines [] a b
+  run_opens m k lines a b opens = record {
+    goes = opens.goes;
+    moments = λ image left. ⊎_elim inl (λ holds. inr ([], (lines, refl), holds)) (opens.moments image left);
+    synced = λ image left. ([], (lines, refl), opens.synced image left);
+    end = λ some. absurd (omega (arith, some));
+  }

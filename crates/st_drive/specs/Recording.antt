@@ -1,0 +1,94 @@
+-- Machines that record on their disk each line that changes them, before they reply to it, as a journal does.
+use Rattle.std.specs.Prelude.{◌≡◌, ◌⊎◌, ◌<◌, ℕ, Bool, true, false, List, [], ◌∷◌, ◌++◌, length, Option, Some, if◌then◌else◌}
+use Rattle.st_io.specs.Past.{Past, Images, LeftSinceSync, Leaves}
+use Rattle.st_drive.specs.OnDisk.{Effect, Rules, AllHold, HasReleased, Store, IsTold}
+use Rattle.st_drive.specs.Runs.{Begins}
+
+-- a machine of type M with a context of type C that records lines
+pub record Recorder (M C : Type 0) : Type 1 where
+  -- what it replies to a line, and the machine after it
+  pub reply : M → List ℕ → List ℕ
+  pub next : M → List ℕ → M
+  -- a line changes the machine, and is recorded
+  pub changes : M → List ℕ → Bool
+  -- the records of an image, or none where it is damaged
+  pub records : List ℕ → Option (List (List ℕ))
+  -- what it may do to its context
+  pub effect : Effect M C
+
+-- this line, where it is recorded
+abbrev pub recorded : Bool → List ℕ → List (List ℕ)
+recorded changes line = if changes then line ∷ [] else []
+
+-- its rules: it keeps the lines that changed it
+abbrev pub recording : {M C : Type 0} → Recorder M C → Rules M C (List (List ℕ))
+recording recorder = record {
+  reply = recorder.reply;
+  next = recorder.next;
+  keep = λ m r line. r ++ recorded (recorder.changes m line) line;
+  holds = λ r image. recorder.records image ≡ Some r;
+  effect = recorder.effect;
+}
+
+-- those of these lines that change the machine, one after the other
+abbrev pub changing : {M C : Type 0} → Recorder M C → M → List (List ℕ) → List (List ℕ)
+changing recorder m [] = []
+changing recorder m (line ∷ lines) =
+    recorded (recorder.changes m line) line ++ changing recorder (recorder.next m line) lines
+
+-- ---- one step
+
+-- these are the records of an image, or these and the line
+abbrev pub HasOneMore : {M C : Type 0} → Recorder M C → List (List ℕ) → List ℕ → (image : List ℕ) → Type 0
+HasOneMore recorder r line image =
+    (recorder.records image ≡ Some r) ⊎ (recorder.records image ≡ Some (r ++ line ∷ []))
+
+-- the disk went on, and the line is recorded at each moment or not yet
+abbrev pub LeavesOneMore : {M C : Type 0} → Recorder M C → List ℕ → (old new : Past) → Type 0
+LeavesOneMore recorder line old new =
+    (r : List (List ℕ)) → AllHold (recording recorder) r old → Leaves (HasOneMore recorder r line) old new
+
+-- The machine has replied to a line that changes it. Where the disk tells what it reads as, it still does, the
+-- machine is the next one, and the line is recorded in every image.
+pub record HasRecorded {M C D : Type 0} (recorder : Recorder M C) (store : Store D)
+    (m : M) (c : C × D) (line : List ℕ) (n : M) (d : C × D) : Type 0 where
+  pub changes : recorder.changes m line ≡ true
+  pub effect : recorder.effect.ran m c.0 (line ∷ []) n d.0
+  pub told : IsTold store c.1 → IsTold store d.1
+  pub came : IsTold store c.1 → n ≡ recorder.next m line
+  pub moments : IsTold store c.1 → LeavesOneMore recorder line (store.past c.1) (store.past d.1)
+  pub now : IsTold store c.1 → (r : List (List ℕ)) → AllHold (recording recorder) r (store.past c.1)
+      → AllHold (recording recorder) (r ++ line ∷ []) (store.past d.1)
+
+-- it gave up at a line that changes it
+pub record GaveUpRecording {M C D : Type 0} (recorder : Recorder M C) (store : Store D)
+    (m : M) (c : C × D) (line : List ℕ) (d : C × D) : Type 0 where
+  pub changes : recorder.changes m line ≡ true
+  pub effect : recorder.effect.gave_up m c.0 (line ∷ []) d.0
+  pub moments : IsTold store c.1 → LeavesOneMore recorder line (store.past c.1) (store.past d.1)
+
+-- it has replied to a line that changes nothing, and left the disk
+pub record HasIdled {M C D : Type 0} (recorder : Recorder M C) (store : Store D)
+    (m : M) (c : C) (line : List ℕ) (n : M) (d : C) (disk : D) : Type 0 where
+  pub idle : recorder.changes m line ≡ false
+  pub effect : recorder.effect.ran m c (line ∷ []) n d
+  pub came : IsTold store disk → n ≡ recorder.next m line
+
+-- ---- a whole run
+
+-- the records of an image are r, and then the changing lines of a prefix of these lines
+abbrev pub HasPrefix : {M C : Type 0} → Recorder M C → M → (r lines : List (List ℕ)) → (image : List ℕ) → Type 0
+HasPrefix recorder m r lines image =
+    (prefix : List (List ℕ)) × Begins prefix lines × (recorder.records image ≡ Some (r ++ changing recorder m prefix))
+
+-- What a run of such a machine leaves of its disk, which begins as m with the records r.
+pub record KeepsRecords {M C : Type 0} (recorder : Recorder M C)
+    (m : M) (r lines : List (List ℕ)) (written : List ℕ) (old new : Past) : Type 0 where
+  -- at each moment an image is one of those of the start, or has the records of a prefix
+  pub moments : (image : List ℕ) → new.left_since old.now image → Images old image ⊎ HasPrefix recorder m r lines image
+  -- from the first good sync on each has the records of a prefix
+  pub synced : (image : List ℕ) → LeftSinceSync new old.now image → HasPrefix recorder m r lines image
+  -- at the end, where a byte was written, the prefix has each line of whose reply a byte was written
+  pub end : 0 < length written → (image : List ℕ) → Images new image
+      → (prefix : List (List ℕ)) × Begins prefix lines × HasReleased (recording recorder) m lines written prefix
+      × (recorder.records image ≡ Some (r ++ changing recorder m prefix))

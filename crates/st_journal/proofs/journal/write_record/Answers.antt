@@ -1,0 +1,56 @@
+use Rattle.std.proofs.Common.{◌≡◌, ◌+◌, ◌^◌, ◌<◌, ◌≤◌, [], ◌∷◌, length, option_map, ap, subst, arith}
+use Rattle.std.proofs.lemmas.Result.{on_ok_weaker}
+use Rattle.st_io.proofs.TearLemmas.{length_overwritten}
+use Rattle.st_io.specs.Tears.{Holds}
+use Rattle.st_journal.proofs.AppendLemmas.{both, fits}
+use Rattle.st_io.proofs.MomentLemmas.{then_on, turns_on}
+use Rattle.st_journal.proofs.WriteLemmas.{alike, first_moments, second_moments, written}
+use Rattle.st_journal.specs.Image.{found, open_gate, records}
+use Rattle.st_journal.specs.Moments.{IsBeforeOrAfter}
+use Rattle.st_journal.specs.Rows.{put_last, row_of}
+use Rattle.st_journal.proofs.journal.write_record.Goals as goal
+
+pub write_synced-requires : goal.write_synced-requires
+write_synced-requires g c old told = fits c.args.end old (c.requires.ready.gate old told)
+
+pub write_synced-requires-2 : goal.write_synced-requires-2
+write_synced-requires-2 g c laid told =
+    let from = c.in_ok-write_synced.ensures.written.back laid told in
+    let within : c.args.end + 1 ≤ length from.0 = fits c.args.end from.0 (c.requires.ready.gate from.0 from.1) in
+    omega (arith, within, ap length from.2, length_overwritten (c.args.end + 1) c.args.row.now from.0 within)
+
+pub returns-in_err-write_synced-clause-moments : goal.returns-in_err-write_synced-clause-moments
+returns-in_err-write_synced-clause-moments g c old told =
+    first_moments c.args.end _ old c.args.body.now _ _ (alike c.args.end _ _ old c.requires.ready told) c.write_synced.ensures.time c.write_synced.ensures.images
+
+pub returns-clause-moments : goal.returns-clause-moments
+returns-clause-moments g c old told =
+    let is = alike c.args.end _ _ old c.requires.ready told in
+    let laid = c.in_ok-write_synced.ensures.written.forward old told in
+    let small : length c.args.body.now < 2 ^ 32 = omega (arith, c.requires.body) in
+    let holds = subst (λ row. Holds (c.args.end + 1) row old laid.0) c.requires.row laid.2 in
+    then_on (IsBeforeOrAfter (records old) c.args.body.now) _ _ _
+    (first_moments c.args.end _ old c.args.body.now _ _ is c.write_synced.ensures.time c.write_synced.ensures.images)
+    (second_moments c.args.end old c.args.body.now laid.0 _ _ is.ends small holds (c.in_ok-write_synced.ensures.durable laid.0 laid.1) c.write_synced-2.ensures.time c.write_synced-2.ensures.images)
+
+pub returns-clause-stands : goal.returns-clause-stands
+returns-clause-stands g c =
+    let end = c.args.end in
+    on_ok_weaker c.write_synced-2.result
+    (λ second. turns_on _ _ _ (Holds (end + 1) c.args.row.now) (Holds end (open_gate ∷ [])) (Holds end (open_gate ∷ row_of c.args.body.now))
+    (λ old laid new told first last.
+    both end open_gate (row_of c.args.body.now) old laid new (fits end old (c.requires.ready.gate old told)) (subst (λ row. Holds (end + 1) row old laid) c.requires.row first) last)
+    c.in_ok-write_synced.ensures.written second)
+    c.write_synced-2.ensures.written
+
+pub returns-clause-written : goal.returns-clause-written
+returns-clause-written g c =
+    let body = c.args.body.now in
+    let end = c.args.end in
+    let small : length body < 2 ^ 32 = omega (arith, c.requires.body) in
+    on_ok_weaker c.write_synced-2.result
+    (λ second. turns_on _ _ _ (Holds (end + 1) c.args.row.now) (Holds end (open_gate ∷ [])) (λ old new. found new ≡ option_map (put_last body) (found old))
+    (λ old laid new told first last.
+    written end old body laid new (alike end _ _ old c.requires.ready told).ends small (subst (λ row. Holds (end + 1) row old laid) c.requires.row first) last)
+    c.in_ok-write_synced.ensures.written second)
+    c.write_synced-2.ensures.written

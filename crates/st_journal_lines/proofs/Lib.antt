@@ -1,0 +1,4 @@
+mod ReplayLemmas
+mod StepLemmas
+mod OpenedLemmas
+pub mod RunLemmas

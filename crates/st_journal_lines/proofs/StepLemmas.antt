@@ -1,0 +1,91 @@
+-- One line of a machine with its journal.
+use Rattle.std.proofs.Common.{◌≡◌, ◌∙◌, ◌⊎◌, inl, inr, ⊎_elim, ◌++◌, ◌+◌, ℕ, true, false, List, [], ◌∷◌, Option, Some, None, refl, ap, sym, subst, length}
+use Rattle.std.proofs.lemmas.Bool.{false≢true}
+use Rattle.std.specs.Prelude.{IsSome}
+use Rattle.st_io.specs.Past.{Past, Images, Leaves}
+use Rattle.st_io.specs.Tears.{IfTold}
+use Rattle.st_drive.specs.OnDisk.{AllHold, GaveUpOnDisk, IsTold, RanOnDisk, Rules, Store}
+use Rattle.st_drive.specs.Recording.{recording}
+use Rattle.st_drive.proofs.RecordingLemmas.{gave_up_idle, gave_up_recording, has_idled, has_recorded}
+use Rattle.st_journal.specs.Image.{records}
+use Rattle.st_journal.specs.Moments.{IsBeforeOrAfter, with_record}
+use Rattle.st_journal.specs.Values.{JournalValue, at_end}
+use Rattle.st_journal_lines.specs.Answering.{Answering, grown, recorder_of}
+
+-- the same of a machine that is seen as another, and came to one that is
+pub ran_as : {M C K D : Type 0} {rules : Rules M C K} {store : Store D} {m n self after : M} {c d : C × D} {lines : List (List ℕ)}
+    → m ≡ self → after ≡ n → RanOnDisk rules store m c lines n d → RanOnDisk rules store self c lines after d
+ran_as {rules = rules} {store = store} {m = m} {self = self} {after = after} {c = c} {d = d} {lines = lines} is came ran =
+    subst (λ x. RanOnDisk rules store x c lines after d) is (subst (λ x. RanOnDisk rules store m c lines x d) (sym came) ran)
+
+pub gave_as : {M C K D : Type 0} {rules : Rules M C K} {store : Store D} {m self : M} {c d : C × D} {lines : List (List ℕ)}
+    → m ≡ self → GaveUpOnDisk rules store m c lines d → GaveUpOnDisk rules store self c lines d
+gave_as {rules = rules} {store = store} {c = c} {d = d} {lines = lines} is gave = subst (λ x. GaveUpOnDisk rules store x c lines d) is gave
+
+module _ {M C : Type 0} (answering : Answering M C) where
+  -- where one image is told, all images hold what it holds
+  there : (told : Option (List ℕ)) (past : Past) (r : List (List ℕ)) → IfTold told (Images past)
+      → AllHold (recording (recorder_of answering)) r past → IfTold told (λ image. records image ≡ Some r)
+  there told past r is all image here = all image (is image here)
+
+  -- a record more, or not yet
+  moments_of : (told : Option (List ℕ)) (a b : Past) (line : List ℕ) (r : List (List ℕ)) → IsSome told → IfTold told (λ image. records image ≡ Some r)
+      → IfTold told (λ old. Leaves (IsBeforeOrAfter (records old) line) a b)
+      → Leaves (λ image. (records image ≡ Some r) ⊎ (records image ≡ Some (r ++ line ∷ []))) a b
+  moments_of None a b line r some is moments = absurd (false≢true some)
+  moments_of (Some old) a b line r some is moments =
+      let m = moments old refl in
+      let here = is old refl in
+      record {
+        goes = m.goes;
+        each = λ image left. ⊎_elim (λ before. inl (before ∙ here)) (λ more. inr (more ∙ ap (with_record line) here)) (m.each image left);
+      }
+
+  lasting_of : (told : Option (List ℕ)) (b : Past) (line : List ℕ) (r : List (List ℕ)) → IsSome told → IfTold told (λ image. records image ≡ Some r)
+      → IfTold told (λ old. (image : List ℕ) → Images b image → records image ≡ with_record line (records old))
+      → AllHold (recording (recorder_of answering)) (r ++ line ∷ []) b
+  lasting_of None b line r some is lasting image here = absurd (false≢true some)
+  lasting_of (Some old) b line r some is lasting image here = lasting old refl image here ∙ ap (with_record line) (is old refl)
+
+  module _ {D : Type 0} (store : Store D) (m : M) (journal : JournalValue) (line : List ℕ) (c d : C) (a b : D)
+      (is : answering.changes m line ≡ true) (image : IfTold (store.reads a) (Images (store.past a)))
+      (moments : IfTold (store.reads a) (λ old. Leaves (IsBeforeOrAfter (records old) line) (store.past a) (store.past b))) where
+    moments_told : IsTold store a → (r : List (List ℕ)) → AllHold (recording (recorder_of answering)) r (store.past a)
+        → Leaves (λ x. (records x ≡ Some r) ⊎ (records x ≡ Some (r ++ line ∷ []))) (store.past a) (store.past b)
+    moments_told t r all =
+        moments_of (store.reads a) (store.past a) (store.past b) line r t (there (store.reads a) (store.past a) r image all) moments
+
+    -- the line was recorded
+    pub ran_recorded : (n : M) (longer : JournalValue) → answering.effect.ran m c (line ∷ []) n d → (IsTold store a → IsTold store b)
+        → n ≡ answering.next m line → longer ≡ at_end (journal.end + 5 + length line)
+        → IfTold (store.reads a) (λ old. (x : List ℕ) → Images (store.past b) x → records x ≡ with_record line (records old))
+        → RanOnDisk (recording (recorder_of answering)) store (m, journal) (c, a) (line ∷ []) (n, longer) (d, b)
+    ran_recorded n longer ran told next end lasting = has_recorded (recorder_of answering) (record {
+      changes = is;
+      effect = ran;
+      told = told;
+      came = λ t. ap (λ x. (x, longer)) next ∙ ap (λ j. (answering.next m line, j)) (end ∙ sym (ap (λ t. grown t journal line) is));
+      moments = moments_told;
+      now = λ t r all. lasting_of (store.reads a) (store.past b) line r t (there (store.reads a) (store.past a) r image all) lasting;
+    })
+
+    -- the machine gave up at it
+    pub gave_recorded : answering.effect.gave_up m c (line ∷ []) d
+        → GaveUpOnDisk (recording (recorder_of answering)) store (m, journal) (c, a) (line ∷ []) (d, b)
+    gave_recorded gave = gave_up_recording (recorder_of answering) (record { changes = is; effect = gave; moments = moments_told })
+
+  -- a line that changes nothing
+  pub ran_idle : {D : Type 0} (store : Store D) (m n : M) (journal : JournalValue) (line : List ℕ) (c d : C) (a : D)
+      → answering.changes m line ≡ false → answering.effect.ran m c (line ∷ []) n d → n ≡ answering.next m line
+      → RanOnDisk (recording (recorder_of answering)) store (m, journal) (c, a) (line ∷ []) (n, journal) (d, a)
+  ran_idle store m n journal line c d a is ran next = has_idled (recorder_of answering) (record {
+    idle = is;
+    effect = ran;
+    came = λ t. ap (λ x. (x, journal)) next ∙ sym (ap (λ t. (answering.next m line, grown t journal line)) is);
+  })
+
+  -- want of memory before the disk was touched
+  pub gave_idle : {D : Type 0} (store : Store D) (m : M) (journal : JournalValue) (line : List ℕ) (c d : C) (a : D)
+      → answering.effect.gave_up m c (line ∷ []) d
+      → GaveUpOnDisk (recording (recorder_of answering)) store (m, journal) (c, a) (line ∷ []) (d, a)
+  gave_idle store m journal line c d a gave = gave_up_idle (recorder_of answering) store (m, journal) c d line a gave

@@ -1,0 +1,78 @@
+-- Machines of lines that lines bring back, and the same with a journal in which the lines that change them are
+-- recorded.
+use Rattle.std.specs.Prelude.{◌≡◌, ◌⊎◌, ℕ, ◌+◌, ◌≤◌, ◌<◌, ◌^◌, Bool, true, List, [], ◌∷◌, length, take, if◌then◌else◌, Result, Ok}
+use Rattle.st_base.specs.Answers.{◌>>=◌}
+use Rattle.st_drive.specs.OnDisk.{Effect, EffectLaws}
+use Rattle.st_drive.specs.Recording.{Recorder}
+use Rattle.st_drive.specs.Runs.{Begins}
+use Rattle.st_journal.specs.Image.{records}
+use Rattle.st_journal.specs.Values.{JournalValue, at_end}
+use Rattle.st_journal.specs.declared.refused.JournalRefused.{JournalRefused}
+
+-- a machine of type M with a context of type C that answers lines
+pub record Answering (M C : Type 0) : Type 1 where
+  -- what it replies to a line, and the machine after it
+  pub reply : M → List ℕ → List ℕ
+  pub next : M → List ℕ → M
+  -- a line changes the machine
+  pub changes : M → List ℕ → Bool
+  -- what it may do to its context
+  pub effect : Effect M C
+
+-- how many bytes a line that is recorded has at most
+abbrev pub longest_record : ℕ
+longest_record = 24000000
+
+-- what is promised of a machine that looks at the first `cap` bytes of a line
+pub record AnsweringLaws {M C : Type 0} (answering : Answering M C) (cap : ℕ) : Type 0 where
+  -- a line that changes it can be recorded, and is looked at whole
+  pub whole : longest_record < cap
+  pub short : (m : M) (line : List ℕ) → answering.changes m line ≡ true → length line ≤ longest_record
+  -- a line that is cut to its first `cap` bytes does the same
+  pub cut_reply : (m : M) (line : List ℕ) → length line < 2 ^ 62 → answering.reply m (take cap line) ≡ answering.reply m line
+  pub cut_next : (m : M) (line : List ℕ) → length line < 2 ^ 62 → answering.next m (take cap line) ≡ answering.next m line
+  pub cut_changes : (m : M) (line : List ℕ) → length line < 2 ^ 62 → answering.changes m (take cap line) ≡ answering.changes m line
+  pub effect : EffectLaws answering.effect cap
+  -- where it went over a line, it may as well give up behind it
+  pub gave_up_behind : (m n : M) (c d : C) (line : List ℕ) → answering.effect.ran m c (line ∷ []) n d
+      → answering.effect.gave_up m c (line ∷ []) d
+
+-- ---- over lines, one after the other
+
+-- the machine behind these lines
+abbrev pub behind : {M C : Type 0} → Answering M C → M → List (List ℕ) → M
+behind answering m [] = m
+behind answering m (line ∷ lines) = behind answering (answering.next m line) lines
+
+-- behind the records of a journal, where it was opened
+abbrev pub behind_opened : {M C : Type 0} → Answering M C → M → Result (List (List ℕ)) JournalRefused → Result M JournalRefused
+behind_opened answering m opened = do
+  records ← opened
+  Ok (behind answering m records)
+
+-- it gave up at one of these lines
+abbrev pub GaveUpWithin : {M C : Type 0} → Answering M C → M → List (List ℕ) → (c d : C) → Type 0
+GaveUpWithin answering m lines c d = (first : List (List ℕ)) × Begins first lines × answering.effect.gave_up m c first d
+
+-- the context stayed as it was, or went over these lines, or the machine gave up at one of them
+abbrev pub StayedOrWent : {M C : Type 0} → Answering M C → M → List (List ℕ) → (c d : C) → Type 0
+StayedOrWent answering m lines c d = (d ≡ c) ⊎ GaveUpWithin answering m lines c d
+
+-- ---- with its journal
+
+-- the journal after a line that changes the machine, or doesn't
+abbrev pub grown : Bool → JournalValue → List ℕ → JournalValue
+grown changes journal line = if changes then at_end (journal.end + 5 + length line) else journal
+
+-- the machine with its journal records the lines that change it
+abbrev pub recorder_of : {M C : Type 0} → Answering M C → Recorder (M × JournalValue) C
+recorder_of answering = record {
+  reply = λ m line. answering.reply m.0 line;
+  next = λ m line. (answering.next m.0 line, grown (answering.changes m.0 line) m.1 line);
+  changes = λ m line. answering.changes m.0 line;
+  records = records;
+  effect = record {
+    ran = λ m c lines n d. answering.effect.ran m.0 c lines n.0 d;
+    gave_up = λ m c lines d. answering.effect.gave_up m.0 c lines d;
+  };
+}

@@ -1,0 +1,12 @@
+//! A machine of lines that survives stops: each line that changes it is recorded in a journal before it
+//! is replied to, and the records bring it back.
+#![tactic(auto)]
+
+mod lines;
+mod opening;
+mod replayable;
+mod running;
+
+pub use lines::JournalLines;
+pub use replayable::Replayable;
+pub use running::run_journalled;

@@ -1,0 +1,19 @@
+-- Which replies tell that the line has changed the machine.
+use Rattle.std.specs.Prelude.{ℕ, Bool, false, ◌&&◌, ◌||◌, nat_le, List, [], ◌∷◌, bytes_eq, codes, length, take, drop}
+
+-- a text begins with this front
+abbrev pub begins_with : List ℕ → List ℕ → Bool
+begins_with front text = bytes_eq (take (length front) text) front
+
+-- a digit other than 0 comes first
+abbrev pub is_positive : List ℕ → Bool
+is_positive [] = false
+is_positive (digit ∷ more) = nat_le 49 digit && nat_le digit 57
+
+-- a reply tells of a change: a new file, an entry, entries that went, an operation that is queued, or a batch
+abbrev pub is_changing : List ℕ → Bool
+is_changing reply =
+    begins_with (codes "have ") reply
+    || (begins_with (codes "anchored ") reply
+    || (begins_with (codes "cut ") reply && is_positive (drop 4 reply)
+    || (begins_with (codes "queued ") reply || begins_with (codes "batch ") reply)))

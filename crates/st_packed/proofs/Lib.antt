@@ -1,2 +1,0 @@
--- Private: an object whose only member is a list, over its tokens.
-mod EntryLemmas

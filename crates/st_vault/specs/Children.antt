@@ -1,0 +1,27 @@
+-- Child keys of a key: LMS secret keys of their own, which come from it by hashes of the form that its
+-- one-time keys come by (RFC 8554, appendix A). Which of them are used for what, the crates above say.
+use Rattle.std.specs.Prelude.{ℕ, List, ◌++◌, take}
+use Rattle.sha2.specs.Sha256.{sha256}
+use Rattle.st_lms.specs.Keys.{SecretKey}
+use Rattle.st_lms.specs.Strings.{u32str, u16str}
+
+-- what sets the hash for a child's identifier apart
+abbrev pub d_child_id : ℕ
+d_child_id = 0xfff0
+
+-- what sets the hash for a child's seed apart
+abbrev pub d_child_seed : ℕ
+d_child_seed = 0xfff1
+
+-- the hash of a key for its child n, of which d says what it is for
+unfoldable pub child_hash : SecretKey → ℕ → ℕ → List ℕ
+child_hash key n d = sha256 (key.id ++ u32str n ++ u16str d ++ key.seed)
+
+-- child n of a key: of the same LM-OTS type, and with a tree of height 5, which is LMS type 5
+unfoldable pub child_of : SecretKey → ℕ → SecretKey
+child_of key n = record {
+  ots = key.ots;
+  tree = 5;
+  id = take 16 (child_hash key n d_child_id);
+  seed = child_hash key n d_child_seed;
+}

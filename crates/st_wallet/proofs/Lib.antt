@@ -1,0 +1,3 @@
+mod StepLemmas
+pub mod CountersLemmas
+pub mod LineLemmas

@@ -1,0 +1,195 @@
+-- The reference machine of the wallet: what it answers to a line, and what its disk is then. It keeps
+-- what the disk was found to be, and nothing else.
+use Rattle.std.specs.Prelude.{◌≡◌, ◌⊎◌, ⊤, ℕ, nat_le, List, [], ◌∷◌, ◌++◌, codes, if◌then◌else◌, Option, Some, None, Result, Ok, Err}
+use Rattle.std.specs.Fmt.{decimal}
+use Rattle.st_base.specs.Replies.{reply, spaced}
+use Rattle.st_canon.specs.Canonical.{canonical}
+use Rattle.st_hash.specs.Base64url.{base64url}
+use Rattle.st_hash.specs.Hash.{hash_text}
+use Rattle.st_jws.specs.Commitment.{commitment_of, reveal_of}
+use Rattle.st_jws.specs.Jwk.{jwk_json}
+use Rattle.st_jws.specs.declared.jwk.Jwk.{Jwk}
+use Rattle.st_lms.specs.Keys.{PublicKey, SecretKey, public_text}
+use Rattle.st_lms.specs.Signature.{public_of}
+use Rattle.st_ops.specs.Operation.{PlainOperation, suffix_of}
+use Rattle.st_ops.specs.RequestText.{request_text}
+use Rattle.st_vault.specs.Values.{VaultValue, left_of, new_vault, vault_after}
+use Rattle.st_wallet.specs.Command.{command_of, format_in}
+use Rattle.st_wallet.specs.Drafts.{HasInput, create_asked, deactivate_asked, key_with, recover_asked, signed_by, update_asked}
+use Rattle.st_wallet.specs.Found.{Found}
+use Rattle.st_wallet.specs.Found.Found.{Blank, Damaged, Opened}
+use Rattle.st_wallet.specs.declared.command.Command.{Command}
+use Rattle.st_wallet.specs.declared.command.Command.TheVariants.{Format, Key, Left, Create, Update, Recover, Deactivate}
+use Rattle.st_wallet.specs.declared.command.LineCause.{LineCause}
+use Rattle.st_wallet.specs.declared.command.LineCause.TheVariants as line_is
+use Rattle.st_wallet.specs.declared.drafting.Draft.{Draft}
+use Rattle.st_wallet.specs.declared.planning.Plan.{Plan}
+use Rattle.st_wallet.specs.declared.planning.Plan.TheVariants.{Tell, Sign}
+use Rattle.st_wallet.specs.declared.refused.DraftRefused.{DraftRefused}
+use Rattle.st_wallet.specs.declared.refused.DraftRefused.TheVariants.{BadHash, NotJson, NotWhole, BadDelta, WantOfMemory}
+
+-- what a line leaves, the reply to it, and the counter that the reply took, where it took one
+pub record Answered : Type 0 where
+  pub next : Found
+  pub reply : List ℕ
+  pub counter : Option ℕ
+
+-- ---- replies
+
+-- `refused <cause>`
+abbrev pub refused_reply : List ℕ → List ℕ
+refused_reply cause = reply (codes "refused ") cause
+
+-- `formatted <base64url of the public key>`
+abbrev pub formatted_reply : PublicKey → List ℕ
+formatted_reply public = reply (codes "formatted ") (base64url (public_text public))
+
+-- `key <reveal> <commitment> <canonical JWK>`
+abbrev pub key_reply : Jwk → List ℕ
+key_reply key =
+    reply (codes "key") (spaced (hash_text (reveal_of key) ∷ hash_text (commitment_of key) ∷ canonical (jwk_json key) ∷ []))
+
+-- `left <n>`
+abbrev pub left_reply : VaultValue → List ℕ
+left_reply vault = reply (codes "left ") (decimal (left_of vault))
+
+-- `request <suffix> <canonical request>`
+abbrev pub request_reply : PlainOperation → List ℕ
+request_reply operation = reply (codes "request") (spaced (hash_text (suffix_of operation) ∷ request_text operation ∷ []))
+
+-- why a line is no command
+abbrev pub cause_word : LineCause → List ℕ
+cause_word line_is.Long = codes "long"
+cause_word line_is.Command = codes "command"
+cause_word line_is.Words = codes "words"
+cause_word line_is.Number = codes "number"
+cause_word line_is.Hex = codes "hex"
+
+-- why no operation comes of it; that memory is wanting is never said here
+abbrev pub draft_word : DraftRefused → List ℕ
+draft_word BadHash = codes "badHash"
+draft_word NotJson = codes "notJson"
+draft_word NotWhole = codes "notWhole"
+draft_word BadDelta = codes "badDelta"
+draft_word WantOfMemory = []
+
+-- ---- answers
+
+-- this reply, and nothing changes
+abbrev pub replied : Found → List ℕ → Answered
+replied found text = record { next = found; reply = text; counter = None }
+
+-- `refused <cause>`, and nothing changes
+abbrev pub refused : Found → List ℕ → Answered
+refused found cause = replied found (refused_reply cause)
+
+-- the disk becomes a vault of this key, of which no counter is spent
+abbrev pub answered_format : SecretKey → Answered
+answered_format key = record {
+  next = Opened (new_vault key);
+  reply = formatted_reply (public_of key);
+  counter = None;
+}
+
+-- the request for an operation, signed with the next counter, which is spent
+abbrev pub answered_signed : VaultValue → Draft → Answered
+answered_signed vault draft = record {
+  next = Opened (vault_after vault);
+  reply = request_reply (signed_by vault.key vault.next draft);
+  counter = Some vault.next;
+}
+
+-- the same, where a counter is left
+abbrev pub answered_draft : VaultValue → Draft → Answered
+answered_draft vault draft =
+    if nat_le 1 (left_of vault) then answered_signed vault draft else refused (Opened vault) (codes "exhausted")
+
+-- ---- what a command comes to over a vault: a reply, or an operation that is signed
+
+-- a request that needs no signature, or why there is none
+abbrev pub created_reply : Result PlainOperation DraftRefused → List ℕ
+created_reply (Ok operation) = request_reply operation
+created_reply (Err refusal) = refused_reply (draft_word refusal)
+
+-- the request for a create
+abbrev pub create_reply : PublicKey → Option (List ℕ) → List ℕ → List ℕ
+create_reply public nonce delta = created_reply (create_asked public nonce delta)
+
+-- an operation that is signed, or why there is none
+abbrev pub planned : Result Draft DraftRefused → Plan
+planned (Ok draft) = Sign draft
+planned (Err refusal) = Tell (refused_reply (draft_word refusal))
+
+-- by the command
+abbrev pub plan_of : VaultValue → Command → Plan
+plan_of vault (Format key) = Tell (refused_reply (codes "formatted"))
+plan_of vault (Key nonce) = Tell (key_reply (key_with (public_of vault.key) nonce))
+plan_of vault Left = Tell (left_reply vault)
+plan_of vault (Create nonce delta) = Tell (create_reply (public_of vault.key) nonce delta)
+plan_of vault (Update suffix nonce delta) = planned (update_asked (public_of vault.key) suffix nonce delta)
+plan_of vault (Recover suffix nonce next delta) = planned (recover_asked (public_of vault.key) suffix nonce next delta)
+plan_of vault (Deactivate suffix nonce) = planned (deactivate_asked (public_of vault.key) suffix nonce)
+
+-- a reply alone changes nothing
+abbrev pub answered_plan : VaultValue → Plan → Answered
+answered_plan vault (Tell text) = replied (Opened vault) text
+answered_plan vault (Sign draft) = answered_draft vault draft
+
+-- what is signed of a plan is the payload
+abbrev pub IsReady : Plan → Type 0
+IsReady (Tell text) = ⊤
+IsReady (Sign draft) = HasInput draft
+
+-- ---- commands
+
+-- over a blank disk only a `format` is answered
+abbrev pub answered_blank : Option SecretKey → Answered
+answered_blank (Some key) = answered_format key
+answered_blank None = refused Blank (codes "blank")
+
+-- by what the disk is
+abbrev pub answered_command : Found → Command → Answered
+answered_command Damaged command = refused Damaged (codes "damaged")
+answered_command Blank command = answered_blank (format_in command)
+answered_command (Opened vault) command = answered_plan vault (plan_of vault command)
+
+-- ---- lines
+
+-- the command of a line, or why it is none
+abbrev pub answered_read : Found → Result Command LineCause → Answered
+answered_read found (Ok command) = answered_command found command
+answered_read found (Err cause) = replied found (reply (codes "refused line ") (cause_word cause))
+
+-- the answer to a line
+abbrev pub answered : Found → List ℕ → Answered
+answered found line = answered_read found (command_of line)
+
+-- the replies to lines, one after the other
+abbrev pub replies : Found → List (List ℕ) → List ℕ
+replies found [] = []
+replies found (line ∷ lines) = (answered found line).reply ++ replies (answered found line).next lines
+
+-- for each of these replies its counter, where it has one
+abbrev pub counters : Found → List (List ℕ) → List (Option ℕ)
+counters found [] = []
+counters found (line ∷ lines) = (answered found line).counter ∷ counters (answered found line).next lines
+
+-- what is found behind these lines
+abbrev pub after : Found → List (List ℕ) → Found
+after found [] = found
+after found (line ∷ lines) = after (answered found line).next lines
+
+-- The wallet that comes of it is what the answer leaves, and its reply is given.
+abbrev pub AnswersWith : Answered → Found × List ℕ → Type 0
+AnswersWith answer done = (done.0 ≡ answer.next) × (done.1 ≡ answer.reply)
+
+-- A disk that does not tell what it reads as was found blank, and is formatted after all: that is refused,
+-- and nothing changes.
+pub record IsRefusedUntold (told : Option (List ℕ)) (found : Found) (done : Found × List ℕ) : Type 0 where
+  pub untold : told ≡ None
+  pub blank : found ≡ Blank
+  pub answers : AnswersWith (refused Blank (codes "formatted")) done
+
+-- the answer, but for that
+abbrev pub AnswersOrRefuses : Option (List ℕ) → Found → Answered → Found × List ℕ → Type 0
+AnswersOrRefuses told found answer done = AnswersWith answer done ⊎ IsRefusedUntold told found done

@@ -1,0 +1,289 @@
+ghost use Rattle.std.specs.Prelude.{◌≡◌};
+ghost use Rattle.std.specs.Option.{option_copied};
+ghost use Rattle.st_base.specs.Answers.{Gives};
+ghost use Rattle.st_lms.specs.Keys.{secret_key};
+ghost use Rattle.st_lms.specs.Parameters.{IsOneTimeType, IsTreeType};
+ghost use Rattle.st_wallet.specs.Command.{cause_of, command_of, command_of_words, create_of, deactivate_of, format_in, format_of, key_of, left_of, recover_of, update_of};
+
+use crate::hexadecimal::{Nonce, read_hex, read_nonce};
+use crate::words::read_between;
+use st_base::{Bytes, WantOfMemory, cut_at, cut_word};
+use st_lms::Secret;
+use std::alloc::Global;
+
+/// How many bytes a line has at most.
+pub const LONGEST_LINE: usize = 24_000_000;
+
+const FORMAT: &[u8] = b"format";
+
+const KEY: &[u8] = b"key";
+
+const LEFT: &[u8] = b"left";
+
+const CREATE: &[u8] = b"create";
+
+const UPDATE: &[u8] = b"update";
+
+const RECOVER: &[u8] = b"recover";
+
+const DEACTIVATE: &[u8] = b"deactivate";
+
+/// What a line asks for. Suffixes and deltas are not looked at yet.
+#[derive(Drop)]
+pub(crate) enum Command {
+    /// `format <ots> <tree> <id> <seed>`: make a vault of this key.
+    Format(Secret),
+    /// `key <nonce>`: show the key with this nonce.
+    Key(Nonce),
+    /// `left`: how many counters are left?
+    Left,
+    /// `create <recovery nonce> <delta>`
+    Create {
+        nonce: Nonce,
+        delta: Bytes,
+    },
+    /// `update <suffix> <nonce> <delta>`
+    Update {
+        suffix: Bytes,
+        nonce: Nonce,
+        delta: Bytes,
+    },
+    /// `recover <suffix> <nonce> <next nonce> <delta>`
+    Recover {
+        suffix: Bytes,
+        nonce: Nonce,
+        next: Nonce,
+        delta: Bytes,
+    },
+    /// `deactivate <suffix> <nonce>`
+    Deactivate {
+        suffix: Bytes,
+        nonce: Nonce,
+    },
+}
+
+/// Why a line is no command: the first of these that holds, in this order.
+#[derive(Clone, Copy, Debug, PartialEq, Eq)]
+pub(crate) enum LineCause {
+    /// The line has more than 24,000,000 bytes.
+    Long,
+    /// The command word is unknown. It is what stands before the first space, or the whole line.
+    Command,
+    /// A space is missing, or stands behind `left`.
+    Words,
+    /// A number is not one of those of its kind, in decimal.
+    Number,
+    /// An id, a seed or a nonce has not as many hexadecimal digits as it should.
+    Hex,
+}
+
+/// Why a line was not read as a command.
+#[derive(Clone, Copy, Debug, PartialEq, Eq)]
+pub(crate) enum LineRefused {
+    /// The line is no command, for this cause.
+    BadLine(LineCause),
+    /// Memory could not be had.
+    WantOfMemory,
+}
+
+impl From<WantOfMemory> for LineRefused {
+    ghost use Rattle.std.specs.Prelude.{◌≡◌};
+    ghost use Rattle.st_wallet.specs.declared.command.LineRefused.TheVariants.{WantOfMemory};
+
+    ghost from_gives = { λ _ refused. refused ≡ WantOfMemory };
+
+    fn from(_want: WantOfMemory) -> LineRefused {
+        LineRefused::WantOfMemory
+    }
+}
+
+/// The command of a line, which comes without its line feed.
+pub(crate) fn read_command(alloc: Global, line: &[u8]) -> Result<Command, LineRefused>
+    ensures { Gives cause_of (command_of line.now) result }
+{
+    if line.len() > LONGEST_LINE {
+        return Err(LineRefused::BadLine(LineCause::Long));
+    }
+    let (word, behind) = cut_word(line, b' ');
+    read_words(alloc, word, behind)
+}
+
+// The command of this command word, and of what stands behind it and a space.
+fn read_words(alloc: Global, word: &[u8], behind: Option<&[u8]>) -> Result<Command, LineRefused>
+    ensures { Gives cause_of (command_of_words word.now (option_copied behind.entry)) result }
+{
+    if word == FORMAT {
+        read_format(behind)
+    } else if word == KEY {
+        read_key(behind)
+    } else if word == LEFT {
+        read_left(behind)
+    } else if word == CREATE {
+        read_create(alloc, behind)
+    } else if word == UPDATE {
+        read_update(alloc, behind)
+    } else if word == RECOVER {
+        read_recover(alloc, behind)
+    } else if word == DEACTIVATE {
+        read_deactivate(alloc, behind)
+    } else {
+        Err(LineRefused::BadLine(LineCause::Command))
+    }
+}
+
+fn read_format(behind: Option<&[u8]>) -> Result<Command, LineRefused>
+    ensures { Gives cause_of (format_of (option_copied behind.entry)) result }
+{
+    let Some(rest) = behind else {
+        return Err(LineRefused::BadLine(LineCause::Words));
+    };
+    let Some((ots, rest)) = cut_at(rest, b' ') else {
+        return Err(LineRefused::BadLine(LineCause::Words));
+    };
+    let Some((tree, rest)) = cut_at(rest, b' ') else {
+        return Err(LineRefused::BadLine(LineCause::Words));
+    };
+    let Some((id, seed)) = cut_at(rest, b' ') else {
+        return Err(LineRefused::BadLine(LineCause::Words));
+    };
+    let Some(ots) = read_between(ots, 1, 4) else {
+        return Err(LineRefused::BadLine(LineCause::Number));
+    };
+    let Some(tree) = read_between(tree, 5, 6) else {
+        return Err(LineRefused::BadLine(LineCause::Number));
+    };
+    let Some(id) = read_hex::<16>(id) else {
+        return Err(LineRefused::BadLine(LineCause::Hex));
+    };
+    let Some(seed) = read_hex::<32>(seed) else {
+        return Err(LineRefused::BadLine(LineCause::Hex));
+    };
+    Ok(Command::Format(secret_of(ots, tree, id, seed)))
+}
+
+// The key of types that are known.
+fn secret_of(ots: u32, tree: u32, id: [u8; 16], seed: [u8; 32]) -> Secret
+    requires ots { IsOneTimeType ots }
+    requires tree { IsTreeType tree }
+    ensures { result ≡ secret_key ots tree id seed }
+{
+    Secret::new(ots, tree, id, seed).unwrap()
+}
+
+fn read_key(behind: Option<&[u8]>) -> Result<Command, LineRefused>
+    ensures { Gives cause_of (key_of (option_copied behind.entry)) result }
+{
+    let Some(nonce) = behind else {
+        return Err(LineRefused::BadLine(LineCause::Words));
+    };
+    let Some(nonce) = read_nonce(nonce) else {
+        return Err(LineRefused::BadLine(LineCause::Hex));
+    };
+    Ok(Command::Key(nonce))
+}
+
+fn read_left(behind: Option<&[u8]>) -> Result<Command, LineRefused>
+    ensures { Gives cause_of (left_of (option_copied behind.entry)) result }
+{
+    match behind {
+        Some(_) => Err(LineRefused::BadLine(LineCause::Words)),
+        None => Ok(Command::Left),
+    }
+}
+
+fn read_create(alloc: Global, behind: Option<&[u8]>) -> Result<Command, LineRefused>
+    ensures { Gives cause_of (create_of (option_copied behind.entry)) result }
+{
+    let Some(rest) = behind else {
+        return Err(LineRefused::BadLine(LineCause::Words));
+    };
+    let Some((nonce, delta)) = cut_at(rest, b' ') else {
+        return Err(LineRefused::BadLine(LineCause::Words));
+    };
+    let Some(nonce) = read_nonce(nonce) else {
+        return Err(LineRefused::BadLine(LineCause::Hex));
+    };
+    let delta = Bytes::from_slice(alloc, delta)?;
+    Ok(Command::Create { nonce, delta })
+}
+
+fn read_update(alloc: Global, behind: Option<&[u8]>) -> Result<Command, LineRefused>
+    ensures { Gives cause_of (update_of (option_copied behind.entry)) result }
+{
+    let Some(rest) = behind else {
+        return Err(LineRefused::BadLine(LineCause::Words));
+    };
+    let Some((suffix, rest)) = cut_at(rest, b' ') else {
+        return Err(LineRefused::BadLine(LineCause::Words));
+    };
+    let Some((nonce, delta)) = cut_at(rest, b' ') else {
+        return Err(LineRefused::BadLine(LineCause::Words));
+    };
+    let Some(nonce) = read_nonce(nonce) else {
+        return Err(LineRefused::BadLine(LineCause::Hex));
+    };
+    let suffix = Bytes::from_slice(alloc, suffix)?;
+    let delta = Bytes::from_slice(alloc, delta)?;
+    Ok(Command::Update {
+        suffix,
+        nonce,
+        delta,
+    })
+}
+
+fn read_recover(alloc: Global, behind: Option<&[u8]>) -> Result<Command, LineRefused>
+    ensures { Gives cause_of (recover_of (option_copied behind.entry)) result }
+{
+    let Some(rest) = behind else {
+        return Err(LineRefused::BadLine(LineCause::Words));
+    };
+    let Some((suffix, rest)) = cut_at(rest, b' ') else {
+        return Err(LineRefused::BadLine(LineCause::Words));
+    };
+    let Some((nonce, rest)) = cut_at(rest, b' ') else {
+        return Err(LineRefused::BadLine(LineCause::Words));
+    };
+    let Some((next, delta)) = cut_at(rest, b' ') else {
+        return Err(LineRefused::BadLine(LineCause::Words));
+    };
+    let Some(nonce) = read_nonce(nonce) else {
+        return Err(LineRefused::BadLine(LineCause::Hex));
+    };
+    let Some(next) = read_nonce(next) else {
+        return Err(LineRefused::BadLine(LineCause::Hex));
+    };
+    let suffix = Bytes::from_slice(alloc, suffix)?;
+    let delta = Bytes::from_slice(alloc, delta)?;
+    Ok(Command::Recover {
+        suffix,
+        nonce,
+        next,
+        delta,
+    })
+}
+
+fn read_deactivate(alloc: Global, behind: Option<&[u8]>) -> Result<Command, LineRefused>
+    ensures { Gives cause_of (deactivate_of (option_copied behind.entry)) result }
+{
+    let Some(rest) = behind else {
+        return Err(LineRefused::BadLine(LineCause::Words));
+    };
+    let Some((suffix, nonce)) = cut_at(rest, b' ') else {
+        return Err(LineRefused::BadLine(LineCause::Words));
+    };
+    let Some(nonce) = read_nonce(nonce) else {
+        return Err(LineRefused::BadLine(LineCause::Hex));
+    };
+    let suffix = Bytes::from_slice(alloc, suffix)?;
+    Ok(Command::Deactivate { suffix, nonce })
+}
+
+/// The key of a `format`.
+pub(crate) fn secret_in(command: Command) -> Option<Secret>
+    ensures { result ≡ format_in command }
+{
+    match command {
+        Command::Format(secret) => Some(secret),
+        _ => None,
+    }
+}

@@ -1,0 +1,24 @@
+//! The wallet as a machine of lines over a disk: it makes a vault, shows its keys, and writes requests for
+//! operations, of which each that is signed has a counter that was spent on the disk before.
+#![tactic(auto)]
+
+mod command;
+mod delta;
+mod drafting;
+mod hexadecimal;
+mod laws;
+mod payloads;
+mod planning;
+mod refused;
+mod replies;
+mod requests;
+mod signing_vault;
+#[cfg(test)]
+mod tests;
+mod wallet;
+mod words;
+
+pub use command::LONGEST_LINE;
+pub use laws::counters_law;
+pub use refused::WalletRefused;
+pub use wallet::Wallet;

@@ -1,0 +1,169 @@
+ghost use Rattle.std.specs.Prelude.{◌≡◌, Err, IfOk, IsSome, OnOk};
+ghost use Rattle.st_lms.specs.Signature.{public_of};
+ghost use Rattle.st_wallet.specs.Drafts.{deactivate_asked, recover_asked, refusal_of, update_asked};
+ghost use Rattle.st_wallet.specs.Machine.{IsReady, create_reply, key_reply, left_reply, plan_of, planned};
+ghost use Rattle.st_wallet.specs.Drafts.{key_with};
+
+use crate::command::Command;
+use crate::drafting::{Draft, create, draft_deactivate, draft_recover, draft_update};
+use crate::hexadecimal::Nonce;
+use crate::refused::DraftRefused;
+use crate::replies::{tell_key, tell_request};
+use crate::signing_vault::SigningVault;
+use itoa::Buffer;
+use st_base::{Bytes, WantOfMemory, reply};
+use st_jws::Jwk;
+use std::alloc::Global;
+
+/// What a command comes to over a vault, before the disk is called.
+#[derive(Drop)]
+pub(crate) enum Plan {
+    /// This reply, and nothing changes.
+    Tell(Bytes),
+    /// A request for this operation, once it is signed.
+    Sign(Draft),
+}
+
+/// What the command comes to. Of the vault no more is computed than the command asks for.
+pub(crate) fn plan_of(
+    alloc: Global,
+    vault: &mut SigningVault,
+    command: Command,
+) -> Result<Plan, WantOfMemory>
+    ensures value { IfOk result (λ plan. plan ≡ plan_of vault.old command) }
+    ensures ready { IfOk result IsReady }
+    ensures same { vault.new ≡ vault.old }
+{
+    match command {
+        Command::Format(_) => Ok(Plan::Tell(reply(alloc, "refused ", b"formatted")?)),
+        Command::Key(nonce) => Ok(Plan::Tell(tell_nonce(alloc, vault, nonce)?)),
+        Command::Left => Ok(Plan::Tell(tell_left(alloc, vault)?)),
+        Command::Create { nonce, delta } => {
+            Ok(Plan::Tell(tell_create(alloc, vault, nonce, &delta)?))
+        }
+        Command::Update {
+            suffix,
+            nonce,
+            delta,
+        } => plan_update(alloc, vault, &suffix, nonce, &delta),
+        Command::Recover {
+            suffix,
+            nonce,
+            next,
+            delta,
+        } => plan_recover(alloc, vault, &suffix, nonce, next, &delta),
+        Command::Deactivate { suffix, nonce } => plan_deactivate(alloc, vault, &suffix, nonce),
+    }
+}
+
+// The reply that shows the key with this nonce.
+fn tell_nonce(alloc: Global, vault: &mut SigningVault, nonce: Nonce) -> Result<Bytes, WantOfMemory>
+    ensures value { IfOk result (λ text. text ≡ key_reply (key_with (public_of vault.old.key) nonce)) }
+    ensures same { vault.new ≡ vault.old }
+{
+    let public = vault.public(alloc)?;
+    tell_key(alloc, &Jwk { public, nonce })
+}
+
+fn tell_left(alloc: Global, vault: &SigningVault) -> Result<Bytes, WantOfMemory>
+    ensures { IfOk result (λ text. text ≡ left_reply vault.now) }
+{
+    let left = vault.left();
+    reply(alloc, "left ", Buffer::new().format(left).as_bytes())
+}
+
+fn tell_create(
+    alloc: Global,
+    vault: &mut SigningVault,
+    nonce: Nonce,
+    delta: &Bytes,
+) -> Result<Bytes, WantOfMemory>
+    ensures value { IfOk result (λ text.
+        text ≡ create_reply (public_of vault.old.key) nonce delta.now) }
+    ensures same { vault.new ≡ vault.old }
+{
+    match create(alloc, vault, nonce, delta.as_slice()) {
+        Ok(operation) => tell_request(alloc, &operation),
+        Err(DraftRefused::BadHash) => reply(alloc, "refused ", b"badHash"),
+        Err(DraftRefused::NotJson) => reply(alloc, "refused ", b"notJson"),
+        Err(DraftRefused::NotWhole) => reply(alloc, "refused ", b"notWhole"),
+        Err(DraftRefused::BadDelta) => reply(alloc, "refused ", b"badDelta"),
+        Err(DraftRefused::WantOfMemory) => Err(WantOfMemory),
+    }
+}
+
+fn plan_update(
+    alloc: Global,
+    vault: &mut SigningVault,
+    suffix: &Bytes,
+    nonce: Nonce,
+    delta: &Bytes,
+) -> Result<Plan, WantOfMemory>
+    ensures value { IfOk result (λ plan.
+        plan ≡ planned (update_asked (public_of vault.old.key) suffix.now nonce delta.now)) }
+    ensures ready { IfOk result IsReady }
+    ensures same { vault.new ≡ vault.old }
+{
+    match draft_update(alloc, vault, suffix.as_slice(), nonce, delta.as_slice()) {
+        Ok(draft) => Ok(Plan::Sign(draft)),
+        Err(refused) => refuse(alloc, refused),
+    }
+}
+
+fn plan_recover(
+    alloc: Global,
+    vault: &mut SigningVault,
+    suffix: &Bytes,
+    nonce: Nonce,
+    next: Nonce,
+    delta: &Bytes,
+) -> Result<Plan, WantOfMemory>
+    ensures value { IfOk result (λ plan.
+        plan ≡ planned (recover_asked (public_of vault.old.key) suffix.now nonce next delta.now)) }
+    ensures ready { IfOk result IsReady }
+    ensures same { vault.new ≡ vault.old }
+{
+    match draft_recover(
+        alloc,
+        vault,
+        suffix.as_slice(),
+        nonce,
+        next,
+        delta.as_slice(),
+    ) {
+        Ok(draft) => Ok(Plan::Sign(draft)),
+        Err(refused) => refuse(alloc, refused),
+    }
+}
+
+fn plan_deactivate(
+    alloc: Global,
+    vault: &mut SigningVault,
+    suffix: &Bytes,
+    nonce: Nonce,
+) -> Result<Plan, WantOfMemory>
+    ensures value { IfOk result (λ plan.
+        plan ≡ planned (deactivate_asked (public_of vault.old.key) suffix.now nonce)) }
+    ensures ready { IfOk result IsReady }
+    ensures same { vault.new ≡ vault.old }
+{
+    match draft_deactivate(alloc, vault, suffix.as_slice(), nonce) {
+        Ok(draft) => Ok(Plan::Sign(draft)),
+        Err(refused) => refuse(alloc, refused),
+    }
+}
+
+// The reply with the cause of a refusal, but for want of memory.
+fn refuse(alloc: Global, refused: DraftRefused) -> Result<Plan, WantOfMemory>
+    ensures value { IfOk result (λ plan. plan ≡ planned (Err refused)) }
+    ensures known { OnOk result (IsSome (refusal_of refused)) }
+    ensures ready { IfOk result IsReady }
+{
+    match refused {
+        DraftRefused::BadHash => Ok(Plan::Tell(reply(alloc, "refused ", b"badHash")?)),
+        DraftRefused::NotJson => Ok(Plan::Tell(reply(alloc, "refused ", b"notJson")?)),
+        DraftRefused::NotWhole => Ok(Plan::Tell(reply(alloc, "refused ", b"notWhole")?)),
+        DraftRefused::BadDelta => Ok(Plan::Tell(reply(alloc, "refused ", b"badDelta")?)),
+        DraftRefused::WantOfMemory => Err(WantOfMemory),
+    }
+}

@@ -1,0 +1,3 @@
+pub mod Spender
+pub mod SpenderLaws
+pub mod Run
