@@ -72,6 +72,8 @@ impl DidState {
     {
         match &self.kept {
             Kept::Absent => Ok(StateParts::Absent),
+            // Without a delta there is nothing to look at.
+            Kept::Begun(begun) if begun.delta.is_none() => self.look(alloc),
             Kept::Begun(begun) => open_begun(alloc, begun, work),
             Kept::Active(active) => open_active(alloc, active),
             Kept::Deactivated => Ok(StateParts::Deactivated),
