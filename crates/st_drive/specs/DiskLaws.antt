@@ -14,6 +14,7 @@ begins_more first lines more b = (b.0 ++ more, sym (append_assoc first b.0 more)
 pub begins_after : {A : Type 0} (lines first more : List A) → Begins first more → Begins (lines ++ first) (lines ++ more)
 begins_after lines first more b = (b.0, append_assoc lines first b.0 ∙ ap (λ xs. lines ++ xs) b.1)
 
+-- the first of these, or else this one
 abbrev pub head_or : {A : Type 0} → A → List A → A
 head_or x [] = x
 head_or x (z ∷ zs) = z
