@@ -8,7 +8,8 @@ import sys
 # A chain may have so many crates. What only the program stands on may make it longer, with its reason in
 # docs/DECISIONS.md.
 LONGEST = 8
-ABOVE_THE_NODE = set()
+# The four nodes of an exchange and the two of a workload stand on the node, and only the program stands on them.
+ABOVE_THE_NODE = {"st_network", "st_generate"}
 
 
 def crates():

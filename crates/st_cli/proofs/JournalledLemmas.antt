@@ -1,5 +1,5 @@
 -- A run of a node with a journal, in the words of the node.
-use Rattle.std.proofs.Common.{◌≡◌, ◌∙◌, ⊎_elim, ◌++◌, ℕ, List, [], ◌∷◌, refl, ap, subst, sym, append_assoc}
+use Rattle.std.proofs.Common.{◌≡◌, ◌∙◌, ⊎_elim, ◌++◌, ℕ, List, [], ◌∷◌, refl, ap, subst}
 use Rattle.std.specs.declared.option.Option.{Option}
 use Rattle.st_base.specs.Work.{Counts}
 use Rattle.st_io.specs.Past.{Past}
@@ -9,7 +9,7 @@ use Rattle.st_journal_lines.specs.Journalled.{JournalTable as TableBy, KeepsLine
 use Rattle.st_node.specs.Machine.{Machine, after, answered, replies}
 use Rattle.st_status.proofs.TableLemmas.{table_by}
 use Rattle.st_cli.specs.declared.form.NodeOptions.{NodeOptions}
-use Rattle.st_cli.specs.Journalled.{JournalTable, KeepsRecords, node_answering, node_from}
+use Rattle.st_cli.specs.Journalled.{JournalTable, KeepsRecords, node_answering}
 use Rattle.st_cli.specs.Node.{LinesCount, new_node}
 use Rattle.st_cli.proofs.CountLemmas.{from_beginning, within_more}
 

@@ -1,5 +1,4 @@
 -- What is promised of a node as a machine that lines bring back.
-use Rattle.std.specs.Prelude.{ℕ}
 use Rattle.std.proofs.Common.{ap, arith}
 use Rattle.st_journal_lines.specs.Answering.{AnsweringLaws}
 use Rattle.st_node.proofs.ChangingLemmas.{changing_short}

@@ -5,13 +5,16 @@ ghost use Rattle.st_io.specs.Past.{Images, Only};
 ghost use Rattle.st_io.specs.Sinks.{FinishesNothing};
 ghost use Rattle.st_io.specs.Tears.{IfTold};
 ghost use Rattle.st_drive.specs.Released.{KeepsNumbers};
+ghost use Rattle.st_generate.specs.Run.{WritesFront, is_generate_end};
+ghost use Rattle.st_generate.specs.Summary.{summary};
 ghost use Rattle.st_journal.specs.Opening.{opened};
 ghost use Rattle.st_journal.specs.declared.refused.JournalRefused.TheVariants.{Damaged, TooLong};
+ghost use Rattle.st_network.specs.Run.{ExchangeTable, exchange_replies};
 ghost use Rattle.st_vault.specs.Image.{IsSpent};
 ghost use Rattle.st_vault.specs.Spent.{KeepsSpent};
 ghost use Rattle.st_status.specs.Status.{is_end};
 ghost use Rattle.st_wallet_lines.specs.Run.{KeptCounters, WalletTable, wallet_run};
-ghost use Rattle.st_cli.specs.Form.{form_of, max_input, IfJournalled, IfNode, IfWallet};
+ghost use Rattle.st_cli.specs.Form.{form_of, max_input, IfExchange, IfGenerate, IfJournalled, IfNode, IfWallet};
 ghost use Rattle.st_cli.specs.Journalled.{JournalTable, KeepsRecords};
 ghost use Rattle.st_cli.specs.Node.{InputCounts, NodeTable, replies_to};
 ghost use Rattle.st_cli.specs.Status.{is_node_status, is_status};
@@ -21,7 +24,9 @@ use crate::journalled::run_with_journal;
 use crate::node_lines::NodeLines;
 use crate::reading::read_form;
 use st_base::{Text, Work};
+use st_generate::run_generate;
 use st_io::{Disk, Sink, Source};
+use st_network::run_exchange;
 use st_node::Node;
 use st_status::run_machine;
 use st_wallet_lines::run_wallet;
@@ -29,14 +34,17 @@ use std::alloc::Global;
 
 /// Does all that the program does with these words, and answers its status.
 ///
-/// The words are `node` or `wallet`. Each line of the source is answered to the sink, as the reference
-/// machine answers it, however the source cuts its bytes. At most 1,073,741,824 bytes are answered.
+/// The words are `node`, `wallet`, `exchange` or `generate`. Each line of the source is answered to the
+/// sink, as the reference machine answers it, however the source cuts its bytes. At most 1,073,741,824
+/// bytes are answered. `generate` alone has no lines: it reads nothing.
 ///
 /// Behind `node` may stand, in this order and each at most once, `--limit=N`, by which at most `N` bytes
 /// are answered; `--v2-at=H`, by which version 2 of the limits on files stands from height `H` on; and
 /// `--journal`. With that the disk is a journal: its records bring the node back before the first read,
 /// and each line that changes the node is recorded before its reply is written. `wallet` has its vault on
-/// the disk. A node without a journal leaves the disk alone. The statuses:
+/// the disk. `exchange` runs four nodes and the messages between them. Behind `generate` stand a seed, a
+/// number of identifiers and a number of rounds: it writes the summary of the workload that they make. All
+/// but the wallet and a node with a journal leave the disk alone. The statuses:
 ///
 /// - 0: the input was read to its end, all replies are written, and the sink is finished.
 /// - 1: the words are of no form; nothing was read or written.
@@ -106,6 +114,33 @@ pub fn run<S: Source, K: Sink, D: Disk>(
     ensures node_disk { IfNode (form_of words.now) (λ options. disk.new ≡ disk.old) }
     ensures node_statuses { IfNode (form_of words.now) (λ options. IsTrue (is_node_status result)) }
 
+    // ---- four nodes and the messages between them: what was taken and written, by status
+
+    ensures exchange_done { IfExchange (form_of words.now) (result ≡ 0
+        → IfSome (S.left source.old) (λ input.
+        (length input ≤ max_input) × (S.left source.new ≡ Some [])
+        × Appends (K.written sink.old) (K.written sink.new) (exchange_replies input))) }
+    ensures exchange_table { IfExchange (form_of words.now) (ExchangeTable max_input
+        (S.left source.old) (S.left source.new) (K.written sink.old) (K.written sink.new) result) }
+    ensures exchange_statuses { IfExchange (form_of words.now) ((disk.new ≡ disk.old) × IsTrue (is_node_status result)) }
+    ensures exchange_complete { IfExchange (form_of words.now) ((input : List ℕ)
+        → S.left source.old ≡ Some input → length input ≤ max_input
+        → ¬ Rose (S.faults source.old) (S.faults source.new)
+        → ¬ Rose (K.faults sink.old) (K.faults sink.new)
+        → (result ≡ 0) ⊎ (result ≡ 6)) }
+
+    // ---- a workload: its summary was written at status 0, and a beginning of it whatever the status
+
+    ensures summary { IfGenerate (form_of words.now) (λ plan. result ≡ 0
+        → Appends (K.written sink.old) (K.written sink.new) (summary plan)) }
+    ensures summary_front { IfGenerate (form_of words.now) (λ plan.
+        WritesFront (summary plan) (K.written sink.old) (K.written sink.new)) }
+    ensures generate_alone { IfGenerate (form_of words.now) (λ plan.
+        (source.new ≡ source.old) × (disk.new ≡ disk.old)) }
+    ensures generate_statuses { IfGenerate (form_of words.now) (λ plan. IsTrue (is_generate_end result)) }
+    ensures generate_complete { IfGenerate (form_of words.now) (λ plan.
+        ¬ Rose (K.faults sink.old) (K.faults sink.new) → (result ≡ 0) ⊎ (result ≡ 6)) }
+
     // ---- the wallet, from a disk that reads as this image: what was taken and written, by status
 
     ensures wallet_table { IfWallet (form_of words.now) (IfTold (D.reads disk.old) (λ image. WalletTable image max_input
@@ -172,6 +207,8 @@ pub fn run<S: Source, K: Sink, D: Disk>(
             run_with_journal(alloc, options, source, sink, disk, work)
         }
         Some(Form::Wallet) => run_wallet(alloc, MAX_INPUT as usize, source, sink, disk),
+        Some(Form::Exchange) => run_exchange(alloc, MAX_INPUT as usize, source, sink, work),
+        Some(Form::Generate(plan)) => run_generate(alloc, plan, sink, work),
         None => 1,
     }
 }

@@ -1,10 +1,12 @@
 mod AnchorLemmas
 mod ArrivingLemmas
+mod ChangedLemmas
 mod CountsLemmas
 mod DueLemmas
 mod ExplainLemmas
 mod EntryLemmas
 mod FlushLemmas
+mod FormLemmas
 mod IsolationLemmas
 mod SumLemmas
 mod TellingLemmas

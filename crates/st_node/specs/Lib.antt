@@ -3,4 +3,5 @@ pub mod Command
 pub mod Isolation
 pub mod Machine
 pub mod Changing
+pub mod Changed
 pub mod Work

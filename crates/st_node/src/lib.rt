@@ -18,5 +18,5 @@ mod tests;
 
 pub use changes::changing;
 pub use command::{Command, LONGEST_LINE, LineCause, LineRefused, read_command};
-pub use laws::isolation_law;
+pub use laws::{changes_law, isolation_law};
 pub use node::Node;

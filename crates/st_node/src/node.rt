@@ -1,5 +1,6 @@
-ghost use Rattle.std.specs.Prelude.{◌≡◌, ◌≤◌, IfOk, length};
+ghost use Rattle.std.specs.Prelude.{◌≡◌, ◌≤◌, IfOk, OnOk, length};
 ghost use Rattle.st_base.specs.Work.{ProofsAtMost};
+ghost use Rattle.st_node.specs.Changed.{IsCountable, Serves, TakesSome, TellsChange};
 ghost use Rattle.st_node.specs.Command.{command_of};
 ghost use Rattle.st_node.specs.Machine.{AnswersWith, answered, answered_anchor, answered_command, answered_content, answered_flush, answered_report, answered_rollback, answered_submit, answered_wanted, new_machine};
 ghost use Rattle.st_node.specs.Work.{AdmittedCounts, ArrivalCounts, CommandCounts, FlushCounts, LineCounts, RollbackCounts, StaysDue, entry_of_command, entry_of_line, submitted_by, submitted_by_line};
@@ -67,7 +68,8 @@ impl Node {
         self.queue.len()
     }
 
-    /// Answers a line, which comes without its line feed. The reply has its line end.
+    /// Answers a line, which comes without its line feed. The reply has its line end. It has the form that
+    /// `changing` knows exactly where the line has changed the node.
     ///
     /// What is counted is bounded by the line's command, and nothing is counted of a line that is no
     /// command. Over all lines, at most five files are read for each anchor that is accepted, and at
@@ -79,6 +81,7 @@ impl Node {
         work: &mut Work,
     ) -> Result<(Node, Bytes), WantOfMemory>
         ensures answer { IfOk result (AnswersWith (answered self line.now)) }
+        ensures changing { IfOk result (λ done. TellsChange self done.0 done.1) }
         ensures counts { LineCounts self (command_of line.now) work.old work.new }
         ensures due { StaysDue self.observed (answered self line.now).next.observed
             (entry_of_line self line.now) (submitted_by_line line.now) work.old work.new }
@@ -93,7 +96,8 @@ impl Node {
         }
     }
 
-    /// Carries a command out, and gives the reply with its line end.
+    /// Carries a command out, and gives the reply with its line end. It has the form that `changing` knows
+    /// exactly where the command has changed the node.
     ///
     /// A `content` and an `anchor` count at most one file for each role that they decide, and at most the
     /// signed texts of the proof files that they read; a `rollback` counts neither; a `resolve` counts
@@ -108,11 +112,13 @@ impl Node {
         work: &mut Work,
     ) -> Result<(Node, Bytes), WantOfMemory>
         ensures answer { IfOk result (AnswersWith (answered_command self command)) }
+        ensures changing { IfOk result (λ done. TellsChange self done.0 done.1) }
         ensures counts { CommandCounts self command work.old work.new }
         ensures due { StaysDue self.observed (answered_command self command).next.observed
             (entry_of_command self command) (submitted_by command) work.old work.new }
     {
-        // In two steps, so that what is due is proved once, from what is counted.
+        // In two steps, so that what is due is proved once, from what is counted, and what the reply tells
+        // once, from what it is.
         match self.carry_out(alloc, command, work) {
             Ok(done) => Ok(done),
             Err(want) => Err(want),
@@ -126,6 +132,7 @@ impl Node {
         work: &mut Work,
     ) -> Result<(Node, Bytes), WantOfMemory>
         ensures answer { IfOk result (AnswersWith (answered_command self command)) }
+        ensures serves { OnOk result (Serves self command) }
         ensures counts { CommandCounts self command work.old work.new }
     {
         match command {
@@ -193,6 +200,7 @@ impl Node {
     // `rollback`
     fn cut(self, alloc: Global, n: u32, work: &mut Work) -> Result<(Node, Bytes), WantOfMemory>
         ensures answer { IfOk result (AnswersWith (answered_rollback self n)) }
+        ensures countable { OnOk result (IsCountable self) }
         ensures counts { RollbackCounts self.observed n work.old work.new }
     {
         if n > self.observer.ledger().len() {
@@ -247,6 +255,7 @@ impl Node {
     // `flush`
     fn flush(self, alloc: Global, work: &mut Work) -> Result<(Node, Bytes), WantOfMemory>
         ensures answer { IfOk result (AnswersWith (answered_flush self)) }
+        ensures takes { OnOk result (TakesSome self) }
         ensures counts { FlushCounts self work.old work.new }
     {
         let Node { observer, queue } = self;

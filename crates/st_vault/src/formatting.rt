@@ -19,8 +19,7 @@ use crate::vault::Vault;
 use st_io::{Disk, Failed, write_synced};
 use st_lms::Secret;
 
-/// Makes a new vault of a key on a blank disk, and gives it. It takes no memory, and computes the
-/// public key.
+/// Makes a new vault of a key on a blank disk, and gives it. It takes no memory, and computes no key.
 ///
 /// `Formatted` comes exactly where the disk, as it reads after a sync, has at least 64 bytes and an
 /// open gate; then nothing is written. `DiskFault` comes only where the disk's count of faults rose:

@@ -15,7 +15,7 @@ use crate::vault::Vault;
 use st_io::{Disk, Failed};
 use st_lms::Secret;
 
-/// The vault that a disk reads as after a sync. It takes no memory, and computes the public key.
+/// The vault that a disk reads as after a sync. It takes no memory, and computes no key.
 ///
 /// `Blank` comes exactly where the disk has fewer than 64 bytes or its gate is shut; `Damaged` exactly
 /// where else a type of the key is not known or the map is not there whole. `DiskFault` comes only

@@ -26,20 +26,18 @@ use std::marker::Model;
 #[derive(Drop)]
 pub struct Vault {
     secret: Secret,
-    public: Public,
     next: u32,
 }
 
 impl Model for Vault {
-    ghost use Rattle.std.specs.Prelude.{◌≡◌, ◌≤◌};
-    ghost use Rattle.st_lms.specs.Signature.{public_of};
+    ghost use Rattle.std.specs.Prelude.{◌≤◌};
     ghost use Rattle.st_vault.specs.Values.{VaultValue, count_of};
 
     ghost Value = { VaultValue };
 
     ghost view = { λ v. record { key = v.secret; next = v.next } };
 
-    ghost invariant = { λ v. (v.public ≡ public_of v.secret) × (v.next ≤ count_of v.secret) };
+    ghost invariant = { λ v. v.next ≤ count_of v.secret };
 }
 
 impl fmt::Debug for Vault {
@@ -52,17 +50,12 @@ impl fmt::Debug for Vault {
 impl Vault {
     ghost use Rattle.st_vault.specs.Reserving.{IsBeforeOrAfter, ReserveGives};
 
-    /// The vault of this key with this next counter. It computes the public key.
+    /// The vault of this key with this next counter.
     pub(crate) fn new(secret: Secret, next: u32) -> Vault
         requires { next ≤ count_of secret }
         ensures { result ≡ record { key = secret; next = next } }
     {
-        let public = secret.public();
-        Vault {
-            secret,
-            public,
-            next,
-        }
+        Vault { secret, next }
     }
 
     /// How many counters can still be reserved: 2^h less the next counter, h being the height of the
@@ -75,11 +68,20 @@ impl Vault {
         self.secret.leaf_count() - self.next
     }
 
-    /// The public key that the vault's signatures are verified with.
+    /// The public key that the vault's signatures are verified with. It computes all leaves of the tree;
+    /// what needs it often keeps it, or a signer.
     pub fn public(&self) -> Public
         ensures { result ≡ public_of self.now.key }
     {
-        self.public
+        self.secret.public()
+    }
+
+    /// The LMS type of the key's tree: 5, of height 5, or 6, of height 10 (RFC 8554, section 5.1).
+    pub fn tree(&self) -> u32
+        ensures value { result ≡ self.now.key.tree }
+        ensures known { IsSecretKey self.now.key }
+    {
+        self.secret.tree()
     }
 
     /// The vault's key with the nodes of its tree, with which `Counter::sign_with` takes the time of one
@@ -156,7 +158,6 @@ impl Vault {
         let counter = Counter::new(self.secret, self.next);
         let vault = Vault {
             secret: self.secret,
-            public: self.public,
             next: self.next + 1,
         };
         (vault, counter)

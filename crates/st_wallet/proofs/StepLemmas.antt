@@ -15,10 +15,9 @@ use Rattle.st_vault.specs.declared.refused.FormatRefused.TheVariants.{Formatted}
 use Rattle.st_vault.specs.declared.refused.OpenRefused.TheVariants as refused_as
 use Rattle.st_wallet.specs.Found.{Found, opens}
 use Rattle.st_wallet.specs.Found.Found.{Opened}
-use Rattle.st_wallet.specs.Machine.{answered_draft, answered_signed, refused}
+use Rattle.st_wallet.specs.Machine.{refused, taken, taken_if_left}
 use Rattle.st_vault.specs.Image.{IsSpent}
 use Rattle.st_wallet.specs.Steps.{AllFound, IsBeforeOrAfter, IsCounterFresh, IsCounterSpent}
-use Rattle.st_wallet.specs.declared.drafting.Draft.{Draft}
 
 -- where the disk is not called, what was spent stays so
 pub keeps_standing : (p : Past) → KeepsSpent p p
@@ -33,10 +32,10 @@ pub only_found : (found : Found) (past : Past) (image : List ℕ) → opened ima
 only_found found past image is only x left = ap opened (only x left) ∙ is
 
 -- what a reservation leaves of a vault, where every image was found to be that
-of_vault : (vault : VaultValue) (draft : Draft) (a b : Past) → 0 < left_of vault
+of_vault : (vault : VaultValue) (text : List ℕ) (a b : Past) → 0 < left_of vault
     → (AllOpenAs (Ok vault) a → Leaves (IsReserved vault) a b) → AllFound (Opened vault) a
-    → Leaves (IsBeforeOrAfter (Opened vault) (answered_draft vault draft).next) a b
-of_vault vault draft a b left moments all =
+    → Leaves (IsBeforeOrAfter (Opened vault) (taken_if_left vault text).next) a b
+of_vault vault text a b left moments all =
     let leaves = moments all in
     record {
       goes = leaves.goes;
@@ -44,21 +43,21 @@ of_vault vault draft a b left moments all =
     }
   where
     by_test : (test : Bool) → nat_le 1 (left_of vault) ≡ test
-        → opens (if test then answered_signed vault draft else refused (Opened vault) (codes "exhausted")).next ≡ Ok (vault_after vault)
+        → opens (if test then taken vault text else refused (Opened vault) (codes "exhausted")).next ≡ Ok (vault_after vault)
     by_test true is = refl
     by_test false is = absurd (grind (arith, nat_tests))
 
-    next : opens (answered_draft vault draft).next ≡ Ok (vault_after vault)
+    next : opens (taken_if_left vault text).next ≡ Ok (vault_after vault)
     next = by_test (nat_le 1 (left_of vault)) refl
 
 -- the same of that vault as it was given
-pub reserving_moments : (vault given : VaultValue) (draft : Draft) (a b : Past) → given ≡ vault → 0 < left_of given
+pub reserving_moments : (vault given : VaultValue) (text : List ℕ) (a b : Past) → given ≡ vault → 0 < left_of given
     → (AllOpenAs (Ok given) a → Leaves (IsReserved given) a b) → AllFound (Opened vault) a
-    → Leaves (IsBeforeOrAfter (Opened vault) (answered_draft vault draft).next) a b
-reserving_moments vault given draft a b is =
+    → Leaves (IsBeforeOrAfter (Opened vault) (taken_if_left vault text).next) a b
+reserving_moments vault given text a b is =
     subst (λ given. 0 < left_of given → (AllOpenAs (Ok given) a → Leaves (IsReserved given) a b) → AllFound (Opened vault) a
-    → Leaves (IsBeforeOrAfter (Opened vault) (answered_draft vault draft).next) a b)
-    (sym is) (of_vault vault draft a b)
+    → Leaves (IsBeforeOrAfter (Opened vault) (taken_if_left vault text).next) a b)
+    (sym is) (of_vault vault text a b)
 
 -- a disk that tells what it reads as, and was opened as blank, is not formatted
 pub not_formatted : (key : SecretKey) (image : List ℕ) (refused : FormatRefused) → opened image ≡ Err refused_as.Blank → refused ≡ Formatted
@@ -75,21 +74,21 @@ untold_if None never = refl
 untold_if (Some image) never = absurd (never image refl)
 
 -- the counter of a request that is signed is the next one of the vault, as it was given
-pub counter_spent : (vault given : VaultValue) (draft : Draft) (past : Past) → given ≡ vault → SpentInAll past given.next
-    → IsCounterSpent (answered_draft vault draft).counter past
-counter_spent vault given draft past is spent = by_test (nat_le 1 (left_of vault))
+pub counter_spent : (vault given : VaultValue) (text : List ℕ) (past : Past) → given ≡ vault → SpentInAll past given.next
+    → IsCounterSpent (taken_if_left vault text).counter past
+counter_spent vault given text past is spent = by_test (nat_le 1 (left_of vault))
   where
     by_test : (left : Bool)
-        → IsCounterSpent (if left then answered_signed vault draft else refused (Opened vault) (codes "exhausted")).counter past
+        → IsCounterSpent (if left then taken vault text else refused (Opened vault) (codes "exhausted")).counter past
     by_test true = subst (λ vault. SpentInAll past vault.next) is spent
     by_test false = tt
 
 -- and was not spent before, where that one was not
-pub counter_fresh : (vault given : VaultValue) (draft : Draft) (image : List ℕ) → given ≡ vault → (IsSpent image given.next → ⊥)
-    → IsCounterFresh (answered_draft vault draft).counter image
-counter_fresh vault given draft image is fresh = by_test (nat_le 1 (left_of vault))
+pub counter_fresh : (vault given : VaultValue) (text : List ℕ) (image : List ℕ) → given ≡ vault → (IsSpent image given.next → ⊥)
+    → IsCounterFresh (taken_if_left vault text).counter image
+counter_fresh vault given text image is fresh = by_test (nat_le 1 (left_of vault))
   where
     by_test : (left : Bool)
-        → IsCounterFresh (if left then answered_signed vault draft else refused (Opened vault) (codes "exhausted")).counter image
+        → IsCounterFresh (if left then taken vault text else refused (Opened vault) (codes "exhausted")).counter image
     by_test true = subst (λ vault. IsSpent image vault.next → ⊥) is fresh
     by_test false = tt

@@ -3,10 +3,11 @@ use Rattle.std.specs.Prelude.{ℕ, nat_le, List, length, bytes_eq, codes, is_non
 use Rattle.std.specs.Option.{ok_or}
 use Rattle.st_base.specs.Answers.{◌>>=◌, ◌>>◌, holds_or}
 use Rattle.st_base.specs.Words.{cut_at, first_word, other_words}
+use Rattle.st_hash.specs.Base64url.{bytes_of_text}
 use Rattle.st_lms.specs.Keys.{SecretKey, secret_key}
 use Rattle.st_wallet.specs.Words.{bytes_of_hex, nonce_of, number_between}
 use Rattle.st_wallet.specs.declared.command.Command.{Command}
-use Rattle.st_wallet.specs.declared.command.Command.TheVariants.{Format, Key, Left, Create, Update, Recover, Deactivate}
+use Rattle.st_wallet.specs.declared.command.Command.TheVariants.{Format, Key, Left, Create, Update, Recover, Deactivate, SignHss}
 use Rattle.st_wallet.specs.declared.command.LineCause.{LineCause}
 use Rattle.st_wallet.specs.declared.command.LineCause.TheVariants as cause
 use Rattle.st_wallet.specs.declared.command.LineRefused.{LineRefused}
@@ -21,7 +22,7 @@ abbrev pub space : ℕ
 space = 32
 
 -- ---- each command, by what stands behind its word and a space: first the words, then the numbers, then
--- what is hexadecimal; the last word is all the rest
+-- what is hexadecimal, then what is base64url; the last word is all the rest
 
 -- `format <ots> <tree> <id> <seed>`: an LM-OTS type, an LMS type, 32 digits, 64 digits
 abbrev pub format_of : Option (List ℕ) → Result Command LineCause
@@ -85,6 +86,13 @@ deactivate_of behind = do
   nonce ← ok_or (nonce_of words.1) cause.Hex
   Ok (Deactivate words.0 nonce)
 
+-- `sign-hss <base64url of a message>`
+abbrev pub sign_hss_of : Option (List ℕ) → Result Command LineCause
+sign_hss_of behind = do
+  text ← ok_or behind cause.Words
+  message ← ok_or (bytes_of_text text) cause.Base64
+  Ok (SignHss message)
+
 -- the key of a `format`
 abbrev pub format_in : Command → Option SecretKey
 format_in (Format key) = Some key
@@ -102,6 +110,7 @@ command_of_words word behind =
     else if bytes_eq word (codes "update") then update_of behind
     else if bytes_eq word (codes "recover") then recover_of behind
     else if bytes_eq word (codes "deactivate") then deactivate_of behind
+    else if bytes_eq word (codes "sign-hss") then sign_hss_of behind
     else Err cause.Command
 
 -- The command of a line, or the first cause for which it is none. The command word is what stands

@@ -1,6 +1,7 @@
 pub mod Words
 pub mod Command
 pub mod Drafts
+pub mod Held
 pub mod Found
 pub mod Codes
 pub mod Machine

@@ -1,11 +1,14 @@
 -- The reference machine of the wallet: what it answers to a line, and what its disk is then. It keeps
 -- what the disk was found to be, and nothing else.
-use Rattle.std.specs.Prelude.{◌≡◌, ◌⊎◌, ⊤, ℕ, nat_le, List, [], ◌∷◌, ◌++◌, codes, if◌then◌else◌, Option, Some, None, Result, Ok, Err}
+use Rattle.std.specs.Prelude.{◌≡◌, ◌⊎◌, ⊤, ℕ, ◌==◌, nat_le, List, [], ◌∷◌, ◌++◌, codes, if◌then◌else◌, Option, Some, None, Result, Ok, Err}
 use Rattle.std.specs.Fmt.{decimal}
 use Rattle.st_base.specs.Replies.{reply, spaced}
 use Rattle.st_canon.specs.Canonical.{canonical}
 use Rattle.st_hash.specs.Base64url.{base64url}
 use Rattle.st_hash.specs.Hash.{hash_text}
+use Rattle.st_hss.specs.Public.{hss_public_text}
+use Rattle.st_hss.specs.Uses.{hss_public_of, hss_signature_of}
+use Rattle.st_hss.specs.declared.public.HssPublic.{HssPublic}
 use Rattle.st_jws.specs.Commitment.{commitment_of, reveal_of}
 use Rattle.st_jws.specs.Jwk.{jwk_json}
 use Rattle.st_jws.specs.declared.jwk.Jwk.{Jwk}
@@ -19,12 +22,12 @@ use Rattle.st_wallet.specs.Drafts.{HasInput, create_asked, deactivate_asked, key
 use Rattle.st_wallet.specs.Found.{Found}
 use Rattle.st_wallet.specs.Found.Found.{Blank, Damaged, Opened}
 use Rattle.st_wallet.specs.declared.command.Command.{Command}
-use Rattle.st_wallet.specs.declared.command.Command.TheVariants.{Format, Key, Left, Create, Update, Recover, Deactivate}
+use Rattle.st_wallet.specs.declared.command.Command.TheVariants.{Format, Key, Left, Create, Update, Recover, Deactivate, SignHss}
 use Rattle.st_wallet.specs.declared.command.LineCause.{LineCause}
 use Rattle.st_wallet.specs.declared.command.LineCause.TheVariants as line_is
 use Rattle.st_wallet.specs.declared.drafting.Draft.{Draft}
 use Rattle.st_wallet.specs.declared.planning.Plan.{Plan}
-use Rattle.st_wallet.specs.declared.planning.Plan.TheVariants.{Tell, Sign}
+use Rattle.st_wallet.specs.declared.planning.Plan.TheVariants.{Tell, Sign, SignMessage}
 use Rattle.st_wallet.specs.declared.refused.DraftRefused.{DraftRefused}
 use Rattle.st_wallet.specs.declared.refused.DraftRefused.TheVariants.{BadHash, NotJson, NotWhole, BadDelta, WantOfMemory}
 
@@ -57,6 +60,10 @@ left_reply vault = reply (codes "left ") (decimal (left_of vault))
 abbrev pub request_reply : PlainOperation → List ℕ
 request_reply operation = reply (codes "request") (spaced (hash_text (suffix_of operation) ∷ request_text operation ∷ []))
 
+-- `hss <base64url of the public key> <base64url of the signature>`
+abbrev pub hss_reply : HssPublic → List ℕ → List ℕ
+hss_reply public signature = reply (codes "hss") (spaced (base64url (hss_public_text public) ∷ base64url signature ∷ []))
+
 -- why a line is no command
 abbrev pub cause_word : LineCause → List ℕ
 cause_word line_is.Long = codes "long"
@@ -64,6 +71,7 @@ cause_word line_is.Command = codes "command"
 cause_word line_is.Words = codes "words"
 cause_word line_is.Number = codes "number"
 cause_word line_is.Hex = codes "hex"
+cause_word line_is.Base64 = codes "base64"
 
 -- why no operation comes of it; that memory is wanting is never said here
 abbrev pub draft_word : DraftRefused → List ℕ
@@ -91,20 +99,28 @@ answered_format key = record {
   counter = None;
 }
 
--- the request for an operation, signed with the next counter, which is spent
-abbrev pub answered_signed : VaultValue → Draft → Answered
-answered_signed vault draft = record {
+-- this reply, which takes the next counter: that is spent
+abbrev pub taken : VaultValue → List ℕ → Answered
+taken vault text = record {
   next = Opened (vault_after vault);
-  reply = request_reply (signed_by vault.key vault.next draft);
+  reply = text;
   counter = Some vault.next;
 }
 
 -- the same, where a counter is left
-abbrev pub answered_draft : VaultValue → Draft → Answered
-answered_draft vault draft =
-    if nat_le 1 (left_of vault) then answered_signed vault draft else refused (Opened vault) (codes "exhausted")
+abbrev pub taken_if_left : VaultValue → List ℕ → Answered
+taken_if_left vault text = if nat_le 1 (left_of vault) then taken vault text else refused (Opened vault) (codes "exhausted")
 
--- ---- what a command comes to over a vault: a reply, or an operation that is signed
+-- the request for an operation, signed with the next counter
+abbrev pub answered_draft : VaultValue → Draft → Answered
+answered_draft vault draft = taken_if_left vault (request_reply (signed_by vault.key vault.next draft))
+
+-- the signature of a message with two levels and the next counter (RFC 8554, section 6)
+abbrev pub answered_hss : VaultValue → List ℕ → Answered
+answered_hss vault message =
+    taken_if_left vault (hss_reply (hss_public_of vault.key) (hss_signature_of vault.key vault.next message))
+
+-- ---- what a command comes to over a vault: a reply, or what is signed
 
 -- a request that needs no signature, or why there is none
 abbrev pub created_reply : Result PlainOperation DraftRefused → List ℕ
@@ -120,6 +136,10 @@ abbrev pub planned : Result Draft DraftRefused → Plan
 planned (Ok draft) = Sign draft
 planned (Err refusal) = Tell (refused_reply (draft_word refusal))
 
+-- a message that is signed with two levels, which takes a vault with 1,024 counters
+abbrev pub planned_hss : VaultValue → List ℕ → Plan
+planned_hss vault message = if vault.key.tree == 6 then SignMessage message else Tell (refused_reply (codes "tree"))
+
 -- by the command
 abbrev pub plan_of : VaultValue → Command → Plan
 plan_of vault (Format key) = Tell (refused_reply (codes "formatted"))
@@ -129,16 +149,19 @@ plan_of vault (Create nonce delta) = Tell (create_reply (public_of vault.key) no
 plan_of vault (Update suffix nonce delta) = planned (update_asked (public_of vault.key) suffix nonce delta)
 plan_of vault (Recover suffix nonce next delta) = planned (recover_asked (public_of vault.key) suffix nonce next delta)
 plan_of vault (Deactivate suffix nonce) = planned (deactivate_asked (public_of vault.key) suffix nonce)
+plan_of vault (SignHss message) = planned_hss vault message
 
 -- a reply alone changes nothing
 abbrev pub answered_plan : VaultValue → Plan → Answered
 answered_plan vault (Tell text) = replied (Opened vault) text
 answered_plan vault (Sign draft) = answered_draft vault draft
+answered_plan vault (SignMessage message) = answered_hss vault message
 
--- what is signed of a plan is the payload
-abbrev pub IsReady : Plan → Type 0
-IsReady (Tell text) = ⊤
-IsReady (Sign draft) = HasInput draft
+-- what is signed of an operation is its payload, and two levels take a vault with 1,024 counters
+abbrev pub IsReady : VaultValue → Plan → Type 0
+IsReady vault (Tell text) = ⊤
+IsReady vault (Sign draft) = HasInput draft
+IsReady vault (SignMessage message) = vault.key.tree ≡ 6
 
 -- ---- commands
 

@@ -3,11 +3,12 @@ ghost use Rattle.std.specs.Option.{option_copied};
 ghost use Rattle.st_base.specs.Answers.{Gives};
 ghost use Rattle.st_lms.specs.Keys.{secret_key};
 ghost use Rattle.st_lms.specs.Parameters.{IsOneTimeType, IsTreeType};
-ghost use Rattle.st_wallet.specs.Command.{cause_of, command_of, command_of_words, create_of, deactivate_of, format_in, format_of, key_of, left_of, recover_of, update_of};
+ghost use Rattle.st_wallet.specs.Command.{cause_of, command_of, command_of_words, create_of, deactivate_of, format_in, format_of, key_of, left_of, recover_of, sign_hss_of, update_of};
 
 use crate::hexadecimal::{Nonce, read_hex, read_nonce};
 use crate::words::read_between;
 use st_base::{Bytes, WantOfMemory, cut_at, cut_word};
+use st_hash::{DecRefused, dec};
 use st_lms::Secret;
 use std::alloc::Global;
 
@@ -27,6 +28,8 @@ const UPDATE: &[u8] = b"update";
 const RECOVER: &[u8] = b"recover";
 
 const DEACTIVATE: &[u8] = b"deactivate";
+
+const SIGN_HSS: &[u8] = b"sign-hss";
 
 /// What a line asks for. Suffixes and deltas are not looked at yet.
 #[derive(Drop)]
@@ -60,6 +63,8 @@ pub(crate) enum Command {
         suffix: Bytes,
         nonce: Nonce,
     },
+    /// `sign-hss <base64url of a message>`: sign it with two levels.
+    SignHss(Bytes),
 }
 
 /// Why a line is no command: the first of these that holds, in this order.
@@ -75,6 +80,8 @@ pub(crate) enum LineCause {
     Number,
     /// An id, a seed or a nonce has not as many hexadecimal digits as it should.
     Hex,
+    /// A message is the base64url of no bytes.
+    Base64,
 }
 
 /// Why a line was not read as a command.
@@ -126,6 +133,8 @@ fn read_words(alloc: Global, word: &[u8], behind: Option<&[u8]>) -> Result<Comma
         read_recover(alloc, behind)
     } else if word == DEACTIVATE {
         read_deactivate(alloc, behind)
+    } else if word == SIGN_HSS {
+        read_sign_hss(alloc, behind)
     } else {
         Err(LineRefused::BadLine(LineCause::Command))
     }
@@ -276,6 +285,19 @@ fn read_deactivate(alloc: Global, behind: Option<&[u8]>) -> Result<Command, Line
     };
     let suffix = Bytes::from_slice(alloc, suffix)?;
     Ok(Command::Deactivate { suffix, nonce })
+}
+
+fn read_sign_hss(alloc: Global, behind: Option<&[u8]>) -> Result<Command, LineRefused>
+    ensures { Gives cause_of (sign_hss_of (option_copied behind.entry)) result }
+{
+    let Some(text) = behind else {
+        return Err(LineRefused::BadLine(LineCause::Words));
+    };
+    match dec(alloc, text) {
+        Ok(message) => Ok(Command::SignHss(message)),
+        Err(DecRefused::BadBase64) => Err(LineRefused::BadLine(LineCause::Base64)),
+        Err(DecRefused::WantOfMemory) => Err(LineRefused::WantOfMemory),
+    }
 }
 
 /// The key of a `format`.

@@ -1,8 +1,9 @@
 ghost use Rattle.std.specs.Prelude.{◌≡◌, Err, IfOk, IsSome, OnOk};
 ghost use Rattle.st_lms.specs.Signature.{public_of};
 ghost use Rattle.st_wallet.specs.Drafts.{deactivate_asked, recover_asked, refusal_of, update_asked};
-ghost use Rattle.st_wallet.specs.Machine.{IsReady, create_reply, key_reply, left_reply, plan_of, planned};
+ghost use Rattle.st_vault.specs.Values.{VaultValue};
 ghost use Rattle.st_wallet.specs.Drafts.{key_with};
+ghost use Rattle.st_wallet.specs.Machine.{IsReady, create_reply, key_reply, left_reply, plan_of, planned, planned_hss};
 
 use crate::command::Command;
 use crate::drafting::{Draft, create, draft_deactivate, draft_recover, draft_update};
@@ -15,6 +16,9 @@ use st_base::{Bytes, WantOfMemory, reply};
 use st_jws::Jwk;
 use std::alloc::Global;
 
+/// The LMS type of a vault that signs with two levels.
+const HSS_TREE: u32 = 6;
+
 /// What a command comes to over a vault, before the disk is called.
 #[derive(Drop)]
 pub(crate) enum Plan {
@@ -22,6 +26,8 @@ pub(crate) enum Plan {
     Tell(Bytes),
     /// A request for this operation, once it is signed.
     Sign(Draft),
+    /// The signature of this message with two levels.
+    SignMessage(Bytes),
 }
 
 /// What the command comes to. Of the vault no more is computed than the command asks for.
@@ -31,7 +37,7 @@ pub(crate) fn plan_of(
     command: Command,
 ) -> Result<Plan, WantOfMemory>
     ensures value { IfOk result (λ plan. plan ≡ plan_of vault.old command) }
-    ensures ready { IfOk result IsReady }
+    ensures ready { IfOk result (IsReady vault.old) }
     ensures same { vault.new ≡ vault.old }
 {
     match command {
@@ -53,6 +59,7 @@ pub(crate) fn plan_of(
             delta,
         } => plan_recover(alloc, vault, &suffix, nonce, next, &delta),
         Command::Deactivate { suffix, nonce } => plan_deactivate(alloc, vault, &suffix, nonce),
+        Command::SignHss(message) => plan_hss(alloc, vault, message),
     }
 }
 
@@ -101,7 +108,7 @@ fn plan_update(
 ) -> Result<Plan, WantOfMemory>
     ensures value { IfOk result (λ plan.
         plan ≡ planned (update_asked (public_of vault.old.key) suffix.now nonce delta.now)) }
-    ensures ready { IfOk result IsReady }
+    ensures ready { IfOk result (IsReady vault.old) }
     ensures same { vault.new ≡ vault.old }
 {
     match draft_update(alloc, vault, suffix.as_slice(), nonce, delta.as_slice()) {
@@ -120,7 +127,7 @@ fn plan_recover(
 ) -> Result<Plan, WantOfMemory>
     ensures value { IfOk result (λ plan.
         plan ≡ planned (recover_asked (public_of vault.old.key) suffix.now nonce next delta.now)) }
-    ensures ready { IfOk result IsReady }
+    ensures ready { IfOk result (IsReady vault.old) }
     ensures same { vault.new ≡ vault.old }
 {
     match draft_recover(
@@ -144,7 +151,7 @@ fn plan_deactivate(
 ) -> Result<Plan, WantOfMemory>
     ensures value { IfOk result (λ plan.
         plan ≡ planned (deactivate_asked (public_of vault.old.key) suffix.now nonce)) }
-    ensures ready { IfOk result IsReady }
+    ensures ready { IfOk result (IsReady vault.old) }
     ensures same { vault.new ≡ vault.old }
 {
     match draft_deactivate(alloc, vault, suffix.as_slice(), nonce) {
@@ -153,11 +160,21 @@ fn plan_deactivate(
     }
 }
 
+fn plan_hss(alloc: Global, vault: &SigningVault, message: Bytes) -> Result<Plan, WantOfMemory>
+    ensures value { IfOk result (λ plan. plan ≡ planned_hss vault.now message) }
+    ensures ready { IfOk result (IsReady vault.now) }
+{
+    if vault.tree() != HSS_TREE {
+        return Ok(Plan::Tell(reply(alloc, "refused ", b"tree")?));
+    }
+    Ok(Plan::SignMessage(message))
+}
+
 // The reply with the cause of a refusal, but for want of memory.
 fn refuse(alloc: Global, refused: DraftRefused) -> Result<Plan, WantOfMemory>
     ensures value { IfOk result (λ plan. plan ≡ planned (Err refused)) }
     ensures known { OnOk result (IsSome (refusal_of refused)) }
-    ensures ready { IfOk result IsReady }
+    ensures ready { (vault : VaultValue) → IfOk result (IsReady vault) }
 {
     match refused {
         DraftRefused::BadHash => Ok(Plan::Tell(reply(alloc, "refused ", b"badHash")?)),

@@ -4,12 +4,13 @@ ghost use Rattle.st_canon.specs.Canonical.{canonical};
 ghost use Rattle.st_ops.specs.Operation.{plain_operation};
 ghost use Rattle.st_ops.specs.Request.{IsComplete};
 ghost use Rattle.st_jws.specs.Jwk.{jwk_json};
-ghost use Rattle.st_wallet.specs.Machine.{cause_word, formatted_reply, key_reply, request_reply};
+ghost use Rattle.st_wallet.specs.Machine.{cause_word, formatted_reply, hss_reply, key_reply, request_reply};
 
 use crate::command::LineCause;
 use st_base::{Bytes, WantOfMemory, push_word, reply};
 use st_canon::write;
 use st_hash::{enc, hash_text};
+use st_hss::HssPublic;
 use st_jws::{Jwk, commitment, reveal};
 use st_lms::Public;
 use st_ops::{Operation, suffix, write_request};
@@ -25,6 +26,7 @@ pub(crate) fn cause_word(cause: LineCause) -> &'static str
         LineCause::Words => "words",
         LineCause::Number => "number",
         LineCause::Hex => "hex",
+        LineCause::Base64 => "base64",
     }
 }
 
@@ -90,4 +92,20 @@ pub(crate) fn tell_request(alloc: Global, operation: &Operation) -> Result<Bytes
     push_word(&mut words, named.as_str().as_bytes())?;
     push_word(&mut words, request.as_slice())?;
     reply(alloc, "request", words.as_slice())
+}
+
+/// The reply with a signature of two levels, behind the public key that it holds under.
+pub(crate) fn tell_hss(
+    alloc: Global,
+    public: &HssPublic,
+    signature: &Bytes,
+) -> Result<Bytes, WantOfMemory>
+    ensures { IfOk result (λ text. text ≡ hss_reply public.now signature.now) }
+{
+    let public = enc(alloc, &public.write())?;
+    let signature = enc(alloc, signature.as_slice())?;
+    let mut words = Vec::new(alloc);
+    push_word(&mut words, public.as_str().as_bytes())?;
+    push_word(&mut words, signature.as_str().as_bytes())?;
+    reply(alloc, "hss", words.as_slice())
 }

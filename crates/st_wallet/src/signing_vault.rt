@@ -1,39 +1,81 @@
-ghost use Rattle.std.specs.Prelude.{◌≡◌, IfOk};
+ghost use Rattle.std.specs.Prelude.{◌≡◌, IfOk, IfSome};
 ghost use Rattle.st_lms.specs.Signature.{public_of};
 ghost use Rattle.st_vault.specs.Values.{left_of};
+ghost use Rattle.st_wallet.specs.Held.{held_vault};
 
 use st_base::WantOfMemory;
+use st_hss::HssVault;
 use st_lms::{Public, Signer};
 use st_vault::Vault;
 use std::alloc::Global;
 use std::marker::Model;
 
-/// A vault, and its key with the nodes of its tree once something has asked for them. They serve all
-/// lines behind that one, so a run makes the tree once at most.
+/// A vault, with what has been computed of its keys once something has asked for it. That serves all lines
+/// behind that one.
 #[derive(Drop)]
 pub(crate) struct SigningVault {
-    vault: Vault,
+    held: Held,
+    /// The vault's own key, with the nodes of its tree.
     signer: Option<Signer>,
+}
+
+/// A vault, alone or with what it keeps for signatures of two levels.
+#[derive(Drop)]
+pub(crate) enum Held {
+    Plain(Vault),
+    TwoLevels(HssVault),
 }
 
 impl Model for SigningVault {
     ghost use Rattle.std.specs.Prelude.{◌≡◌, IfSome};
     ghost use Rattle.st_vault.specs.Values.{VaultValue};
+    ghost use Rattle.st_wallet.specs.Held.{held_vault};
 
     ghost Value = { VaultValue };
 
-    ghost view = { λ v. v.vault };
+    ghost view = { λ v. held_vault v.held };
 
-    ghost invariant = { λ v. IfSome v.signer (λ signer. signer ≡ v.vault.key) };
+    ghost invariant = { λ v. IfSome v.signer (λ signer. signer ≡ (held_vault v.held).key) };
+}
+
+/// The vault that is held.
+fn vault_in(held: &Held) -> &Vault
+    ensures { result.now ≡ held_vault held.now }
+{
+    match held {
+        Held::Plain(vault) => vault,
+        Held::TwoLevels(hss) => hss.vault(),
+    }
+}
+
+/// The vault that was held. What it kept for signatures of two levels is gone.
+fn vault_of(held: Held) -> Vault
+    ensures { result ≡ held_vault held }
+{
+    match held {
+        Held::Plain(vault) => vault,
+        Held::TwoLevels(hss) => hss.into_vault(),
+    }
+}
+
+/// The same, for signatures of two levels.
+fn hss_of(held: Held) -> HssVault
+    requires { (held_vault held).key.tree ≡ 6 }
+    ensures { result ≡ held_vault held }
+{
+    match held {
+        Held::Plain(vault) => HssVault::new(vault).unwrap(),
+        Held::TwoLevels(hss) => hss,
+    }
 }
 
 impl SigningVault {
-    /// The vault, of whose tree nothing is computed yet.
+    /// The vault, of whose keys nothing is computed yet.
     pub(crate) fn new(vault: Vault) -> SigningVault
         ensures { result ≡ vault }
     {
         SigningVault {
-            vault,
+            held: Held::Plain(vault),
             signer: None,
         }
     }
@@ -44,8 +86,19 @@ impl SigningVault {
         ensures { result ≡ vault }
     {
         SigningVault {
-            vault,
+            held: Held::Plain(vault),
             signer: Some(signer),
+        }
+    }
+
+    /// The vault, with what it keeps for signatures of two levels, and with its key, if that is there.
+    pub(crate) fn with_hss(hss: HssVault, signer: Option<Signer>) -> SigningVault
+        requires { IfSome signer (λ signer. signer ≡ hss.key) }
+        ensures { result ≡ hss }
+    {
+        SigningVault {
+            held: Held::TwoLevels(hss),
+            signer,
         }
     }
 
@@ -53,7 +106,14 @@ impl SigningVault {
     pub(crate) fn left(&self) -> u32
         ensures { result ≡ left_of self.now }
     {
-        self.vault.left()
+        vault_in(&self.held).left()
+    }
+
+    /// The LMS type of the vault's key: 5 or 6.
+    pub(crate) fn tree(&self) -> u32
+        ensures { result ≡ self.now.key.tree }
+    {
+        vault_in(&self.held).tree()
     }
 
     /// The public key of the vault's key. It makes the tree, where nothing has asked for it before.
@@ -64,19 +124,20 @@ impl SigningVault {
         if let Some(signer) = &self.signer {
             return Ok(signer.public());
         }
-        let signer = self.vault.signer(alloc)?;
+        let signer = vault_in(&self.held).signer(alloc)?;
         let public = signer.public();
         self.signer = Some(signer);
         Ok(public)
     }
 
     /// The vault, and its key with the nodes of its tree. It makes the tree, where nothing has asked for
-    /// it before.
+    /// it before. What the vault kept for signatures of two levels is gone.
     pub(crate) fn into_parts(self, alloc: Global) -> Result<(Vault, Signer), WantOfMemory>
         ensures vault { IfOk result (λ parts. parts.0 ≡ self) }
         ensures signer { IfOk result (λ parts. parts.1 ≡ self.key) }
     {
-        let SigningVault { vault, signer } = self;
+        let SigningVault { held, signer } = self;
+        let vault = vault_of(held);
         match signer {
             Some(signer) => Ok((vault, signer)),
             None => {
@@ -84,5 +145,15 @@ impl SigningVault {
                 Ok((vault, signer))
             }
         }
+    }
+
+    /// The vault, for signatures of two levels, and its key, if that is there.
+    pub(crate) fn into_hss(self) -> (HssVault, Option<Signer>)
+        requires { self.key.tree ≡ 6 }
+        ensures vault { result.0 ≡ self }
+        ensures signer { IfSome result.1 (λ signer. signer ≡ self.key) }
+    {
+        let SigningVault { held, signer } = self;
+        (hss_of(held), signer)
     }
 }

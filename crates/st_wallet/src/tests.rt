@@ -1,5 +1,6 @@
 mod lines;
 mod stops;
+mod two_levels;
 
 use crate::{Wallet, WalletRefused};
 use st_base::{Bytes, WantOfMemory};

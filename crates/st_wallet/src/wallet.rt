@@ -8,17 +8,18 @@ ghost use Rattle.st_wallet.specs.Command.{format_in};
 ghost use Rattle.st_wallet.specs.Drafts.{HasInput};
 ghost use Rattle.st_wallet.specs.Found.Found.{Blank, Damaged, Opened};
 ghost use Rattle.st_wallet.specs.Found.{IsFoundOn};
-ghost use Rattle.st_wallet.specs.Machine.{AnswersOrRefuses, AnswersWith, answered, answered_blank, answered_command, answered_draft, answered_format, answered_plan, plan_of};
+ghost use Rattle.st_wallet.specs.Machine.{AnswersOrRefuses, AnswersWith, answered, answered_blank, answered_command, answered_draft, answered_format, answered_hss, answered_plan, plan_of};
 ghost use Rattle.st_wallet.specs.Steps.{AllFound, IsBeforeOrAfter, IsCounterFresh, IsCounterSpent};
 
 use crate::command::{Command, LineRefused, read_command, secret_in};
 use crate::drafting::Draft;
 use crate::planning::{Plan, plan_of};
 use crate::refused::WalletRefused;
-use crate::replies::{cause_word, tell_formatted};
+use crate::replies::{cause_word, tell_formatted, tell_hss};
 use crate::requests::request_by;
 use crate::signing_vault::SigningVault;
 use st_base::{Bytes, reply};
+use st_hss::HssSignRefused;
 use st_io::Disk;
 use st_lms::{Secret, Signer};
 use st_vault::{FormatRefused, OpenRefused, ReserveRefused, format_vault, open_vault};
@@ -29,7 +30,8 @@ use std::marker::Model;
 /// next counter.
 ///
 /// It is handed from line to line with its disk, which nobody else may write to in between. It keeps the
-/// nodes of its key's tree once a line has asked for them, 2,016 or 65,504 bytes.
+/// nodes of its key's tree once a line has asked for them, 2,016 or 65,504 bytes, and what `HssVault` keeps
+/// once one was signed with two levels, until a request is signed.
 #[derive(Drop)]
 pub struct Wallet {
     kept: Kept,
@@ -110,8 +112,10 @@ impl Wallet {
     /// `DiskFault` comes only where the disk's count of faults rose, `WantOfMemory` where memory could not
     /// be had. In both cases the wallet is gone and the disk is to be opened again: it is as before the
     /// line or as behind it, and a counter whose reply did not come is lost. All but the signature and the
-    /// text of its request is made before the counter is reserved. The first line that names a key, or
-    /// asks for a signature, computes all leaves of the tree; a signature computes its own chains alone.
+    /// text of its reply is made before the counter is reserved. The first line that names a key, or asks
+    /// for a request to be signed, computes all leaves of the tree; the first that is signed with two levels
+    /// those of two trees of height 5, and one of 32 those of one. Else a signature computes its own chains
+    /// alone.
     #[tactic(auto, using(crate::proofs::StepLemmas::keeps_standing, crate::proofs::StepLemmas::moments_standing))]
     pub fn step<D: Disk>(
         self,
@@ -303,6 +307,7 @@ fn carry_out_over<D: Disk>(
     match plan_of(alloc, &mut vault, command)? {
         Plan::Tell(text) => Ok((Wallet::of(vault), text)),
         Plan::Sign(draft) => sign(alloc, disk, vault, draft),
+        Plan::SignMessage(message) => sign_message(alloc, disk, vault, message),
     }
 }
 
@@ -343,5 +348,46 @@ fn sign<D: Disk>(
             Ok((Wallet::of(SigningVault::with_signer(vault, signer)), text))
         }
         Err(ReserveRefused::DiskFault) => Err(WalletRefused::DiskFault),
+    }
+}
+
+// The signature of a message with two levels. Its counter is spent first.
+#[tactic(auto, using(crate::proofs::StepLemmas::only_found, crate::proofs::StepLemmas::keeps_standing, crate::proofs::StepLemmas::moments_standing))]
+fn sign_message<D: Disk>(
+    alloc: Global,
+    disk: &mut D,
+    vault: SigningVault,
+    message: Bytes,
+) -> Result<(Wallet, Bytes), WalletRefused>
+    requires reads { ReadsAs (D.reads disk.old) vault }
+    requires six { vault.key.tree ≡ 6 }
+    ensures answer { IfOk result (AnswersWith (answered_hss vault message)) }
+    ensures untouched { (answered_hss vault message).next ≡ Opened vault → disk.new ≡ disk.old }
+    ensures reads { IfOk result (λ done. IsFoundOn (D.reads disk.new) done.0) }
+    ensures told { OnOk result (IfTold (D.reads disk.old) (λ image. IsSome (D.reads disk.new))) }
+    ensures fresh { OnOk result (IfTold (D.reads disk.old) (λ image.
+        IsCounterFresh (answered_hss vault message).counter image)) }
+    ensures spent { OnOk result (IfTold (D.reads disk.old) (λ image.
+        IsCounterSpent (answered_hss vault message).counter (D.past disk.new))) }
+    ensures moments { IfTold (D.reads disk.old) (λ image. AllFound (Opened vault) (D.past disk.old)
+        → Leaves (IsBeforeOrAfter (Opened vault) (answered_hss vault message).next) (D.past disk.old) (D.past disk.new)) }
+    ensures all_found { IfTold (D.reads disk.new) (λ image. AllFound (Opened vault) (D.past disk.old)
+        → IfOk result (λ done. AllFound done.0 (D.past disk.new))) }
+    ensures stays { IfTold (D.reads disk.old) (λ image. KeepsSpent (D.past disk.old) (D.past disk.new)) }
+    ensures fault { IsErrOf result WalletRefused.DiskFault → Rose (D.faults disk.old) (D.faults disk.new) }
+    ensures later { D.faults disk.old ≤ D.faults disk.new }
+{
+    let (hss, signer) = vault.into_hss();
+    match hss.sign(alloc, disk, message.as_slice()) {
+        Ok((hss, signature)) => {
+            let text = tell_hss(alloc, &hss.public(), &signature)?;
+            Ok((Wallet::of(SigningVault::with_hss(hss, signer)), text))
+        }
+        Err(HssSignRefused::Exhausted(hss)) => {
+            let text = reply(alloc, "refused ", b"exhausted")?;
+            Ok((Wallet::of(SigningVault::with_hss(hss, signer)), text))
+        }
+        Err(HssSignRefused::DiskFault) => Err(WalletRefused::DiskFault),
+        Err(HssSignRefused::WantOfMemory) => Err(WalletRefused::WantOfMemory),
     }
 }

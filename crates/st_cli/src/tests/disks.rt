@@ -1,6 +1,6 @@
-use crate::tests::support::run_on;
-use st_base::{Bytes, List, WantOfMemory};
-use st_io::{Disk, Pick, ScriptDisk};
+use crate::tests::support::{disk_of, run_on};
+use st_base::{Bytes, WantOfMemory};
+use st_io::{Disk, Pick};
 use std::alloc::Global;
 use std::test::Fail;
 
@@ -15,12 +15,6 @@ const RECORD: &[u8] = b"\xa5\x00\x00\x00\x0ccontent YWJj\x00";
 
 // A gate is open, and one byte too few follow it.
 const DAMAGED: &[u8] = b"\xa5\x00\x00\x00\x0dcontent YWJj\x00";
-
-// A disk with this image, of which every call behind so many fails.
-fn disk_of(alloc: Global, image: &[u8], last: u64) -> Result<ScriptDisk, WantOfMemory> {
-    let image = Bytes::from_slice(alloc, image)?;
-    Ok(ScriptDisk::new(alloc, image, List::new(alloc), last))
-}
 
 // Whether a run over this disk ends so.
 fn ends_on<D: Disk>(
@@ -60,34 +54,6 @@ fn keeps_the_journal(rt: &HostRuntime) -> Result<bool, WantOfMemory> {
 #[test]
 fn a_changing_line_is_recorded_and_a_damaged_journal_is_left(rt: HostRuntime) -> Result<(), Fail> {
     assert!(rt; keeps_the_journal(&rt)?);
-    Ok(())
-}
-
-// What a run answers that starts on what a stop has left.
-fn goes_on(
-    rt: &HostRuntime,
-    disk: &ScriptDisk,
-    pick: Pick,
-    written: &str,
-) -> Result<bool, WantOfMemory> {
-    let image = disk.crash(rt.alloc(), pick)?;
-    let mut next = disk_of(rt.alloc(), image.as_slice(), u64::MAX)?;
-    ends_on(rt, "node --journal", &mut next, FILE, 0, written)
-}
-
-// The last sync of the first record fails, and nothing is replied: the record may be there or not.
-fn stops_before_the_sync(rt: &HostRuntime) -> Result<bool, WantOfMemory> {
-    let mut disk = disk_of(rt.alloc(), b"", 7)?;
-    Ok(
-        ends_on(rt, "node --journal", &mut disk, FILE, 4, "")?
-            && goes_on(rt, &disk, Pick::Old, HAVE)?
-            && goes_on(rt, &disk, Pick::New, HAD)?,
-    )
-}
-
-#[test]
-fn a_reply_waits_for_its_record(rt: HostRuntime) -> Result<(), Fail> {
-    assert!(rt; stops_before_the_sync(&rt)?);
     Ok(())
 }
 

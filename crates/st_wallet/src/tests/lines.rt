@@ -20,6 +20,10 @@ key -
 refused blank
 left
 refused blank
+sign-hss e31
+refused line base64
+sign-hss YWJj
+refused blank
 create - {\"patches\":[],\"updateCommitment\":\"EiDjsMRCmPwcFJr79MiZb7kkJ65B5GSbk0yklZkbeFK4VQ\"}
 refused blank
 format 9 5 07070707070707070707070707070707 0A0A0A0A0A0A0A0A0A0A0A0A0A0A0A0A0b0b0b0b0b0b0b0b0b0b0b0b0b0b0b0b
@@ -141,6 +145,12 @@ deactivate EiDRLiRtCcHZplSvbRYklh6PNjh030q5zwRMZQPzhSLvzg 0000000000000000000000
 hash EiCPI0UOn4pQBrF6lxfLX-C_ZuXyFd9egpAD2p-Znocktg
 left
 left 29
+sign-hss YWJj
+refused tree
+sign-hss
+refused line words
+left
+left 29
 ";
 
 // Lines on a vault of which one counter is left.
@@ -169,6 +179,8 @@ update x - {}
 refused damaged
 lef
 refused line command
+sign-hss YWJj
+refused damaged
 ";
 
 fn on_image(

@@ -1,3 +1,4 @@
+use super::two_levels::image_with;
 use crate::{Wallet, WalletRefused};
 use st_base::{Bytes, List, WantOfMemory};
 use st_hash::{DecRefused, dec};
@@ -17,6 +18,14 @@ update EiDjsMRCmPwcFJr79MiZb7kkJ65B5GSbk0yklZkbeFK4VQ - {\"patches\":[],\"update
 ";
 
 const CALLS: u64 = 2 + 8 + 4 * 2;
+
+// Two signatures of two levels, of which the first is the last of its lower key. Four calls open the vault.
+const HSS_LINES: &str = "\
+sign-hss YWJj
+sign-hss YWJj
+";
+
+const HSS_CALLS: u64 = 4 + 2 * 2;
 
 const FORMAT: &str = "\
 format 4 5 07070707070707070707070707070707 0a0a0a0a0a0a0a0a0a0a0a0a0a0a0a0a0b0b0b0b0b0b0b0b0b0b0b0b0b0b0b0b
@@ -83,10 +92,38 @@ fn above_counter(alloc: Global, reply: &Bytes, above: u32) -> Result<Option<u32>
     }
 }
 
-// The counter of the signature in a request, whose text stands behind the second dot. A signature begins
-// with its counter, in four bytes.
+// The counter of the signature in a reply.
 fn counter_in(alloc: Global, reply: &Bytes) -> Result<Option<u32>, WantOfMemory> {
     let text = str::from_utf8(reply.as_slice()).unwrap_or("");
+    match text.strip_prefix("hss ") {
+        Some(rest) => counter_in_hss(alloc, rest),
+        None => counter_in_request(alloc, text),
+    }
+}
+
+// The counter of a signature of two levels, which stands behind a space: 32 times the leaf of the top key,
+// and the leaf of the lower key.
+fn counter_in_hss(alloc: Global, rest: &str) -> Result<Option<u32>, WantOfMemory> {
+    let Some((_public, signature)) = rest.split_once(' ') else {
+        return Ok(None);
+    };
+    match dec(alloc, signature.trim_end().as_bytes()) {
+        Ok(bytes) => Ok(counter_of_leaves(bytes.as_slice())),
+        Err(DecRefused::WantOfMemory) => Err(WantOfMemory),
+        Err(_) => Ok(None),
+    }
+}
+
+// With LM-OTS type 2 the lower signature stands behind 4,520 bytes, and the upper one behind 4.
+fn counter_of_leaves(signature: &[u8]) -> Option<u32> {
+    let top = signature.get(4 + 3)?;
+    let lower = signature.get(4520 + 3)?;
+    Some(u32::from(*top) * 32 + u32::from(*lower))
+}
+
+// The counter of the signature in a request, whose text stands behind the second dot. A signature begins
+// with its counter, in four bytes.
+fn counter_in_request(alloc: Global, text: &str) -> Result<Option<u32>, WantOfMemory> {
     let Some((_header, rest)) = text.split_once('.') else {
         return Ok(None);
     };
@@ -104,10 +141,16 @@ fn counter_in(alloc: Global, reply: &Bytes) -> Result<Option<u32>, WantOfMemory>
 }
 
 // Whether a run over the same lines goes on behind a stop that left this, and releases no counter again.
-fn goes_on(alloc: Global, disk: &ScriptDisk, pick: Pick, above: u32) -> Result<bool, WantOfMemory> {
+fn goes_on(
+    alloc: Global,
+    disk: &ScriptDisk,
+    pick: Pick,
+    lines: &str,
+    above: u32,
+) -> Result<bool, WantOfMemory> {
     let image = disk.crash(alloc, pick)?;
     let mut disk = PlainDisk::new(alloc, image);
-    match run(alloc, &mut disk, LINES, above)? {
+    match run(alloc, &mut disk, lines, above)? {
         Some(released) => Ok(released.whole),
         None => Ok(false),
     }
@@ -115,29 +158,45 @@ fn goes_on(alloc: Global, disk: &ScriptDisk, pick: Pick, above: u32) -> Result<b
 
 // Whether all lines were answered on this disk. `None` where a counter came twice in this run and the runs
 // behind a stop at its end.
-fn answered_all(alloc: Global, disk: &mut ScriptDisk) -> Result<Option<bool>, WantOfMemory> {
-    let Some(Released { above, whole }) = run(alloc, disk, LINES, 0)? else {
+fn answered_all(
+    alloc: Global,
+    disk: &mut ScriptDisk,
+    lines: &str,
+) -> Result<Option<bool>, WantOfMemory> {
+    let Some(Released { above, whole }) = run(alloc, disk, lines, 0)? else {
         return Ok(None);
     };
-    if goes_on(alloc, disk, Pick::Old, above)?
-        && goes_on(alloc, disk, Pick::New, above)?
-        && goes_on(alloc, disk, Pick::Fill(0), above)?
-        && goes_on(alloc, disk, Pick::Fill(1), above)?
+    if goes_on(alloc, disk, Pick::Old, lines, above)?
+        && goes_on(alloc, disk, Pick::New, lines, above)?
+        && goes_on(alloc, disk, Pick::Fill(0), lines, above)?
+        && goes_on(alloc, disk, Pick::Fill(1), lines, above)?
     {
         return Ok(Some(whole));
     }
     Ok(None)
 }
 
-fn stopped_after(alloc: Global, last: u64) -> Result<Option<bool>, WantOfMemory> {
-    let mut disk = ScriptDisk::new(alloc, Bytes::new(alloc), List::new(alloc), last);
-    answered_all(alloc, &mut disk)
+fn stopped_after(
+    alloc: Global,
+    image: &[u8],
+    lines: &str,
+    last: u64,
+) -> Result<Option<bool>, WantOfMemory> {
+    let image = Bytes::from_slice(alloc, image)?;
+    let mut disk = ScriptDisk::new(alloc, image, List::new(alloc), last);
+    answered_all(alloc, &mut disk, lines)
 }
 
-// The first number of calls after which all lines are answered, and no other stop releases a counter twice.
-fn calls_of_all(alloc: Global) -> Result<Option<u64>, WantOfMemory> {
-    for last in 0..=CALLS {
-        match stopped_after(alloc, last)? {
+// The first number of calls, up to this one, after which all lines are answered over this image, and no other
+// stop releases a counter twice.
+fn calls_of_all(
+    alloc: Global,
+    image: &[u8],
+    lines: &str,
+    most: u64,
+) -> Result<Option<u64>, WantOfMemory> {
+    for last in 0..=most {
+        match stopped_after(alloc, image, lines, last)? {
             Some(true) => return Ok(Some(last)),
             Some(false) => {}
             None => return Ok(None),
@@ -176,7 +235,16 @@ fn each_counter_is_released_once(rt: HostRuntime) -> Result<(), Fail> {
 
 #[test]
 fn no_stop_releases_a_counter_twice(rt: HostRuntime) -> Result<(), Fail> {
-    if calls_of_all(rt.alloc())? == Some(CALLS) {
+    if calls_of_all(rt.alloc(), &[], LINES, CALLS)? == Some(CALLS) {
+        return Ok(());
+    }
+    Err(Fail::from("a counter came twice, or the run was whole at another call"))
+}
+
+#[test]
+fn no_stop_of_two_levels_releases_a_counter_twice(rt: HostRuntime) -> Result<(), Fail> {
+    let image = image_with(rt.alloc(), 31)?;
+    if calls_of_all(rt.alloc(), image.as_slice(), HSS_LINES, HSS_CALLS)? == Some(HSS_CALLS) {
         return Ok(());
     }
     Err(Fail::from("a counter came twice, or the run was whole at another call"))

@@ -1,0 +1,56 @@
+"""Whether the pages name what is there: in docs/RULES.md each file, each word in the file before it, and each edit; in every
+page each module of definitions or lemmas, and each page that it points to."""
+
+import pathlib
+import re
+import sys
+
+CRATES = pathlib.Path("crates")
+EDITS = {path.stem for path in CRATES.glob("*/must-fail/*.edit")}
+PAGES = [pathlib.Path("README.md"), *sorted(pathlib.Path("docs").glob("*.md"))]
+
+
+def rows():
+    """The cells of each row of the rules, without the heads of the tables."""
+    for line in pathlib.Path("docs/RULES.md").read_text(encoding="utf-8").splitlines():
+        cells = line.strip("|").split(" | ")
+        if line.startswith("| ") and len(cells) == 5 and cells[1] != "definition":
+            yield [re.findall(r"`([^`]+)`", cell) for cell in cells]
+
+
+def declares(file, word):
+    return re.search(rf"pub (?:record |data )?{re.escape(word)}\b", file.read_text(encoding="utf-8"))
+
+
+def rule_faults():
+    """What is otherwise in the rules, a line each."""
+    named = set()
+    for _, definition, code, proof, edits in rows():
+        file = CRATES
+        for word in definition + code + proof:
+            if word.endswith((".antt", ".rt")):
+                file = CRATES / word if "/" in word else file.parent / word
+                if not file.is_file():
+                    yield f"docs/RULES.md: {file} is not there"
+            elif word in definition and file.is_file() and not declares(file, word):
+                yield f"docs/RULES.md: {word} does not stand in {file}"
+        named.update(edits)
+    yield from (f"docs/RULES.md: the edit {edit} is not there" for edit in sorted(named - EDITS))
+    yield from (f"docs/RULES.md: the edit {edit} turns no rule of the page" for edit in sorted(EDITS - named))
+
+
+def page_faults(page):
+    """What is otherwise in a page, a line each."""
+    text = page.read_text(encoding="utf-8")
+    for crate, folder, module in sorted(set(re.findall(r"\b(st_\w+)\.(specs|proofs)\.(\w+)", text))):
+        if module != "declared" and not (CRATES / crate / folder / f"{module}.antt").is_file():
+            yield f"{page}: {crate}.{folder}.{module} is not there"
+    for link in sorted(set(re.findall(r"\]\(([^)#:]+)", text))):
+        if not (page.parent / link).exists():
+            yield f"{page}: {link} is not there"
+
+
+found = [*rule_faults(), *(fault for page in PAGES for fault in page_faults(page))]
+for fault in found:
+    print(f"pages: {fault}")
+sys.exit(1 if found else 0)

@@ -1,0 +1,73 @@
+-- What is asked and what is answered keeps to the limits of messages, and has a spelling:
+--     asked-is, asked-short          what a node asks for
+--     answered-sent, answered-short  what it sends as an answer
+use Rattle.std.proofs.Common.{◌≡◌, ◌≤◌, ℕ, nat_le, Bool, true, false, cond, List, [], ◌∷◌, length, take, filter, Option, Some, None, Result, Ok, Err, IfOk, subst, sym, refl, arith}
+use Rattle.std.proofs.lemmas.Bool.Decides.{nat_tests}
+use Rattle.std.proofs.lemmas.List.{length-take}
+use Rattle.std.proofs.lemmas.List.Sums.{length-filter, count_by-le-length}
+use Rattle.std.specs.List.{AllByRecursion, flat_map}
+use Rattle.st_base.proofs.Quantifiers.{each-append, each-filter, each-take}
+use Rattle.st_content.specs.Files.{Files, file_at}
+use Rattle.st_hash.specs.Hash.{HashValue}
+use Rattle.st_exchange.specs.Answer.{answer_of, blob_at, blob_of, each_once, is_among, want_of}
+use Rattle.st_exchange.specs.Message.{AreListed, IsMessage, IsShort, IsUri, longest_blob, most_uris}
+use Rattle.st_exchange.specs.declared.message.Answer.{Answer}
+use Rattle.st_exchange.specs.declared.message.Message.{Message}
+use Rattle.st_exchange.specs.declared.message.Message.TheVariants.{Want, Have, Blob}
+
+pub asked-is : (wanted : List HashValue) → AllByRecursion IsUri wanted → AreListed (take most_uris wanted)
+asked-is wanted each = record { few = omega (arith, length-take most_uris wanted); each = each-take IsUri most_uris wanted each }
+
+pub asked-short : (wanted : List HashValue) → length (take most_uris wanted) ≤ most_uris
+asked-short wanted = omega (arith, length-take most_uris wanted)
+
+filtered-short : (test : HashValue → Bool) (uris : List HashValue) → length uris ≤ most_uris → length (filter test uris) ≤ most_uris
+filtered-short test uris short = omega (arith, length-filter test uris, count_by-le-length test uris)
+
+filtered-is : (test : HashValue → Bool) (uris : List HashValue) → AreListed uris → AreListed (filter test uris)
+filtered-is test uris are = record {
+  few = filtered-short test uris are.few;
+  each = each-filter IsUri test uris are.each;
+}
+
+-- what holds of each blob that is short, and of what asks for some of those that a `Have` lists, where it holds of that
+module _ (P : Message → Type 0) (blobs : (bytes : List ℕ) → length bytes ≤ longest_blob → P (Blob bytes))
+    (fewer : (test : HashValue → Bool) (uris : List HashValue) → P (Have uris) → P (Want (filter test uris))) where
+  blob-holds : (file : Option (List ℕ)) → AllByRecursion P (blob_of file)
+  blob-holds None = tt
+  blob-holds (Some file) = by (nat_le (length file) longest_blob) refl
+    where
+      by : (test : Bool) → nat_le (length file) longest_blob ≡ test → AllByRecursion P (cond test (Blob file ∷ []) [])
+      by true within =
+          let short : length file ≤ longest_blob = grind (arith, nat_tests) in
+          (blobs file short, tt)
+      by false within = tt
+
+  blobs-hold : (files : Files) (uris : List HashValue) → AllByRecursion P (flat_map (blob_at files) uris)
+  blobs-hold files [] = tt
+  blobs-hold files (uri ∷ uris) = each-append P (blob_of (file_at uri files)) _ (blob-holds (file_at uri files)) (blobs-hold files uris)
+
+  want-holds : (uris : List HashValue) → P (Want uris) → AllByRecursion P (want_of uris)
+  want-holds [] holds = tt
+  want-holds (uri ∷ uris) holds = (holds, tt)
+
+  sent-hold : (files : Files) (wanted : List HashValue) (message : Message) → P message → AllByRecursion P (answer_of files wanted message).send
+  sent-hold files wanted (Want uris) holds = blobs-hold files (each_once uris)
+  sent-hold files wanted (Have uris) holds = want-holds (filter (is_among wanted) uris) (fewer (is_among wanted) uris holds)
+  sent-hold files wanted (Blob bytes) holds = tt
+
+  answered-hold : {E : Type 0} (files : Files) (wanted : List HashValue) (message : Message) (result : Result Answer E)
+      → IfOk result (λ answer. answer ≡ answer_of files wanted message) → P message → IfOk result (λ answer. AllByRecursion P answer.send)
+  answered-hold files wanted message (Ok answer) value holds =
+      subst (λ (answer : Answer). AllByRecursion P answer.send) (sym value) (sent-hold files wanted message holds)
+  answered-hold files wanted message (Err refused) value holds = tt
+
+pub answered-sent : {E : Type 0} (files : Files) (wanted : List HashValue) (message : Message) (result : Result Answer E)
+    → IfOk result (λ answer. answer ≡ answer_of files wanted message) → IsMessage message
+    → IfOk result (λ answer. AllByRecursion IsMessage answer.send)
+answered-sent = answered-hold IsMessage (λ bytes short. short) filtered-is
+
+pub answered-short : {E : Type 0} (files : Files) (wanted : List HashValue) (message : Message) (result : Result Answer E)
+    → IfOk result (λ answer. answer ≡ answer_of files wanted message) → IsShort message
+    → IfOk result (λ answer. AllByRecursion IsShort answer.send)
+answered-short = answered-hold IsShort (λ bytes short. short) filtered-short

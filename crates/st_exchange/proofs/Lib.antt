@@ -1,0 +1,3 @@
+mod AmongLemmas
+mod AnswerLemmas
+mod MessageLemmas

@@ -1,0 +1,121 @@
+ghost use Rattle.std.specs.Prelude.{◌≡◌, ◌++◌, IfOk, OnOk, filter};
+ghost use Rattle.std.specs.List.{AllByRecursion, flat_map};
+ghost use Rattle.st_exchange.specs.Answer.{answer_of, blob_at, each_once, is_among, kept_of, want_of};
+ghost use Rattle.st_exchange.specs.Message.{IsMessage, IsShort};
+
+use crate::asking::{once, wanted_of};
+use crate::message::{Answer, LONGEST_BLOB, Message};
+use st_base::{Bytes, Copied, List, WantOfMemory};
+use st_content::Content;
+use st_hash::{Hash, uri_of};
+use std::alloc::Global;
+
+/// What a node with these files, which wants the files of these URIs, answers to the message.
+///
+/// To a `Want` it sends one `Blob` for each different URI of the list whose file it has, in the order of
+/// their first places, but for files of more than 16,000,000 bytes. To a `Have` it sends one `Want` of
+/// those of the list that it wants, in order and as often as they stand there, or nothing where it wants
+/// none. A `Blob` it keeps exactly where it wants the file, and hashes it once. It sends and keeps nothing
+/// else.
+pub fn answer(
+    alloc: Global,
+    content: &Content,
+    wanted: &[Hash],
+    message: &Message,
+) -> Result<Answer, WantOfMemory>
+    ensures value { IfOk result (λ answer. answer ≡ answer_of content.now wanted.now message.now) }
+    // What is sent keeps to the limits of a message, and has a spelling.
+    ensures short { IsShort message.now → IfOk result (λ answer. AllByRecursion IsShort answer.send) }
+    ensures sent { IsMessage message.now → IfOk result (λ answer. AllByRecursion IsMessage answer.send) }
+{
+    answered(alloc, content, wanted, message)
+}
+
+fn answered(
+    alloc: Global,
+    content: &Content,
+    wanted: &[Hash],
+    message: &Message,
+) -> Result<Answer, WantOfMemory>
+    ensures { IfOk result (λ answer. answer ≡ answer_of content.now wanted.now message.now) }
+{
+    match message {
+        Message::Want(uris) => Ok(Answer {
+            send: blobs(alloc, content, uris.as_slice())?,
+            keep: None,
+        }),
+        Message::Have(uris) => Ok(Answer {
+            send: asked(alloc, wanted, uris.as_slice())?,
+            keep: None,
+        }),
+        Message::Blob(bytes) => Ok(Answer {
+            send: List::new(alloc),
+            keep: kept(alloc, wanted, bytes)?,
+        }),
+    }
+}
+
+// A blob of the file of each of these URIs.
+fn blobs(alloc: Global, content: &Content, uris: &[Hash]) -> Result<List<Message>, WantOfMemory>
+    ensures { IfOk result (λ blobs. blobs ≡ flat_map (blob_at content.now) (each_once uris.now)) }
+{
+    let uris = once(alloc, uris)?;
+    blobs_at(alloc, content, uris.as_slice())
+}
+
+fn blobs_at(alloc: Global, content: &Content, uris: &[Hash]) -> Result<List<Message>, WantOfMemory>
+    ensures { IfOk result (λ blobs. blobs ≡ flat_map (blob_at content.now) uris.now) }
+{
+    let mut blobs = List::new(alloc);
+    for uri in uris {
+        put_blob(alloc, &mut blobs, content, uri)?;
+    }
+    Ok(blobs)
+}
+
+fn put_blob(
+    alloc: Global,
+    blobs: &mut List<Message>,
+    content: &Content,
+    uri: &Hash,
+) -> Result<(), WantOfMemory>
+    ensures { OnOk result (blobs.new ≡ blobs.old ++ blob_at content.now uri.now) }
+{
+    let Some(file) = content.get(uri) else {
+        return Ok(());
+    };
+    let bytes = file.get();
+    if bytes.as_slice().len() > LONGEST_BLOB {
+        return Ok(());
+    }
+    blobs.push(alloc, Message::Blob(bytes.copy(alloc)?))
+}
+
+// One message that asks for those that are wanted.
+fn asked(alloc: Global, wanted: &[Hash], uris: &[Hash]) -> Result<List<Message>, WantOfMemory>
+    ensures { IfOk result (λ asked. asked ≡ want_of (filter (is_among wanted.now) uris.now)) }
+{
+    let those = wanted_of(alloc, wanted, uris)?;
+    let mut asked = List::new(alloc);
+    if those.len() > 0 {
+        asked.push(alloc, Message::Want(those))?;
+    }
+    Ok(asked)
+}
+
+// The bytes, where their URI is wanted.
+fn kept(alloc: Global, wanted: &[Hash], bytes: &Bytes) -> Result<Option<Bytes>, WantOfMemory>
+    ensures { IfOk result (λ kept. kept ≡ kept_of wanted.now bytes.now) }
+{
+    let uri = uri_of(bytes.as_slice());
+    if contains(wanted, &uri) {
+        return Ok(Some(bytes.copy(alloc)?));
+    }
+    Ok(None)
+}
+
+fn contains(uris: &[Hash], uri: &Hash) -> bool
+    ensures { result ≡ is_among uris.now uri.now }
+{
+    uris.contains(uri)
+}

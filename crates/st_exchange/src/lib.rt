@@ -1,0 +1,18 @@
+//! What nodes say to each other about files: which they want, which they have, and the bytes of one; the
+//! one spelling of each message, and what a node answers to it. A file is sent only where it was asked for,
+//! and kept only where it is wanted.
+#![tactic(auto)]
+
+mod answering;
+mod asking;
+mod decoding;
+mod encoding;
+mod message;
+#[cfg(test)]
+mod tests;
+
+pub use answering::answer;
+pub use asking::ask;
+pub use decoding::decode;
+pub use encoding::encode;
+pub use message::{Answer, DecodeRefused, LONGEST_BLOB, MOST_URIS, Message};

@@ -1,0 +1,7 @@
+use Rattle.std.proofs.Common.{◌≡◌}
+use Rattle.st_generate.specs.Summary.{all_asked}
+use Rattle.st_generate.proofs.ends.ask_all.Given as goal
+
+-- how they end after those so far
+abbrev pub invariant-identities : goal.invariant-identities
+invariant-identities l = l.ends ≡ all_asked l.fn.plan.seed l.identity-index l.fn.ends

@@ -1,0 +1,9 @@
+use Rattle.std.proofs.Common.{◌≡◌, drop, map}
+use Rattle.st_workload.specs.Identity.{line_of}
+use Rattle.st_generate.specs.Talk.{told}
+use Rattle.st_generate.proofs.rounds.tell_round.Given as goal
+
+-- telling what is left now is telling all at first
+abbrev pub invariant-identities : goal.invariant-identities
+invariant-identities l =
+    told (map (line_of l.round) (drop l.identity-index l.identities)) l.talk ≡ told (map (line_of l.round) l.identities) l.fn.talk

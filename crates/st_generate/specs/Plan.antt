@@ -1,0 +1,26 @@
+-- What the words of a workload ask for.
+use Rattle.std.specs.Prelude.{ℕ, ◌-◌, ◌^◌, List, [], ◌∷◌, nat_le, Option, Some, None}
+use Rattle.st_base.specs.Options.{◌>>=◌, ◌>>◌}
+use Rattle.st_base.specs.Words.{number_of}
+use Rattle.st_generate.specs.declared.plan.Plan.{Plan}
+
+-- how many identifiers a workload has at most, and in how many rounds each of them is updated at most
+abbrev pub most_dids : ℕ
+most_dids = 200
+
+abbrev pub most_rounds : ℕ
+most_rounds = 30
+
+-- a seed, a number of identifiers, which is at least 1, and a number of rounds, each in decimal
+abbrev pub plan_with : List ℕ → List ℕ → List ℕ → Option Plan
+plan_with seed dids rounds = do
+  seed ← number_of (2 ^ 64 - 1) seed
+  dids ← number_of most_dids dids
+  nat_le 1 dids
+  rounds ← number_of most_rounds rounds
+  Some (record { seed = seed; dids = dids; rounds = rounds })
+
+-- three words, and no more
+abbrev pub plan_of : List (List ℕ) → Option Plan
+plan_of (seed ∷ dids ∷ rounds ∷ []) = plan_with seed dids rounds
+plan_of words = None

@@ -1,0 +1,55 @@
+-- The first node: in each round it takes the requests of all identifiers in their order, makes a batch of
+-- them, and takes its anchor.
+use Rattle.std.specs.Prelude.{ℕ, zero, suc, List, [], ◌∷◌, ◌++◌, codes, map, drop, unwrap_or}
+use Rattle.std.specs.Fmt.{decimal}
+use Rattle.st_base.specs.Words.{first_word, other_words}
+use Rattle.st_drive.specs.Lines.{whole_lines}
+use Rattle.st_generate.specs.Talk.{TalkValue, new_talk, reply, tell, told}
+use Rattle.st_generate.specs.declared.rounds.Batches.{Batches}
+use Rattle.st_workload.specs.Identity.{round_lines}
+
+-- ---- what a reply says
+
+-- what stands behind the first space of a line, or nothing
+abbrev pub behind_one : List ℕ → List ℕ
+behind_one line = unwrap_or (other_words 32 line) []
+
+-- `batch <anchor string> <k>`, and k lines of files: the anchor string
+unfoldable pub anchor_in : List ℕ → List ℕ
+anchor_in reply = first_word 32 (behind_one reply)
+
+-- `file <role> <uri> <base64url>`: the line that brings another node this file
+unfoldable pub content_line : List ℕ → List ℕ
+content_line line = codes "content " ++ behind_one (behind_one (behind_one line))
+
+-- those of all files
+abbrev pub content_lines : List ℕ → List (List ℕ)
+content_lines reply = map content_line (drop 1 (whole_lines reply))
+
+-- ---- rounds
+
+-- the line that makes a batch
+abbrev pub flush_line : List ℕ
+flush_line = codes "flush"
+
+-- the line of a batch's anchor, with the round as height
+abbrev pub anchor_line : ℕ → List ℕ → List ℕ
+anchor_line round anchor = codes "anchor " ++ (decimal round ++ (codes " " ++ anchor))
+
+-- once the requests of a round were told: the batch, its anchor line, and those of its files behind the others
+abbrev pub batched : ℕ → TalkValue → Batches → Batches
+batched round talk batches =
+    let batch = reply talk flush_line in
+    let anchor = anchor_line round (anchor_in batch) in
+    record {
+      talk = tell anchor (tell flush_line talk);
+      anchors = batches.anchors ++ anchor ∷ [];
+      files = batches.files ++ content_lines batch;
+    }
+
+-- the batches of the first rounds, so many
+abbrev pub batches_of : ℕ → ℕ → ℕ → Batches
+batches_of seed dids zero = record { talk = new_talk; anchors = []; files = [] }
+batches_of seed dids (suc round) =
+    let before = batches_of seed dids round in
+    batched round (told (round_lines seed dids round) before.talk) before

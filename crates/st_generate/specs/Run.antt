@@ -1,0 +1,15 @@
+-- A run that writes a summary.
+use Rattle.std.specs.Prelude.{◌==◌, ◌||◌, Bool, ℕ, List}
+use Rattle.std.specs.declared.option.Option.{Option}
+use Rattle.std.specs.Io.KnownBytes.{Appends}
+use Rattle.st_drive.specs.Runs.{Begins}
+
+-- the statuses of such a run: it is whole, the sink failed, or memory could not be had
+abbrev pub is_generate_end : ℕ → Bool
+is_generate_end status = status == 0 || (status == 3 || status == 6)
+
+-- a beginning of the text is behind what was written
+pub record WritesFront (text : List ℕ) (held holds : Option (List ℕ)) : Type 0 where
+  pub front : List ℕ
+  pub begins : Begins front text
+  pub writes : Appends held holds front

@@ -1,0 +1,79 @@
+ghost use Rattle.std.specs.Prelude.{◌≡◌, bytes_eq, IfOk};
+ghost use Rattle.st_generate.specs.Summary.{all_asked, asked, resolve_line};
+ghost use Rattle.st_workload.specs.Each.{each};
+ghost use Rattle.st_workload.specs.Identity.{identity_of};
+
+use crate::plan::Plan;
+use crate::talk::{Talk, begins_with, plus_one_if};
+use st_base::{Bytes, WantOfMemory, Work};
+use st_hash::{Hash, hash_text};
+use st_workload::Identity;
+use std::alloc::Global;
+
+/// The two nodes, how many identifiers the second resolved, and how many both answered alike.
+#[derive(Drop)]
+pub struct Ends {
+    pub first: Talk,
+    pub second: Talk,
+    pub resolved: u64,
+    pub agreed: u64,
+}
+
+/// Asks both nodes for all identifiers.
+pub fn ask_all(
+    alloc: Global,
+    plan: Plan,
+    identities: &[Identity],
+    ends: Ends,
+    work: &mut Work,
+) -> Result<Ends, WantOfMemory>
+    requires { identities.now ≡ each plan.dids (identity_of plan.seed plan.rounds) }
+    ensures { IfOk result (λ all. all ≡ all_asked plan.seed plan.dids ends) }
+{
+    let mut ends = ends;
+    'identities: for identity in identities {
+        let next = ask(alloc, &identity.suffix, ends, work)?;
+        ends = next;
+    }
+    Ok(ends)
+}
+
+// Asks both nodes for the identifier of this suffix.
+#[tactic(auto, unfolding(crate::specs::Summary::asked))]
+fn ask(alloc: Global, suffix: &Hash, ends: Ends, work: &mut Work) -> Result<Ends, WantOfMemory>
+    ensures { IfOk result (λ more. more ≡ asked (resolve_line suffix.now) ends) }
+{
+    let Ends {
+        first,
+        second,
+        resolved,
+        agreed,
+    } = ends;
+    let line = resolve_line(alloc, suffix)?;
+    let (first, one) = first.tell(alloc, line.as_slice(), work)?;
+    let (second, other) = second.tell(alloc, line.as_slice(), work)?;
+    let resolved = plus_one_if(resolved, begins_with(b"resolved", other.as_slice()))?;
+    let agreed = plus_one_if(agreed, is_same(one.as_slice(), other.as_slice()))?;
+    Ok(Ends {
+        first,
+        second,
+        resolved,
+        agreed,
+    })
+}
+
+fn is_same(one: &[u8], other: &[u8]) -> bool
+    ensures { result ≡ bytes_eq one.now other.now }
+{
+    one == other
+}
+
+// The line that resolves the short form of an identifier.
+fn resolve_line(alloc: Global, suffix: &Hash) -> Result<Bytes, WantOfMemory>
+    ensures { IfOk result (λ line. line ≡ resolve_line suffix.now) }
+{
+    let suffix = hash_text(alloc, suffix)?;
+    let mut line = Bytes::from_slice(alloc, b"resolve did:sidetree:")?;
+    line.push_all(alloc, suffix.as_str().as_bytes())?;
+    Ok(line)
+}

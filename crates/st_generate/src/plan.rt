@@ -1,0 +1,51 @@
+ghost use Rattle.std.specs.Prelude.{◌≡◌, ◌≤◌, IfSome};
+ghost use Rattle.st_generate.specs.Plan.{most_dids, most_rounds, plan_of, plan_with};
+
+use crate::number::read_long;
+use st_base::{Text, read_number};
+
+// How many identifiers a workload has at most, and in how many rounds each of them is updated at most.
+const MOST_DIDS: u32 = 200;
+
+const MOST_ROUNDS: u32 = 30;
+
+/// How a workload is made.
+#[derive(Clone, Copy, Debug, PartialEq, Eq)]
+pub struct Plan {
+    /// What its random words are made of.
+    pub seed: u64,
+    /// How many identifiers there are, from 1 to 200.
+    pub dids: u32,
+    /// In how many rounds each of them is updated, from 0 to 30.
+    pub rounds: u32,
+}
+
+/// Reads the words of a plan: a seed from 0 to 2^64 - 1, a number of identifiers from 1 to 200, and a number
+/// of rounds from 0 to 30, each in decimal and without leading zeros but for `0` itself. `None` comes exactly
+/// where they are of no plan.
+pub fn read_plan(words: &[Text]) -> Option<Plan>
+    ensures value { result ≡ plan_of words.now }
+    ensures bound { IfSome result (λ plan. plan.rounds ≤ most_rounds) }
+{
+    match words {
+        [seed, dids, rounds] => read_words(
+            seed.as_str().as_bytes(),
+            dids.as_str().as_bytes(),
+            rounds.as_str().as_bytes(),
+        ),
+        _ => None,
+    }
+}
+
+fn read_words(seed: &[u8], dids: &[u8], rounds: &[u8]) -> Option<Plan>
+    ensures value { result ≡ plan_with seed.now dids.now rounds.now }
+    ensures bound { IfSome result (λ plan. plan.rounds ≤ most_rounds) }
+{
+    let seed = read_long(seed)?;
+    let dids = read_number(dids, MOST_DIDS)?;
+    if dids < 1 {
+        return None;
+    }
+    let rounds = read_number(rounds, MOST_ROUNDS)?;
+    Some(Plan { seed, dids, rounds })
+}

@@ -1,0 +1,112 @@
+ghost use Rattle.std.specs.Prelude.{◌≡◌, ◌≤◌, ◌++◌, IfOk, OnOk};
+ghost use Rattle.st_generate.specs.Plan.{most_rounds};
+ghost use Rattle.st_generate.specs.Summary.{ends_of, fed, lines_of, summary, summary_line};
+ghost use Rattle.st_generate.specs.Talk.{new_talk, told};
+ghost use Rattle.st_workload.specs.Order.{events};
+
+use crate::ends::{Ends, ask_all};
+use crate::plan::Plan;
+use crate::rounds::{Batches, all_batches};
+use crate::talk::{Talk, tell_all};
+use itoa::Buffer;
+use st_base::{Bytes, List, WantOfMemory, Work};
+use st_workload::{all_identities, events};
+use std::alloc::Global;
+
+/// Makes the workload of a plan, hands it to two nodes, and sums up what they made of it, in nine lines that
+/// each end with a line feed. It works in memory alone, and both nodes count their work there.
+///
+/// It takes the time of a key for each identifier, of a signature for each update, and of two nodes.
+#[tactic(auto, unfolding(crate::specs::Summary::summary))]
+pub fn generate(alloc: Global, plan: Plan, work: &mut Work) -> Result<Bytes, WantOfMemory>
+    requires { plan.rounds ≤ most_rounds }
+    ensures { IfOk result (λ text. text ≡ summary plan) }
+{
+    let ends = ends_of(alloc, plan, work)?;
+    Ok(tell_ends(alloc, plan, &ends)?)
+}
+
+// How the two nodes end.
+#[tactic(auto, unfolding(crate::specs::Summary::ends_of))]
+fn ends_of(alloc: Global, plan: Plan, work: &mut Work) -> Result<Ends, WantOfMemory>
+    requires { plan.rounds ≤ most_rounds }
+    ensures { IfOk result (λ ends. ends ≡ ends_of plan) }
+{
+    let identities = all_identities(alloc, plan.seed, plan.dids, plan.rounds)?;
+    let batches = all_batches(alloc, plan, identities.as_slice(), work)?;
+    let ends = begin_ends(alloc, plan, batches, work)?;
+    Ok(ask_all(alloc, plan, identities.as_slice(), ends, work)?)
+}
+
+// The two nodes before they are asked.
+fn begin_ends(
+    alloc: Global,
+    plan: Plan,
+    batches: Batches,
+    work: &mut Work,
+) -> Result<Ends, WantOfMemory>
+    ensures { IfOk result (λ ends. ends ≡ record {
+      first = batches.talk;
+      second = fed plan batches;
+      resolved = 0;
+      agreed = 0;
+    }) }
+{
+    let Batches {
+        talk,
+        anchors,
+        files,
+    } = batches;
+    let second = feed(alloc, plan, anchors, files, work)?;
+    Ok(Ends {
+        first: talk,
+        second,
+        resolved: 0,
+        agreed: 0,
+    })
+}
+
+// The second node, once it got all events.
+fn feed(
+    alloc: Global,
+    plan: Plan,
+    anchors: List<Bytes>,
+    files: List<Bytes>,
+    work: &mut Work,
+) -> Result<Talk, WantOfMemory>
+    ensures { IfOk result (λ talk. talk ≡ told (events plan.seed plan.dids anchors files) new_talk) }
+{
+    let lines = events(alloc, plan.seed, plan.dids, anchors.as_slice(), files)?;
+    let talk = Talk::new(alloc)?;
+    Ok(tell_all(alloc, lines.as_slice(), talk, work)?)
+}
+
+// The nine lines of a workload that ended so.
+fn tell_ends(alloc: Global, plan: Plan, ends: &Ends) -> Result<Bytes, WantOfMemory>
+    requires { plan.rounds ≤ most_rounds }
+    ensures { IfOk result (λ text. text ≡ lines_of plan ends.now) }
+{
+    let first = ends.first.accepted();
+    let second = ends.second.accepted();
+    let mut text = Bytes::new(alloc);
+    push_line(alloc, &mut text, "dids ", u64::from(plan.dids))?;
+    push_line(alloc, &mut text, "batches ", u64::from(plan.rounds + 1))?;
+    push_line(alloc, &mut text, "operations ", first.submissions)?;
+    push_line(alloc, &mut text, "anchors ", second.anchors)?;
+    push_line(alloc, &mut text, "rollbacks ", second.rollbacks)?;
+    push_line(alloc, &mut text, "files ", second.files)?;
+    push_line(alloc, &mut text, "resolved ", ends.resolved)?;
+    push_line(alloc, &mut text, "agreed ", ends.agreed)?;
+    text.push_all(alloc, ends.second.within_line().as_bytes())?;
+    Ok(text)
+}
+
+// Puts a line of a word and a number behind the text.
+fn push_line(alloc: Global, text: &mut Bytes, word: &str, n: u64) -> Result<(), WantOfMemory>
+    ensures { OnOk result (text.new ≡ text.old ++ summary_line word.now n) }
+{
+    text.push_all(alloc, word.as_bytes())?;
+    text.push_all(alloc, Buffer::new().format(n).as_bytes())?;
+    text.push_all(alloc, b"\n")?;
+    Ok(())
+}

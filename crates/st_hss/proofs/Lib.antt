@@ -1,0 +1,5 @@
+mod KeyLemmas
+mod PublicLemmas
+mod PartLemmas
+mod LawLemmas
+mod VaultLemmas

@@ -1,0 +1,21 @@
+-- What is kept from one signature to the next: the top key, and all that the counters of one lower key share.
+use Rattle.std.specs.Prelude.{◌≡◌, ◌+◌, Option, IfSome}
+use Rattle.st_lms.specs.Keys.{SecretKey}
+use Rattle.st_vault.specs.Children.{child_of}
+use Rattle.st_hss.specs.Uses.{head_of}
+use Rattle.st_hss.specs.declared.trees.Lower.{Lower}
+use Rattle.st_hss.specs.declared.trees.Trees.{Trees}
+
+-- the lower key that its leaf of the top key signs, and what stands before its signatures
+pub record IsLowerOf (secret : SecretKey) (lower : Lower) : Type 0 where
+  pub head : lower.head ≡ head_of secret lower.leaf
+  pub signer : lower.signer ≡ child_of secret (1 + lower.leaf)
+
+-- the top key of this secret, and one of its lower keys
+pub record IsTreesOf (secret : SecretKey) (trees : Trees) : Type 0 where
+  pub top : trees.top ≡ child_of secret 0
+  pub lower : IsLowerOf secret trees.lower
+
+-- they are that, where they are kept
+abbrev pub IfKept : SecretKey → Option Trees → Type 0
+IfKept secret kept = IfSome kept (IsTreesOf secret)

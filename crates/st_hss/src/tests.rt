@@ -1,0 +1,14 @@
+mod standard;
+mod types;
+mod vaults;
+mod vectors;
+
+use std::test::Fail;
+
+/// A test that ends so.
+fn judged(right: bool) -> Result<(), Fail> {
+    match right {
+        true => Ok(()),
+        false => Err(Fail::from("otherwise")),
+    }
+}

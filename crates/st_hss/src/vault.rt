@@ -1,0 +1,185 @@
+ghost use Rattle.std.specs.Prelude.{◌≡◌, ◌≢◌, ◌↔◌, ◌⊎◌, ◌≤◌, IsErr, IsErrOf, IsSome, IfOk, IfErr, Ok, OnOk};
+ghost use Rattle.st_io.specs.Past.{Leaves, Only};
+ghost use Rattle.st_io.specs.Tears.{IfTold};
+ghost use Rattle.st_lms.specs.Parameters.{IsOneTimeType};
+ghost use Rattle.st_vault.specs.Image.{IsSpent};
+ghost use Rattle.st_vault.specs.Opening.{AllOpenAs, ReadsAs};
+ghost use Rattle.st_vault.specs.Reserving.{IsBeforeOrAfter};
+ghost use Rattle.st_vault.specs.Spent.{SpentInAll, KeepsSpent};
+ghost use Rattle.st_vault.specs.Values.{left_of};
+ghost use Rattle.st_hss.specs.Signed.{IsHssSignature};
+ghost use Rattle.st_hss.specs.Signing.{SignGives};
+ghost use Rattle.st_hss.specs.Uses.{hss_public_of};
+
+use crate::public::HssPublic;
+use crate::refused::{HssSignRefused, HssVaultRefused};
+use crate::signing::{LEAVES, signature_with};
+use crate::trees::{Trees, trees_for};
+use st_base::Bytes;
+use st_io::Disk;
+use st_vault::{ReserveRefused, Vault};
+use std::alloc::Global;
+use std::fmt;
+use std::marker::Model;
+
+/// The LMS type of a tree of height 10.
+const TREE: u32 = 6;
+
+/// How many counters a vault of that type has.
+const COUNTERS: u32 = LEAVES * LEAVES;
+
+/// A vault with 1,024 counters that signs with two levels. Its LMS key itself signs nothing here: its
+/// child 0 is the top key, and the children from 1 on are the lower keys.
+///
+/// Once it has signed it keeps the nodes of two trees of height 5, 2,016 bytes each, and what stands before
+/// the signatures of one lower key, 1,352 to 8,744 bytes. Contracts see the vault.
+#[derive(Drop)]
+pub struct HssVault {
+    vault: Vault,
+    kept: Option<Trees>,
+}
+
+impl Model for HssVault {
+    ghost use Rattle.std.specs.Prelude.{◌≡◌};
+    ghost use Rattle.st_vault.specs.Values.{VaultValue};
+    ghost use Rattle.st_hss.specs.Trees.{IfKept};
+
+    ghost Value = { VaultValue };
+
+    ghost view = { λ v. v.vault };
+
+    ghost invariant = { λ v. (v.vault.key.tree ≡ 6) × IfKept v.vault.key v.kept };
+}
+
+impl fmt::Debug for HssVault {
+    // The seed is not written.
+    fn fmt<W: fmt::Write>(&self, f: &mut fmt::Formatter<W>) -> fmt::Result {
+        write!(f, "HssVault")
+    }
+}
+
+impl HssVault {
+    /// The vault, for signatures of two levels. It computes nothing.
+    ///
+    /// `WrongTree` comes exactly where the LMS type of the vault's key isn't 6; it hands the vault back.
+    pub fn new(vault: Vault) -> Result<HssVault, HssVaultRefused>
+        ensures wrong_tree { IsErr result ↔ (vault.key.tree ≢ 6) }
+        ensures value { IfOk result (λ hss. hss ≡ vault) }
+        ensures back { IfErr result (λ refusal. refusal ≡ HssVaultRefused.WrongTree vault) }
+    {
+        if vault.tree() != TREE {
+            return Err(HssVaultRefused::WrongTree(vault));
+        }
+        Ok(HssVault { vault, kept: None })
+    }
+
+    /// The vault, whose counters are as they are now.
+    pub fn vault(&self) -> &Vault
+        ensures { result.now ≡ self.now }
+    {
+        &self.vault
+    }
+
+    /// The same, handed back. What was kept for signatures is gone.
+    pub fn into_vault(self) -> Vault
+        ensures { result ≡ self }
+    {
+        let HssVault { vault, .. } = self;
+        vault
+    }
+
+    /// The public key that the signatures are verified with. It computes the leaves of the top key, but
+    /// where something was signed.
+    pub fn public(&self) -> HssPublic
+        ensures { result ≡ hss_public_of self.now.key }
+    {
+        match &self.kept {
+            Some(trees) => HssPublic {
+                top: trees.top.public(),
+            },
+            None => HssPublic {
+                top: self.vault.child(0).public(),
+            },
+        }
+    }
+
+    /// Spends the next counter on the disk, and then signs the message with it.
+    ///
+    /// `Exhausted` comes exactly where no counter is left; it hands the vault back, and the disk is as
+    /// it was. `DiskFault` comes only where the disk's count of faults rose: the vault is gone, the
+    /// counter may be spent or not, and the disk is to be opened again. After want of memory the vault
+    /// is gone too, and the disk is as it was, or the counter is spent and lost.
+    ///
+    /// The first signature computes the leaves of the top key, and the first with each lower key those of
+    /// that, before the counter is spent; what is kept of it serves the others, which compute none.
+    #[tactic(auto, using(crate::proofs::VaultLemmas::keeps_standing, crate::proofs::VaultLemmas::moments_standing))]
+    pub fn sign<D: Disk>(
+        self,
+        alloc: Global,
+        disk: &mut D,
+        message: &[u8],
+    ) -> Result<(HssVault, Bytes), HssSignRefused>
+        requires { ReadsAs (D.reads disk.old) self }
+
+        ensures gives { SignGives self message.now (D.faults disk.old) (D.faults disk.new) result }
+        ensures verifies { IfOk result (λ given. IsHssSignature (hss_public_of self.key) message.now given.1) }
+        ensures untouched { left_of self ≡ 0 → disk.new ≡ disk.old }
+
+        // The counter was not spent. The disk reads as the vault that comes back, and the counter is
+        // spent in every image.
+        ensures unspent { OnOk result (IfTold (D.reads disk.old) (λ image. IsSpent image self.next → ⊥)) }
+        ensures reads { IfOk result (λ given. ReadsAs (D.reads disk.new) given.0) }
+        ensures told { OnOk result (IfTold (D.reads disk.old) (λ image. IsSome (D.reads disk.new))) }
+        ensures durable { OnOk result (IfTold (D.reads disk.new) (Only (D.past disk.new))) }
+        ensures spent { OnOk result (IfTold (D.reads disk.old) (λ image. SpentInAll (D.past disk.new) self.next)) }
+
+        // After want of memory nothing was spent, or the counter is and is lost.
+        ensures lost { IsErrOf result HssSignRefused.WantOfMemory → (disk.new ≡ disk.old)
+            ⊎ IfTold (D.reads disk.old) (λ image. SpentInAll (D.past disk.new) self.next) }
+
+        // Where a stop before the call leaves the vault, a stop at any moment of the call leaves the vault
+        // before its next counter was spent, or after.
+        ensures moments { AllOpenAs (Ok self) (D.past disk.old)
+            → Leaves (IsBeforeOrAfter self) (D.past disk.old) (D.past disk.new) }
+
+        // What was spent in every image stays so at each moment of the call.
+        ensures stays { IfTold (D.reads disk.old) (λ image. KeepsSpent (D.past disk.old) (D.past disk.new)) }
+        ensures later { D.faults disk.old ≤ D.faults disk.new }
+    {
+        let HssVault { vault, kept } = self;
+        know_key(&vault);
+        let left = vault.left();
+        if left == 0 {
+            return Err(HssSignRefused::Exhausted(HssVault { vault, kept }));
+        }
+        let n = COUNTERS - left;
+        let trees = trees_for(alloc, &vault, kept, n / LEAVES)?;
+        match vault.reserve(disk) {
+            Ok((vault, counter)) => {
+                let signature = signature_with(alloc, counter, &trees, message)?;
+                Ok((
+                    HssVault {
+                        vault,
+                        kept: Some(trees),
+                    },
+                    signature,
+                ))
+            }
+            Err(ReserveRefused::Exhausted(vault)) => {
+                Err(HssSignRefused::Exhausted(HssVault {
+                    vault,
+                    kept: Some(trees),
+                }))
+            }
+            Err(ReserveRefused::DiskFault) => Err(HssSignRefused::DiskFault),
+        }
+    }
+}
+
+/// The one-time type of a vault's key is one that is known.
+#[tactic(auto, using(crate::proofs::KeyLemmas::known_from_child))]
+fn know_key(vault: &Vault)
+    ensures { IsOneTimeType vault.now.key.ots }
+{
+    vault.child(0);
+}

@@ -1,0 +1,221 @@
+-- What four nodes answer to a line, and what it leaves. A message is delivered whenever a line says so,
+-- again or never: so the network between them may lose, repeat and reorder.
+use Rattle.std.specs.Prelude.{◌≡◌, ℕ, nat_le, List, [], ◌∷◌, ◌++◌, codes, bytes_eq, is_some, length, map, slice_get, if◌then◌else◌, Option, Some, None, Result, Ok, Err}
+use Rattle.std.specs.Fmt.{decimal}
+use Rattle.std.specs.Option.{ok_or}
+use Rattle.st_base.specs.Answers.{◌>>=◌, ◌>>◌, holds_or}
+use Rattle.st_base.specs.Replies.{reply}
+use Rattle.st_base.specs.Words.{cut_at, first_word, other_words}
+use Rattle.st_content.specs.Files.{file_at}
+use Rattle.st_exchange.specs.Answer.{answer_of, ask_of}
+use Rattle.st_exchange.specs.Message.{message_of, spelling}
+use Rattle.st_exchange.specs.declared.message.Answer.{Answer}
+use Rattle.st_exchange.specs.declared.message.Message.{Message}
+use Rattle.st_exchange.specs.declared.message.Message.TheVariants.{Have}
+use Rattle.st_hash.specs.Base64url.{bytes_of_text}
+use Rattle.st_hash.specs.Hash.{hash_of_text, hash_text, uri_of}
+use Rattle.st_network.specs.Network.{Network, fits, with_node}
+use Rattle.st_network.specs.declared.cause.Cause.{Cause}
+use Rattle.st_network.specs.declared.cause.Cause.TheVariants as cause
+use Rattle.st_network.specs.declared.cause.StepRefused.{StepRefused}
+use Rattle.st_network.specs.declared.cause.StepRefused.TheVariants as refused_is
+use Rattle.st_network.specs.declared.letter.Letter.{Letter}
+use Rattle.st_network.specs.declared.letter.Step.{Step}
+use Rattle.st_network.specs.declared.letter.Step.TheVariants.{Line, Post, Store}
+use Rattle.st_node.specs.Command.{longest_line, number_in, space}
+use Rattle.st_node.specs.Machine.{Machine, answered as node_answered, answered_content}
+use Rattle.st_observer.specs.Wanted.{wanted}
+
+-- ---- what a line asks for
+
+-- a word, and what stands behind it and a space
+abbrev pub two_of : Option (List ℕ) → Result (List ℕ × List ℕ) Cause
+two_of behind = do
+  rest ← ok_or behind cause.Words
+  ok_or (cut_at space rest) cause.Words
+
+-- two words, and what stands behind them
+abbrev pub three_of : Option (List ℕ) → Result (List ℕ × (List ℕ × List ℕ)) Cause
+three_of behind = do
+  words ← two_of behind
+  others ← ok_or (cut_at space words.1) cause.Words
+  Ok (words.0, others)
+
+-- the number that a word is
+abbrev pub number_or : List ℕ → Result ℕ Cause
+number_or word = ok_or (number_in word) cause.Number
+
+-- the node with this number
+abbrev pub node_at : Network → ℕ → Result Machine Cause
+node_at network i = ok_or (slice_get network.nodes i) cause.Range
+
+-- from, to, and the one spelling of a message
+abbrev pub letter : ℕ → ℕ → Message → Letter
+letter from to message = record { from = from; to = to; bytes = spelling message }
+
+-- back to the sender
+abbrev pub back : Letter → Message → Letter
+back received message = letter received.to received.from message
+
+-- `at <i> <node line>`: the node line is all the rest, and may be empty
+abbrev pub at_step : Network → Option (List ℕ) → Result Step Cause
+at_step network behind = do
+  words ← two_of behind
+  i ← number_or words.0
+  Ok (Line i words.1)
+
+-- `ask <i> <j>`: node i asks node j for the files that it wants
+abbrev pub ask_step : Network → Option (List ℕ) → Result Step Cause
+ask_step network behind = do
+  words ← two_of behind
+  i ← number_or words.0
+  j ← number_or words.1
+  from ← node_at network i
+  to ← node_at network j
+  Ok (Post (letter i j (ask_of (wanted from.observed)) ∷ []))
+
+-- `offer <i> <j> <uri>`: node i tells node j that it has this file
+abbrev pub offer_step : Network → Option (List ℕ) → Result Step Cause
+offer_step network behind = do
+  words ← three_of behind
+  i ← number_or words.0
+  j ← number_or words.1.0
+  uri ← ok_or (hash_of_text words.1.1) cause.Hash
+  from ← node_at network i
+  to ← node_at network j
+  holds_or (is_some (file_at uri from.observed.files)) cause.Unknown
+  Ok (Post (letter i j (Have (uri ∷ [])) ∷ []))
+
+-- `inject <i> <j> <base64url>`: the bytes as they are
+abbrev pub inject_step : Network → Option (List ℕ) → Result Step Cause
+inject_step network behind = do
+  words ← three_of behind
+  i ← number_or words.0
+  j ← number_or words.1.0
+  bytes ← ok_or (bytes_of_text words.1.1) cause.Base64
+  from ← node_at network i
+  to ← node_at network j
+  Ok (Post (record { from = i; to = j; bytes = bytes } ∷ []))
+
+-- a file that is kept is stored, and else all is sent back
+abbrev pub step_by : Letter → List Message → Option (List ℕ) → Step
+step_by received send (Some bytes) = Store received.to bytes
+step_by received send None = Post (map (back received) send)
+
+abbrev pub answer_step : Letter → Answer → Step
+answer_step received answer = step_by received answer.send answer.keep
+
+-- `deliver <m>`: the addressee of a message answers it, by its files and what it wants. There is such a node: there
+-- was one when the message was sent.
+abbrev pub deliver_step : Network → Option (List ℕ) → Result Step Cause
+deliver_step network behind = do
+  rest ← ok_or behind cause.Words
+  m ← number_or rest
+  received ← ok_or (slice_get network.letters m) cause.Range
+  message ← ok_or (message_of received.bytes) cause.Message
+  to ← node_at network received.to
+  Ok (answer_step received (answer_of to.observed.files (wanted to.observed) message))
+
+-- by the command word
+abbrev pub step_of_words : Network → List ℕ → Option (List ℕ) → Result Step Cause
+step_of_words network word behind =
+    if bytes_eq word (codes "at") then at_step network behind
+    else if bytes_eq word (codes "ask") then ask_step network behind
+    else if bytes_eq word (codes "offer") then offer_step network behind
+    else if bytes_eq word (codes "inject") then inject_step network behind
+    else if bytes_eq word (codes "deliver") then deliver_step network behind
+    else Err cause.Command
+
+-- What a line asks for, or the first cause for which it is refused.
+abbrev pub step_of : Network → List ℕ → Result Step Cause
+step_of network line = do
+  holds_or (nat_le (length line) longest_line) cause.Long
+  step_of_words network (first_word space line) (other_words space line)
+
+-- ---- what it leaves
+
+-- what a line leaves, and the reply to it
+pub record Answered : Type 0 where
+  pub next : Network
+  pub reply : List ℕ
+
+-- why a line is refused
+abbrev pub cause_word : Cause → List ℕ
+cause_word cause.Long = codes "line long"
+cause_word cause.Command = codes "line command"
+cause_word cause.Words = codes "line words"
+cause_word cause.Number = codes "line number"
+cause_word cause.Base64 = codes "line base64"
+cause_word cause.Hash = codes "line hash"
+cause_word cause.Range = codes "range"
+cause_word cause.Unknown = codes "unknown"
+cause_word cause.Message = codes "message"
+cause_word cause.Full = codes "full"
+
+-- `refused <cause>`, and nothing changes
+abbrev pub refused : Network → Cause → Answered
+refused network why = record { next = network; reply = reply (codes "refused ") (cause_word why) }
+
+-- node i answers a line of its own, where there is such a node
+abbrev pub line_done : Network → ℕ → List ℕ → Option Machine → Answered
+line_done network i line None = refused network cause.Range
+line_done network i line (Some node) = record {
+  next = with_node i (node_answered node line).next network;
+  reply = (node_answered node line).reply;
+}
+
+-- the node keeps a file, as by `content`
+abbrev pub store_done : Network → ℕ → List ℕ → Option Machine → Answered
+store_done network i bytes None = refused network cause.Range
+store_done network i bytes (Some node) = record {
+  next = with_node i (answered_content node bytes).next network;
+  reply = reply (codes "stored ") (hash_text (uri_of bytes));
+}
+
+-- how many messages are sent, where there is one
+abbrev pub post_reply : List Letter → List ℕ
+post_reply [] = reply (codes "ignored") []
+post_reply (first ∷ others) = reply (codes "sent ") (decimal (length (first ∷ others)))
+
+-- the messages come last, where all fit
+abbrev pub post_done : Network → List Letter → Answered
+post_done network letters =
+    if fits (network.letters ++ letters)
+    then record { next = record network { letters = network.letters ++ letters }; reply = post_reply letters }
+    else refused network cause.Full
+
+-- by what is asked for
+abbrev pub done : Network → Step → Answered
+done network (Line i line) = line_done network i line (slice_get network.nodes i)
+done network (Post letters) = post_done network letters
+done network (Store i bytes) = store_done network i bytes (slice_get network.nodes i)
+
+-- what is done, or why not
+abbrev pub answered_step : Network → Result Step Cause → Answered
+answered_step network (Ok step) = done network step
+answered_step network (Err why) = refused network why
+
+-- the answer to a line
+abbrev pub answered : Network → List ℕ → Answered
+answered network line = answered_step network (step_of network line)
+
+-- the replies to lines, one after the other
+abbrev pub replies : Network → List (List ℕ) → List ℕ
+replies network [] = []
+replies network (line ∷ lines) = (answered network line).reply ++ replies (answered network line).next lines
+
+-- the network behind these lines
+abbrev pub after : Network → List (List ℕ) → Network
+after network [] = network
+after network (line ∷ lines) = after (answered network line).next lines
+
+-- ---- calls
+
+-- What comes of it is what the answer leaves, and its reply is given.
+abbrev pub AnswersWith : Answered → Network × List ℕ → Type 0
+AnswersWith answer done = (done.0 ≡ answer.next) × (done.1 ≡ answer.reply)
+
+-- the cause that an error names
+abbrev pub cause_of : StepRefused → Option Cause
+cause_of (refused_is.Refused why) = Some why
+cause_of refused_is.WantOfMemory = None

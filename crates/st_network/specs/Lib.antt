@@ -1,0 +1,9 @@
+pub mod AlikeReplies
+pub mod Codes
+pub mod Exchange
+pub mod LineLaws
+pub mod Lines
+pub mod Network
+pub mod Run
+pub mod Stored
+pub mod StoresWanted

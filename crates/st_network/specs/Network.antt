@@ -1,0 +1,38 @@
+-- Four nodes and the messages between them, as a line leaves them.
+use Rattle.std.specs.Prelude.{ℕ, ◌-◌, ◌&&◌, nat_le, Bool, List, [], ◌∷◌, length, slice_set, if◌then◌else◌, Option, Some, None}
+use Rattle.std.specs.List.{sum_by}
+use Rattle.st_node.specs.Machine.{Machine, new_machine}
+use Rattle.st_network.specs.declared.letter.Letter.{Letter}
+
+-- four nodes, numbered from 0, and what was sent between them, numbered from 0
+pub record Network : Type 0 where
+  pub nodes : List Machine
+  pub letters : List Letter
+
+-- before anything has come
+abbrev pub new_network : Network
+new_network = record { nodes = new_machine None ∷ new_machine None ∷ new_machine None ∷ new_machine None ∷ []; letters = [] }
+
+-- with another node under this number
+abbrev pub with_node : ℕ → Machine → Network → Network
+with_node i node network = record network { nodes = slice_set network.nodes i node }
+
+-- ---- how much is kept
+
+-- how many messages are kept at most, and how many bytes
+abbrev pub most_letters : ℕ
+most_letters = 100000
+
+abbrev pub most_bytes : ℕ
+most_bytes = 1073741824
+
+abbrev pub size_of : Letter → ℕ
+size_of letter = length letter.bytes
+
+-- there are not too many of them, and they have not too many bytes in all
+abbrev pub fits : List Letter → Bool
+fits letters = nat_le (length letters) most_letters && nat_le (sum_by size_of letters) most_bytes
+
+-- what is left of some room behind so many bytes, where they fit
+abbrev pub less : ℕ → ℕ → Option ℕ
+less room bytes = if nat_le bytes room then Some (room - bytes) else None

@@ -1,0 +1,128 @@
+ghost use Rattle.std.specs.Prelude.{◌≡◌, ◌++◌, ◌∷◌, [], map, IfOk, OnOk};
+ghost use Rattle.std.specs.List.{AllByRecursion};
+ghost use Rattle.std.specs.Option.{option_copied};
+ghost use Rattle.st_base.specs.Answers.{Gives};
+ghost use Rattle.st_exchange.specs.Answer.{answer_of};
+ghost use Rattle.st_exchange.specs.Message.{IsShort};
+ghost use Rattle.st_network.specs.Exchange.{answer_step, back, cause_of, deliver_step};
+ghost use Rattle.st_observer.specs.Wanted.{wanted};
+
+use crate::cause::{Cause, StepRefused};
+use crate::letter::{Letter, Step};
+use crate::network::Network;
+use crate::reading::node_at;
+use crate::words::number;
+use st_base::{List, WantOfMemory};
+use st_exchange::{Answer, DecodeRefused, Message, answer, decode, encode};
+use st_hash::Hash;
+use st_node::Node;
+use std::alloc::Global;
+
+// What a `deliver` asks for, by what stands behind the word.
+pub fn read_deliver(
+    alloc: Global,
+    network: &Network,
+    behind: Option<&[u8]>,
+) -> Result<Step, StepRefused>
+    ensures { Gives cause_of (deliver_step network.now (option_copied behind.entry)) result }
+{
+    let Some(rest) = behind else {
+        return Err(StepRefused::Refused(Cause::Words));
+    };
+    let m = number(rest)?;
+    let Some(received) = network.letters().get(m as usize) else {
+        return Err(StepRefused::Refused(Cause::Range));
+    };
+    let message = match decode(alloc, received.bytes.as_slice()) {
+        Ok(message) => message,
+        Err(DecodeRefused::BadMessage) => return Err(StepRefused::Refused(Cause::Message)),
+        Err(DecodeRefused::WantOfMemory) => return Err(StepRefused::WantOfMemory),
+    };
+    let to = node_at(network, received.to)?;
+    Ok(answered(alloc, received, to, &message)?)
+}
+
+// What the addressee of a message answers.
+fn answered(
+    alloc: Global,
+    received: &Letter,
+    to: &Node,
+    message: &Message,
+) -> Result<Step, WantOfMemory>
+    requires { IsShort message.now }
+    ensures { IfOk result (λ step. step ≡ answer_step received.now
+        (answer_of to.now.observed.files (wanted to.now.observed) message.now)) }
+{
+    let wanted = wanted_for(alloc, to, message)?;
+    let answer = answer(alloc, to.observer().content(), wanted.as_slice(), message)?;
+    step_by(alloc, received, answer)
+}
+
+// Which files the node wants, as far as the message asks. A `Want` doesn't ask, and so costs no list of them.
+fn wanted_for(alloc: Global, to: &Node, message: &Message) -> Result<List<Hash>, WantOfMemory>
+    ensures { IfOk result (λ uris. answer_of to.now.observed.files uris message.now
+        ≡ answer_of to.now.observed.files (wanted to.now.observed) message.now) }
+{
+    match message {
+        Message::Want(_) => Ok(List::new(alloc)),
+        Message::Have(_) => all_wanted(alloc, to),
+        Message::Blob(_) => all_wanted(alloc, to),
+    }
+}
+
+fn all_wanted(alloc: Global, node: &Node) -> Result<List<Hash>, WantOfMemory>
+    ensures { IfOk result (λ uris. uris ≡ wanted node.now.observed) }
+{
+    let uris = node.observer().wanted(alloc)?;
+    Ok(uris)
+}
+
+fn step_by(alloc: Global, received: &Letter, answer: Answer) -> Result<Step, WantOfMemory>
+    requires { AllByRecursion IsShort answer.send }
+    ensures { IfOk result (λ step. step ≡ answer_step received.now answer) }
+{
+    let Answer { send, keep } = answer;
+    match keep {
+        Some(bytes) => Ok(Step::Store {
+            node: received.to,
+            bytes,
+        }),
+        None => Ok(Step::Post(sent_back(alloc, received, send)?)),
+    }
+}
+
+// The messages that go back to the sender. Each goes once it is spelled, so that no file stands twice beside the others.
+fn sent_back(
+    alloc: Global,
+    received: &Letter,
+    messages: List<Message>,
+) -> Result<List<Letter>, WantOfMemory>
+    requires { AllByRecursion IsShort messages }
+    ensures { IfOk result (λ letters. letters ≡ map (back received.now) messages) }
+{
+    let mut letters = List::new(alloc);
+    for message in messages.into_vec() {
+        put_back(alloc, &mut letters, received, &message)?;
+    }
+    Ok(letters)
+}
+
+fn put_back(
+    alloc: Global,
+    letters: &mut List<Letter>,
+    received: &Letter,
+    message: &Message,
+) -> Result<(), WantOfMemory>
+    requires { IsShort message.now }
+    ensures { OnOk result (letters.new ≡ letters.old ++ back received.now message.now ∷ []) }
+{
+    let bytes = encode(alloc, message)?;
+    letters.push(
+        alloc,
+        Letter {
+            from: received.to,
+            to: received.from,
+            bytes,
+        },
+    )
+}

@@ -1,0 +1,25 @@
+//! Four nodes in one process, and the messages between them: a message is delivered whenever a line says
+//! so, again or never. So the network between the nodes may lose, repeat and reorder. A node gets no file
+//! by a message but one that it wants, under its own URI, and nodes with equal ledgers and equal files
+//! answer alike.
+#![tactic(auto)]
+
+mod cause;
+mod delivering;
+mod doing;
+mod laws;
+mod letter;
+mod letters;
+mod lines;
+mod network;
+mod reading;
+mod running;
+mod telling;
+#[cfg(test)]
+mod tests;
+mod words;
+
+pub use laws::exchange_law;
+pub use letter::Letter;
+pub use network::Network;
+pub use running::run_exchange;

@@ -1,0 +1,43 @@
+ghost use Rattle.std.specs.Prelude.{⊤};
+ghost use Rattle.st_network.specs.LineLaws.{network_laws};
+ghost use Rattle.st_network.specs.Lines.{kept_of_line, network_meaning};
+
+use crate::network::Network;
+use st_base::{Bytes, Work};
+use st_drive::{Machine, StepError};
+use st_node::LONGEST_LINE;
+use std::alloc::Global;
+
+// It looks at one byte more of a line than a line may have, by which it knows one that is too long.
+impl Machine for Network {
+    type Context = Work;
+
+    type Device = ();
+
+    ghost meaning = { network_meaning };
+
+    ghost CAP = { kept_of_line };
+
+    const CAP: usize = LONGEST_LINE + 1;
+
+    ghost fits = { λ _ _ _. ⊤ };
+
+    ghost faults = { λ _. 0 };
+
+    fn step(
+        self,
+        alloc: Global,
+        context: &mut Work,
+        _device: &mut (),
+        line: &[u8],
+    ) -> Result<(Network, Bytes), StepError> {
+        match self.answer(alloc, line, context) {
+            Ok(done) => Ok(done),
+            Err(want) => Err(StepError::from(want)),
+        }
+    }
+
+    ghost fewer = { λ m c many few le fits. fits };
+
+    ghost laws = { network_laws };
+}

@@ -1,0 +1,86 @@
+ghost use Rattle.std.specs.Prelude.{◌≡◌, IfOk};
+ghost use Rattle.st_network.specs.Exchange.{AnswersWith, answered};
+ghost use Rattle.st_network.specs.Network.{new_network};
+
+use crate::cause::StepRefused;
+use crate::doing::take;
+use crate::letters::Letters;
+use crate::reading::read_step;
+use crate::telling::tell_refused;
+use st_base::{Bytes, List, WantOfMemory, Work};
+use st_node::Node;
+use st_params::Schedule;
+use std::alloc::Global;
+use std::marker::Model;
+
+/// Four nodes, and the messages between them. Contracts see the reference machines of the nodes, and the
+/// messages in the order in which they were sent.
+#[derive(Drop)]
+pub struct Network {
+    pub(crate) nodes: List<Node>,
+    pub(crate) letters: Letters,
+}
+
+impl Model for Network {
+    ghost use Rattle.st_network.specs.Codes.{coded_network};
+    ghost use Rattle.st_network.specs.Network.{Network as Seen};
+
+    ghost Value = { Seen };
+
+    ghost coded = { coded_network };
+
+    ghost view = { λ n. record { nodes = n.nodes; letters = n.letters } };
+}
+
+impl Network {
+    /// Four nodes under the limits of version 1, before anything has come.
+    pub fn new(alloc: Global) -> Result<Network, WantOfMemory>
+        ensures { IfOk result (λ network. network ≡ new_network) }
+    {
+        let mut nodes = List::new(alloc);
+        nodes.push(alloc, Node::new(alloc, Schedule::new())?)?;
+        nodes.push(alloc, Node::new(alloc, Schedule::new())?)?;
+        nodes.push(alloc, Node::new(alloc, Schedule::new())?)?;
+        nodes.push(alloc, Node::new(alloc, Schedule::new())?)?;
+        Ok(Network {
+            nodes,
+            letters: Letters::new(alloc),
+        })
+    }
+
+    /// The nodes.
+    pub fn nodes(&self) -> &List<Node>
+        ensures { result.now ≡ self.now.nodes }
+    {
+        &self.nodes
+    }
+
+    /// What was sent between them.
+    pub(crate) fn letters(&self) -> &Letters
+        ensures { result.now ≡ self.now.letters }
+    {
+        &self.letters
+    }
+
+    /// Answers a line, which comes without its line feed. The reply has its line end.
+    ///
+    /// A line that is refused changes nothing. A `deliver` takes the time of its message, of its answer, and,
+    /// where it is no `Want`, of listing what its addressee wants; how many messages there are is no part of it.
+    pub fn answer(
+        self,
+        alloc: Global,
+        line: &[u8],
+        work: &mut Work,
+    ) -> Result<(Network, Bytes), WantOfMemory>
+        ensures { IfOk result (AnswersWith (answered self line.now)) }
+    {
+        match read_step(alloc, &self, line) {
+            Ok(step) => take(self, alloc, step, work),
+            Err(StepRefused::Refused(cause)) => {
+                let text = tell_refused(alloc, cause)?;
+                Ok((self, text))
+            }
+            Err(StepRefused::WantOfMemory) => Err(WantOfMemory),
+        }
+    }
+}

@@ -1,0 +1,155 @@
+ghost use Rattle.std.specs.Prelude.{◌≡◌, ◌∷◌, [], IfOk};
+ghost use Rattle.std.specs.Option.{option_copied};
+ghost use Rattle.st_base.specs.Answers.{Gives, GivesAs};
+ghost use Rattle.st_exchange.specs.Answer.{ask_of};
+ghost use Rattle.st_exchange.specs.Message.{spelling};
+ghost use Rattle.st_exchange.specs.declared.message.Message.TheVariants.{Have};
+ghost use Rattle.st_network.specs.Exchange.{ask_step, at_step, cause_of, inject_step, node_at, offer_step, step_of, step_of_words};
+ghost use Rattle.st_network.specs.declared.letter.Step.TheVariants.{Post};
+ghost use Rattle.st_observer.specs.Wanted.{wanted};
+
+use crate::cause::{Cause, StepRefused};
+use crate::delivering::read_deliver;
+use crate::letter::{Letter, Step};
+use crate::network::Network;
+use crate::words::{number, three, two};
+use st_base::{Bytes, List, WantOfMemory, cut_word};
+use st_exchange::{Message, ask, encode};
+use st_hash::{DecRefused, Hash, dec, read_hash};
+use st_node::{LONGEST_LINE, Node};
+use std::alloc::Global;
+
+const AT: &[u8] = b"at";
+
+const ASK: &[u8] = b"ask";
+
+const OFFER: &[u8] = b"offer";
+
+const INJECT: &[u8] = b"inject";
+
+const DELIVER: &[u8] = b"deliver";
+
+// What a line asks for. Nothing changes by that.
+pub fn read_step(alloc: Global, network: &Network, line: &[u8]) -> Result<Step, StepRefused>
+    ensures { Gives cause_of (step_of network.now line.now) result }
+{
+    if line.len() > LONGEST_LINE {
+        return Err(StepRefused::Refused(Cause::Long));
+    }
+    let (word, behind) = cut_word(line, b' ');
+    read_words(alloc, network, word, behind)
+}
+
+fn read_words(
+    alloc: Global,
+    network: &Network,
+    word: &[u8],
+    behind: Option<&[u8]>,
+) -> Result<Step, StepRefused>
+    ensures { Gives cause_of (step_of_words network.now word.now (option_copied behind.entry)) result }
+{
+    if word == AT {
+        read_at(alloc, network, behind)
+    } else if word == ASK {
+        read_ask(alloc, network, behind)
+    } else if word == OFFER {
+        read_offer(alloc, network, behind)
+    } else if word == INJECT {
+        read_inject(alloc, network, behind)
+    } else if word == DELIVER {
+        read_deliver(alloc, network, behind)
+    } else {
+        Err(StepRefused::Refused(Cause::Command))
+    }
+}
+
+fn read_at(alloc: Global, network: &Network, behind: Option<&[u8]>) -> Result<Step, StepRefused>
+    ensures { Gives cause_of (at_step network.now (option_copied behind.entry)) result }
+{
+    let (node, line) = two(behind)?;
+    let node = number(node)?;
+    let line = Bytes::from_slice(alloc, line)?;
+    Ok(Step::Line { node, line })
+}
+
+fn read_ask(alloc: Global, network: &Network, behind: Option<&[u8]>) -> Result<Step, StepRefused>
+    ensures { Gives cause_of (ask_step network.now (option_copied behind.entry)) result }
+{
+    let (from, to) = two(behind)?;
+    let from = number(from)?;
+    let to = number(to)?;
+    let node = node_at(network, from)?;
+    let _other = node_at(network, to)?;
+    let message = asked(alloc, node)?;
+    Ok(post_one(alloc, from, to, message)?)
+}
+
+fn read_offer(alloc: Global, network: &Network, behind: Option<&[u8]>) -> Result<Step, StepRefused>
+    ensures { Gives cause_of (offer_step network.now (option_copied behind.entry)) result }
+{
+    let (from, to, uri) = three(behind)?;
+    let from = number(from)?;
+    let to = number(to)?;
+    let Ok(uri) = read_hash(uri) else {
+        return Err(StepRefused::Refused(Cause::Hash));
+    };
+    let node = node_at(network, from)?;
+    let _other = node_at(network, to)?;
+    if node.observer().content().get(&uri).is_none() {
+        return Err(StepRefused::Refused(Cause::Unknown));
+    }
+    let message = offered(alloc, uri)?;
+    Ok(post_one(alloc, from, to, message)?)
+}
+
+fn read_inject(alloc: Global, network: &Network, behind: Option<&[u8]>) -> Result<Step, StepRefused>
+    ensures { Gives cause_of (inject_step network.now (option_copied behind.entry)) result }
+{
+    let (from, to, text) = three(behind)?;
+    let from = number(from)?;
+    let to = number(to)?;
+    let bytes = match dec(alloc, text) {
+        Ok(bytes) => bytes,
+        Err(DecRefused::BadBase64) => return Err(StepRefused::Refused(Cause::Base64)),
+        Err(DecRefused::WantOfMemory) => return Err(StepRefused::WantOfMemory),
+    };
+    let _node = node_at(network, from)?;
+    let _other = node_at(network, to)?;
+    Ok(post_one(alloc, from, to, bytes)?)
+}
+
+// The node with this number.
+pub fn node_at(network: &Network, i: u32) -> Result<&Node, StepRefused>
+    ensures { GivesAs (λ node. node.now) cause_of (node_at network.now i) result }
+{
+    match network.nodes().get(i as usize) {
+        Some(node) => Ok(node),
+        None => Err(StepRefused::Refused(Cause::Range)),
+    }
+}
+
+// The spelling of what a node asks for.
+fn asked(alloc: Global, node: &Node) -> Result<Bytes, WantOfMemory>
+    ensures { IfOk result (λ bytes. bytes ≡ spelling (ask_of (wanted node.now.observed))) }
+{
+    let wanted = node.observer().wanted(alloc)?;
+    let message = ask(alloc, wanted.as_slice())?;
+    encode(alloc, &message)
+}
+
+// The spelling of an offer.
+fn offered(alloc: Global, uri: Hash) -> Result<Bytes, WantOfMemory>
+    ensures { IfOk result (λ bytes. bytes ≡ spelling (Have (uri ∷ []))) }
+{
+    let mut uris = List::new(alloc);
+    uris.push(alloc, uri)?;
+    encode(alloc, &Message::Have(uris))
+}
+
+fn post_one(alloc: Global, from: u32, to: u32, bytes: Bytes) -> Result<Step, WantOfMemory>
+    ensures { IfOk result (λ step. step ≡ Post (record { from = from; to = to; bytes = bytes } ∷ [])) }
+{
+    let mut letters = List::new(alloc);
+    letters.push(alloc, Letter { from, to, bytes })?;
+    Ok(Step::Post(letters))
+}

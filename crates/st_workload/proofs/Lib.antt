@@ -1,0 +1,3 @@
+-- Items by number, and the lines of a round.
+pub mod EachLemmas
+mod OrderLemmas

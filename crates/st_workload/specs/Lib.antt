@@ -1,0 +1,5 @@
+pub mod Each
+pub mod Words
+pub mod Identifier
+pub mod Identity
+pub mod Order

@@ -1,0 +1,59 @@
+ghost use Rattle.std.specs.Prelude.{◌≡◌, ◌≤◌, IfOk};
+ghost use Rattle.st_workload.specs.Identifier.{jwk, key, nonce_at, recovery_jwk, update_jwk};
+
+use crate::words::{sixteen, thirty_two};
+use st_base::WantOfMemory;
+use st_jws::Jwk;
+use st_lms::{Secret, Signer};
+
+/// The key of an identifier. Both of its types are known, so it always comes.
+#[tactic(auto, unfolding(crate::specs::Identifier::key))]
+pub(crate) fn secret(seed: u64, number: u32) -> Result<Secret, WantOfMemory>
+    ensures { IfOk result (λ secret. secret ≡ key seed number) }
+{
+    match Secret::new(3, 5, sixteen(seed, number, 0), thirty_two(seed, number, 4)) {
+        Ok(secret) => Ok(secret),
+        Err(_) => Err(WantOfMemory),
+    }
+}
+
+/// The JWK with the recovery nonce.
+pub(crate) fn recovery_jwk(signer: &Signer, seed: u64, number: u32) -> Jwk
+    requires { signer.now ≡ key seed number }
+    ensures { result ≡ recovery_jwk seed number }
+{
+    jwk(signer, seed, number, 12)
+}
+
+/// The JWK with the nonce for a round.
+pub(crate) fn update_jwk(signer: &Signer, seed: u64, number: u32, round: u32) -> Jwk
+    requires key { signer.now ≡ key seed number }
+    requires round { round ≤ 30 }
+    ensures { result ≡ update_jwk seed number round }
+{
+    jwk(signer, seed, number, nonce_at(round))
+}
+
+// The key as a JWK, with the nonce that begins at this word.
+#[tactic(auto, unfolding(crate::specs::Identifier::jwk))]
+fn jwk(signer: &Signer, seed: u64, number: u32, n: u64) -> Jwk
+    requires { signer.now ≡ key seed number }
+    ensures { result ≡ jwk seed number n }
+{
+    Jwk {
+        public: signer.public(),
+        nonce: Some(sixteen(seed, number, n)),
+    }
+}
+
+// The word at which the nonce for a round begins.
+fn nonce_at(round: u32) -> u64
+    requires { round ≤ 30 }
+    ensures { result ≡ nonce_at round }
+{
+    if round == 0 {
+        16
+    } else {
+        u64::from(15 + 5 * round)
+    }
+}
