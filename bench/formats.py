@@ -72,23 +72,10 @@ def create(recovery_key, made):
     return Operation("create", hash_text(canonical(data)), {"suffixData": data}, None, made)
 
 
-def _signed(kind, suffix, key, number, payload, made):
-    entry = {"didSuffix": suffix, "revealValue": key.reveal()}
-    return Operation(kind, suffix, entry, signed_text(key, number, payload), made)
-
-
 def update(suffix, key, number, made):
-    return _signed("update", suffix, key, number, {"updateKey": key.json(), "deltaHash": hash_text(canonical(made))}, made)
-
-
-def recover(suffix, key, number, next_recovery_key, made):
-    payload = {"recoveryKey": key.json(), "recoveryCommitment": next_recovery_key.commitment(),
-               "deltaHash": hash_text(canonical(made))}
-    return _signed("recover", suffix, key, number, payload, made)
-
-
-def deactivate(suffix, key, number):
-    return _signed("deactivate", suffix, key, number, {"recoveryKey": key.json(), "didSuffix": suffix}, None)
+    entry = {"didSuffix": suffix, "revealValue": key.reveal()}
+    payload = {"updateKey": key.json(), "deltaHash": hash_text(canonical(made))}
+    return Operation("update", suffix, entry, signed_text(key, number, payload), made)
 
 
 def request(operation):

@@ -52,8 +52,8 @@ def json(folder):
 
 
 def compressions(ots, tree):
-    """How many compressions of SHA-256 a verification, a key generation and a signature take, for the
-    key, the number and the message of lms_cost."""
+    """How many compressions of SHA-256 a verification, a key generation, a signature, and one with the nodes of
+    the tree take, for the key, the number and the message of lms_cost."""
     w, p, _ = lms.OTS[ots]
     height = lms.HEIGHTS[tree]
     front = bytes([7]) * 16 + (3).to_bytes(4, "big")
@@ -65,19 +65,20 @@ def compressions(ots, tree):
     generation = 2 ** height * leaf + 2 * (2 ** height - 1)
     # The path's nodes stand over all leaves but one.
     path = (2 ** height - 1) * leaf + 2 * (2 ** height - 1 - height)
-    return verification, generation, 1 + lms.blocks(22 + 32 + 7) + sum(1 + step for step in steps) + path
+    chains = 1 + lms.blocks(22 + 32 + 7) + sum(1 + step for step in steps)
+    return verification, generation, chains + path, chains
 
 
 def signatures(folder):
     """Prints the cost of LMS against that of the compressions it is made of."""
     (program,) = build(folder, ["lms_cost"])
-    best = best_rows(program, 2, 6)
+    best = best_rows(program, 2, 7)
     compression = min(times[-1] for times in best.values())
     for (ots, tree), (*times, _) in best.items():
         counts = compressions(ots, tree)
         print("LMS types %d and %d: " % (ots, tree) + "; ".join(
             "%.2f %s a second, %.2f times their compressions" % (1e9 / spent, what, spent / count / compression)
-            for what, spent, count in zip(("verifications", "keys", "signatures"), times, counts)), flush=True)
+            for what, spent, count in zip(("verifications", "keys", "signatures", "signatures with a signer"), times, counts)), flush=True)
 
 
 def best_rows(program, marks, end):

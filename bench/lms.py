@@ -44,8 +44,17 @@ class Secret:
     """A key whose one-time keys come from one seed (RFC 8554, appendix A)."""
 
     def __init__(self, ots, tree, name):
-        self.ots, self.tree = ots, tree
-        self.id, self.seed = hashed(b"id ", name)[:16], hashed(b"seed ", name)
+        self._make(ots, tree, hashed(b"id ", name)[:16], hashed(b"seed ", name))
+
+    @classmethod
+    def of(cls, ots, tree, identifier, seed):
+        """The key of this identifier and seed."""
+        secret = cls.__new__(cls)
+        secret._make(ots, tree, identifier, seed)
+        return secret
+
+    def _make(self, ots, tree, identifier, seed):
+        self.ots, self.tree, self.id, self.seed = ots, tree, identifier, seed
         height = HEIGHTS[tree]
         self.nodes = {2 ** height + q: self._leaf(q) for q in range(2 ** height)}
         for r in range(2 ** height - 1, 0, -1):

@@ -57,13 +57,13 @@ def scheduled_seconds(pid):
         return None
 
 
-def processor_seconds(command, given=os.devnull, most=None):
-    """User and system time of one run, which is ended after `most` seconds. The scheduler's count is taken
+def processor_seconds(command, given=os.devnull, most=None, folder=None):
+    """User and system time of one run in a folder, which is ended after `most` seconds. The scheduler's count is taken
     where there is one: what `getrusage` tells comes in steps of 10 ms on some machines."""
     before = resource.getrusage(resource.RUSAGE_CHILDREN)
     began = time.monotonic()
     with open(given, "rb") as source, open(os.devnull, "wb") as sink:
-        run = subprocess.Popen(command, stdin=source, stdout=sink)
+        run = subprocess.Popen(command, stdin=source, stdout=sink, cwd=folder)
     while os.waitid(os.P_PID, run.pid, os.WEXITED | os.WNOWAIT | os.WNOHANG) is None:
         if most is not None and time.monotonic() > began + most:
             run.kill()
@@ -83,12 +83,12 @@ def best_times(runs, rounds=3):
     return [min(column) for column in zip(*times)]
 
 
-def peak(command, given=os.devnull):
-    """The most memory of the command, in bytes, looked at every millisecond. (What the system reports of a
+def peak(command, given=os.devnull, folder=None):
+    """The most memory of the command, run in a folder, in bytes, looked at every millisecond. (What the system reports of a
     child that has ended is never less than this interpreter had.)"""
     most = 0
     with open(given, "rb") as source:
-        run = subprocess.Popen(command, stdin=source, stdout=subprocess.DEVNULL)
+        run = subprocess.Popen(command, stdin=source, stdout=subprocess.DEVNULL, cwd=folder)
     while run.poll() is None:
         with open("/proc/%d/status" % run.pid) as file:
             found = re.search(r"VmHWM:\s+(\d+) kB", file.read())

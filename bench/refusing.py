@@ -3,9 +3,11 @@
 
 usage: bench/refusing.py [FILE..]
 
-FILE is a session; without one these are the first five lines of the stored run, and life, recovery and whole
-of examples/. Each run whose allocation is refused must end with status 6 and a beginning of the replies. The
-numbers go up until two in a row are not reached. It needs gcc, and ends with status 1 where a run is wrong.
+FILE is a session; without one these are the first five lines of the stored run, life, recovery and whole of
+examples/, and lines of the wallet that sign with two levels. Each run whose allocation is refused must end
+with status 6 and a beginning of the replies; the wallet may have spent one counter more than there are
+signatures in them. The numbers go up until two in a row are not reached. It needs gcc, and ends with status 1
+where a run is wrong.
 """
 import concurrent.futures
 import os
@@ -15,9 +17,13 @@ import tempfile
 
 sys.dont_write_bytecode = True
 from measuring import TOP, node
+from wallet import image
 
 STORED = os.path.join(TOP, "crates", "st_cli", "stdin")
 FEW_LINES = 5
+# The last signature of one lower key, and the first of the next.
+SIGNED = b"left\nsign-hss YWJj\nsign-hss YWJj\nkey -\nsign-hss e31\nleft\n"
+MAP_AT, SPENT = 64, 31
 
 
 def library(folder):
@@ -39,16 +45,32 @@ def sessions(files):
     return found
 
 
-def run(command, given, shim, number):
+def run(command, given, shim, number, folder=None):
     """The status and the replies, where this allocation is refused."""
-    done = subprocess.run(command, input=given, stdout=subprocess.PIPE, stderr=subprocess.DEVNULL,
+    done = subprocess.run(command, input=given, stdout=subprocess.PIPE, stderr=subprocess.DEVNULL, cwd=folder,
                           env={**os.environ, "LD_PRELOAD": shim, "REFUSED": str(number)})
     return done.returncode, done.stdout
 
 
-def refused(command, given, shim):
+def wallet_run(command, given, shim, number):
+    """The same over a vault of its own; the status is -1 where a counter is spent that was not to be."""
+    with tempfile.TemporaryDirectory() as folder:
+        path = os.path.join(folder, "sidetree.vault")
+        before = bytearray(image(2, 6))
+        before[MAP_AT:MAP_AT + SPENT] = b"\1" * SPENT
+        with open(path, "wb") as file:
+            file.write(before)
+        status, replies = run(command, given, shim, number, folder)
+        with open(path, "rb") as file:
+            spent = sum(map(bool, file.read()[MAP_AT:])) - SPENT
+    return (status if 0 <= spent - replies.count(b"hss ") <= 1 else -1), replies
+
+
+def refused(command, given, shim, run):
     """How many allocations there are, and the first number whose run ends neither as it must nor whole."""
-    whole = subprocess.run(command, input=given, stdout=subprocess.PIPE, check=True).stdout
+    status, whole = run(command, given, shim, 0)
+    if status:
+        sys.exit("the whole run ends with status %d" % status)
     with concurrent.futures.ThreadPoolExecutor(os.cpu_count()) as pool:
         number, missed = 1, 0
         while True:
@@ -69,8 +91,11 @@ def main():
     command, is_well = node(), True
     with tempfile.TemporaryDirectory() as folder:
         shim = library(folder)
-        for name, given in sessions(sys.argv[1:]).items():
-            count, wrong = refused(command, given, shim)
+        runs = [(name, command, given, run) for name, given in sessions(sys.argv[1:]).items()]
+        if not sys.argv[1:]:
+            runs.append(("wallet", [command[0], "wallet"], SIGNED, wallet_run))
+        for name, words, given, how in runs:
+            count, wrong = refused(words, given, shim, how)
             if wrong is None:
                 print("%s: numbers 1 to %d, each with status 6 and a beginning of the replies" % (name, count))
             else:

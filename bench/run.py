@@ -13,6 +13,10 @@ NAME is one of
     reading    great files of a batch, against the bare reading of their JSON
     submit     requests and their batches, against the bare reading and hashing of the requests; a great flush
                against small ones
+    durable    a node with a journal: its opening, against the same lines from standard input; its lines, against
+               two syncs of the same disk; a restart
+    messages   the messages of an exchange, against an eighth of them
+    generate   a workload that a seed makes, against the bare compressions of its keys and signatures
     json, signatures, index, patches, journal    single libraries
 
 and without one all are measured. --from FOLDER measures the streams NAME.in or NAME.in.xz of a folder in
@@ -26,11 +30,15 @@ import tempfile
 
 sys.dont_write_bytecode = True
 import content
+import durable
+import generating
 import growth
 import libraries
+import messages
 import reading
 import streams
 import submitting
+from measuring import node
 
 
 def main():
@@ -42,7 +50,8 @@ def main():
     measures = {"content": lambda folder: content.measure(folder, options.instructions),
                 "streams": lambda folder: streams.measure(folder, options.origin), "memory": streams.memory,
                 "resolves": growth.resolves, "hostile": growth.hostile, "reading": reading.measure,
-                "submit": submitting.measure,
+                "submit": submitting.measure, "generate": generating.measure, "messages": messages.measure,
+                 "durable": lambda folder: durable.measure(folder, node(), options.origin),
                 "json": libraries.json, "signatures": libraries.signatures, "index": libraries.index,
                 "patches": libraries.patches, "journal": libraries.journal}
     for name in options.names or measures:

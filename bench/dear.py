@@ -1,0 +1,105 @@
+#!/usr/bin/env python3
+"""What the dearest lines that were found cost: each is given to a node of its own, once what it needs is there.
+
+usage: bench/dear.py
+
+Prints for each the length of the line, the most memory that the node had, what it has afterwards, the processor time
+of the line, and the reply or the rule that `report` names. Where the environment has SIDETREE, that program runs in
+place of the launcher.
+"""
+import os
+import sys
+
+sys.dont_write_bytecode = True
+sys.path.append(os.path.join(os.path.dirname(os.path.dirname(os.path.abspath(__file__))), "examples"))
+from client import Node
+from formats import base64url, canonical, content_line, hash_text
+
+LINE, FILE = 24_000_000, 17_999_994
+ABC, NOTHING = hash_text(b"abc"), hash_text(b"")
+
+
+def nested(opening, closing):
+    """A value 120 deep, and a comma."""
+    return opening * 120 + b"1" + closing * 120 + b","
+
+
+LISTS, OBJECTS = nested(b"[", b"]"), nested(b'{"":', b"}")
+
+
+def many(front, item, end, size):
+    """A text of items between a front and an end, as long as fits a size."""
+    return front + item * ((size - len(front) - len(end)) // len(item)) + end
+
+
+def submit(item, size=LINE):
+    return ["submit " + many(b"[", item, b"1]", size - 7).decode()]
+
+
+def resolve(item):
+    front = "resolve did:sidetree:%s:" % ABC
+    return [front + base64url(many(b"[", item, b"1]", (LINE - len(front)) // 4 * 3))]
+
+
+def core_proof(item):
+    """An entry with a deactivate, and its proof file."""
+    proof = many(b'{"operations":{"deactivate":[', item, item[:-1] + b"]}}", 16_000_000)
+    core = canonical({"coreProofFileUri": hash_text(proof),
+                      "operations": {"deactivate": [{"didSuffix": ABC, "revealValue": NOTHING}]}})
+    return ["anchor 1 1." + hash_text(core), content_line(core), content_line(proof)]
+
+
+def chunk(front, item, end):
+    """An entry with a create, and its chunk file."""
+    deltas = many(b'{"deltas":[' + front, item, b"1" + end + b"]}", 10_000_000)
+    provisional = canonical({"chunks": [{"chunkFileUri": hash_text(deltas)}]})
+    core = canonical({"provisionalIndexFileUri": hash_text(provisional),
+                      "operations": {"create": [{"suffixData": {"deltaHash": ABC, "recoveryCommitment": NOTHING}}]}})
+    return ["anchor 1 1." + hash_text(core), content_line(core), content_line(provisional), content_line(deltas)]
+
+
+def core_index(item):
+    core = many(b'{"operations":{"create":[', item, b"1]}}", 1_000_000)
+    return ["anchor 1 1." + hash_text(core), content_line(core)]
+
+
+LINES = {
+    "submit, lists in lists": submit(LISTS),
+    "submit, objects in objects": submit(OBJECTS),
+    "submit, 12,000,000 numbers": submit(b"1,"),
+    "submit, lists in lists, 65,536 bytes": submit(LISTS, 65_536),
+    "resolve, lists in lists": resolve(LISTS),
+    "core proof file, lists in lists": core_proof(LISTS),
+    "core proof file, empty proofs": core_proof(b'{"signedData":""},'),
+    "chunk file, 5,000,000 deltas": chunk(b"", b"1,", b""),
+    "chunk file, one delta of lists in lists": chunk(b"[", LISTS, b"]"),
+    "core index file, lists in lists": core_index(LISTS),
+    "anchor": ["anchor 1 " + "a" * (LINE - 9)],
+}
+
+
+def of_process(node, name):
+    """A figure of /proc: memory in MiB, or processor time in seconds."""
+    if name == "time":
+        with open("/proc/%d/stat" % node.process.pid, encoding="ascii") as file:
+            return sum(map(int, file.read().split()[13:15])) / os.sysconf("SC_CLK_TCK")
+    with open("/proc/%d/status" % node.process.pid, encoding="ascii") as file:
+        return next(int(line.split()[1]) / 1024 for line in file if line.startswith(name + ":"))
+
+
+def main():
+    for name, lines in LINES.items():
+        with Node() as node:
+            for line in lines[:-1]:
+                node.ask(line)
+            began = of_process(node, "time")
+            reply = node.ask(lines[-1])[0]
+            took = of_process(node, "time") - began
+            figures = len(lines[-1]), of_process(node, "VmHWM"), of_process(node, "VmRSS"), took
+            if reply.startswith("have"):
+                reply = node.ask("report 0")[0]
+        print("%-40s %10d bytes %6.0f MiB %6.0f MiB stay %5.1f s  %s" % (name, *figures, reply[:60]), flush=True)
+
+
+if __name__ == "__main__":
+    main()
