@@ -11,10 +11,10 @@ import base64
 import hashlib
 import json
 import os
-import subprocess
 import sys
 
-PROGRAM = os.environ.get("SIDETREE") or os.path.join(os.path.dirname(os.path.dirname(os.path.abspath(__file__))), "sidetree")
+sys.dont_write_bytecode = True
+from client import Node, NodeEnded, Refused
 
 
 def base64url(data):
@@ -25,74 +25,65 @@ def uri_of(data):
     return base64url(b"\x12\x20" + hashlib.sha256(data).digest())
 
 
-class Node:
-    """A running node: one line in, one line out."""
-
-    def __init__(self, words):
-        self.process = subprocess.Popen([PROGRAM, *words], stdin=subprocess.PIPE, stdout=subprocess.PIPE)
-
-    def ask(self, line):
-        """The words of the reply. The last word of `resolved` is JSON, in which there may be spaces."""
-        self.process.stdin.write(line.encode() + b"\n")
-        self.process.stdin.flush()
-        reply = self.process.stdout.readline()
-        if not reply.endswith(b"\n"):
-            sys.exit("the node ended with status %d" % self.process.wait())
-        return reply.decode().rstrip("\n").split(" ", 1)
-
-    def end(self):
-        """Tells the node that there is no more, and gives its status."""
-        self.process.stdin.close()
-        return self.process.wait()
-
-
 def feed_wanted(node, files):
-    """Feeds the files that entries name, until the node wants none of these: one that it has read may name others."""
+    """Feeds the files that entries name, until the node wants none of these: one that it has read may name others.
+    Gives how many went in each round, and how many are still wanted."""
     fed = []
     while True:
-        word, rest = node.ask("wanted")
-        there = [uri for uri in rest.split(" ")[1:] if uri in files]
+        wanted = node.wanted()
+        there = [uri for uri in wanted if uri in files]
         if not there:
-            return fed, int(rest.split(" ")[0])
+            return fed, len(wanted)
         for uri in there:
-            node.ask("content " + base64url(files[uri]))
+            node.expect("have", "content " + base64url(files[uri]))
         fed.append(len(there))
 
 
 def lines_of(*path):
+    """The lines of a file without their ends, however these are written, and without those that are empty."""
     with open(os.path.join(*path), encoding="utf-8") as file:
-        return file.read().splitlines()
+        return [line for line in file.read().splitlines() if line]
 
 
 def files_of(folder):
     """The files of a folder by their URIs."""
     found = {}
-    for name in os.listdir(folder):
-        with open(os.path.join(folder, name), "rb") as file:
-            data = file.read()
-        found[uri_of(data)] = data
+    for entry in os.scandir(folder):
+        if entry.is_file():
+            with open(entry.path, "rb") as file:
+                data = file.read()
+            found[uri_of(data)] = data
     return found
 
 
+def tell(node, did):
+    """A line on an identifier."""
+    word, _, rest = node.ask("resolve " + did)[0].partition(" ")
+    if word == "unresolved":
+        return "%s is %s" % (did, rest)
+    result = json.loads(rest)
+    if result["didDocumentMetadata"].get("deactivated", False):
+        return did + " is deactivated"
+    ends = [service["serviceEndpoint"] for service in result["didDocument"].get("service", [])]
+    # An endpoint is a text or an object.
+    return "%s has the services %s" % (did, " ".join(end if isinstance(end, str) else json.dumps(end) for end in ends))
+
+
 def main(folder, *words):
-    node = Node(words or ["node"])
-    for line in lines_of(folder, "anchors"):
-        node.ask("anchor " + line)
-    fed, left = feed_wanted(node, files_of(os.path.join(folder, "files")))
-    print("fed %s files, %d are still wanted" % (" and ".join(map(str, fed)) or "no", left))
-    for did in lines_of(folder, "dids"):
-        word, rest = node.ask("resolve " + did)
-        if word == "unresolved":
-            print(did, "is", rest)
-            continue
-        result = json.loads(rest)
-        services = [service["serviceEndpoint"] for service in result["didDocument"].get("service", [])]
-        is_gone = result["didDocumentMetadata"].get("deactivated", False)
-        print(did, "is deactivated" if is_gone else "has the services " + " ".join(services))
-    return node.end()
+    with Node(*words) as node:
+        for line in lines_of(folder, "anchors"):
+            node.expect("anchored", "anchor " + line)
+        fed, left = feed_wanted(node, files_of(os.path.join(folder, "files")))
+        print("fed %s files, %d are still wanted" % (" and ".join(map(str, fed)) or "no", left))
+        for did in lines_of(folder, "dids"):
+            print(tell(node, did))
+        return node.end()
 
 
 if __name__ == "__main__":
     if len(sys.argv) < 2:
         sys.exit(__doc__.split("\n\n")[1])
-    sys.exit(main(*sys.argv[1:]))
+    try:
+        sys.exit(main(*sys.argv[1:]))
+    except (Refused, NodeEnded, OSError) as stopped:
+        sys.exit("ask.py: %s" % stopped)

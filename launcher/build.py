@@ -273,6 +273,12 @@ def lock(file):
         return None
 
 
+def keep_kit(file):
+    """Writes down which kit has proved the program, for `sidetree --version`."""
+    with open(file, "wb") as kept:
+        subprocess.run(["rt", "version"], stdout=kept, stdin=subprocess.DEVNULL, check=False)
+
+
 def build(top, name):
     """Gives whether the crate is built, now or by another launcher."""
     if shutil.which("rt") is None:
@@ -286,6 +292,7 @@ def build(top, name):
     if held and os.path.exists(program):
         # What is saved while it builds is newer, and is built next time.
         os.utime(program, (began, began))
+        keep_kit(os.path.join(os.path.dirname(program), "kit"))
     return True
 
 

@@ -1,0 +1,23 @@
+# Completes the words of sidetree, in bash.
+_sidetree() {
+    local word=${COMP_WORDS[COMP_CWORD]} before=" ${COMP_WORDS[*]:1:COMP_CWORD-1} " words
+    if [ "$COMP_CWORD" = 1 ]; then
+        words="node wallet exchange generate"
+        # The launcher has words of its own. The program that it installs has none.
+        [[ $(head -c 2 -- "$(type -P -- "$1")" 2> /dev/null) == '#!' ]] && words+=" install --help --version"
+    elif [ "${COMP_WORDS[1]}" = node ]; then
+        # The options stand in this order, each at most once.
+        case $before in
+        *" --journal "*) words="" ;;
+        *" --v2-at"*) words="--journal" ;;
+        *" --limit"*) words="--v2-at= --journal" ;;
+        *) words="--limit= --v2-at= --journal" ;;
+        esac
+    elif [ "${COMP_WORDS[1]}" = install ] && [ "$COMP_CWORD" = 2 ]; then
+        mapfile -t COMPREPLY < <(compgen -d -- "$word")
+        return
+    fi
+    mapfile -t COMPREPLY < <(compgen -W "$words" -- "$word")
+    [[ ${COMPREPLY[0]-} == *= ]] && compopt -o nospace
+}
+complete -F _sidetree sidetree
