@@ -4,10 +4,11 @@ use Rattle.st_base.specs.Options.{◌>>=◌, ◌>>◌}
 use Rattle.st_base.specs.Words.{number_of}
 use Rattle.st_generate.specs.declared.plan.Plan.{Plan}
 
--- how many identifiers a workload has at most, and in how many rounds each of them is updated at most
+-- how many identifiers a workload has at most
 abbrev pub most_dids : ℕ
 most_dids = 200
 
+-- in how many rounds each of them is updated at most
 abbrev pub most_rounds : ℕ
 most_rounds = 30
 

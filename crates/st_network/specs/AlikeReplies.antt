@@ -18,9 +18,10 @@ abbrev pub AnswersAlike : (List ℕ → Command) → Type 0
 AnswersAlike asks = (first second : Machine) (line text : List ℕ) → AreAlike first second → command_of line ≡ Ok (asks text)
     → (answered first line).reply ≡ (answered second line).reply
 
--- They give equal replies to each `resolve`, and to each `explain`.
+-- They give equal replies to each `resolve`.
 abbrev pub ResolvesAlike : Type 0
 ResolvesAlike = AnswersAlike (λ text. Resolve text)
 
+-- They give equal replies to each `explain`.
 abbrev pub ExplainsAlike : Type 0
 ExplainsAlike = AnswersAlike (λ text. Explain text)

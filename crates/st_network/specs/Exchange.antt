@@ -102,6 +102,7 @@ abbrev pub step_by : Letter → List Message → Option (List ℕ) → Step
 step_by received send (Some bytes) = Store received.to bytes
 step_by received send None = Post (map (back received) send)
 
+-- what an answer to a message comes to
 abbrev pub answer_step : Letter → Answer → Step
 answer_step received answer = step_by received answer.send answer.keep
 

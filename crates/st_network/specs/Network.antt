@@ -19,13 +19,15 @@ with_node i node network = record network { nodes = slice_set network.nodes i no
 
 -- ---- how much is kept
 
--- how many messages are kept at most, and how many bytes
+-- how many messages are kept at most
 abbrev pub most_letters : ℕ
 most_letters = 100000
 
+-- how many bytes they have at most in all
 abbrev pub most_bytes : ℕ
 most_bytes = 1073741824
 
+-- how many bytes a message has
 abbrev pub size_of : Letter → ℕ
 size_of letter = length letter.bytes
 

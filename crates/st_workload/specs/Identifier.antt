@@ -73,6 +73,7 @@ patch seed i round = object_of
 
 -- ---- round 0: a create without patches
 
+-- the delta of the create, which commits to the key of round 0
 abbrev pub create_delta : ℕ → ℕ → Plain
 create_delta seed i = delta [] (update_jwk seed i 0)
 
@@ -87,11 +88,13 @@ did_suffix_data seed i = record {
 unfoldable pub did_suffix : ℕ → ℕ → HashValue
 did_suffix seed i = suffix_of (did_suffix_data seed i)
 
+-- the create itself
 abbrev pub create : ℕ → ℕ → PlainOperation
 create seed i = creating (did_suffix_data seed i) (Some (create_delta seed i))
 
 -- ---- each round after: an update that reveals the key of the round before, and commits to its own
 
+-- the delta of the update of a round
 abbrev pub update_delta : ℕ → ℕ → ℕ → Plain
 update_delta seed i round = delta (patch seed i round ∷ []) (update_jwk seed i round)
 
