@@ -4,7 +4,7 @@
 --     decided_roles-small   there are at most five
 --     opened_proofs-with    reading a file undoes no reading
 --     opened_proofs-up      nor does looking up
-use Rattle.std.proofs.Common.{◌≡◌, ◌+◌, ◌≤◌, ℕ, List, length, Option, Some, None, refl, arith}
+use Rattle.std.proofs.Common.{◌≡◌, ◌∙◌, ◌+◌, ◌≤◌, ℕ, List, length, Option, Some, None, refl, ap, sym, arith}
 use Rattle.st_canon.specs.Shapes.{json_in}
 use Rattle.st_content.specs.Files.{Files}
 use Rattle.st_datafiles.specs.declared.role.Role.{Role}
@@ -30,7 +30,7 @@ use Rattle.st_anchor.specs.declared.part.Part.TheVariants.{Unneeded, Missing, Re
 use Rattle.st_anchor.specs.declared.role_state.RoleState.{RoleState}
 use Rattle.st_anchor.specs.declared.role_state.RoleState.TheVariants as role_is
 use Rattle.st_anchor.specs.declared.rule.Rule.TheVariants as fails
-use Rattle.st_anchor.proofs.KnownLemmas.{WasRead, chunk_in-read, core_proof_in-read, provisional_proof_in-read}
+use Rattle.st_anchor.proofs.KnownLemmas.{WasRead, chunk_in-read, core_proof_in-read, provisional_proof_in-read, turned}
 
 -- ---- one part
 
@@ -40,12 +40,20 @@ decided-one (Missing uri) was = absurd was
 decided-one (Rejected rule) was = refl
 decided-one (Is says) was = refl
 
+-- a missing file is filled in, which counts for nothing while it is missing and for one when it is read
+counted-filled : {Says : Type 0} (count : Part Says → ℕ) (read : List ℕ → Part Says) (part : Part Says) (uri : HashValue) (bytes : List ℕ)
+    → state part ≡ role_is.Missing uri → count (Missing uri) ≡ 0 → count (read bytes) ≡ 1 → count (filled read bytes part) ≡ count part + 1
+counted-filled count read Unneeded uri bytes is none one = cc
+counted-filled count read (Missing missed) uri bytes is none one =
+    let same : uri ≡ missed = cc in
+    let nothing : count (Missing missed) ≡ 0 = ap (λ u. count (Missing u)) (sym same) ∙ none in
+    one ∙ sym (ap (λ n. n + 1) nothing)
+counted-filled count read (Rejected rule) uri bytes is none one = cc
+counted-filled count read (Is says) uri bytes is none one = cc
+
 decided-filled : {Says : Type 0} (read : List ℕ → Part Says) (part : Part Says) (uri : HashValue) (bytes : List ℕ)
     → state part ≡ role_is.Missing uri → WasRead (read bytes) → decided (state (filled read bytes part)) ≡ decided (state part) + 1
-decided-filled read Unneeded uri bytes is was = cc
-decided-filled read (Missing missed) uri bytes is was = decided-one (read bytes) was
-decided-filled read (Rejected rule) uri bytes is was = cc
-decided-filled read (Is says) uri bytes is was = cc
+decided-filled read part uri bytes is was = counted-filled (λ part. decided (state part)) read part uri bytes is refl (decided-one (read bytes) was)
 
 decided-named : (Says : Type 0) (uri : Option HashValue) → decided (state (named {Says = Says} uri)) ≡ 0
 decided-named Says None = refl
@@ -73,14 +81,6 @@ decided_provisional-in context core bytes =
     decided_provisional-judged (first_failing_provisional_rule context.params context.count core bytes)
     (provisional_index_of context.params.version (json_in bytes))
 
-decided_provisional-filled : (context : Context) (core : CoreIndex) (part : Part ProvisionalBranch) (uri : HashValue) (bytes : List ℕ)
-    → state part ≡ role_is.Missing uri
-    → decided_provisional (filled (provisional_in context core) bytes part) ≡ decided_provisional part + 1
-decided_provisional-filled context core Unneeded uri bytes is = cc
-decided_provisional-filled context core (Missing missed) uri bytes is = decided_provisional-in context core bytes
-decided_provisional-filled context core (Rejected rule) uri bytes is = cc
-decided_provisional-filled context core (Is says) uri bytes is = cc
-
 decided_provisional-below : (role : Role) (context : Context) (core : CoreIndex) (part : Part ProvisionalBranch) (uri : HashValue) (bytes : List ℕ)
     → state_below (provisional_state role) part ≡ role_is.Missing uri
     → decided_provisional (looked_below (provisional_with role context core bytes) part) ≡ decided_provisional part + 1
@@ -107,7 +107,10 @@ decided_core-with Core context branch uri bytes is = cc
 decided_core-with CoreProof context branch uri bytes is =
     omega (arith, decided-filled (core_proof_in context branch.says) branch.proofs uri bytes is (core_proof_in-read context branch.says bytes))
 decided_core-with Provisional context branch uri bytes is =
-    omega (arith, decided_provisional-filled context branch.says branch.provisional uri bytes is)
+    omega (
+      arith,
+      counted-filled decided_provisional (provisional_in context branch.says) branch.provisional uri bytes is refl (decided_provisional-in context branch.says bytes),
+    )
 decided_core-with ProvisionalProof context branch uri bytes is =
     omega (arith, decided_provisional-below ProvisionalProof context branch.says branch.provisional uri bytes is)
 decided_core-with Chunk context branch uri bytes is =
@@ -134,13 +137,6 @@ unfolding core_in
 decided_part-in context bytes =
     decided_part-judged (first_failing_core_rule context.params context.count bytes) (core_index_of context.params.version (json_in bytes))
 
-decided_part-filled : (context : Context) (part : Part CoreBranch) (uri : HashValue) (bytes : List ℕ)
-    → state part ≡ role_is.Missing uri → decided_part (filled (core_in context) bytes part) ≡ decided_part part + 1
-decided_part-filled context Unneeded uri bytes is = cc
-decided_part-filled context (Missing missed) uri bytes is = decided_part-in context bytes
-decided_part-filled context (Rejected rule) uri bytes is = cc
-decided_part-filled context (Is says) uri bytes is = cc
-
 decided_part-below : (role : Role) (context : Context) (part : Part CoreBranch) (uri : HashValue) (bytes : List ℕ)
     → state_below (core_state role) part ≡ role_is.Missing uri
     → decided_part (looked_below (core_with role context bytes) part) ≡ decided_part part + 1
@@ -149,15 +145,38 @@ decided_part-below role context (Missing missed) uri bytes is = cc
 decided_part-below role context (Rejected rule) uri bytes is = cc
 decided_part-below role context (Is branch) uri bytes is = omega (arith, decided_core-with role context branch uri bytes is)
 
+decided_part-with : (role : Role) (bound : Known) (uri : HashValue) (bytes : List ℕ)
+    → role_state role bound ≡ role_is.Missing uri → decided_part (bound_with role bytes bound).core ≡ decided_part bound.core + 1
+unfolding role_state bound_with
+decided_part-with Core bound uri bytes is =
+    counted-filled decided_part (core_in bound.context) bound.core uri bytes is refl (decided_part-in bound.context bytes)
+decided_part-with CoreProof bound uri bytes is = decided_part-below CoreProof bound.context bound.core uri bytes is
+decided_part-with Provisional bound uri bytes is = decided_part-below Provisional bound.context bound.core uri bytes is
+decided_part-with ProvisionalProof bound uri bytes is = decided_part-below ProvisionalProof bound.context bound.core uri bytes is
+decided_part-with Chunk bound uri bytes is = decided_part-below Chunk bound.context bound.core uri bytes is
+
+sum-five : (a b c d e : ℕ) → 0 + a + b + c + d + e ≡ a + b + c + d + e
+sum-five a b c d e = omega arith
+
+-- the sum, role by role
+decided_roles-sum : (bound : Known)
+    → decided_roles bound
+    ≡ decided (role_state Core bound) + decided (role_state CoreProof bound) + decided (role_state Provisional bound)
+    + decided (role_state ProvisionalProof bound) + decided (role_state Chunk bound)
+unfolding decided_roles
+decided_roles-sum bound =
+    sum-five (decided (role_state Core bound)) (decided (role_state CoreProof bound)) (decided (role_state Provisional bound))
+    (decided (role_state ProvisionalProof bound)) (decided (role_state Chunk bound))
+
+decided_roles-part : (bound : Known) → decided_roles bound ≡ decided_part bound.core
+unfolding role_state
+decided_roles-part bound = decided_roles-sum bound
+
 pub decided_roles-with : (role : Role) (bound : Known) (uri : HashValue) (bytes : List ℕ)
     → role_state role bound ≡ role_is.Missing uri
     → decided_roles (bound_with role bytes bound) ≡ decided_roles bound + 1
-unfolding decided_roles role_state bound_with
-decided_roles-with Core bound uri bytes is = decided_part-filled bound.context bound.core uri bytes is
-decided_roles-with CoreProof bound uri bytes is = decided_part-below CoreProof bound.context bound.core uri bytes is
-decided_roles-with Provisional bound uri bytes is = decided_part-below Provisional bound.context bound.core uri bytes is
-decided_roles-with ProvisionalProof bound uri bytes is = decided_part-below ProvisionalProof bound.context bound.core uri bytes is
-decided_roles-with Chunk bound uri bytes is = decided_part-below Chunk bound.context bound.core uri bytes is
+decided_roles-with role bound uri bytes is =
+    decided_roles-part (bound_with role bytes bound) ∙ decided_part-with role bound uri bytes is ∙ ap (λ n. n + 1) (sym (decided_roles-part bound))
 
 decided-small : (at : RoleState) → decided at ≤ 1
 decided-small role_is.Unneeded = omega arith
@@ -166,10 +185,10 @@ decided-small (role_is.Rejected rule) = omega arith
 decided-small role_is.Read = omega arith
 
 pub decided_roles-small : (bound : Known) → decided_roles bound ≤ 5
-unfolding decided_roles
 decided_roles-small bound =
     omega (
       arith,
+      decided_roles-sum bound,
       decided-small (role_state Core bound),
       decided-small (role_state CoreProof bound),
       decided-small (role_state Provisional bound),
@@ -179,60 +198,17 @@ decided_roles-small bound =
 
 -- ---- looking up
 
-decided-up : {Says : Type 0} (read : List ℕ → Part Says) (below : Says → Says) (files : Files) (part : Part Says)
-    → decided (state part) ≤ decided (state (looked_up read below files part))
-decided-up read below files Unneeded = omega arith
-decided-up read below files (Missing uri) = omega arith
-decided-up read below files (Rejected rule) = omega arith
-decided-up read below files (Is says) = omega arith
-
-decided-up_below : {Says : Type 0} (read : List ℕ → Part Says) (below : Says → Says) (stands : Says → RoleState) (files : Files) (part : Part Says)
-    → ((says : Says) → decided (stands says) ≤ decided (stands (below says)))
-    → decided (state_below stands part) ≤ decided (state_below stands (looked_up read below files part))
-decided-up_below read below stands files Unneeded kept = omega arith
-decided-up_below read below stands files (Missing uri) kept = omega arith
-decided-up_below read below stands files (Rejected rule) kept = omega arith
-decided-up_below read below stands files (Is says) kept = kept says
-
-decided-provisional : (role : Role) (context : Context) (core : CoreIndex) (files : Files) (branch : ProvisionalBranch)
-    → decided (provisional_state role branch) ≤ decided (provisional_state role (provisional_over context core files branch))
-decided-provisional Core context core files branch = omega arith
-decided-provisional CoreProof context core files branch = omega arith
-decided-provisional Provisional context core files branch = omega arith
-decided-provisional ProvisionalProof context core files branch = decided-up (provisional_proof_in context branch.says) as_it_is files branch.proofs
-decided-provisional Chunk context core files branch = decided-up (chunk_in context core branch.says) as_it_is files branch.chunk
-
-decided-below_provisional : (role : Role) (context : Context) (files : Files) (branch : CoreBranch)
-    → decided (state_below (provisional_state role) branch.provisional)
-    ≤ decided (state_below (provisional_state role) (core_over context files branch).provisional)
-decided-below_provisional role context files branch =
-    decided-up_below (provisional_in context branch.says) (provisional_over context branch.says files) (provisional_state role) files branch.provisional
-    (decided-provisional role context branch.says files)
-
-decided-core : (role : Role) (context : Context) (files : Files) (branch : CoreBranch)
-    → decided (core_state role branch) ≤ decided (core_state role (core_over context files branch))
-decided-core Core context files branch = omega arith
-decided-core CoreProof context files branch = decided-up (core_proof_in context branch.says) as_it_is files branch.proofs
-decided-core Provisional context files branch =
-    decided-up (provisional_in context branch.says) (provisional_over context branch.says files) files branch.provisional
-decided-core ProvisionalProof context files branch = decided-below_provisional ProvisionalProof context files branch
-decided-core Chunk context files branch = decided-below_provisional Chunk context files branch
-
-decided-below : (role : Role) (context : Context) (files : Files) (part : Part CoreBranch)
-    → decided (state_below (core_state role) part) ≤ decided (state_below (core_state role) (looked_up (core_in context) (core_over context files) files part))
-decided-below role context files part =
-    decided-up_below (core_in context) (core_over context files) (core_state role) files part (decided-core role context files)
-
 pub decided_roles-up : (files : Files) (bound : Known) → decided_roles bound ≤ decided_roles (known_from files bound)
-unfolding decided_roles role_state known_from
 decided_roles-up files bound =
     omega (
       arith,
-      decided-up (core_in bound.context) (core_over bound.context files) files bound.core,
-      decided-below CoreProof bound.context files bound.core,
-      decided-below Provisional bound.context files bound.core,
-      decided-below ProvisionalProof bound.context files bound.core,
-      decided-below Chunk bound.context files bound.core,
+      decided_roles-sum bound,
+      decided_roles-sum (known_from files bound),
+      (turned Core files bound).keeps,
+      (turned CoreProof files bound).keeps,
+      (turned Provisional files bound).keeps,
+      (turned ProvisionalProof files bound).keeps,
+      (turned Chunk files bound).keeps,
     )
 
 -- ---- signed texts

@@ -48,10 +48,6 @@ few-after files proofs more_files more old mid new counts few = record {
   counts = few.counts ∙ ap (worked few.files_read few.proofs_opened) counts ∙ worked-both files proofs few.files_read few.proofs_opened old;
 }
 
--- one file
-pub file-few : (proofs : ℕ) (old new : Counts) → new ≡ one_file old → WorkedAtMost 1 proofs old new
-file-few proofs old new counts = record { files_read = 1; proofs_opened = 0; few_files = omega arith; few_proofs = omega arith; counts = counts }
-
 -- one file without signed texts
 pub file-none : (proofs : ℕ) (old new : Counts) → proofs ≡ 0 → new ≡ one_file old → new ≡ one_file_with proofs old
 file-none proofs old new none counts = counts ∙ ap (λ n. one_file_with n old) (sym none)

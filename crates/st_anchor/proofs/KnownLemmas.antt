@@ -2,10 +2,9 @@
 --     known_from-with      a missing file that has come may be read: what is known over the files stays
 --     known_from-rest      where no missing file has come, looking up changes nothing
 --     known_from-again     what was looked up is looked up again over more files
+--     turned               what looking up does to a role
 --     known_from-missing   what is still missing hasn't come
---     known_from-stays     what is missing stays missing while its file hasn't come
---     known_from-was       what is missing was missing before, or wasn't needed yet
-use Rattle.std.proofs.Common.{◌≡◌, ◌∙◌, inl, inr, ℕ, List, length, Option, Some, None, refl, sym, ap}
+use Rattle.std.proofs.Common.{◌≡◌, ◌∙◌, ◌≤◌, ℕ, List, length, Option, Some, None, refl, sym, ap, subst, arith}
 use Rattle.st_canon.specs.Shapes.{json_in}
 use Rattle.st_content.specs.Files.{Files, file_at}
 use Rattle.st_datafiles.specs.Chunk.{first_failing_chunk_rule}
@@ -19,9 +18,9 @@ use Rattle.st_indexfiles.specs.ProvisionalRules.{first_failing_provisional_rule}
 use Rattle.st_indexfiles.specs.declared.core_index.CoreIndex.{CoreIndex}
 use Rattle.st_indexfiles.specs.declared.provisional_index.ProvisionalIndex.{ProvisionalIndex}
 use Rattle.st_indexfiles.specs.declared.provisional_rule.ProvisionalRule.{ProvisionalRule}
-use Rattle.st_anchor.specs.Coming.{Extends, NoneHasCome, WasOpen}
+use Rattle.st_anchor.specs.Coming.{Extends, NoneHasCome}
 use Rattle.st_anchor.specs.Known.{Known, as_it_is, bound_with, chunk_in, core_in, core_over, core_proof_in, core_with, delta_count, filled, judged, known_from, looked_at, looked_below, looked_up, provisional_in, provisional_judged, provisional_over, provisional_proof_in, provisional_with}
-use Rattle.st_anchor.specs.States.{core_state, provisional_state, role_state, state, state_below}
+use Rattle.st_anchor.specs.States.{core_state, decided, provisional_state, role_state, state, state_below}
 use Rattle.st_anchor.specs.declared.branches.Context.{Context}
 use Rattle.st_anchor.specs.declared.branches.CoreBranch.{CoreBranch}
 use Rattle.st_anchor.specs.declared.branches.ProvisionalBranch.{ProvisionalBranch}
@@ -127,55 +126,68 @@ looked_up-again read below after files later (Missing uri) more was same =
 looked_up-again read below after files later (Rejected rule) more was same = refl
 looked_up-again read below after files later (Is says) more was same = ap (λ s. Is s) (same says)
 
+-- ---- what looking up does to a role
+
+-- the file of a missing role hasn't come
+abbrev pub Absent : Files → RoleState → Type 0
+Absent files at = (uri : HashValue) → at ≡ role_is.Missing uri → file_at uri files ≡ None
+
+-- A role is turned: what is still missing hasn't come, and what was decided stays decided.
+pub record Turned (files : Files) (before after : RoleState) : Type 0 where
+  pub absent : Absent files after
+  pub keeps : decided before ≤ decided after
+
+unneeded : (files : Files) → Turned files role_is.Unneeded role_is.Unneeded
+unneeded files = record { absent = λ uri is. cc; keeps = omega arith }
+
+module _ {Says : Type 0} (files : Files) (below : Says → Says) where
+  -- a file that was read just now
+  turned-read : (part : Part Says) (uri : HashValue) → WasRead part → Turned files (role_is.Missing uri) (state (looked_below below part))
+  turned-read Unneeded uri was = absurd was
+  turned-read (Missing missed) uri was = absurd was
+  turned-read (Rejected rule) uri was = record { absent = λ missed is. cc; keeps = omega arith }
+  turned-read (Is says) uri was = record { absent = λ missed is. cc; keeps = omega arith }
+
+  pub turned-up : (read : List ℕ → Part Says) (part : Part Says) → ((bytes : List ℕ) → WasRead (read bytes))
+      → Turned files (state part) (state (looked_up read below files part))
+  turned-up read Unneeded was = unneeded files
+  turned-up read (Missing uri) was =
+      elim (file_at uri files) as (λ file. file_at uri files ≡ file → Turned files (role_is.Missing uri) (state (looked_at read below uri file))) [
+        | None ↦ λ there. record {
+          absent = λ missed is. let same : uri ≡ missed = cc in ap (λ u. file_at u files) (sym same) ∙ there;
+          keeps = omega arith;
+        }
+        | Some bytes ↦ λ there. turned-read (read bytes) uri (was bytes)
+      ] refl
+  turned-up read (Rejected rule) was = record { absent = λ uri is. cc; keeps = omega arith }
+  turned-up read (Is says) was = record { absent = λ uri is. cc; keeps = omega arith }
+
+  module _ (stands : Says → RoleState) (turned : (says : Says) → Turned files (stands says) (stands (below says))) where
+    -- a role below a file that was read just now
+    turned-new : (part : Part Says) → Turned files role_is.Unneeded (state_below stands (looked_below below part))
+    turned-new Unneeded = unneeded files
+    turned-new (Missing uri) = unneeded files
+    turned-new (Rejected rule) = unneeded files
+    turned-new (Is says) = record { absent = (turned says).absent; keeps = omega arith }
+
+    pub turned-below : (read : List ℕ → Part Says) (part : Part Says)
+        → Turned files (state_below stands part) (state_below stands (looked_up read below files part))
+    turned-below read Unneeded = unneeded files
+    turned-below read (Missing uri) =
+        elim (file_at uri files) as (λ file. Turned files role_is.Unneeded (state_below stands (looked_at read below uri file))) [
+          | None ↦ unneeded files
+          | Some bytes ↦ turned-new (read bytes)
+        ]
+    turned-below read (Rejected rule) = unneeded files
+    turned-below read (Is says) = turned says
+
 -- a part none of whose missing files has come
 looked_up-rest : {Says : Type 0} (read : List ℕ → Part Says) (below : Says → Says) (files : Files) (part : Part Says)
-    → ((uri : HashValue) → state part ≡ role_is.Missing uri → file_at uri files ≡ None)
-    → ((says : Says) → part ≡ Is says → below says ≡ says)
-    → looked_up read below files part ≡ part
+    → Absent files (state part) → ((says : Says) → part ≡ Is says → below says ≡ says) → looked_up read below files part ≡ part
 looked_up-rest read below files Unneeded absent same = refl
 looked_up-rest read below files (Missing uri) absent same = ap (looked_at read below uri) (absent uri refl)
 looked_up-rest read below files (Rejected rule) absent same = refl
 looked_up-rest read below files (Is says) absent same = ap (λ s. Is s) (same says refl)
-
--- what is still missing hasn't come
-looked_below-missing : {Says : Type 0} (below : Says → Says) (part : Part Says) (uri : HashValue)
-    → WasRead part → state (looked_below below part) ≡ role_is.Missing uri → ⊥
-looked_below-missing below Unneeded uri was is = was
-looked_below-missing below (Missing missed) uri was is = was
-looked_below-missing below (Rejected rule) uri was is = cc
-looked_below-missing below (Is says) uri was is = cc
-
-looked_up-missing : {Says : Type 0} (read : List ℕ → Part Says) (below : Says → Says) (files : Files) (part : Part Says) (uri : HashValue)
-    → ((bytes : List ℕ) → WasRead (read bytes))
-    → state (looked_up read below files part) ≡ role_is.Missing uri → file_at uri files ≡ None
-looked_up-missing read below files Unneeded uri was is = cc
-looked_up-missing read below files (Missing missed) uri was is =
-    elim (file_at missed files) as (λ file. file_at missed files ≡ file → state (looked_at read below missed file) ≡ role_is.Missing uri → file_at uri files ≡ None) [
-      | None ↦ λ there still. let same : missed ≡ uri = cc in ap (λ u. file_at u files) (sym same) ∙ there
-      | Some bytes ↦ λ there still. absurd (looked_below-missing below (read bytes) uri (was bytes) still)
-    ] refl is
-looked_up-missing read below files (Rejected rule) uri was is = cc
-looked_up-missing read below files (Is says) uri was is = cc
-
-looked_below-missing_below : {Says : Type 0} (below : Says → Says) (stands : Says → RoleState) (files : Files) (part : Part Says) (uri : HashValue)
-    → ((says : Says) → stands (below says) ≡ role_is.Missing uri → file_at uri files ≡ None)
-    → state_below stands (looked_below below part) ≡ role_is.Missing uri → file_at uri files ≡ None
-looked_below-missing_below below stands files Unneeded uri absent is = cc
-looked_below-missing_below below stands files (Missing missed) uri absent is = cc
-looked_below-missing_below below stands files (Rejected rule) uri absent is = cc
-looked_below-missing_below below stands files (Is says) uri absent is = absent says is
-
-looked_up-missing_below : {Says : Type 0} (read : List ℕ → Part Says) (below : Says → Says) (stands : Says → RoleState) (files : Files) (part : Part Says) (uri : HashValue)
-    → ((says : Says) → stands (below says) ≡ role_is.Missing uri → file_at uri files ≡ None)
-    → state_below stands (looked_up read below files part) ≡ role_is.Missing uri → file_at uri files ≡ None
-looked_up-missing_below read below stands files Unneeded uri absent is = cc
-looked_up-missing_below read below stands files (Missing missed) uri absent is =
-    elim (file_at missed files) as (λ file. state_below stands (looked_at read below missed file) ≡ role_is.Missing uri → file_at uri files ≡ None) [
-      | None ↦ λ still. cc
-      | Some bytes ↦ λ still. looked_below-missing_below below stands files (read bytes) uri absent still
-    ] is
-looked_up-missing_below read below stands files (Rejected rule) uri absent is = cc
-looked_up-missing_below read below stands files (Is says) uri absent is = absent says is
 
 -- ---- the whole tree
 
@@ -263,221 +275,79 @@ known_from-again files later more bound =
 
 -- nothing that is missed has come: looking up changes nothing
 provisional_over-rest : (context : Context) (core : CoreIndex) (files : Files) (branch : ProvisionalBranch)
-    → ((role : Role) (uri : HashValue) → provisional_state role branch ≡ role_is.Missing uri → file_at uri files ≡ None)
-    → provisional_over context core files branch ≡ branch
-provisional_over-rest context core files branch absent =
+    → Absent files (state branch.proofs) → Absent files (state branch.chunk) → provisional_over context core files branch ≡ branch
+provisional_over-rest context core files branch proofs chunk =
     ap (λ part. record (provisional_over context core files branch) { proofs = part })
-    (looked_up-rest (provisional_proof_in context branch.says) as_it_is files branch.proofs (absent ProvisionalProof) (λ says is. refl))
+    (looked_up-rest (provisional_proof_in context branch.says) as_it_is files branch.proofs proofs (λ says is. refl))
     ∙ ap (λ part. record branch { chunk = part })
-    (looked_up-rest (chunk_in context core branch.says) as_it_is files branch.chunk (absent Chunk) (λ says is. refl))
+    (looked_up-rest (chunk_in context core branch.says) as_it_is files branch.chunk chunk (λ says is. refl))
 
 provisional_rest : (context : Context) (core : CoreIndex) (files : Files) (part : Part ProvisionalBranch)
-    → ((uri : HashValue) → state part ≡ role_is.Missing uri → file_at uri files ≡ None)
-    → ((uri : HashValue) → state_below (provisional_state ProvisionalProof) part ≡ role_is.Missing uri → file_at uri files ≡ None)
-    → ((uri : HashValue) → state_below (provisional_state Chunk) part ≡ role_is.Missing uri → file_at uri files ≡ None)
+    → Absent files (state part) → Absent files (state_below (provisional_state ProvisionalProof) part)
+    → Absent files (state_below (provisional_state Chunk) part)
     → looked_up (provisional_in context core) (provisional_over context core files) files part ≡ part
-provisional_rest context core files Unneeded own proof chunk = refl
-provisional_rest context core files (Missing uri) own proof chunk = ap (looked_at (provisional_in context core) (provisional_over context core files) uri) (own uri refl)
-provisional_rest context core files (Rejected rule) own proof chunk = refl
-provisional_rest context core files (Is branch) own proof chunk =
-    ap (λ s. Is s) (provisional_over-rest context core files branch (λ role. elim role as (λ role. (uri : HashValue) → provisional_state role branch ≡ role_is.Missing uri → file_at uri files ≡ None) [
-      | Core ↦ λ uri is. cc
-      | CoreProof ↦ λ uri is. cc
-      | Provisional ↦ λ uri is. cc
-      | ProvisionalProof ↦ proof
-      | Chunk ↦ chunk
-    ]))
+provisional_rest context core files part own proofs chunk =
+    looked_up-rest (provisional_in context core) (provisional_over context core files) files part own (λ branch is.
+    provisional_over-rest context core files branch
+    (subst (λ part. Absent files (state_below (provisional_state ProvisionalProof) part)) is proofs)
+    (subst (λ part. Absent files (state_below (provisional_state Chunk) part)) is chunk))
 
 core_over-rest : (context : Context) (files : Files) (branch : CoreBranch)
-    → ((role : Role) (uri : HashValue) → core_state role branch ≡ role_is.Missing uri → file_at uri files ≡ None)
+    → Absent files (core_state CoreProof branch) → Absent files (core_state Provisional branch)
+    → Absent files (core_state ProvisionalProof branch) → Absent files (core_state Chunk branch)
     → core_over context files branch ≡ branch
-core_over-rest context files branch absent =
+core_over-rest context files branch core_proof provisional proof chunk =
     ap (λ part. record (core_over context files branch) { proofs = part })
-    (looked_up-rest (core_proof_in context branch.says) as_it_is files branch.proofs (absent CoreProof) (λ says is. refl))
-    ∙ ap (λ part. record branch { provisional = part })
-    (provisional_rest context branch.says files branch.provisional (absent Provisional) (absent ProvisionalProof) (absent Chunk))
-
-core_rest : (context : Context) (files : Files) (part : Part CoreBranch)
-    → NoneHasCome files (record { context = context; core = part })
-    → looked_up (core_in context) (core_over context files) files part ≡ part
-unfolding role_state
-core_rest context files Unneeded none = refl
-core_rest context files (Missing uri) none = ap (looked_at (core_in context) (core_over context files) uri) (none.absent Core uri refl)
-core_rest context files (Rejected rule) none = refl
-core_rest context files (Is branch) none =
-    ap (λ s. Is s) (core_over-rest context files branch (λ role. elim role as (λ role. (uri : HashValue) → core_state role branch ≡ role_is.Missing uri → file_at uri files ≡ None) [
-      | Core ↦ λ uri is. cc
-      | CoreProof ↦ none.absent CoreProof
-      | Provisional ↦ none.absent Provisional
-      | ProvisionalProof ↦ none.absent ProvisionalProof
-      | Chunk ↦ none.absent Chunk
-    ]))
+    (looked_up-rest (core_proof_in context branch.says) as_it_is files branch.proofs core_proof (λ says is. refl))
+    ∙ ap (λ part. record branch { provisional = part }) (provisional_rest context branch.says files branch.provisional provisional proof chunk)
 
 pub known_from-rest : (files : Files) (bound : Known) → NoneHasCome files bound → known_from files bound ≡ bound
-unfolding known_from
-known_from-rest files bound none = ap (λ part. record bound { core = part }) (core_rest bound.context files bound.core none)
+unfolding known_from role_state
+known_from-rest files bound none =
+    ap (λ part. record bound { core = part })
+    (looked_up-rest (core_in bound.context) (core_over bound.context files) files bound.core (none.absent Core) (λ branch is.
+    let below : (role : Role) → Absent files (state_below (core_state role) bound.core) → Absent files (core_state role branch) =
+    λ role. subst (λ part. Absent files (state_below (core_state role) part)) is in
+    core_over-rest bound.context files branch (below CoreProof (none.absent CoreProof)) (below Provisional (none.absent Provisional))
+    (below ProvisionalProof (none.absent ProvisionalProof)) (below Chunk (none.absent Chunk))))
 
--- what is still missing over the files hasn't come
-provisional_over-missing : (role : Role) (context : Context) (core : CoreIndex) (files : Files) (branch : ProvisionalBranch) (uri : HashValue)
-    → provisional_state role (provisional_over context core files branch) ≡ role_is.Missing uri → file_at uri files ≡ None
-provisional_over-missing Core context core files branch uri is = cc
-provisional_over-missing CoreProof context core files branch uri is = cc
-provisional_over-missing Provisional context core files branch uri is = cc
-provisional_over-missing ProvisionalProof context core files branch uri is =
-    looked_up-missing (provisional_proof_in context branch.says) as_it_is files branch.proofs uri (provisional_proof_in-read context branch.says) is
-provisional_over-missing Chunk context core files branch uri is =
-    looked_up-missing (chunk_in context core branch.says) as_it_is files branch.chunk uri (chunk_in-read context core branch.says) is
+-- each role is turned
+module _ (context : Context) (files : Files) where
+  turned-provisional : (role : Role) (core : CoreIndex) (branch : ProvisionalBranch)
+      → Turned files (provisional_state role branch) (provisional_state role (provisional_over context core files branch))
+  turned-provisional Core core branch = unneeded files
+  turned-provisional CoreProof core branch = unneeded files
+  turned-provisional Provisional core branch = unneeded files
+  turned-provisional ProvisionalProof core branch =
+      turned-up files as_it_is (provisional_proof_in context branch.says) branch.proofs (provisional_proof_in-read context branch.says)
+  turned-provisional Chunk core branch = turned-up files as_it_is (chunk_in context core branch.says) branch.chunk (chunk_in-read context core branch.says)
 
-core_over-missing_below : (role : Role) (context : Context) (files : Files) (branch : CoreBranch) (uri : HashValue)
-    → state_below (provisional_state role) (core_over context files branch).provisional ≡ role_is.Missing uri → file_at uri files ≡ None
-core_over-missing_below role context files branch uri is =
-    looked_up-missing_below (provisional_in context branch.says) (provisional_over context branch.says files) (provisional_state role) files branch.provisional uri
-    (λ says still. provisional_over-missing role context branch.says files says uri still) is
+  turned-below_provisional : (role : Role) (branch : CoreBranch)
+      → Turned files (state_below (provisional_state role) branch.provisional) (state_below (provisional_state role) (core_over context files branch).provisional)
+  turned-below_provisional role branch =
+      turned-below files (provisional_over context branch.says files) (provisional_state role) (turned-provisional role branch.says)
+      (provisional_in context branch.says) branch.provisional
 
-core_over-missing : (role : Role) (context : Context) (files : Files) (branch : CoreBranch) (uri : HashValue)
-    → core_state role (core_over context files branch) ≡ role_is.Missing uri → file_at uri files ≡ None
-core_over-missing Core context files branch uri is = cc
-core_over-missing CoreProof context files branch uri is =
-    looked_up-missing (core_proof_in context branch.says) as_it_is files branch.proofs uri (core_proof_in-read context branch.says) is
-core_over-missing Provisional context files branch uri is =
-    looked_up-missing (provisional_in context branch.says) (provisional_over context branch.says files) files branch.provisional uri
-    (provisional_in-read context branch.says) is
-core_over-missing ProvisionalProof context files branch uri is = core_over-missing_below ProvisionalProof context files branch uri is
-core_over-missing Chunk context files branch uri is = core_over-missing_below Chunk context files branch uri is
+  turned-core : (role : Role) (branch : CoreBranch) → Turned files (core_state role branch) (core_state role (core_over context files branch))
+  turned-core Core branch = unneeded files
+  turned-core CoreProof branch = turned-up files as_it_is (core_proof_in context branch.says) branch.proofs (core_proof_in-read context branch.says)
+  turned-core Provisional branch =
+      turned-up files (provisional_over context branch.says files) (provisional_in context branch.says) branch.provisional (provisional_in-read context branch.says)
+  turned-core ProvisionalProof branch = turned-below_provisional ProvisionalProof branch
+  turned-core Chunk branch = turned-below_provisional Chunk branch
 
-known_from-missing_below : (role : Role) (files : Files) (bound : Known) (uri : HashValue)
-    → state_below (core_state role) (known_from files bound).core ≡ role_is.Missing uri → file_at uri files ≡ None
-unfolding known_from
-known_from-missing_below role files bound uri is =
-    looked_up-missing_below (core_in bound.context) (core_over bound.context files) (core_state role) files bound.core uri
-    (λ says still. core_over-missing role bound.context files says uri still) is
+  turned-below_core : (role : Role) (part : Part CoreBranch)
+      → Turned files (state_below (core_state role) part) (state_below (core_state role) (looked_up (core_in context) (core_over context files) files part))
+  turned-below_core role part = turned-below files (core_over context files) (core_state role) (turned-core role) (core_in context) part
+
+pub turned : (role : Role) (files : Files) (bound : Known) → Turned files (role_state role bound) (role_state role (known_from files bound))
+unfolding known_from role_state
+turned Core files bound = turned-up files (core_over bound.context files) (core_in bound.context) bound.core (core_in-read bound.context)
+turned CoreProof files bound = turned-below_core bound.context files CoreProof bound.core
+turned Provisional files bound = turned-below_core bound.context files Provisional bound.core
+turned ProvisionalProof files bound = turned-below_core bound.context files ProvisionalProof bound.core
+turned Chunk files bound = turned-below_core bound.context files Chunk bound.core
 
 pub known_from-missing : (role : Role) (files : Files) (bound : Known) (uri : HashValue)
     → role_state role (known_from files bound) ≡ role_is.Missing uri → file_at uri files ≡ None
-unfolding known_from role_state
-known_from-missing Core files bound uri is =
-    looked_up-missing (core_in bound.context) (core_over bound.context files) files bound.core uri (core_in-read bound.context) is
-known_from-missing CoreProof files bound uri is = known_from-missing_below CoreProof files bound uri is
-known_from-missing Provisional files bound uri is = known_from-missing_below Provisional files bound uri is
-known_from-missing ProvisionalProof files bound uri is = known_from-missing_below ProvisionalProof files bound uri is
-known_from-missing Chunk files bound uri is = known_from-missing_below Chunk files bound uri is
-
--- what is missing stays missing while its file hasn't come
-stays : {Says : Type 0} (read : List ℕ → Part Says) (below : Says → Says) (files : Files) (part : Part Says) (uri : HashValue)
-    → state part ≡ role_is.Missing uri → file_at uri files ≡ None
-    → state (looked_up read below files part) ≡ role_is.Missing uri
-stays read below files Unneeded uri is none = cc
-stays read below files (Missing missed) uri is none =
-    let same : missed ≡ uri = cc in
-    let absent : file_at missed files ≡ None = ap (λ u. file_at u files) same ∙ none in
-    ap (λ file. state (looked_at read below missed file)) absent ∙ is
-stays read below files (Rejected rule) uri is none = cc
-stays read below files (Is says) uri is none = cc
-
-stays_below : {Says : Type 0} (read : List ℕ → Part Says) (below : Says → Says) (stands : Says → RoleState) (files : Files) (part : Part Says) (uri : HashValue)
-    → ((says : Says) → stands says ≡ role_is.Missing uri → stands (below says) ≡ role_is.Missing uri)
-    → state_below stands part ≡ role_is.Missing uri
-    → state_below stands (looked_up read below files part) ≡ role_is.Missing uri
-stays_below read below stands files Unneeded uri kept is = cc
-stays_below read below stands files (Missing missed) uri kept is = cc
-stays_below read below stands files (Rejected rule) uri kept is = cc
-stays_below read below stands files (Is says) uri kept is = kept says is
-
-provisional_over-stays : (role : Role) (context : Context) (core : CoreIndex) (files : Files) (uri : HashValue) → file_at uri files ≡ None → (branch : ProvisionalBranch)
-    → provisional_state role branch ≡ role_is.Missing uri → provisional_state role (provisional_over context core files branch) ≡ role_is.Missing uri
-provisional_over-stays Core context core files uri none branch is = is
-provisional_over-stays CoreProof context core files uri none branch is = is
-provisional_over-stays Provisional context core files uri none branch is = is
-provisional_over-stays ProvisionalProof context core files uri none branch is = stays (provisional_proof_in context branch.says) as_it_is files branch.proofs uri is none
-provisional_over-stays Chunk context core files uri none branch is = stays (chunk_in context core branch.says) as_it_is files branch.chunk uri is none
-
-core_over-stays : (role : Role) (context : Context) (files : Files) (uri : HashValue) → file_at uri files ≡ None → (branch : CoreBranch)
-    → core_state role branch ≡ role_is.Missing uri → core_state role (core_over context files branch) ≡ role_is.Missing uri
-core_over-stays Core context files uri none branch is = is
-core_over-stays CoreProof context files uri none branch is = stays (core_proof_in context branch.says) as_it_is files branch.proofs uri is none
-core_over-stays Provisional context files uri none branch is = stays (provisional_in context branch.says) (provisional_over context branch.says files) files branch.provisional uri is none
-core_over-stays ProvisionalProof context files uri none branch is =
-    stays_below (provisional_in context branch.says) (provisional_over context branch.says files) (provisional_state ProvisionalProof) files branch.provisional uri
-    (provisional_over-stays ProvisionalProof context branch.says files uri none) is
-core_over-stays Chunk context files uri none branch is =
-    stays_below (provisional_in context branch.says) (provisional_over context branch.says files) (provisional_state Chunk) files branch.provisional uri
-    (provisional_over-stays Chunk context branch.says files uri none) is
-
-known_from-stays_below : (role : Role) (files : Files) (bound : Known) (uri : HashValue) → file_at uri files ≡ None
-    → state_below (core_state role) bound.core ≡ role_is.Missing uri
-    → state_below (core_state role) (known_from files bound).core ≡ role_is.Missing uri
-unfolding known_from
-known_from-stays_below role files bound uri none is =
-    stays_below (core_in bound.context) (core_over bound.context files) (core_state role) files bound.core uri (core_over-stays role bound.context files uri none) is
-
-pub known_from-stays : (role : Role) (files : Files) (bound : Known) (uri : HashValue) → file_at uri files ≡ None
-    → role_state role bound ≡ role_is.Missing uri → role_state role (known_from files bound) ≡ role_is.Missing uri
-unfolding known_from role_state
-known_from-stays Core files bound uri none is = stays (core_in bound.context) (core_over bound.context files) files bound.core uri is none
-known_from-stays CoreProof files bound uri none is = known_from-stays_below CoreProof files bound uri none is
-known_from-stays Provisional files bound uri none is = known_from-stays_below Provisional files bound uri none is
-known_from-stays ProvisionalProof files bound uri none is = known_from-stays_below ProvisionalProof files bound uri none is
-known_from-stays Chunk files bound uri none is = known_from-stays_below Chunk files bound uri none is
-
--- what is missing was missing before, or wasn't needed yet
-
-was : {Says : Type 0} (read : List ℕ → Part Says) (below : Says → Says) (files : Files) (part : Part Says) (uri : HashValue)
-    → ((bytes : List ℕ) → WasRead (read bytes))
-    → state (looked_up read below files part) ≡ role_is.Missing uri → WasOpen uri (state part)
-was read below files Unneeded uri reads is = cc
-was read below files (Missing missed) uri reads is =
-    elim (file_at missed files) as (λ file. state (looked_at read below missed file) ≡ role_is.Missing uri → WasOpen uri (role_is.Missing missed)) [
-      | None ↦ λ still. inl still
-      | Some bytes ↦ λ still. absurd (looked_below-missing below (read bytes) uri (reads bytes) still)
-    ] is
-was read below files (Rejected rule) uri reads is = cc
-was read below files (Is says) uri reads is = cc
-
-was_below : {Says : Type 0} (read : List ℕ → Part Says) (below : Says → Says) (stands : Says → RoleState) (files : Files) (part : Part Says) (uri : HashValue)
-    → ((says : Says) → stands (below says) ≡ role_is.Missing uri → WasOpen uri (stands says))
-    → state_below stands (looked_up read below files part) ≡ role_is.Missing uri → WasOpen uri (state_below stands part)
-was_below read below stands files Unneeded uri before is = inr refl
-was_below read below stands files (Missing missed) uri before is = inr refl
-was_below read below stands files (Rejected rule) uri before is = inr refl
-was_below read below stands files (Is says) uri before is = before says is
-
-provisional_over-was : (role : Role) (context : Context) (core : CoreIndex) (files : Files) (uri : HashValue) (branch : ProvisionalBranch)
-    → provisional_state role (provisional_over context core files branch) ≡ role_is.Missing uri → WasOpen uri (provisional_state role branch)
-provisional_over-was Core context core files uri branch is = inl is
-provisional_over-was CoreProof context core files uri branch is = inl is
-provisional_over-was Provisional context core files uri branch is = inl is
-provisional_over-was ProvisionalProof context core files uri branch is =
-    was (provisional_proof_in context branch.says) as_it_is files branch.proofs uri (provisional_proof_in-read context branch.says) is
-provisional_over-was Chunk context core files uri branch is =
-    was (chunk_in context core branch.says) as_it_is files branch.chunk uri (chunk_in-read context core branch.says) is
-
-core_over-was : (role : Role) (context : Context) (files : Files) (uri : HashValue) (branch : CoreBranch)
-    → core_state role (core_over context files branch) ≡ role_is.Missing uri → WasOpen uri (core_state role branch)
-core_over-was Core context files uri branch is = inl is
-core_over-was CoreProof context files uri branch is =
-    was (core_proof_in context branch.says) as_it_is files branch.proofs uri (core_proof_in-read context branch.says) is
-core_over-was Provisional context files uri branch is =
-    was (provisional_in context branch.says) (provisional_over context branch.says files) files branch.provisional uri
-    (provisional_in-read context branch.says) is
-core_over-was ProvisionalProof context files uri branch is =
-    was_below (provisional_in context branch.says) (provisional_over context branch.says files) (provisional_state ProvisionalProof) files branch.provisional uri
-    (provisional_over-was ProvisionalProof context branch.says files uri) is
-core_over-was Chunk context files uri branch is =
-    was_below (provisional_in context branch.says) (provisional_over context branch.says files) (provisional_state Chunk) files branch.provisional uri
-    (provisional_over-was Chunk context branch.says files uri) is
-
-known_from-was_below : (role : Role) (files : Files) (bound : Known) (uri : HashValue)
-    → state_below (core_state role) (known_from files bound).core ≡ role_is.Missing uri → WasOpen uri (state_below (core_state role) bound.core)
-unfolding known_from
-known_from-was_below role files bound uri is =
-    was_below (core_in bound.context) (core_over bound.context files) (core_state role) files bound.core uri (core_over-was role bound.context files uri) is
-
-pub known_from-was : (role : Role) (files : Files) (bound : Known) (uri : HashValue)
-    → role_state role (known_from files bound) ≡ role_is.Missing uri → WasOpen uri (role_state role bound)
-unfolding known_from role_state
-known_from-was Core files bound uri is =
-    was (core_in bound.context) (core_over bound.context files) files bound.core uri (core_in-read bound.context) is
-known_from-was CoreProof files bound uri is = known_from-was_below CoreProof files bound uri is
-known_from-was Provisional files bound uri is = known_from-was_below Provisional files bound uri is
-known_from-was ProvisionalProof files bound uri is = known_from-was_below ProvisionalProof files bound uri is
-known_from-was Chunk files bound uri is = known_from-was_below Chunk files bound uri is
+known_from-missing role files bound = (turned role files bound).absent

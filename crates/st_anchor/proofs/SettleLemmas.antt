@@ -1,5 +1,5 @@
 -- Reading one missing file after the other.
-use Rattle.std.proofs.Common.{◌≡◌, ◌∙◌, ◌+◌, ◌-◌, ◌≤◌, ◌<◌, ℕ, List, refl, sym, ap, subst, arith}
+use Rattle.std.proofs.Common.{◌≡◌, ◌∙◌, ◌+◌, ◌-◌, ◌≤◌, ◌<◌, ℕ, List, sym, ap, subst, arith}
 use Rattle.st_base.specs.Work.{Counts}
 use Rattle.st_content.specs.Files.{Files}
 use Rattle.st_datafiles.specs.declared.role.Role.{Role}
@@ -18,17 +18,6 @@ pub record Settles (files : Files) (start : Known) (before : Counts) (bound : Kn
   pub decided : decided_roles start ≤ decided_roles bound
   pub opened : opened_proofs start ≤ opened_proofs bound
   pub counts : work ≡ worked (decided_roles bound - decided_roles start) (opened_proofs bound - opened_proofs start) before
-
-pub settles-start : (files : Files) (start : Known) (before : Counts) → Settles files start before start before
-settles-start files start before =
-    let no_files : 0 ≡ decided_roles start - decided_roles start = omega arith in
-    let no_proofs : 0 ≡ opened_proofs start - opened_proofs start = omega arith in
-    record {
-      same = refl;
-      decided = omega arith;
-      opened = omega arith;
-      counts = λ i. worked (no_files i) (no_proofs i) before;
-    }
 
 pub settles-bind : (files : Files) (start : Known) (before : Counts) (bound : Known) (work : Counts) (role : Role) (file : List ℕ) (after : Counts)
     → Settles files start before bound work → HasCome files bound role file → after ≡ one_file_with (opened_by role file bound) work

@@ -2,29 +2,33 @@
 -- there are no more operations than the declared count.
 --     sound-known      what is known of an entry keeps them
 --     sound-core_in, sound-core_with      and so does what is read on the way
-use Rattle.std.proofs.Common.{◌≡◌, ℕ, suc, ◌+◌, ◌≤◌, true, List, [], ◌∷◌, codes, length, map, Option, Some, None, option_map, refl, arith}
-use Rattle.std.specs.List.{cons_option, filter_map}
+use Rattle.std.proofs.Common.{◌≡◌, ℕ, suc, ◌+◌, ◌≤◌, Bool, true, false, List, [], ◌∷◌, codes, length, map, Option, Some, None, option_map, refl, arith}
+use Rattle.std.specs.Prelude.{◌&&◌, bytes_eq, if◌then◌else◌}
+use Rattle.std.specs.List.{AllByRecursion, cons_option, filter_map}
 use Rattle.std.proofs.lemmas.Bool.{and_parts, eqb-true, ltb-false}
 use Rattle.std.proofs.lemmas.List.{length-map}
-use Rattle.st_base.specs.Rules.{first_failing}
+use Rattle.st_base.specs.Rules.{Table, first_failing}
 use Rattle.st_base.proofs.RuleLemmas.{none_fails, passes}
 use Rattle.st_canon.specs.Plain.{Plain}
 use Rattle.st_canon.specs.Shapes.{json_in}
 use Rattle.st_content.specs.Files.{Files, file_at}
 use Rattle.st_datafiles.specs.ProofFiles.{core_proofs_of, proofs_of, signed_in, signed_of}
-use Rattle.st_datafiles.specs.ProofRules.{core_proof_rules, first_failing_core_proof_rule, first_failing_provisional_proof_rule, has_proofs, provisional_proof_rules}
+use Rattle.st_datafiles.specs.ProofRules.{core_proof_rules, first_failing_core_proof_rule, first_failing_provisional_proof_rule, has_proofs, proof_rule_name, provisional_proof_rules}
+use Rattle.st_datafiles.specs.declared.proof_rule.ProofRule.TheVariants.{Q4}
 use Rattle.st_datafiles.specs.declared.role.Role.{Role}
 use Rattle.st_datafiles.specs.declared.role.Role.TheVariants.{Core, CoreProof, Provisional, ProvisionalProof, Chunk}
 use Rattle.st_hash.specs.Hash.{HashValue}
 use Rattle.st_indexfiles.specs.CoreIndex.{core_index_of, operations_of}
-use Rattle.st_indexfiles.specs.CoreRules.{core_rules, first_failing_core_rule, operation_count}
+use Rattle.st_indexfiles.specs.CoreRules.{core_rule_name, core_rules, first_failing_core_rule, operation_count}
 use Rattle.st_indexfiles.specs.ProvisionalIndex.{chunk_in, provisional_with as provisional_of, updates_in}
-use Rattle.st_indexfiles.specs.ProvisionalRules.{core_count, first_failing_provisional_rule, provisional_rules, update_count}
+use Rattle.st_indexfiles.specs.ProvisionalRules.{core_count, first_failing_provisional_rule, provisional_rule_name, provisional_rules, update_count}
 use Rattle.st_indexfiles.specs.SuffixData.{create_of}
 use Rattle.st_indexfiles.specs.Target.{target_of}
 use Rattle.st_indexfiles.specs.declared.core_index.CoreIndex.{CoreIndex}
+use Rattle.st_indexfiles.specs.declared.core_rule.CoreRule.TheVariants.{C6, C7}
 use Rattle.st_indexfiles.specs.declared.provisional_index.ProvisionalIndex.{ProvisionalIndex}
 use Rattle.st_indexfiles.specs.declared.provisional_rule.ProvisionalRule.{ProvisionalRule}
+use Rattle.st_indexfiles.specs.declared.provisional_rule.ProvisionalRule.TheVariants.{P6, P7}
 use Rattle.st_ledger.specs.Anchor.{anchor_of, anchor_rules}
 use Rattle.st_ledger.specs.declared.anchor.Anchor.{Anchor}
 use Rattle.st_ledger.specs.declared.anchor.AnchorRule.{AnchorRule}
@@ -40,6 +44,28 @@ use Rattle.st_anchor.specs.declared.part.Part.{Part}
 use Rattle.st_anchor.specs.declared.part.Part.TheVariants.{Unneeded, Missing, Rejected, Is}
 use Rattle.st_anchor.specs.declared.rule.Rule.{Rule}
 use Rattle.st_anchor.specs.declared.rule.Rule.TheVariants as fails
+
+-- ---- a rule by its name
+
+-- whether a rule fails, in a table: the first row of its name
+abbrev pub fails_rule : {Rule : Type 0} → (Rule → List ℕ) → Rule → Table Rule → Bool
+fails_rule name rule [] = false
+fails_rule name rule (row ∷ rows) = if bytes_eq (name row.0) (name rule) then row.1 else fails_rule name rule rows
+
+either_passes : (here first later : Bool) → first ≡ false → later ≡ false → (if here then first else later) ≡ false
+either_passes true first later passes_first passes_later = passes_first
+either_passes false first later passes_first passes_later = passes_later
+
+named_passes : {Rule : Type 0} (name : Rule → List ℕ) (rule : Rule) (rules : Table Rule) → AllByRecursion (λ row. row.1 ≡ false) rules
+    → fails_rule name rule rules ≡ false
+named_passes name rule [] passed = refl
+named_passes name rule (row ∷ rows) passed =
+    either_passes (bytes_eq (name row.0) (name rule)) row.1 (fails_rule name rule rows) passed.0 (named_passes name rule rows passed.1)
+
+-- in a table of which no rule fails, each rule passes
+pub passes_rule : {Rule : Type 0} (name : Rule → List ℕ) (rules : Table Rule) → first_failing rules ≡ None → (rule : Rule)
+    → fails_rule name rule rules ≡ false
+passes_rule name rules none rule = named_passes name rule rules (none_fails rules none)
 
 -- ---- what holds of what a file says, where it was read
 
@@ -109,10 +135,10 @@ sound-core_accepted : (context : Context) (bytes : List ℕ) → first_failing_c
     → IsSoundCore context (core_branch (core_index_of context.params.version (json_in bytes)))
 unfolding core_index_of
 sound-core_accepted context bytes none =
-    let rows = none_fails (core_rules context.params context.count bytes) none in
-    let few : operation_count (json_in bytes) ≤ context.count = ltb-false context.count (operation_count (json_in bytes)) rows.1.1.1.1.1.0 in
+    let passed = passes_rule core_rule_name (core_rules context.params context.count bytes) none in
+    let few : operation_count (json_in bytes) ≤ context.count = ltb-false context.count (operation_count (json_in bytes)) (passed C6) in
     record {
-      once = rows.1.1.1.1.1.1.0;
+      once = passed C7;
       few = omega (arith, core_count-read context.params.version (json_in bytes));
       proofs = holds-named _ _;
       provisional = holds-named _ _;
@@ -127,10 +153,10 @@ few-core_accepted : (context : Context) (core : CoreIndex) (bytes : List ℕ)
     → first_failing_core_proof_rule context.params (length core.recovers) (length core.deactivates) bytes ≡ None
     → core_proof_count (opened_of context.params.max_signed (core_proofs_of (json_in bytes))) ≤ length core.recovers + length core.deactivates
 few-core_accepted context core bytes none =
-    let rows = none_fails (core_proof_rules context.params (length core.recovers) (length core.deactivates) bytes) none in
-    let both =
-    and_parts (has_proofs (codes "recover") (length core.recovers) (json_in bytes)) (has_proofs (codes "deactivate") (length core.deactivates) (json_in bytes))
-    (passes _ rows.1.1.1.0) in
+    let passed = passes_rule proof_rule_name (core_proof_rules context.params (length core.recovers) (length core.deactivates) bytes) none in
+    let recovers = has_proofs (codes "recover") (length core.recovers) (json_in bytes) in
+    let deactivates = has_proofs (codes "deactivate") (length core.deactivates) (json_in bytes) in
+    let both = and_parts recovers deactivates (passes (recovers && deactivates) (passed Q4)) in
     omega (
       arith,
       wanted-proofs (codes "recover") (length core.recovers) (json_in bytes) both.0,
@@ -150,10 +176,10 @@ few-provisional_accepted : (context : Context) (provisional : ProvisionalIndex) 
     → first_failing_provisional_proof_rule context.params (length provisional.updates) bytes ≡ None
     → length (map (proof_of context.params.max_signed) (signed_of (codes "update") (json_in bytes))) ≤ length provisional.updates
 few-provisional_accepted context provisional bytes none =
-    let rows = none_fails (provisional_proof_rules context.params (length provisional.updates) bytes) none in
+    let passed = passes_rule proof_rule_name (provisional_proof_rules context.params (length provisional.updates) bytes) none in
     omega (
       arith,
-      wanted-proofs (codes "update") (length provisional.updates) (json_in bytes) (passes _ rows.1.1.1.0),
+      wanted-proofs (codes "update") (length provisional.updates) (json_in bytes) (passes (has_proofs (codes "update") (length provisional.updates) (json_in bytes)) (passed Q4)),
       length-map (signed_of (codes "update") (json_in bytes)) (proof_of context.params.max_signed),
     )
 
@@ -169,11 +195,11 @@ sound-provisional_accepted : (context : Context) (core : CoreIndex) (bytes : Lis
     → IsSoundProvisional context core (provisional_branch (provisional_of context.params.version (json_in bytes) chunk))
 unfolding provisional_of
 sound-provisional_accepted context core bytes chunk none =
-    let rows = none_fails (provisional_rules context.params context.count core bytes) none in
+    let passed = passes_rule provisional_rule_name (provisional_rules context.params context.count core bytes) none in
     let few : core_count core + update_count (json_in bytes) ≤ context.count =
-    ltb-false context.count (core_count core + update_count (json_in bytes)) rows.1.1.1.1.1.1.0 in
+    ltb-false context.count (core_count core + update_count (json_in bytes)) (passed P7) in
     record {
-      apart = rows.1.1.1.1.1.0;
+      apart = passed P6;
       few = omega (arith, update_count-read context.params.version (json_in bytes));
       proofs = holds-named _ _;
     }

@@ -1,5 +1,5 @@
 -- Files that have come, and those that haven't.
-use Rattle.std.specs.Prelude.{◌≡◌, ◌⊎◌, ℕ, ◌-◌, List, Some, None}
+use Rattle.std.specs.Prelude.{◌≡◌, ℕ, ◌-◌, List, Some, None}
 use Rattle.st_content.specs.Files.{Files, file_at}
 use Rattle.st_datafiles.specs.declared.role.Role.{Role}
 use Rattle.st_hash.specs.Hash.{HashValue, uri_of}
@@ -35,10 +35,6 @@ IsUnmissed uri bound = (role : Role) → role_state role bound ≡ Missing uri �
 -- the later files have each of the earlier ones
 pub record Extends (files later : Files) : Type 0 where
   pub kept : (uri : HashValue) (file : List ℕ) → file_at uri files ≡ Some file → file_at uri later ≡ Some file
-
--- the role missed this file, or needed none yet
-abbrev pub WasOpen : HashValue → RoleState → Type 0
-WasOpen uri before = (before ≡ Missing uri) ⊎ (before ≡ Unneeded)
 
 -- ---- counts
 

@@ -1,5 +1,5 @@
 -- How it stands with the roles of an entry.
-use Rattle.std.specs.Prelude.{ℕ, ◌+◌, List, [], ◌∷◌, length}
+use Rattle.std.specs.Prelude.{ℕ, ◌+◌, List, [], ◌∷◌, length, sum_by}
 use Rattle.st_content.specs.Files.{Files}
 use Rattle.st_datafiles.specs.declared.role.Role.{Role}
 use Rattle.st_datafiles.specs.declared.role.Role.TheVariants.{Core, CoreProof, Provisional, ProvisionalProof, Chunk}
@@ -71,9 +71,7 @@ decided role_is.Read = 1
 
 -- how many roles are decided
 unfoldable pub decided_roles : Known → ℕ
-decided_roles bound =
-    decided (role_state Core bound) + decided (role_state CoreProof bound) + decided (role_state Provisional bound)
-    + decided (role_state ProvisionalProof bound) + decided (role_state Chunk bound)
+decided_roles bound = sum_by decided (role_states bound)
 
 -- a number that belongs to what a file says, and is 0 where it wasn't read
 abbrev pub count_read : {Says : Type 0} → (Says → ℕ) → Part Says → ℕ

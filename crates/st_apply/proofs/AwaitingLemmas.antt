@@ -8,25 +8,16 @@ use Rattle.st_ops.specs.declared.claim.Claim.{Claim}
 use Rattle.st_ops.specs.declared.claim.Claim.TheVariants.{Update, Recover, Deactivate}
 use Rattle.st_params.specs.Limits.{Limits}
 use Rattle.st_apply.specs.Applied.{seen_as, sidetree}
-use Rattle.st_apply.specs.Awaited.{awaits_update, is_awaited}
-use Rattle.st_apply.specs.Seen.{Change, active, updates}
+use Rattle.st_apply.specs.Awaited.{is_awaited}
+use Rattle.st_apply.specs.Seen.{active}
 use Rattle.st_apply.specs.Step.{step}
-
--- an update that is not awaited
-unawaited_update : (recovery : HashValue) (update : Option HashValue) (document : PlainDocument) (reveal : HashValue)
-    (change : Option (Change HashValue PlainDocument)) → awaits_update update reveal ≡ false
-    → active recovery update document ≡ step sidetree (active recovery update document) (updates reveal change)
-unawaited_update recovery None document reveal change is = refl
-unawaited_update recovery (Some commitment) document reveal None is = refl
-unawaited_update recovery (Some commitment) document reveal (Some change) is = rw is refl
 
 pub unawaited_leaves : (limits : Limits) (recovery : HashValue) (update : Option HashValue) (document : PlainDocument)
     (operation : PlainOperation) (claim : Option Claim) → is_awaited recovery update operation ≡ false
     → active recovery update document ≡ step sidetree (active recovery update document) (seen_as limits operation claim)
 unawaited_leaves limits recovery update document (creating suffix_data delta) claim is = refl
 unawaited_leaves limits recovery update document (updating target proof delta) None is = refl
-unawaited_leaves limits recovery update document (updating target proof delta) (Some (Update delta_hash)) is =
-    unawaited_update recovery update document target.reveal _ is
+unawaited_leaves limits recovery update document (updating target proof delta) (Some (Update delta_hash)) is = rw is refl
 unawaited_leaves limits recovery update document (updating target proof delta) (Some (Recover commitment delta_hash)) is = refl
 unawaited_leaves limits recovery update document (updating target proof delta) (Some Deactivate) is = refl
 unawaited_leaves limits recovery update document (recovering target proof delta) None is = refl

@@ -3,7 +3,7 @@ use Rattle.std.proofs.Common.{◌≡◌, ◌∙◌, sym, ap, subst, ℕ, ◌+◌
 use Rattle.std.specs.Prelude.{map, Option, Some, None}
 use Rattle.std.specs.List.{AllByRecursion, cons_option, fold}
 use Rattle.std.proofs.lemmas.List.Folds.{fold-map, fold_stays}
-use Rattle.st_base.proofs.Quantifiers.{each-append, each-weaker}
+use Rattle.st_base.proofs.Quantifiers.{each-weaker}
 use Rattle.st_apply.specs.Laws.{PlacesAscend, WalksLead}
 use Rattle.st_apply.specs.Numbered.{given_from}
 use Rattle.st_apply.specs.Resolution.{full_after, update_after, before_updates, resolve}
@@ -24,13 +24,6 @@ pub places_before : {X : Type 0} (place : X → ℕ) (done : List X) (item : X) 
 places_before place [] item more ascend = tt
 places_before place (x ∷ done) item more ascend =
     (each_at (λ later. place x < place later) done item more ascend.0, places_before place done item more ascend.1)
-
--- such a list ascends with one more item behind all others
-pub ascend_push : {X : Type 0} (place : X → ℕ) (items : List X) (item : X) → PlacesAscend place items
-    → AllByRecursion (λ earlier. place earlier < place item) items → PlacesAscend place (items ++ item ∷ [])
-ascend_push place [] item ascend last = (tt, tt)
-ascend_push place (x ∷ items) item ascend last =
-    (each-append (λ later. place x < place later) items (item ∷ []) ascend.0 (last.0, tt), ascend_push place items item ascend.1 last.1)
 
 module _ {Hash Document Item : Type 0} (rules : Rules Hash Document) (place : Item → ℕ) (seen : Item → Seen Hash Document) where
   -- the steps go on from what the items before resolve to

@@ -4,12 +4,13 @@ use Rattle.std.specs.Prelude.{Option, Some, None, unwrap_or, option_and_then, op
 use Rattle.std.specs.Option.{option_map_or}
 use Rattle.std.specs.List.{AllByRecursion}
 use Rattle.std.proofs.lemmas.Option.{none-some, same_Some}
-use Rattle.st_apply.specs.Resolution.{walk, beginning_of, change_of, is_create, Reached, before_updates, is_full_for, is_update_for, start, next_full, full_after, updated_by, update_after, last_full, last_update, ending, resolved_from, resolved_by, resolve}
-use Rattle.st_apply.specs.Seen.{Rules, Change, Beginning, Seen, absent, active, deactivated}
+use Rattle.st_apply.specs.Acting.{is_create, is_full_for, is_update_for}
+use Rattle.st_apply.specs.Resolution.{walk, beginning_of, change_of, Reached, before_updates, start, next_full, full_after, updated_by, update_after, last_full, last_update, ending, begun_behind, resolved_behind, resolved_by, resolve}
+use Rattle.st_apply.specs.Seen.{Rules, Change, Beginning, Seen, creates, recovers, deactivates, updates, unclaimed, State, absent, active, deactivated}
 use Rattle.st_apply.specs.Step.{changed, begun, step}
 use Rattle.st_apply.proofs.ChaseLemmas as chase
 use Rattle.st_apply.proofs.PlaceLemmas.{find_each, find_kept, find_new, behind}
-use Rattle.st_apply.proofs.StepLemmas.{create_acts, other_absent, full_acts, none_acts, other_leaves, update_acts}
+use Rattle.st_apply.proofs.StepLemmas.{leaves_it, create_acts, full_acts, none_acts, other_leaves, update_acts}
 
 and_then_same : {X : Type 0} (o : Option X) → option_and_then (λ x. Some x) o ≡ o
 and_then_same None = refl
@@ -87,6 +88,19 @@ module _ {Hash Document Item : Type 0} (rules : Rules Hash Document) (place : It
       → behind place items there.place < behind place items here.place
   update_nearer items = chase.nearer place at commits is_update update update_at items
 
+  -- ---- the state behind an operation is that behind what it begins
+
+  abbrev behind_beginning : List Item → ℕ → Option (Beginning Hash Document) → State Hash Document
+  behind_beginning items from beginning = option_map_or (begun_behind rules place seen items from) beginning deactivated
+
+  by_beginning : (items : List Item) (from : ℕ) (operation : Seen Hash Document)
+      → resolved_behind rules place seen items from operation ≡ behind_beginning items from (beginning_of operation)
+  by_beginning items from (creates beginning) = refl
+  by_beginning items from (recovers reveal beginning) = refl
+  by_beginning items from (deactivates reveal) = refl
+  by_beginning items from (updates reveal change) = refl
+  by_beginning items from unclaimed = refl
+
   -- ---- one more item, at a place behind all others
 
   module _ (items : List Item) (item : Item) where
@@ -138,7 +152,8 @@ module _ {Hash Document Item : Type 0} (rules : Rules Hash Document) (place : It
       -- what it begins itself,
       begun_there : resolved_by rules place seen longer item ≡ option_map_or (begun rules) (begins item) deactivated
       begun_there =
-          elim (begins item) as (λ o. resolved_from rules place seen longer (place item) o ≡ option_map_or (begun rules) o deactivated) [
+          by_beginning longer (place item) (seen item)
+          ∙ elim (begins item) as (λ o. behind_beginning longer (place item) o ≡ option_map_or (begun rules) o deactivated) [
             | None ↦ refl
             | Some beginning ↦ ap (ending beginning.recovery)
                 (chase.stays_there place at commits is_update update update_at update_given items item last (length longer) (before_updates rules (place item) beginning.change) refl)
@@ -151,19 +166,19 @@ module _ {Hash Document Item : Type 0} (rules : Rules Hash Document) (place : It
       full_more there before =
           (elim (begins there) as (λ o. begins there ≡ o
           → resolved_by rules place seen longer (unwrap_or (option_and_then (λ beginning. cond (is_full beginning item) (Some item) None) o) there)
-          ≡ step rules (resolved_from rules place seen items (place there) o) (seen item)) [
-            | None ↦ λ is. ap (resolved_from rules place seen longer (place there)) is
+          ≡ step rules (behind_beginning items (place there) o) (seen item)) [
+            | None ↦ λ is. by_beginning longer (place there) (seen there) ∙ ap (behind_beginning longer (place there)) is
             | Some beginning ↦ λ is.
                 (let here = last_update rules place seen items (place there) beginning.change in
                 (elim (is_full beginning item) as (λ b. is_full beginning item ≡ b
                 → resolved_by rules place seen longer (unwrap_or (cond b (Some item) None) there) ≡ step rules (ending beginning.recovery here) (seen item)) [
                   | true ↦ λ passes. begun_there ∙ full_acts rules beginning.recovery here.update here.document (seen item) passes
                   | false ↦ λ fails.
-                      ap (resolved_from rules place seen longer (place there)) is
+                      by_beginning longer (place there) (seen there) ∙ ap (behind_beginning longer (place there)) is
                       ∙ ap (ending beginning.recovery) (update_goes (place there) beginning.change before)
                       ∙ update_more beginning.recovery here fails
                 ]) refl)
-          ]) refl
+          ]) refl ∙ ap (λ state. step rules state (seen item)) (sym (by_beginning items (place there) (seen there)))
 
       pub one_more : resolve rules place seen longer ≡ step rules (resolve rules place seen items) (seen item)
       one_more =
@@ -175,7 +190,7 @@ module _ {Hash Document Item : Type 0} (rules : Rules Hash Document) (place : It
                 ∙ (elim (is_create (seen item)) as (λ b. is_create (seen item) ≡ b
                 → option_map_or (λ create. resolved_by rules place seen longer (last_full rules place seen longer create)) (cond b (Some item) None) absent ≡ step rules absent (seen item)) [
                   | true ↦ λ is. ap (resolved_by rules place seen longer) full_stays ∙ begun_there ∙ create_acts rules (seen item) is
-                  | false ↦ λ is. other_absent rules (seen item) is
+                  | false ↦ λ is. sym (leaves_it rules absent (seen item) is)
                 ]) refl
             | Some create ↦ λ found.
                 (let before = find_each (λ other. is_create (seen other)) (λ earlier. place earlier < place item) items create last found in

@@ -2,13 +2,18 @@
 use Rattle.std.proofs.Common.{◌≡◌, refl, arith, true, false}
 use Rattle.std.specs.Prelude.{Option, Some, None}
 use Rattle.std.specs.Option.{option_map_or}
-use Rattle.st_apply.specs.Acting.{acts}
-use Rattle.st_apply.specs.Resolution.{beginning_of, change_of, is_create, is_full_for, is_update_for}
+use Rattle.st_apply.specs.Acting.{acts, is_create, is_full_for, is_update_for}
+use Rattle.st_apply.specs.Resolution.{beginning_of, change_of}
 use Rattle.st_apply.specs.Seen.{Rules, Change, Seen, creates, recovers, deactivates, updates, unclaimed, State, absent, active, deactivated}
 use Rattle.st_apply.specs.Step.{changed, begun, step}
 
 module _ {Hash Document : Type 0} (rules : Rules Hash Document) where
-  -- a create acts on an absent state, and nothing else does
+  -- an operation that does not act leaves the state
+  pub leaves_it : (state : State Hash Document) (operation : Seen Hash Document)
+      → acts rules state operation ≡ false → step rules state operation ≡ state
+  leaves_it state operation is = rw is refl
+
+  -- a create acts on an absent state
   pub create_acts : (operation : Seen Hash Document) → is_create operation ≡ true
       → option_map_or (begun rules) (beginning_of operation) deactivated ≡ step rules absent operation
   create_acts (creates beginning) is = refl
@@ -16,13 +21,6 @@ module _ {Hash Document : Type 0} (rules : Rules Hash Document) where
   create_acts (deactivates reveal) is = absurd (cc)
   create_acts (updates reveal change) is = absurd (cc)
   create_acts unclaimed is = absurd (cc)
-
-  pub other_absent : (operation : Seen Hash Document) → is_create operation ≡ false → absent ≡ step rules absent operation
-  other_absent (creates beginning) is = absurd (cc)
-  other_absent (recovers reveal beginning) is = refl
-  other_absent (deactivates reveal) is = refl
-  other_absent (updates reveal change) is = refl
-  other_absent unclaimed is = refl
 
   -- what is for the recovery commitment leaves what it begins, or is a deactivate
   pub full_acts : (recovery : Hash) (update : Option Hash) (document : Document) (operation : Seen Hash Document)
@@ -48,13 +46,7 @@ module _ {Hash Document : Type 0} (rules : Rules Hash Document) where
   pub other_leaves : (recovery commitment : Hash) (document : Document) (operation : Seen Hash Document)
       → is_full_for rules recovery operation ≡ false → is_update_for rules commitment operation ≡ false
       → active recovery (Some commitment) document ≡ step rules (active recovery (Some commitment) document) operation
-  other_leaves recovery commitment document (creates beginning) is fails = refl
-  other_leaves recovery commitment document (recovers reveal beginning) is fails = rw is refl
-  other_leaves recovery commitment document (deactivates reveal) is fails = rw is refl
-  other_leaves recovery commitment document (updates reveal None) is fails = refl
-  other_leaves recovery commitment document (updates reveal (Some change)) is fails =
-      let missed : rules.meets reveal commitment ≡ false = grind arith in rw missed refl
-  other_leaves recovery commitment document unclaimed is fails = refl
+  other_leaves recovery commitment document operation is fails = rw (is, fails) refl
 
   -- an update for it has a delta that counts, and leaves what that says
   pub record Updates (recovery commitment : Hash) (document : Document) (operation : Seen Hash Document) : Type 0 where
@@ -72,20 +64,3 @@ module _ {Hash Document : Type 0} (rules : Rules Hash Document) where
       let meets : rules.meets reveal commitment ≡ true = grind arith in
       record { change = change; is = refl; leaves = rw meets refl }
   update_acts recovery commitment document unclaimed is = absurd (cc)
-
-  -- an operation that does not act leaves the state
-  pub leaves_it : (state : State Hash Document) (operation : Seen Hash Document)
-      → acts rules state operation ≡ false → step rules state operation ≡ state
-  leaves_it absent (creates beginning) is = absurd (cc)
-  leaves_it absent (recovers reveal beginning) is = refl
-  leaves_it absent (deactivates reveal) is = refl
-  leaves_it absent (updates reveal change) is = refl
-  leaves_it absent unclaimed is = refl
-  leaves_it (active recovery update document) (creates beginning) is = refl
-  leaves_it (active recovery update document) (recovers reveal beginning) is = rw is refl
-  leaves_it (active recovery update document) (deactivates reveal) is = rw is refl
-  leaves_it (active recovery None document) (updates reveal change) is = refl
-  leaves_it (active recovery (Some commitment) document) (updates reveal None) is = refl
-  leaves_it (active recovery (Some commitment) document) (updates reveal (Some change)) is = rw is refl
-  leaves_it (active recovery update document) unclaimed is = refl
-  leaves_it deactivated operation is = refl

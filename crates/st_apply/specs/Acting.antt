@@ -1,23 +1,47 @@
--- Which operations act on which state. One that does not leaves the state as it was.
-use Rattle.std.specs.Prelude.{Bool, true, false, Some}
+-- Which operations act on which state, after DIF Sidetree v1.0.0, "Operation Compilation"; the rules are this
+-- project's own. Steps and searches ask by the same words.
+use Rattle.std.specs.Prelude.{Bool, true, false, not, ◌&&◌, ◌||◌, Option, Some, None}
 use Rattle.st_apply.specs.Seen.{Rules, Seen, creates, recovers, deactivates, updates, State, absent, active}
 
-module _ {Hash Document : Type 0} (rules : Rules Hash Document) where
-  -- its reveal value meets the commitment that its kind reveals
-  abbrev pub reveals : State Hash Document → Seen Hash Document → Bool
-  reveals (active recovery update document) (recovers reveal beginning) = rules.meets reveal recovery
-  reveals (active recovery update document) (deactivates reveal) = rules.meets reveal recovery
-  reveals (active recovery (Some commitment) document) (updates reveal change) = rules.meets reveal commitment
-  reveals state other = false
+module _ {Hash Document : Type 0} where
+  -- it is a create
+  abbrev pub is_create : Seen Hash Document → Bool
+  is_create (creates beginning) = true
+  is_create other = false
 
-  -- a create, where none has acted; afterwards what reveals its commitment, an update only where its
-  -- delta counts
+  -- it is an update whose delta does not count
+  abbrev pub has_bad_delta : Seen Hash Document → Bool
+  has_bad_delta (updates reveal None) = true
+  has_bad_delta other = false
+
+module _ {Hash Document : Type 0} (rules : Rules Hash Document) where
+  -- it is a recover or a deactivate that has a claim, and whose reveal value meets the commitment
+  abbrev pub is_full_for : Hash → Seen Hash Document → Bool
+  is_full_for commitment (recovers reveal beginning) = rules.meets reveal commitment
+  is_full_for commitment (deactivates reveal) = rules.meets reveal commitment
+  is_full_for commitment other = false
+
+  -- the reveal value meets the commitment, where there is one
+  abbrev pub meets_any : Option Hash → Hash → Bool
+  meets_any (Some commitment) reveal = rules.meets reveal commitment
+  meets_any None reveal = false
+
+  -- it is an update that has a claim, and whose reveal value meets the commitment, where there is one
+  abbrev pub reveals_update : Option Hash → Seen Hash Document → Bool
+  reveals_update commitment (updates reveal change) = meets_any commitment reveal
+  reveals_update commitment other = false
+
+  -- it is such an update, and its delta counts
+  abbrev pub is_update_for : Hash → Seen Hash Document → Bool
+  is_update_for commitment operation = reveals_update (Some commitment) operation && not (has_bad_delta operation)
+
+  -- its reveal value meets the commitment of the state that its kind reveals
+  abbrev pub reveals : State Hash Document → Seen Hash Document → Bool
+  reveals (active recovery update document) operation = is_full_for recovery operation || reveals_update update operation
+  reveals state operation = false
+
+  -- It acts: where no create has acted, a create alone; afterwards what reveals its commitment, an update only
+  -- where its delta counts; and after a deactivate nothing.
   abbrev pub acts : State Hash Document → Seen Hash Document → Bool
-  acts absent (creates beginning) = true
-  acts (active recovery update document) (recovers reveal beginning) =
-      reveals (active recovery update document) (recovers reveal beginning)
-  acts (active recovery update document) (deactivates reveal) =
-      reveals (active recovery update document) (deactivates reveal)
-  acts (active recovery update document) (updates reveal (Some change)) =
-      reveals (active recovery update document) (updates reveal (Some change))
-  acts state other = false
+  acts absent operation = is_create operation
+  acts state operation = reveals state operation && not (has_bad_delta operation)

@@ -1,8 +1,8 @@
 pub mod Seen
 pub mod Codes
 pub mod DocumentForm
-pub mod Step
 pub mod Acting
+pub mod Step
 pub mod Resolution
 pub mod Laws
 pub mod Numbered

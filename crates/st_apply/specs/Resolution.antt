@@ -2,9 +2,10 @@
 -- own. It follows the commitments:
 -- from the create to the operation that reveals what the create commits to, and so on, first over
 -- recovers and deactivates, and then, from the last of these, over updates.
-use Rattle.std.specs.Prelude.{ℕ, zero, suc, nat_lt, length, List, find, Bool, true, false, ◌&&◌, is_some, Option, Some, None, option_map}
+use Rattle.std.specs.Prelude.{ℕ, zero, suc, nat_lt, length, List, find, ◌&&◌, Option, Some, None, option_map}
 use Rattle.std.specs.Option.{option_map_or}
 use Rattle.st_base.specs.Options.{◌>>=◌}
+use Rattle.st_apply.specs.Acting.{is_create, is_full_for, is_update_for}
 use Rattle.st_apply.specs.Seen.{Rules, Change, Beginning, Seen, creates, recovers, deactivates, updates, State, absent, active, deactivated}
 use Rattle.st_apply.specs.Step.{changed, begun_update, begun_document}
 
@@ -16,11 +17,6 @@ walk next (suc turns) here = option_map_or (walk next turns) (next here) here
 -- ---- operations alone
 
 module _ {Hash Document : Type 0} where
-  -- it is a create
-  abbrev pub is_create : Seen Hash Document → Bool
-  is_create (creates beginning) = true
-  is_create other = false
-
   -- what a create or a recover begins
   abbrev pub beginning_of : Seen Hash Document → Option (Beginning Hash Document)
   beginning_of (creates beginning) = Some beginning
@@ -44,17 +40,6 @@ abbrev pub ending : {Hash Document : Type 0} → Hash → Reached Hash Document 
 ending recovery last = active recovery last.update last.document
 
 module _ {Hash Document : Type 0} (rules : Rules Hash Document) where
-  -- it is a recover or a deactivate that has a claim, and whose reveal value meets the commitment
-  abbrev pub is_full_for : Hash → Seen Hash Document → Bool
-  is_full_for commitment (recovers reveal beginning) = rules.meets reveal commitment
-  is_full_for commitment (deactivates reveal) = rules.meets reveal commitment
-  is_full_for commitment other = false
-
-  -- it is an update that has a claim, whose reveal value meets the commitment, and whose delta counts
-  abbrev pub is_update_for : Hash → Seen Hash Document → Bool
-  is_update_for commitment (updates reveal change) = rules.meets reveal commitment && is_some change
-  is_update_for commitment other = false
-
   -- where the updates begin: at the place of a create or a recover, with what that leaves
   abbrev pub before_updates : ℕ → Option (Change Hash Document) → Reached Hash Document
   before_updates from change =
@@ -105,14 +90,21 @@ module _ {Hash Document Item : Type 0} (rules : Rules Hash Document) (place : It
   abbrev pub last_update : List Item → ℕ → Option (Change Hash Document) → Reached Hash Document
   last_update items from change = walk (update_after items) (length items) (before_updates rules from change)
 
-  -- the state behind the last recover or deactivate: what begins nothing is a deactivate
-  abbrev pub resolved_from : List Item → ℕ → Option (Beginning Hash Document) → State Hash Document
-  resolved_from items from None = deactivated
-  resolved_from items from (Some beginning) = ending beginning.recovery (last_update items from beginning.change)
+  -- the state behind what a create or a recover at this place begins
+  abbrev pub begun_behind : List Item → ℕ → Beginning Hash Document → State Hash Document
+  begun_behind items from beginning = ending beginning.recovery (last_update items from beginning.change)
 
-  -- the same behind this item, which is the last recover or deactivate, or the create where there is none
+  -- the state behind an operation at this place, which is the last recover or deactivate, or the create where there
+  -- is none; no search comes to another
+  abbrev pub resolved_behind : List Item → ℕ → Seen Hash Document → State Hash Document
+  resolved_behind items from (creates beginning) = begun_behind items from beginning
+  resolved_behind items from (recovers reveal beginning) = begun_behind items from beginning
+  resolved_behind items from (deactivates reveal) = deactivated
+  resolved_behind items from other = deactivated
+
+  -- the same behind this item
   abbrev pub resolved_by : List Item → Item → State Hash Document
-  resolved_by items full = resolved_from items (place full) (beginning_of (seen full))
+  resolved_by items full = resolved_behind items (place full) (seen full)
 
   -- The state of an identifier with these operations. It is absent where there is no create.
   abbrev pub resolve : List Item → State Hash Document

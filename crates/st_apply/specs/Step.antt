@@ -2,7 +2,8 @@
 -- Compilation"; the rules are this project's own.
 use Rattle.std.specs.Prelude.{List, fold, Option, Some, option_map, unwrap_or, if◌then◌else◌}
 use Rattle.std.specs.Option.{option_map_or}
-use Rattle.st_apply.specs.Seen.{Rules, Change, Beginning, Seen, creates, recovers, deactivates, updates, State, absent, active, deactivated}
+use Rattle.st_apply.specs.Acting.{acts}
+use Rattle.st_apply.specs.Seen.{Rules, Change, Beginning, Seen, creates, recovers, deactivates, updates, State, active, deactivated}
 
 -- the document after the patches of a delta, or as it was where one of them fails
 abbrev pub changed : {Hash Document : Type 0} → Document → Change Hash Document → Document
@@ -21,24 +22,19 @@ module _ {Hash Document : Type 0} (rules : Rules Hash Document) where
   abbrev pub begun : Beginning Hash Document → State Hash Document
   begun beginning = active beginning.recovery (begun_update beginning.change) (begun_document beginning.change)
 
-  -- The state after an operation.
+  -- what an operation leaves that acts: a create and a recover begin anew, a deactivate ends, and an update goes
+  -- on by its delta
+  abbrev pub left_by : State Hash Document → Seen Hash Document → State Hash Document
+  left_by state (creates beginning) = begun beginning
+  left_by state (recovers reveal beginning) = begun beginning
+  left_by state (deactivates reveal) = deactivated
+  left_by (active recovery update document) (updates reveal (Some change)) =
+      active recovery (Some change.update) (changed document change)
+  left_by state other = state
+
+  -- The state after an operation. One that does not act leaves it as it was.
   abbrev pub step : State Hash Document → Seen Hash Document → State Hash Document
-  -- Where no create has acted, a create alone acts.
-  step absent (creates beginning) = begun beginning
-  step absent other = absent
-  -- After it a recover or a deactivate acts whose reveal value meets the recovery commitment,
-  step (active recovery update document) (recovers reveal beginning) =
-      if rules.meets reveal recovery then begun beginning else active recovery update document
-  step (active recovery update document) (deactivates reveal) =
-      if rules.meets reveal recovery then deactivated else active recovery update document
-  -- and an update whose reveal value meets the update commitment, and whose delta counts.
-  step (active recovery (Some commitment) document) (updates reveal (Some change)) =
-      if rules.meets reveal commitment
-      then active recovery (Some change.update) (changed document change)
-      else active recovery (Some commitment) document
-  step (active recovery update document) other = active recovery update document
-  -- After a deactivate nothing acts.
-  step deactivated operation = deactivated
+  step state operation = if acts rules state operation then left_by state operation else state
 
   -- the state after one step for each item, from the first on
   abbrev pub folded_steps : {Item : Type 0} → (Item → Seen Hash Document) → State Hash Document → List Item → State Hash Document

@@ -1,6 +1,6 @@
 -- How long the files of operations are, by the sums of their entries.
 use Rattle.std.proofs.Common.{◌≡◌, ◌≢◌, ◌∙◌, ℕ, ◌+◌, ◌≤◌, ◌&&◌, Bool, true, nat_le, List, [], ◌∷◌, ◌++◌, codes, length, map, Option, Some, None, option_map, refl, ap, sym, arith}
-use Rattle.std.specs.List.{filter_map, list_all, sum_by}
+use Rattle.std.specs.List.{filter_map, list_all}
 use Rattle.std.proofs.Math.Bool.{and-true}
 use Rattle.std.proofs.lemmas.Bool.{ne_eqb}
 use Rattle.std.proofs.lemmas.Bool.Decides.{nat_tests}
@@ -24,15 +24,16 @@ use Rattle.st_ops.specs.RequestText.{delta_there}
 use Rattle.st_params.specs.Limits.{Limits}
 use Rattle.st_batch.specs.BatchFiles.{bytes_there, chunk_text, core_file, core_index, core_proof_file, file_in, filed, files_of, if_any, provisional_file, provisional_index, provisional_proof_file}
 use Rattle.st_batch.specs.FileSizes.{are_sizes_small, chunk_size, core_proof_size, core_size, file_size, in_brackets, member_size, provisional_proof_size, provisional_size, uri_size, where_any, with_core_proof_size, with_delta_size}
-use Rattle.st_batch.specs.Groups.{Grouped, grouped, signed_text_in, with_core_proof, with_delta}
-use Rattle.st_batch.specs.OperationSizes.{create_size, deactivate_proof_size, deactivate_size, delta_size, recover_proof_size, recover_size, sizes_of, update_proof_size, update_size}
+use Rattle.st_batch.specs.Groups.{Grouped, grouped, is_deactivate, is_recover, is_update, signed_text_in, with_core_proof, with_delta}
+use Rattle.st_batch.specs.OperationSizes.{sizes_of}
+use Rattle.st_batch.specs.declared.sizes.Sizes.{Sizes}
 use Rattle.st_batch.specs.Prefix.{are_files_small, is_small, most_bytes}
 use Rattle.st_batch.proofs.AgainHashLemmas.{uri_is_hash}
 use Rattle.st_batch.proofs.ExactSizeLemmas.{IsBare, entries_weight, list_there, object_size, object_there}
 use Rattle.st_batch.proofs.FirstSizeLemmas.{member_weight, weight, weight_there}
 use Rattle.st_batch.proofs.HashSizeLemmas.{hash_size}
 use Rattle.st_batch.proofs.MemberSizeLemmas.{core_kinds, core_members, one_member, proof_kinds, provisional_members}
-use Rattle.st_batch.proofs.OperationSizeLemmas.{IsAnyBy, any_update, any_with_core_proof, any_with_delta, creates_sum, deactivate_proofs_sum, deactivates_sum, deltas_sum, recover_proofs_sum, recovers_sum, update_proofs_sum, updates_sum}
+use Rattle.st_batch.proofs.OperationSizeLemmas.{IsAnyBy, any_kind, any_with_core_proof, any_with_delta, creates_sum, deltas_sum, proofs_sum, targets_sum}
 
 -- ---- parts of files
 
@@ -105,60 +106,63 @@ module _ (operations : List PlainOperation) where
   abbrev groups : Grouped
   groups = grouped operations
 
-  core_long : length (core_file groups) ≡ core_size (sizes_of operations)
+  abbrev sizes : Sizes
+  sizes = sizes_of operations
+
+  core_long : length (core_file groups) ≡ core_size sizes
   unfolding core_file core_index core_proof_file provisional_file grouped core_size escape
   core_long =
       let index = core_index groups in
-      let create = list_of (codes "create") (map create_json index.creates) (sum_by create_size operations) refl (creates_sum operations) in
-      let recover = list_of (codes "recover") (map target_json index.recovers) (sum_by recover_size operations) refl (recovers_sum operations) in
-      let deactivate = list_of (codes "deactivate") (map target_json index.deactivates) (sum_by deactivate_size operations) refl (deactivates_sum operations) in
+      let create = list_of (codes "create") (map create_json index.creates) sizes.creates refl (creates_sum operations) in
+      let recover = list_of (codes "recover") (map target_json index.recovers) sizes.recovers refl (targets_sum is_recover (λ suffix_data delta. refl) operations) in
+      let deactivate = list_of (codes "deactivate") (map target_json index.deactivates) sizes.deactivates refl (targets_sum is_deactivate (λ suffix_data delta. refl) operations) in
       let kinds = core_kinds (some_list (map create_json index.creates)) (some_list (map target_json index.recovers))
       (some_list (map target_json index.deactivates)) in
-      let inside : weight (core_operations index) ≡ member_size (codes "create") (sum_by create_size operations)
-      + member_size (codes "recover") (sum_by recover_size operations) + member_size (codes "deactivate") (sum_by deactivate_size operations) =
+      let inside : weight (core_operations index) ≡ member_size (codes "create") sizes.creates
+      + member_size (codes "recover") sizes.recovers + member_size (codes "deactivate") sizes.deactivates =
       omega (arith, create, recover, deactivate, kinds) in
       let third = object_there (codes "operations") (core_operations index) refl ∙ ap (member_size (codes "operations")) inside in
-      let first = uri_there (with_core_proof groups) (with_core_proof_size (sizes_of operations)) (codes "coreProofFileUri")
+      let first = uri_there (with_core_proof groups) (with_core_proof_size sizes) (codes "coreProofFileUri")
       (core_proof_text groups) (any_with_core_proof operations) refl in
-      let second = uri_there (with_delta groups) (with_delta_size (sizes_of operations)) (codes "provisionalIndexFileUri")
+      let second = uri_there (with_delta groups) (with_delta_size sizes) (codes "provisionalIndexFileUri")
       (canonical (provisional_json (provisional_index groups)))
       (any_with_delta operations) refl in
       let members = core_members (option_map hash_json index.core_proof) (option_map hash_json index.provisional) (some_object (core_operations index)) in
       object_size (index_members index) ∙ ap in_brackets (omega (arith, members, first, second, third))
 
   core_proof_long : length (core_proof_text groups) ≡ in_brackets (member_size (codes "operations")
-      (member_size (codes "recover") (sum_by recover_proof_size operations) + member_size (codes "deactivate") (sum_by deactivate_proof_size operations)))
+      (member_size (codes "recover") sizes.recover_proofs + member_size (codes "deactivate") sizes.deactivate_proofs))
   unfolding grouped escape
   core_proof_long =
       let recovers = map signed_json (filter_map signed_text_in groups.recovers) in
       let deactivates = map signed_json (filter_map signed_text_in groups.deactivates) in
-      let recover = list_of (codes "recover") recovers (sum_by recover_proof_size operations) refl (recover_proofs_sum operations) in
-      let deactivate = list_of (codes "deactivate") deactivates (sum_by deactivate_proof_size operations) refl (deactivate_proofs_sum operations) in
+      let recover = list_of (codes "recover") recovers sizes.recover_proofs refl (proofs_sum is_recover operations) in
+      let deactivate = list_of (codes "deactivate") deactivates sizes.deactivate_proofs refl (proofs_sum is_deactivate operations) in
       let kinds = proof_kinds (some_list recovers) (some_list deactivates) in
       let pairs : List (List ℕ × Option Plain) = (codes "recover", some_list recovers) ∷ (codes "deactivate", some_list deactivates) ∷ [] in
-      let inside : weight (some_listed pairs) ≡ member_size (codes "recover") (sum_by recover_proof_size operations)
-      + member_size (codes "deactivate") (sum_by deactivate_proof_size operations) = omega (arith, recover, deactivate, kinds) in
+      let inside : weight (some_listed pairs) ≡ member_size (codes "recover") sizes.recover_proofs
+      + member_size (codes "deactivate") sizes.deactivate_proofs = omega (arith, recover, deactivate, kinds) in
       proofs_long (some_listed pairs) ∙ ap (λ n. in_brackets (member_size (codes "operations") n)) inside
 
   provisional_proof_long : length (canonical (provisional_proof_json (filter_map signed_text_in groups.updates)))
-      ≡ in_brackets (member_size (codes "operations") (member_size (codes "update") (sum_by update_proof_size operations)))
+      ≡ in_brackets (member_size (codes "operations") (member_size (codes "update") sizes.update_proofs))
   unfolding grouped escape
   provisional_proof_long =
       let updates = map signed_json (filter_map signed_text_in groups.updates) in
-      let update = list_of (codes "update") updates (sum_by update_proof_size operations) refl (update_proofs_sum operations) in
+      let update = list_of (codes "update") updates sizes.update_proofs refl (proofs_sum is_update operations) in
       let pairs : List (List ℕ × Option Plain) = (codes "update", some_list updates) ∷ [] in
-      let inside : weight (some_listed pairs) ≡ member_size (codes "update") (sum_by update_proof_size operations) =
+      let inside : weight (some_listed pairs) ≡ member_size (codes "update") sizes.update_proofs =
       one_member (codes "update") (some_list updates) ∙ update in
       proofs_long (some_listed pairs) ∙ ap (λ n. in_brackets (member_size (codes "operations") n)) inside
 
-  chunk_long : length (chunk_text groups) ≡ in_brackets (member_size (codes "deltas") (sum_by delta_size operations))
+  chunk_long : length (chunk_text groups) ≡ in_brackets (member_size (codes "deltas") sizes.deltas)
   unfolding chunk_text escape
   chunk_long =
       let deltas = filter_map delta_there (with_delta groups) in
       let pairs : List (List ℕ × Option Plain) = (codes "deltas", some_list deltas) ∷ [] in
       object_size (some_listed pairs)
       ∙ ap in_brackets
-      (one_member (codes "deltas") (some_list deltas) ∙ list_of (codes "deltas") deltas (sum_by delta_size operations) refl (deltas_sum operations))
+      (one_member (codes "deltas") (some_list deltas) ∙ list_of (codes "deltas") deltas sizes.deltas refl (deltas_sum operations))
 
   chunk_entry_long : size_of (chunk_entry_json (uri_of (chunk_text groups))) ≡ in_brackets (uri_size (codes "chunkFileUri") 1)
   unfolding escape
@@ -169,20 +173,20 @@ module _ (operations : List PlainOperation) where
       object_size only ∙ ap in_brackets inside
 
   provisional_long : length (canonical (provisional_json (provisional_index groups))) ≡ in_brackets (
-      uri_size (codes "provisionalProofFileUri") (sum_by update_size operations)
+      uri_size (codes "provisionalProofFileUri") sizes.updates
       + member_size (codes "chunks") (in_brackets (uri_size (codes "chunkFileUri") 1) + 1)
-      + member_size (codes "operations") (member_size (codes "update") (sum_by update_size operations)))
+      + member_size (codes "operations") (member_size (codes "update") sizes.updates))
   unfolding provisional_index provisional_proof_file grouped escape
   provisional_long =
       let index = provisional_index groups in
       let updates = map target_json index.updates in
       let chunks = chunk_entry_json index.chunk ∷ [] in
-      let update = list_of (codes "update") updates (sum_by update_size operations) refl (updates_sum operations) in
+      let update = list_of (codes "update") updates sizes.updates refl (targets_sum is_update (λ suffix_data delta. refl) operations) in
       let inside = one_member (codes "update") (some_list updates) ∙ update in
       let third = object_there (codes "operations") (provisional_operations index) refl ∙ ap (member_size (codes "operations")) inside in
       let second = list_of (codes "chunks") chunks (in_brackets (uri_size (codes "chunkFileUri") 1) + 1) refl (omega (arith, chunk_entry_long)) in
-      let first = uri_there groups.updates (sum_by update_size operations) (codes "provisionalProofFileUri")
-      (canonical (provisional_proof_json (filter_map signed_text_in groups.updates))) (any_update operations) refl in
+      let first = uri_there groups.updates sizes.updates (codes "provisionalProofFileUri")
+      (canonical (provisional_proof_json (filter_map signed_text_in groups.updates))) (any_kind is_update operations) refl in
       let members = provisional_members (option_map hash_json index.proof) (some_list chunks) (some_object (provisional_operations index)) in
       let pairs : List (List ℕ × Option Plain) =
       (codes "provisionalProofFileUri", option_map hash_json index.proof) ∷ (codes "chunks", some_list chunks)
@@ -190,28 +194,28 @@ module _ (operations : List PlainOperation) where
       object_size (some_listed pairs) ∙ ap in_brackets (omega (arith, members, first, second, third))
 
   -- how long the file of a role is, 0 where it is not there
-  pub file_long : (role : Role) → bytes_there (file_in role groups) ≡ file_size role (sizes_of operations)
+  pub file_long : (role : Role) → bytes_there (file_in role groups) ≡ file_size role sizes
   unfolding core_proof_file provisional_file provisional_proof_file core_proof_size provisional_size provisional_proof_size chunk_size grouped
   file_long Core = core_long
   file_long CoreProof =
-      there_long (with_core_proof groups) (with_core_proof_size (sizes_of operations)) _ (core_proof_text groups)
+      there_long (with_core_proof groups) (with_core_proof_size sizes) _ (core_proof_text groups)
       (any_with_core_proof operations) core_proof_long
   file_long Provisional =
-      there_long (with_delta groups) (with_delta_size (sizes_of operations)) _ (canonical (provisional_json (provisional_index groups)))
+      there_long (with_delta groups) (with_delta_size sizes) _ (canonical (provisional_json (provisional_index groups)))
       (any_with_delta operations) provisional_long
   file_long ProvisionalProof =
-      there_long groups.updates (sum_by update_size operations) _ (canonical (provisional_proof_json (filter_map signed_text_in groups.updates)))
-      (any_update operations) provisional_proof_long
+      there_long groups.updates sizes.updates _ (canonical (provisional_proof_json (filter_map signed_text_in groups.updates)))
+      (any_kind is_update operations) provisional_proof_long
   file_long Chunk =
-      there_long (with_delta groups) (with_delta_size (sizes_of operations)) _ (chunk_text groups) (any_with_delta operations) chunk_long
+      there_long (with_delta groups) (with_delta_size sizes) _ (chunk_text groups) (any_with_delta operations) chunk_long
 
   -- whether it is small
   file_test : (limits : Limits) (role : Role)
-      → list_all (is_small limits) (filed role (file_in role groups)) ≡ nat_le (file_size role (sizes_of operations)) (most_bytes limits role)
+      → list_all (is_small limits) (filed role (file_in role groups)) ≡ nat_le (file_size role sizes) (most_bytes limits role)
   file_test limits role = filed_test limits role (file_in role groups) ∙ ap (λ n. nat_le n (most_bytes limits role)) (file_long role)
 
   -- no file of the operations is longer than it may be, if and only if the sums of their entries are so small
-  pub files_small : (limits : Limits) → are_files_small limits operations ≡ are_sizes_small limits (sizes_of operations)
+  pub files_small : (limits : Limits) → are_files_small limits operations ≡ are_sizes_small limits sizes
   unfolding are_files_small files_of
   files_small limits =
       five_tests (is_small limits) (filed Core (file_in Core groups)) (filed CoreProof (file_in CoreProof groups))

@@ -28,7 +28,7 @@ use Rattle.st_batch.specs.BatchFiles.{anchor_text, chunk_text, core_file, core_i
 use Rattle.st_batch.specs.Groups.{Grouped, is_create, is_recover, listed, signed_text_in, suffix_data_in, target_in, with_core_proof, with_delta}
 use Rattle.st_batch.proofs.AgainHashLemmas.{uri_again}
 use Rattle.st_batch.proofs.AnchorTextLemmas.{anchor_known}
-use Rattle.st_batch.proofs.GivenOperationsLemmas.{IsOfKind, as_many, create_data, create_delta, creates_back, deactivates_back, opened, recover_delta, recover_target, recovers_back, updates_back}
+use Rattle.st_batch.proofs.GivenOperationsLemmas.{IsOfKind, as_many, create_data, creates_back, deactivates_back, delta_kept, opened, recovers_back, target_there, updates_back}
 use Rattle.st_batch.proofs.KnownBatchLemmas.{AreReadyGroups, FilesAreThere, IsThere, chunk_is, core_is, core_proof_is, core_proofs, looked_named, part_of, provisional_is, provisional_proof_is, there_for}
 
 -- ---- recovers and deactivates, by the core proof file
@@ -223,15 +223,15 @@ module _ (limits : Limits) (count : ℕ) (groups : Grouped) (are : AreReadyGroup
     unfolding core_index
     creates_pass =
         let data_long = as_many suffix_data_in (IsOfKind limits is_create) (create_data limits) groups.creates are.creates in
-        let long = as_many delta_there (IsOfKind limits is_create) (create_delta limits) groups.creates are.creates in
+        let long = as_many delta_there (IsOfKind limits is_create) (delta_kept limits is_create (λ target proof. refl)) groups.creates are.creates in
         ap (drop (length (filter_map suffix_data_in groups.creates))) deltas_are
         ∙ drop_at create_deltas (recover_deltas ++ update_deltas) (length (filter_map suffix_data_in groups.creates)) (long ∙ sym data_long)
 
     recovers_pass : drop (length (core_index groups).recovers) (drop (length (core_index groups).creates) (deltas_below branch.provisional)) ≡ update_deltas
     unfolding core_index
     recovers_pass =
-        let target_long = as_many target_in (IsOfKind limits is_recover) (recover_target limits) groups.recovers are.recovers in
-        let long = as_many delta_there (IsOfKind limits is_recover) (recover_delta limits) groups.recovers are.recovers in
+        let target_long = as_many target_in (IsOfKind limits is_recover) (target_there limits is_recover (λ suffix_data delta. refl)) groups.recovers are.recovers in
+        let long = as_many delta_there (IsOfKind limits is_recover) (delta_kept limits is_recover (λ target proof. refl)) groups.recovers are.recovers in
         ap (drop (length (filter_map target_in groups.recovers))) creates_pass
         ∙ drop_at recover_deltas update_deltas (length (filter_map target_in groups.recovers)) (long ∙ sym target_long)
 

@@ -3,6 +3,7 @@
 use Rattle.std.proofs.Common.{◌≡◌, ◌∙◌, ℕ, ◌+◌, ◌≤◌, Bool, true, false, cond, List, [], ◌∷◌, ◌++◌, refl, ap, arith}
 use Rattle.std.specs.Prelude.{◌||◌}
 use Rattle.std.specs.List.{list_any}
+use Rattle.std.proofs.lemmas.Bool.{or_parts}
 use Rattle.st_base.specs.Twice.{has_twice, shares_one}
 use Rattle.st_hash.specs.Hash.{HashValue, same_hash}
 use Rattle.st_hash.proofs.SameHash.{same_hash-is, same_hash-itself}
@@ -45,15 +46,11 @@ not_any : (hash : HashValue) (hashes : List HashValue) (any : Bool) → list_any
 not_any hash hashes true is none = absurd (omega (arith, none, some_there hash hashes is))
 not_any hash hashes false is none = refl
 
-pub neither : (first second : Bool) → (first || second) ≡ false → (first ≡ false) × (second ≡ false)
-neither true second e = absurd cc
-neither false second e = (refl, e)
-
 -- where none stands twice, each stands once at most
 pub once : (hashes : List HashValue) → has_twice same_hash hashes ≡ false → AreOnce hashes
 once [] different hash = omega arith
 once (one ∷ more) different hash =
-    let parts = neither (list_any (same_hash one) more) (has_twice same_hash more) different in
+    let parts = or_parts (list_any (same_hash one) more) (has_twice same_hash more) different in
     elim (same_hash hash one) as (λ same. same_hash hash one ≡ same → cond same 1 0 + times hash more ≤ 1) [
       | true ↦ λ is.
           let here : times hash more ≡ 0 = ap (λ h. times h more) (same_hash-is hash one is) ∙ none_there one more parts.0 in

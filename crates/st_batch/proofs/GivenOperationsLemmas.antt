@@ -1,5 +1,5 @@
 -- Operations that were put into lists by kind, each part in its own, are given again by these lists.
-use Rattle.std.proofs.Common.{◌≡◌, ℕ, suc, ◌++◌, Bool, true, List, [], ◌∷◌, length, map, Option, Some, None, refl, ap}
+use Rattle.std.proofs.Common.{◌≡◌, ℕ, suc, ◌++◌, Bool, true, false, List, [], ◌∷◌, length, map, Option, Some, None, refl, ap}
 use Rattle.std.specs.Prelude.{is_some, IfSome}
 use Rattle.std.specs.List.{AllByRecursion, cons_option, filter_map}
 use Rattle.st_anchor.specs.Gives.{creates_given, deactivating_only, signed_given}
@@ -7,6 +7,8 @@ use Rattle.st_anchor.specs.SignedTexts.{proof_of}
 use Rattle.st_canon.specs.Plain.{Plain}
 use Rattle.st_indexfiles.specs.SuffixData.{create_json, create_of, suffix_of as suffix_of_data}
 use Rattle.st_indexfiles.specs.Target.{target_json, target_of}
+use Rattle.st_indexfiles.specs.declared.suffix_data.SuffixData.{SuffixData}
+use Rattle.st_indexfiles.specs.declared.target.Target.{Target}
 use Rattle.st_ops.specs.Operation.{PlainOperation, Proof, creating, updating, recovering, deactivating, suffix_of}
 use Rattle.st_ops.specs.RequestText.{delta_there}
 use Rattle.st_params.specs.Limits.{Limits}
@@ -21,6 +23,14 @@ IsOfKind limits is_kind operation = IsReady limits operation × (is_kind operati
 -- each of the operations is one
 abbrev pub AreOfKind : Limits → (PlainOperation → Bool) → List PlainOperation → Type 0
 AreOfKind limits is_kind operations = AllByRecursion (IsOfKind limits is_kind) operations
+
+-- no create is of the kind
+abbrev pub IsSigned : (PlainOperation → Bool) → Type 0
+IsSigned is_kind = (suffix_data : SuffixData) (delta : Option Plain) → is_kind (creating suffix_data delta) ≡ false
+
+-- no deactivate is of the kind
+abbrev pub HasDelta : (PlainOperation → Bool) → Type 0
+HasDelta is_kind = (target : Target) (proof : Option Proof) → is_kind (deactivating target proof) ≡ false
 
 -- ---- parts that are taken out
 
@@ -54,65 +64,31 @@ module _ (limits : Limits) where
   create_data (recovering target proof delta) right = absurd (let no = right.1 in cc)
   create_data (deactivating target proof) right = absurd (let no = right.1 in cc)
 
-  pub create_delta : (operation : PlainOperation) → IsOfKind limits is_create operation → is_some (delta_there operation) ≡ true
-  create_delta (creating suffix_data None) right = absurd (let no = right.0.accepted.2 in cc)
-  create_delta (creating suffix_data (Some delta)) right = refl
-  create_delta (updating target proof delta) right = absurd (let no = right.1 in cc)
-  create_delta (recovering target proof delta) right = absurd (let no = right.1 in cc)
-  create_delta (deactivating target proof) right = absurd (let no = right.1 in cc)
+  module _ (is_kind : PlainOperation → Bool) (signed : IsSigned is_kind) where
+    pub target_there : (operation : PlainOperation) → IsOfKind limits is_kind operation → is_some (target_in operation) ≡ true
+    target_there (creating suffix_data delta) right = absurd (let no = signed suffix_data delta in let is = right.1 in cc)
+    target_there (updating target proof delta) right = refl
+    target_there (recovering target proof delta) right = refl
+    target_there (deactivating target proof) right = refl
 
-  pub recover_target : (operation : PlainOperation) → IsOfKind limits is_recover operation → is_some (target_in operation) ≡ true
-  recover_target (recovering target proof delta) right = refl
-  recover_target (creating suffix_data delta) right = absurd (let no = right.1 in cc)
-  recover_target (updating target proof delta) right = absurd (let no = right.1 in cc)
-  recover_target (deactivating target proof) right = absurd (let no = right.1 in cc)
+    pub text_there : (operation : PlainOperation) → IsOfKind limits is_kind operation → is_some (signed_text_in operation) ≡ true
+    text_there (creating suffix_data delta) right = absurd (let no = signed suffix_data delta in let is = right.1 in cc)
+    text_there (updating target None delta) right = absurd right.0.accepted.0.opens
+    text_there (updating target (Some proof) delta) right = refl
+    text_there (recovering target None delta) right = absurd right.0.accepted.0.opens
+    text_there (recovering target (Some proof) delta) right = refl
+    text_there (deactivating target None) right = absurd right.0.accepted.opens
+    text_there (deactivating target (Some proof)) right = refl
 
-  pub recover_text : (operation : PlainOperation) → IsOfKind limits is_recover operation → is_some (signed_text_in operation) ≡ true
-  recover_text (recovering target None delta) right = absurd right.0.accepted.0.opens
-  recover_text (recovering target (Some proof) delta) right = refl
-  recover_text (creating suffix_data delta) right = absurd (let no = right.1 in cc)
-  recover_text (updating target proof delta) right = absurd (let no = right.1 in cc)
-  recover_text (deactivating target proof) right = absurd (let no = right.1 in cc)
-
-  pub recover_delta : (operation : PlainOperation) → IsOfKind limits is_recover operation → is_some (delta_there operation) ≡ true
-  recover_delta (recovering target proof None) right = absurd (let no = right.0.accepted.1 in cc)
-  recover_delta (recovering target proof (Some delta)) right = refl
-  recover_delta (creating suffix_data delta) right = absurd (let no = right.1 in cc)
-  recover_delta (updating target proof delta) right = absurd (let no = right.1 in cc)
-  recover_delta (deactivating target proof) right = absurd (let no = right.1 in cc)
-
-  pub deactivate_target : (operation : PlainOperation) → IsOfKind limits is_deactivate operation → is_some (target_in operation) ≡ true
-  deactivate_target (deactivating target proof) right = refl
-  deactivate_target (creating suffix_data delta) right = absurd (let no = right.1 in cc)
-  deactivate_target (updating target proof delta) right = absurd (let no = right.1 in cc)
-  deactivate_target (recovering target proof delta) right = absurd (let no = right.1 in cc)
-
-  pub deactivate_text : (operation : PlainOperation) → IsOfKind limits is_deactivate operation → is_some (signed_text_in operation) ≡ true
-  deactivate_text (deactivating target None) right = absurd right.0.accepted.opens
-  deactivate_text (deactivating target (Some proof)) right = refl
-  deactivate_text (creating suffix_data delta) right = absurd (let no = right.1 in cc)
-  deactivate_text (updating target proof delta) right = absurd (let no = right.1 in cc)
-  deactivate_text (recovering target proof delta) right = absurd (let no = right.1 in cc)
-
-  pub update_target : (operation : PlainOperation) → IsOfKind limits is_update operation → is_some (target_in operation) ≡ true
-  update_target (updating target proof delta) right = refl
-  update_target (creating suffix_data delta) right = absurd (let no = right.1 in cc)
-  update_target (recovering target proof delta) right = absurd (let no = right.1 in cc)
-  update_target (deactivating target proof) right = absurd (let no = right.1 in cc)
-
-  pub update_text : (operation : PlainOperation) → IsOfKind limits is_update operation → is_some (signed_text_in operation) ≡ true
-  update_text (updating target None delta) right = absurd right.0.accepted.0.opens
-  update_text (updating target (Some proof) delta) right = refl
-  update_text (creating suffix_data delta) right = absurd (let no = right.1 in cc)
-  update_text (recovering target proof delta) right = absurd (let no = right.1 in cc)
-  update_text (deactivating target proof) right = absurd (let no = right.1 in cc)
-
-  pub update_delta : (operation : PlainOperation) → IsOfKind limits is_update operation → is_some (delta_there operation) ≡ true
-  update_delta (updating target proof None) right = absurd (let no = right.0.accepted.1 in cc)
-  update_delta (updating target proof (Some delta)) right = refl
-  update_delta (creating suffix_data delta) right = absurd (let no = right.1 in cc)
-  update_delta (recovering target proof delta) right = absurd (let no = right.1 in cc)
-  update_delta (deactivating target proof) right = absurd (let no = right.1 in cc)
+  pub delta_kept : (is_kind : PlainOperation → Bool) → HasDelta is_kind → (operation : PlainOperation) → IsOfKind limits is_kind operation
+      → is_some (delta_there operation) ≡ true
+  delta_kept is_kind has (creating suffix_data None) right = absurd (let no = right.0.accepted.2 in cc)
+  delta_kept is_kind has (creating suffix_data (Some delta)) right = refl
+  delta_kept is_kind has (updating target proof None) right = absurd (let no = right.0.accepted.1 in cc)
+  delta_kept is_kind has (updating target proof (Some delta)) right = refl
+  delta_kept is_kind has (recovering target proof None) right = absurd (let no = right.0.accepted.1 in cc)
+  delta_kept is_kind has (recovering target proof (Some delta)) right = refl
+  delta_kept is_kind has (deactivating target proof) right = absurd (let no = has target proof in let is = right.1 in cc)
 
   -- ---- what each part is
 
@@ -137,6 +113,14 @@ module _ (limits : Limits) where
   create_suffixes (updating target proof delta ∷ more) all = absurd (let no = all.0.1 in cc)
   create_suffixes (recovering target proof delta ∷ more) all = absurd (let no = all.0.1 in cc)
   create_suffixes (deactivating target proof ∷ more) all = absurd (let no = all.0.1 in cc)
+
+  pub target_suffixes : (is_kind : PlainOperation → Bool) → IsSigned is_kind → (operations : List PlainOperation) → AreOfKind limits is_kind operations
+      → map (λ target. target.suffix) (filter_map target_in operations) ≡ map suffix_of operations
+  target_suffixes is_kind signed [] all = refl
+  target_suffixes is_kind signed (creating suffix_data delta ∷ more) all = absurd (let no = signed suffix_data delta in let is = all.0.1 in cc)
+  target_suffixes is_kind signed (updating target proof delta ∷ more) all = ap (λ others. target.suffix ∷ others) (target_suffixes is_kind signed more all.1)
+  target_suffixes is_kind signed (recovering target proof delta ∷ more) all = ap (λ others. target.suffix ∷ others) (target_suffixes is_kind signed more all.1)
+  target_suffixes is_kind signed (deactivating target proof ∷ more) all = ap (λ others. target.suffix ∷ others) (target_suffixes is_kind signed more all.1)
 
   -- ---- given again
 
@@ -184,12 +168,3 @@ module _ (limits : Limits) where
   deactivates_back (creating suffix_data delta ∷ more) all = absurd (let no = all.0.1 in cc)
   deactivates_back (updating target proof delta ∷ more) all = absurd (let no = all.0.1 in cc)
   deactivates_back (recovering target proof delta ∷ more) all = absurd (let no = all.0.1 in cc)
-
--- the suffixes of targets
-pub target_suffixes : (operations : List PlainOperation) → AllByRecursion (λ operation. is_some (target_in operation) ≡ true) operations
-    → map (λ target. target.suffix) (filter_map target_in operations) ≡ map suffix_of operations
-target_suffixes [] all = refl
-target_suffixes (creating suffix_data delta ∷ more) all = absurd (let no = all.0 in cc)
-target_suffixes (updating target proof delta ∷ more) all = ap (λ others. target.suffix ∷ others) (target_suffixes more all.1)
-target_suffixes (recovering target proof delta ∷ more) all = ap (λ others. target.suffix ∷ others) (target_suffixes more all.1)
-target_suffixes (deactivating target proof ∷ more) all = ap (λ others. target.suffix ∷ others) (target_suffixes more all.1)

@@ -1,9 +1,9 @@
 -- The batch of a queue: its files stand under their own URIs, each role once; it takes the longest prefix
 -- that goes into one batch; and that prefix is such that its batch is read back.
-use Rattle.std.proofs.Common.{◌≡◌, ◌∙◌, ℕ, zero, suc, ◌<◌, ◌≤◌, ◌^◌, ◌++◌, Bool, true, false, if◌then◌else◌, List, [], ◌∷◌, length, map, take, Option, Some, None, refl, ap, ◌==◌, ◌⊎◌, inl, inr, arith}
+use Rattle.std.proofs.Common.{◌≡◌, ◌∙◌, ℕ, zero, suc, ◌<◌, ◌≤◌, ◌^◌, ◌++◌, Bool, true, false, if◌then◌else◌, List, [], ◌∷◌, length, take, Option, Some, None, refl, sym, ap, ◌==◌, ◌⊎◌, inl, inr, arith}
 use Rattle.std.specs.List.{AllByRecursion, list_any}
-use Rattle.std.proofs.lemmas.Bool.{eqb-false, eqb-true}
-use Rattle.std.proofs.lemmas.List.{length-take-le}
+use Rattle.std.proofs.lemmas.Bool.{eqb-false, eqb-true, or_parts}
+use Rattle.std.proofs.lemmas.List.{length-take-le, take-map}
 use Rattle.st_base.specs.Twice.{has_twice}
 use Rattle.st_base.proofs.Quantifiers.{each-append, each-take}
 use Rattle.st_datafiles.specs.declared.role.Role.{Role}
@@ -18,7 +18,6 @@ use Rattle.st_batch.specs.Kept.{AreDifferent, IsFormed, suffixes_of}
 use Rattle.st_batch.specs.Prefix.{IsLongest, batch_count, batched, greatest, is_batch}
 use Rattle.st_batch.specs.ReadBack.{AreNamed, AscendFrom}
 use Rattle.st_batch.specs.declared.batch.BatchFile.{BatchFile}
-use Rattle.st_batch.proofs.GivenDifferentLemmas.{neither}
 
 -- ---- files
 
@@ -126,20 +125,15 @@ any_take : {Item : Type 0} (test : Item → Bool) (n : ℕ) (items : List Item) 
 any_take test zero items none = refl
 any_take test (suc n) [] none = refl
 any_take test (suc n) (item ∷ items) none =
-    let parts = neither (test item) (list_any test items) none in
+    let parts = or_parts (test item) (list_any test items) none in
     rw parts.0 (any_take test n items parts.1)
 
 twice_take : {Item : Type 0} (same : Item → Item → Bool) (n : ℕ) (items : List Item) → has_twice same items ≡ false → has_twice same (take n items) ≡ false
 twice_take same zero items none = refl
 twice_take same (suc n) [] none = refl
 twice_take same (suc n) (item ∷ items) none =
-    let parts = neither (list_any (same item) items) (has_twice same items) none in
+    let parts = or_parts (list_any (same item) items) (has_twice same items) none in
     rw (any_take (same item) n items parts.0) (twice_take same n items parts.1)
-
-map_take : {Item Other : Type 0} (f : Item → Other) (n : ℕ) (items : List Item) → map f (take n items) ≡ take n (map f items)
-map_take f zero items = refl
-map_take f (suc n) [] = refl
-map_take f (suc n) (item ∷ items) = ap (λ others. f item ∷ others) (map_take f n items)
 
 -- what a batch takes of a queue is read back
 pub prefix_batched : (limits : Limits) (queue : List PlainOperation) → AreDifferent queue → AllByRecursion IsFormed queue → length queue < 2 ^ 64
@@ -151,6 +145,6 @@ prefix_batched limits queue different formed few =
     record {
       goes = λ some. longest.goes (omega (arith, some, long));
       few = omega (arith, long, longest.within);
-      different = ap (has_twice same_hash) (map_take suffix_of count queue) ∙ twice_take same_hash count (suffixes_of queue) different;
+      different = ap (has_twice same_hash) (sym (take-map suffix_of count queue)) ∙ twice_take same_hash count (suffixes_of queue) different;
       formed = each-take IsFormed count queue formed;
     }

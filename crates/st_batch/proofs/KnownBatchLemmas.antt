@@ -1,6 +1,6 @@
 -- The files of ready operations by kind: what is known of an entry that names them, over every content
 -- that has them.
-use Rattle.std.proofs.Common.{◌≡◌, ◌∙◌, ℕ, suc, ◌+◌, ◌≤◌, ◌++◌, Bool, true, false, nat_le, nat_lt, List, [], ◌∷◌, length, map, Option, Some, None, option_map, ◌⊎◌, inl, inr, refl, ap, arith}
+use Rattle.std.proofs.Common.{◌≡◌, ◌∙◌, ℕ, suc, ◌+◌, ◌≤◌, ◌++◌, Bool, true, false, nat_lt, List, [], ◌∷◌, length, map, Option, Some, None, option_map, ◌⊎◌, inl, inr, refl, ap, arith}
 use Rattle.std.specs.Prelude.{◌||◌, is_some, IfSome}
 use Rattle.std.specs.List.{AllByRecursion, filter_map, list_all}
 use Rattle.std.specs.Str.{IsUtf8}
@@ -40,11 +40,11 @@ use Rattle.st_batch.proofs.AgainEntryLemmas.{IsAgain}
 use Rattle.st_batch.proofs.AgainHashLemmas.{uri_again}
 use Rattle.st_batch.proofs.AgainObjectLemmas.{IsReadable}
 use Rattle.st_batch.proofs.GivenDifferentLemmas.{apart, different, named_in_groups, times, times-append}
-use Rattle.st_batch.proofs.GivenOperationsLemmas.{AreOfKind, IsOfKind, as_many, create_data, create_delta, create_suffixes, data_again, deactivate_target, deactivate_text, each_taken, named_again, recover_delta, recover_target, recover_text, target_suffixes, update_delta, update_target, update_text}
+use Rattle.st_batch.proofs.GivenOperationsLemmas.{AreOfKind, HasDelta, IsOfKind, as_many, create_data, create_suffixes, data_again, delta_kept, each_taken, named_again, target_suffixes, target_there, text_there}
 use Rattle.st_batch.proofs.KnownCoreLemmas.{IsCoreSound, core_known}
 use Rattle.st_batch.proofs.KnownDataLemmas.{chunk_known, core_proof_known, provisional_proof_known}
 use Rattle.st_batch.proofs.KnownProvisionalLemmas.{IsProvisionalSound, provisional_known}
-use Rattle.st_batch.proofs.KnownRuleLemmas.{IsUriAgain}
+use Rattle.st_batch.proofs.KnownRuleLemmas.{IsUriAgain, below}
 use Rattle.st_batch.proofs.ReadBackFitLemmas.{IsReady}
 
 -- ready operations by kind, so many, each suffix once
@@ -105,12 +105,9 @@ module _ (limits : Limits) (content : Files) where
   abbrev Stands : BatchFile → Type 0
   Stands file = (file_at file.uri content ≡ Some file.bytes) × (is_small limits file ≡ true)
 
-  within : (n most : ℕ) → nat_le n most ≡ true → n ≤ most
-  within n most e = grind (arith, nat_tests)
-
   filed_there : (role : Role) (file : Option (List ℕ)) → AllByRecursion Stands (filed role file) → IfSome file (IsThere content (most_bytes limits role))
   filed_there role None all = tt
-  filed_there role (Some bytes) all = (all.0.0, within (length bytes) (most_bytes limits role) all.0.1)
+  filed_there role (Some bytes) all = (all.0.0, below (length bytes) (most_bytes limits role) all.0.1)
 
   pub files_there : (groups : Grouped) → HasFiles content (files_of groups) → list_all (is_small limits) (files_of groups) ≡ true
       → FilesAreThere limits content groups
@@ -168,13 +165,13 @@ module _ (limits : Limits) (count : ℕ) (groups : Grouped) (are : AreReadyGroup
   creates_long = as_many suffix_data_in (IsOfKind limits is_create) (create_data limits) groups.creates are.creates
 
   recovers_long : length (filter_map target_in groups.recovers) ≡ length groups.recovers
-  recovers_long = as_many target_in (IsOfKind limits is_recover) (recover_target limits) groups.recovers are.recovers
+  recovers_long = as_many target_in (IsOfKind limits is_recover) (target_there limits is_recover (λ suffix_data delta. refl)) groups.recovers are.recovers
 
   deactivates_long : length (filter_map target_in groups.deactivates) ≡ length groups.deactivates
-  deactivates_long = as_many target_in (IsOfKind limits is_deactivate) (deactivate_target limits) groups.deactivates are.deactivates
+  deactivates_long = as_many target_in (IsOfKind limits is_deactivate) (target_there limits is_deactivate (λ suffix_data delta. refl)) groups.deactivates are.deactivates
 
   updates_long : length (filter_map target_in groups.updates) ≡ length groups.updates
-  updates_long = as_many target_in (IsOfKind limits is_update) (update_target limits) groups.updates are.updates
+  updates_long = as_many target_in (IsOfKind limits is_update) (target_there limits is_update (λ suffix_data delta. refl)) groups.updates are.updates
 
   targets_again : (is_kind : PlainOperation → Bool) (operations : List PlainOperation) → AreOfKind limits is_kind operations
       → AllByRecursion (IsAgain (target_of limits.version) target_json) (filter_map target_in operations)
@@ -187,11 +184,8 @@ module _ (limits : Limits) (count : ℕ) (groups : Grouped) (are : AreReadyGroup
   unfolding core_index
   core_suffixes =
       let creates = create_suffixes limits groups.creates are.creates in
-      let recovers = target_suffixes groups.recovers
-      (each-weaker (IsOfKind limits is_recover) (λ operation. is_some (target_in operation) ≡ true) (recover_target limits) groups.recovers are.recovers) in
-      let deactivates = target_suffixes groups.deactivates
-      (each-weaker (IsOfKind limits is_deactivate) (λ operation. is_some (target_in operation) ≡ true)
-      (deactivate_target limits) groups.deactivates are.deactivates) in
+      let recovers = target_suffixes limits is_recover (λ suffix_data delta. refl) groups.recovers are.recovers in
+      let deactivates = target_suffixes limits is_deactivate (λ suffix_data delta. refl) groups.deactivates are.deactivates in
       λ i. creates i ++ recovers i ++ deactivates i
 
   core_times : (hash : HashValue) → times hash (suffixes_of_index (core_index groups))
@@ -205,9 +199,7 @@ module _ (limits : Limits) (count : ℕ) (groups : Grouped) (are : AreReadyGroup
   core_different = different (suffixes_of_index (core_index groups)) (λ hash. omega (arith, are.once hash, core_times hash))
 
   update_suffixes : suffixes_in (filter_map target_in groups.updates) ≡ suffixes_of groups.updates
-  update_suffixes =
-      target_suffixes groups.updates
-      (each-weaker (IsOfKind limits is_update) (λ operation. is_some (target_in operation) ≡ true) (update_target limits) groups.updates are.updates)
+  update_suffixes = target_suffixes limits is_update (λ suffix_data delta. refl) groups.updates are.updates
 
   updates_different : repeats_suffix (suffixes_in (filter_map target_in groups.updates)) (core_index groups) ≡ false
   updates_different =
@@ -266,29 +258,29 @@ module _ (limits : Limits) (count : ℕ) (groups : Grouped) (are : AreReadyGroup
       each_taken delta_there (IsReady limits) (IsReadable 64) (λ operation right. right.delta) (with_delta groups)
       (each-append (IsReady limits) (groups.creates ++ groups.recovers) groups.updates before (deltas_readable is_update groups.updates are.updates))
 
-  has_delta : (is_kind : PlainOperation → Bool) → ((operation : PlainOperation) → IsOfKind limits is_kind operation → is_some (delta_there operation) ≡ true)
-      → (operations : List PlainOperation) → AreOfKind limits is_kind operations
+  have_deltas : (is_kind : PlainOperation → Bool) → HasDelta is_kind → (operations : List PlainOperation) → AreOfKind limits is_kind operations
       → AllByRecursion (λ operation. is_some (delta_there operation) ≡ true) operations
-  has_delta is_kind has operations all = each-weaker (IsOfKind limits is_kind) (λ operation. is_some (delta_there operation) ≡ true) has operations all
+  have_deltas is_kind has =
+      each-weaker (IsOfKind limits is_kind) (λ operation. is_some (delta_there operation) ≡ true) (delta_kept limits is_kind has)
 
   deltas_long : length (filter_map delta_there (with_delta groups)) ≡ length groups.creates + length groups.recovers + length groups.updates
   deltas_long =
       let Has : PlainOperation → Type 0 = λ operation. is_some (delta_there operation) ≡ true in
-      let before = each-append Has groups.creates groups.recovers (has_delta is_create (create_delta limits) groups.creates are.creates)
-      (has_delta is_recover (recover_delta limits) groups.recovers are.recovers) in
+      let before = each-append Has groups.creates groups.recovers (have_deltas is_create (λ target proof. refl) groups.creates are.creates)
+      (have_deltas is_recover (λ target proof. refl) groups.recovers are.recovers) in
       let all = each-append Has (groups.creates ++ groups.recovers) groups.updates before
-      (has_delta is_update (update_delta limits) groups.updates are.updates) in
+      (have_deltas is_update (λ target proof. refl) groups.updates are.updates) in
       let long = as_many delta_there Has (λ operation has. has) (with_delta groups) all in
       omega (arith, long, length-append (groups.creates ++ groups.recovers) groups.updates, length-append groups.creates groups.recovers)
 
   recover_texts_long : length (filter_map signed_text_in groups.recovers) ≡ length groups.recovers
-  recover_texts_long = as_many signed_text_in (IsOfKind limits is_recover) (recover_text limits) groups.recovers are.recovers
+  recover_texts_long = as_many signed_text_in (IsOfKind limits is_recover) (text_there limits is_recover (λ suffix_data delta. refl)) groups.recovers are.recovers
 
   deactivate_texts_long : length (filter_map signed_text_in groups.deactivates) ≡ length groups.deactivates
-  deactivate_texts_long = as_many signed_text_in (IsOfKind limits is_deactivate) (deactivate_text limits) groups.deactivates are.deactivates
+  deactivate_texts_long = as_many signed_text_in (IsOfKind limits is_deactivate) (text_there limits is_deactivate (λ suffix_data delta. refl)) groups.deactivates are.deactivates
 
   update_texts_long : length (filter_map signed_text_in groups.updates) ≡ length groups.updates
-  update_texts_long = as_many signed_text_in (IsOfKind limits is_update) (update_text limits) groups.updates are.updates
+  update_texts_long = as_many signed_text_in (IsOfKind limits is_update) (text_there limits is_update (λ suffix_data delta. refl)) groups.updates are.updates
 
   -- ---- what is known of each file
 

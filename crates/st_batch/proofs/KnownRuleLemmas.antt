@@ -1,5 +1,5 @@
 -- Files that fail no rule: what the tests of several tables have in common.
-use Rattle.std.proofs.Common.{◌≡◌, ℕ, ◌≤◌, Bool, true, false, not, nat_lt, List, [], ◌∷◌, Option, Some, None, refl, arith}
+use Rattle.std.proofs.Common.{◌≡◌, ℕ, ◌≤◌, Bool, true, false, not, nat_le, nat_lt, List, [], ◌∷◌, Option, Some, None, refl, arith}
 use Rattle.std.specs.Prelude.{◌&&◌, is_some, option_map, IfSome}
 use Rattle.std.specs.List.{AllByRecursion, list_all}
 use Rattle.std.proofs.lemmas.Bool.Decides.{nat_tests}
@@ -26,6 +26,10 @@ not_failing test e = rw e refl
 -- no more than there may be
 pub not_above : (most n : ℕ) → n ≤ most → nat_lt most n ≡ false
 not_above most n within = grind (arith, nat_tests)
+
+-- what passes the test of a bound is within it
+pub below : (n most : ℕ) → nat_le n most ≡ true → n ≤ most
+below n most passes = grind (arith, nat_tests)
 
 -- what was written of the same
 pub mapped_some : {Item Other : Type 0} (f : Item → Other) (there : Option Item) → is_some (option_map f there) ≡ is_some there

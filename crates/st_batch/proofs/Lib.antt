@@ -33,7 +33,6 @@ mod EntrySizeLemmas
 mod OperationSizeLemmas
 mod FileSizeLemmas
 mod MoreSizeLemmas
-mod SaturatedSizeLemmas
 mod PrefixSizeLemmas
 mod CountingLemmas
 -- Up to 1,000 operations always go into one batch of version 1.

@@ -4,20 +4,12 @@ use Rattle.std.proofs.lemmas.Bool.{and_parts}
 use Rattle.std.proofs.lemmas.Bool.Decides.{nat_tests}
 use Rattle.st_datafiles.specs.declared.role.Role.{Role}
 use Rattle.st_datafiles.specs.declared.role.Role.TheVariants.{Core, CoreProof, Provisional, ProvisionalProof, Chunk}
+use Rattle.st_ops.specs.Operation.{PlainOperation}
 use Rattle.st_params.specs.Limits.{Limits}
 use Rattle.st_batch.specs.FileSizes.{are_sizes_small, chunk_size, core_proof_size, core_size, file_size, member_size, provisional_proof_size, provisional_size, uri_size, where_any, with_core_proof_size, with_delta_size}
+use Rattle.st_batch.specs.Groups.{is_create, is_deactivate, is_recover, is_update}
+use Rattle.st_batch.specs.OperationSizes.{delta_size, index_size, of_kind, proof_size, sizes_by}
 use Rattle.st_batch.specs.declared.sizes.Sizes.{Sizes}
-
--- each size is at most the other
-pub record AreWithin (few many : Sizes) : Type 0 where
-  pub creates : few.creates ≤ many.creates
-  pub recovers : few.recovers ≤ many.recovers
-  pub deactivates : few.deactivates ≤ many.deactivates
-  pub updates : few.updates ≤ many.updates
-  pub recover_proofs : few.recover_proofs ≤ many.recover_proofs
-  pub deactivate_proofs : few.deactivate_proofs ≤ many.deactivate_proofs
-  pub update_proofs : few.update_proofs ≤ many.update_proofs
-  pub deltas : few.deltas ≤ many.deltas
 
 -- ---- parts of files
 
@@ -32,83 +24,96 @@ uri_more name a b more = any_more a b (length name + 52) (length name + 52) more
 
 -- ---- each file is no longer with fewer entries
 
-module _ (few many : Sizes) (within : AreWithin few many) where
-  pub core_more : core_size few ≤ core_size many
+-- sums of which each is at most the other
+module _ (fewer more : (PlainOperation → ℕ) → ℕ) (within : (size : PlainOperation → ℕ) → fewer size ≤ more size) where
+  abbrev few : Sizes
+  few = sizes_by fewer
+
+  abbrev many : Sizes
+  many = sizes_by more
+
+  -- in an index file, and in a proof file
+  index_within : (is_kind : PlainOperation → Bool) → fewer (of_kind is_kind index_size) ≤ more (of_kind is_kind index_size)
+  index_within is_kind = within (of_kind is_kind index_size)
+
+  kind_more : (name : List ℕ) (size : PlainOperation → ℕ) → member_size name (fewer size) ≤ member_size name (more size)
+  kind_more name size = member_more name (fewer size) (more size) (within size)
+
+  any_delta : with_delta_size few ≤ with_delta_size many
+  any_delta = omega (arith, index_within is_create, index_within is_recover, index_within is_update)
+
+  any_core_proof : with_core_proof_size few ≤ with_core_proof_size many
+  any_core_proof = omega (arith, index_within is_recover, index_within is_deactivate)
+
+  core_more : core_size few ≤ core_size many
   unfolding core_size
   core_more =
-      let create = member_more (codes "create") few.creates many.creates within.creates in
-      let recover = member_more (codes "recover") few.recovers many.recovers within.recovers in
-      let deactivate = member_more (codes "deactivate") few.deactivates many.deactivates within.deactivates in
+      let create = kind_more (codes "create") (of_kind is_create index_size) in
+      let recover = kind_more (codes "recover") (of_kind is_recover index_size) in
+      let deactivate = kind_more (codes "deactivate") (of_kind is_deactivate index_size) in
       let operations = member_more (codes "operations")
       (member_size (codes "create") few.creates + member_size (codes "recover") few.recovers + member_size (codes "deactivate") few.deactivates)
       (member_size (codes "create") many.creates + member_size (codes "recover") many.recovers + member_size (codes "deactivate") many.deactivates)
       (omega (arith, create, recover, deactivate)) in
-      let core_proof = uri_more (codes "coreProofFileUri") (with_core_proof_size few) (with_core_proof_size many)
-      (omega (arith, within.recovers, within.deactivates)) in
-      let provisional = uri_more (codes "provisionalIndexFileUri") (with_delta_size few) (with_delta_size many)
-      (omega (arith, within.creates, within.recovers, within.updates)) in
+      let core_proof = uri_more (codes "coreProofFileUri") (with_core_proof_size few) (with_core_proof_size many) any_core_proof in
+      let provisional = uri_more (codes "provisionalIndexFileUri") (with_delta_size few) (with_delta_size many) any_delta in
       omega (arith, operations, core_proof, provisional)
 
-  pub core_proof_more : core_proof_size few ≤ core_proof_size many
+  core_proof_more : core_proof_size few ≤ core_proof_size many
   unfolding core_proof_size
   core_proof_more =
-      let recover = member_more (codes "recover") few.recover_proofs many.recover_proofs within.recover_proofs in
-      let deactivate = member_more (codes "deactivate") few.deactivate_proofs many.deactivate_proofs within.deactivate_proofs in
+      let recover = kind_more (codes "recover") (of_kind is_recover proof_size) in
+      let deactivate = kind_more (codes "deactivate") (of_kind is_deactivate proof_size) in
       let operations = member_more (codes "operations")
       (member_size (codes "recover") few.recover_proofs + member_size (codes "deactivate") few.deactivate_proofs)
       (member_size (codes "recover") many.recover_proofs + member_size (codes "deactivate") many.deactivate_proofs)
       (omega (arith, recover, deactivate)) in
-      any_more (with_core_proof_size few) (with_core_proof_size many) _ _ (omega (arith, within.recovers, within.deactivates)) (omega (arith, operations))
+      any_more (with_core_proof_size few) (with_core_proof_size many) _ _ any_core_proof (omega (arith, operations))
 
-  pub provisional_more : provisional_size few ≤ provisional_size many
+  provisional_more : provisional_size few ≤ provisional_size many
   unfolding provisional_size
   provisional_more =
-      let update = member_more (codes "update") few.updates many.updates within.updates in
+      let update = kind_more (codes "update") (of_kind is_update index_size) in
       let operations = member_more (codes "operations") (member_size (codes "update") few.updates) (member_size (codes "update") many.updates) update in
-      let proof = uri_more (codes "provisionalProofFileUri") few.updates many.updates within.updates in
-      any_more (with_delta_size few) (with_delta_size many) _ _ (omega (arith, within.creates, within.recovers, within.updates))
-      (omega (arith, operations, proof))
+      let proof = uri_more (codes "provisionalProofFileUri") few.updates many.updates (index_within is_update) in
+      any_more (with_delta_size few) (with_delta_size many) _ _ any_delta (omega (arith, operations, proof))
 
-  pub provisional_proof_more : provisional_proof_size few ≤ provisional_proof_size many
+  provisional_proof_more : provisional_proof_size few ≤ provisional_proof_size many
   unfolding provisional_proof_size
   provisional_proof_more =
-      let update = member_more (codes "update") few.update_proofs many.update_proofs within.update_proofs in
+      let update = kind_more (codes "update") (of_kind is_update proof_size) in
       let operations = member_more (codes "operations") (member_size (codes "update") few.update_proofs)
       (member_size (codes "update") many.update_proofs) update in
-      any_more few.updates many.updates _ _ within.updates (omega (arith, operations))
+      any_more few.updates many.updates _ _ (index_within is_update) (omega (arith, operations))
 
-  pub chunk_more : chunk_size few ≤ chunk_size many
+  chunk_more : chunk_size few ≤ chunk_size many
   unfolding chunk_size
-  chunk_more =
-      let deltas = member_more (codes "deltas") few.deltas many.deltas within.deltas in
-      any_more (with_delta_size few) (with_delta_size many) _ _ (omega (arith, within.creates, within.recovers, within.updates)) (omega (arith, deltas))
+  chunk_more = any_more (with_delta_size few) (with_delta_size many) _ _ any_delta (omega (arith, kind_more (codes "deltas") delta_size))
 
--- ---- all files
+  -- the file of any role
+  pub file_more : (role : Role) → file_size role few ≤ file_size role many
+  file_more Core = core_more
+  file_more CoreProof = core_proof_more
+  file_more Provisional = provisional_more
+  file_more ProvisionalProof = provisional_proof_more
+  file_more Chunk = chunk_more
 
--- the file of any role
-pub file_more : (role : Role) (few many : Sizes) → AreWithin few many → file_size role few ≤ file_size role many
-file_more Core few many within = core_more few many within
-file_more CoreProof few many within = core_proof_more few many within
-file_more Provisional few many within = provisional_more few many within
-file_more ProvisionalProof few many within = provisional_proof_more few many within
-file_more Chunk few many within = chunk_more few many within
+  still_passes : (a b limit : ℕ) → a ≤ b → nat_le b limit ≡ true → nat_le a limit ≡ true
+  still_passes a b limit less passes = grind (arith, nat_tests)
 
-still_passes : (a b limit : ℕ) → a ≤ b → nat_le b limit ≡ true → nat_le a limit ≡ true
-still_passes a b limit less passes = grind (arith, nat_tests)
+  all_five : (a b c d e : Bool) → a ≡ true → b ≡ true → c ≡ true → d ≡ true → e ≡ true → (a && b && c && d && e) ≡ true
+  all_five a b c d e is_a is_b is_c is_d is_e = rw (is_a, is_b, is_c, is_d, is_e) refl
 
-all_five : (a b c d e : Bool) → a ≡ true → b ≡ true → c ≡ true → d ≡ true → e ≡ true → (a && b && c && d && e) ≡ true
-all_five a b c d e is_a is_b is_c is_d is_e = rw (is_a, is_b, is_c, is_d, is_e) refl
-
--- with fewer entries no file is too long where none was
-pub fewer_small : (limits : Limits) (few many : Sizes) → AreWithin few many → are_sizes_small limits many ≡ true → are_sizes_small limits few ≡ true
-fewer_small limits few many within small =
-    let four = and_parts _ _ small in
-    let three = and_parts _ _ four.0 in
-    let two = and_parts _ _ three.0 in
-    let one = and_parts _ _ two.0 in
-    all_five _ _ _ _ _
-    (still_passes (core_size few) (core_size many) limits.max_index (core_more few many within) one.0)
-    (still_passes (core_proof_size few) (core_proof_size many) limits.max_proofs (core_proof_more few many within) one.1)
-    (still_passes (provisional_size few) (provisional_size many) limits.max_index (provisional_more few many within) two.1)
-    (still_passes (provisional_proof_size few) (provisional_proof_size many) limits.max_proofs (provisional_proof_more few many within) three.1)
-    (still_passes (chunk_size few) (chunk_size many) limits.max_chunk (chunk_more few many within) four.1)
+  -- with fewer entries no file is too long where none was
+  pub fewer_small : (limits : Limits) → are_sizes_small limits many ≡ true → are_sizes_small limits few ≡ true
+  fewer_small limits small =
+      let four = and_parts _ _ small in
+      let three = and_parts _ _ four.0 in
+      let two = and_parts _ _ three.0 in
+      let one = and_parts _ _ two.0 in
+      all_five _ _ _ _ _
+      (still_passes (core_size few) (core_size many) limits.max_index core_more one.0)
+      (still_passes (core_proof_size few) (core_proof_size many) limits.max_proofs core_proof_more one.1)
+      (still_passes (provisional_size few) (provisional_size many) limits.max_index provisional_more two.1)
+      (still_passes (provisional_proof_size few) (provisional_proof_size many) limits.max_proofs provisional_proof_more three.1)
+      (still_passes (chunk_size few) (chunk_size many) limits.max_chunk chunk_more four.1)

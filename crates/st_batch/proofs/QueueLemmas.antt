@@ -2,9 +2,10 @@
 use Rattle.std.proofs.Common.{◌≡◌, ◌∙◌, ◌<◌, ◌≤◌, Bool, true, false, cond, ◌||◌, List, [], ◌∷◌, length, map, suc, nat_lt, Option, Some, Ok, Err, refl, sym, ap, arith}
 use Rattle.std.proofs.lemmas.Bool.Decides.{nat_tests}
 use Rattle.std.specs.Prelude.{is_some}
-use Rattle.std.specs.List.{AllByRecursion, IsDistinct, list_any}
+use Rattle.std.specs.List.{IsDistinct, list_any}
 use Rattle.std.specs.Map.{lookup}
 use Rattle.st_base.specs.Twice.{has_twice}
+use Rattle.st_base.proofs.Quantifiers.{any_none}
 use Rattle.st_batch.specs.Kept.{AreDifferent, IsKept, most_queued, operations_of}
 use Rattle.st_batch.specs.Submitted.{is_queued, suffix_to_queue}
 use Rattle.st_batch.specs.declared.refused.SubmitRefused.TheVariants.{AlreadyQueued, QueueFull}
@@ -14,15 +15,11 @@ use Rattle.st_ops.specs.declared.operation.Operation.{Operation}
 
 -- ---- lists
 
-none_same : {Item : Type 0} (test : Item → Bool) (items : List Item) → AllByRecursion (λ item. test item ≡ false) items → list_any test items ≡ false
-none_same test [] each = refl
-none_same test (item ∷ items) each = rw (each.0, none_same test items each.1) refl
-
 -- of distinct items none stands twice
 once_distinct : {Item : Type 0} (same : Item → Item → Bool) (items : List Item) → IsDistinct same items → has_twice same items ≡ false
 unfolding IsDistinct
 once_distinct same [] apart = refl
-once_distinct same (item ∷ items) apart = rw (none_same (same item) items apart.0, once_distinct same items apart.1) refl
+once_distinct same (item ∷ items) apart = rw (any_none (same item) items apart.0, once_distinct same items apart.1) refl
 
 -- ---- entries
 

@@ -1,8 +1,7 @@
 -- The batch of operations that fit is read back as these.
-use Rattle.std.proofs.Common.{◌≡◌, ℕ, ◌+◌, ◌<◌, ◌≤◌, ◌^◌, Bool, true, nat_le, List, [], ◌∷◌, filter, length, map, refl, ap, arith}
+use Rattle.std.proofs.Common.{◌≡◌, ◌+◌, ◌<◌, ◌≤◌, ◌^◌, Bool, true, nat_le, List, [], ◌∷◌, filter, length, map, refl, ap, arith}
 use Rattle.std.specs.List.{AllByRecursion}
 use Rattle.std.proofs.lemmas.Bool.{and_parts}
-use Rattle.std.proofs.lemmas.Bool.Decides.{nat_tests}
 use Rattle.st_anchor.specs.Gives.{given, gives, with_suffix}
 use Rattle.st_anchor.specs.Known.{known, known_from}
 use Rattle.st_base.proofs.Quantifiers.{each-both, each-filter, each-passes}
@@ -22,6 +21,7 @@ use Rattle.st_batch.proofs.GivenBatchLemmas.{gives_these}
 use Rattle.st_batch.proofs.GivenDifferentLemmas.{grouped_times, once}
 use Rattle.st_batch.proofs.GivenOperationsLemmas.{AreOfKind, IsOfKind}
 use Rattle.st_batch.proofs.KnownBatchLemmas.{AreReadyGroups, files_there}
+use Rattle.st_batch.proofs.KnownRuleLemmas.{below}
 use Rattle.st_batch.proofs.ReadBackFitLemmas.{IsReady, ready, says_all}
 
 -- operations of this kind, of those that are ready
@@ -53,9 +53,6 @@ ready_groups limits operations different all = record {
   once = λ hash. omega (arith, once (suffixes_of operations) different hash, grouped_times hash operations);
 }
 
-within : (n most : ℕ) → nat_le n most ≡ true → n ≤ most
-within n most e = grind (arith, nat_tests)
-
 module _ (limits : Limits) (content : Files) where
   -- no operations are given by a text that declares none
   none_given : (core : HashValue) → gives content limits (anchor_text 0 core) ≡ []
@@ -73,7 +70,7 @@ module _ (limits : Limits) (content : Files) where
       (are.goes some) in
       gives_these limits (length (operation ∷ operations)) (grouped (operation ∷ operations))
       (ready_groups limits (operation ∷ operations) are.different all) content
-      (files_there limits content (grouped (operation ∷ operations)) has parts.1) some (within _ _ parts.0) fits
+      (files_there limits content (grouped (operation ∷ operations)) has parts.1) some (below _ _ parts.0) fits
 
 -- The batch of operations is read back as these, where their number is a machine word.
 pub batch_is_read_back : (limits : Limits) (operations : List PlainOperation) → AreBatched limits operations → length operations < 2 ^ 64

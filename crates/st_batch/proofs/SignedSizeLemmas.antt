@@ -5,7 +5,6 @@ use Rattle.std.specs.List.{flat_map}
 use Rattle.std.specs.Option.{ok_or}
 use Rattle.std.specs.Result.{result_ok}
 use Rattle.std.specs.Str.{IsUtf8}
-use Rattle.std.proofs.lemmas.Bool.Decides.{nat_tests}
 use Rattle.std.proofs.lemmas.List.Concat.{flat_map-append}
 use Rattle.std.proofs.lemmas.Option.{same_Some}
 use Rattle.base64.specs.GeneralPurpose.{IsBytes}
@@ -28,6 +27,7 @@ use Rattle.st_ops.specs.SignedPart.{proof_of}
 use Rattle.st_batch.proofs.DecodedLemmas.{bytes_of_text-bytes}
 use Rattle.st_batch.proofs.EntrySizeLemmas.{signed_long}
 use Rattle.st_batch.proofs.FirstSizeLemmas.{quoted_within}
+use Rattle.st_batch.proofs.KnownRuleLemmas.{below}
 
 -- ---- steps that gave a value
 
@@ -123,16 +123,14 @@ opening_of limit signed opens =
     let step = then_some (result_ok (opened signed limit)) _ opens.0 opens.1 in
     (step.0, given (opened signed limit) step.0 step.1)
 
-below : (n most : ℕ) → nat_le n most ≡ true → n ≤ most
-below n most e = grind (arith, nat_tests)
-
 -- it is no longer than it may be
 opened_short : (limit : ℕ) (signed : List ℕ) → Opens limit signed → length signed ≤ limit
 opened_short limit signed opens =
     let opening = opening_of limit signed opens in
     below (length signed) limit (held (nat_le (length signed) limit) BadForm _ opening.0 opening.1).0
 
-opened_bare : (limit : ℕ) (signed : List ℕ) → Opens limit signed → IsUtf8 signed → IsBare signed
+-- and nothing in it is escaped where it is UTF-8
+pub opened_bare : (limit : ℕ) (signed : List ℕ) → Opens limit signed → IsUtf8 signed → IsBare signed
 opened_bare limit signed opens utf8 =
     let opening = opening_of limit signed opens in
     let short = held (nat_le (length signed) limit) BadForm _ opening.0 opening.1 in

@@ -3,6 +3,7 @@
 use Rattle.std.proofs.Common.{◌≡◌, ◌∙◌, ℕ, ◌+◌, ◌<◌, ◌≤◌, ◌==◌, Bool, true, false, nat_le, if◌then◌else◌, List, [], ◌∷◌, codes, length, take, refl, sym, arith}
 use Rattle.std.specs.Prelude.{min}
 use Rattle.std.specs.List.{AllByRecursion}
+use Rattle.std.proofs.lemmas.Bool.Decides.{nat_tests}
 use Rattle.std.proofs.lemmas.List.{length-take-le}
 use Rattle.st_base.proofs.Quantifiers.{each-take, each-weaker}
 use Rattle.st_ops.specs.KnownHashes.{HasHashes}
@@ -12,19 +13,21 @@ use Rattle.st_batch.specs.BatchLaws.{TakesAThousand, TakesTheFirst, ThousandFit}
 use Rattle.st_batch.specs.FileSizes.{are_sizes_small, chunk_size, core_proof_size, core_size, member_size, provisional_proof_size, provisional_size, uri_size, where_any, with_core_proof_size, with_delta_size}
 use Rattle.st_batch.specs.Fits.{Fits}
 use Rattle.st_batch.specs.Kept.{IsQueued}
-use Rattle.st_batch.specs.OperationSizes.{sizes_of}
+use Rattle.st_batch.specs.Groups.{is_create, is_deactivate, is_recover, is_update}
+use Rattle.st_batch.specs.OperationSizes.{index_size, proof_size, sizes_of}
 use Rattle.st_batch.specs.Prefix.{are_files_small, batch_count, is_batch}
-use Rattle.st_batch.specs.Sums.{saturated_sizes}
 use Rattle.st_batch.specs.declared.sizes.Sizes.{Sizes}
 use Rattle.st_batch.proofs.CountingLemmas.{IsCounted, full}
 use Rattle.st_batch.proofs.FileSizeLemmas.{files_small}
 use Rattle.st_batch.proofs.GivenPrefixLemmas.{batch_longest}
 use Rattle.st_batch.proofs.KnownRuleLemmas.{both}
-use Rattle.st_batch.proofs.LowSizeLemmas.{AreLow, IsLow, one_low, queued_low, sums_low}
+use Rattle.st_batch.proofs.LowSizeLemmas.{AreLow, IsLow, both_within, kind_within, one_low, queued_low, sums_low}
 use Rattle.st_batch.proofs.PrefixSizeLemmas.{passes_below}
-use Rattle.st_batch.proofs.SaturatedSizeLemmas.{any_within}
 
 -- ---- files of so few bytes
+
+any_within : (p x : ℕ) → where_any p x ≤ x
+any_within p x = grind (arith, nat_tests)
 
 member_within : (name : List ℕ) (inside : ℕ) → member_size name inside ≤ length name + inside + 5
 member_within name inside = any_within inside (length name + inside + 5)
@@ -35,42 +38,48 @@ uri_within name entries = any_within entries (length name + 52)
 any_below : (entries size most : ℕ) → size ≤ most → where_any entries size ≤ most
 any_below entries size most below = omega (arith, below, any_within entries size)
 
-module _ (sizes : Sizes) (low : AreLow sizes) where
+module _ (operations : List PlainOperation) (low : AreLow operations) where
+  abbrev sizes : Sizes
+  sizes = sizes_of operations
+
   core_low : core_size sizes ≤ 1000000
   unfolding core_size
   core_low =
       let create = member_within (codes "create") sizes.creates in
       let recover = member_within (codes "recover") sizes.recovers in
       let deactivate = member_within (codes "deactivate") sizes.deactivates in
-      let operations = member_within (codes "operations") (member_size (codes "create") sizes.creates
+      let all = member_within (codes "operations") (member_size (codes "create") sizes.creates
       + member_size (codes "recover") sizes.recovers + member_size (codes "deactivate") sizes.deactivates) in
       let first = uri_within (codes "coreProofFileUri") (with_core_proof_size sizes) in
       let second = uri_within (codes "provisionalIndexFileUri") (with_delta_size sizes) in
-      omega (arith, low.creates, low.recovers, low.deactivates, create, recover, deactivate, operations, first, second)
+      let creates = kind_within is_create index_size operations in
+      let recovers = kind_within is_recover index_size operations in
+      let deactivates = kind_within is_deactivate index_size operations in
+      omega (arith, low.index, creates, recovers, deactivates, create, recover, deactivate, all, first, second)
 
   core_proof_low : core_proof_size sizes ≤ 16000000
   unfolding core_proof_size
   core_proof_low =
       let recover = member_within (codes "recover") sizes.recover_proofs in
       let deactivate = member_within (codes "deactivate") sizes.deactivate_proofs in
-      let operations = member_within (codes "operations") (member_size (codes "recover") sizes.recover_proofs
+      let all = member_within (codes "operations") (member_size (codes "recover") sizes.recover_proofs
       + member_size (codes "deactivate") sizes.deactivate_proofs) in
-      any_below (with_core_proof_size sizes) _ 16000000 (omega (arith, low.core_proofs, recover, deactivate, operations))
+      any_below (with_core_proof_size sizes) _ 16000000 (omega (arith, low.proofs, both_within proof_size operations, recover, deactivate, all))
 
   provisional_low : provisional_size sizes ≤ 1000000
   unfolding provisional_size
   provisional_low =
       let update = member_within (codes "update") sizes.updates in
-      let operations = member_within (codes "operations") (member_size (codes "update") sizes.updates) in
+      let all = member_within (codes "operations") (member_size (codes "update") sizes.updates) in
       let first = uri_within (codes "provisionalProofFileUri") sizes.updates in
-      any_below (with_delta_size sizes) _ 1000000 (omega (arith, low.updates, update, operations, first))
+      any_below (with_delta_size sizes) _ 1000000 (omega (arith, low.index, kind_within is_update index_size operations, update, all, first))
 
   provisional_proof_low : provisional_proof_size sizes ≤ 16000000
   unfolding provisional_proof_size
   provisional_proof_low =
       let update = member_within (codes "update") sizes.update_proofs in
-      let operations = member_within (codes "operations") (member_size (codes "update") sizes.update_proofs) in
-      any_below sizes.updates _ 16000000 (omega (arith, low.update_proofs, update, operations))
+      let all = member_within (codes "operations") (member_size (codes "update") sizes.update_proofs) in
+      any_below sizes.updates _ 16000000 (omega (arith, low.proofs, kind_within is_update proof_size operations, update, all))
 
   chunk_low : chunk_size sizes ≤ 10000000
   unfolding chunk_size
@@ -86,7 +95,7 @@ module _ (sizes : Sizes) (low : AreLow sizes) where
 pub thousand_fit : ThousandFit
 thousand_fit version operations are few =
     files_small operations (limits_of version)
-    ∙ sizes_low (sizes_of operations)
+    ∙ sizes_low operations
     (sums_low 15000 operations (each-weaker IsQueued (IsLow 15000) queued_low operations are) few (omega (arith, few))) version
 
 -- the first 1,000, or all, go into one batch of version 1
@@ -101,7 +110,7 @@ thousand_go queue are =
 pub takes_a_thousand : TakesAThousand
 takes_a_thousand queue are =
     let count = min 1000 (length queue) in
-    let counted : IsCounted (limits_of 1) queue count (saturated_sizes (sizes_of (take count queue))) =
+    let counted : IsCounted (limits_of 1) queue count (sizes_of (take count queue)) =
     record { within = omega arith; goes = λ some. thousand_go queue are; summed = refl } in
     let is : count ≡ min (length queue) 1000 = omega arith in
     sym (full counted is)
@@ -119,7 +128,7 @@ goes_alone first second operation are fits =
     both (nat_le 1 (in_version second 1000 5000)) (are_files_small (limits_of second) (operation ∷ []))
     (passes_below 1 (in_version second 1000 5000) (many (second == 1)))
     (files_small (operation ∷ []) (limits_of second)
-    ∙ sizes_low (sizes_of (operation ∷ [])) (sums_low 80000 (operation ∷ []) (one_low first operation are fits, tt) (omega arith) (omega arith)) second)
+    ∙ sizes_low (operation ∷ []) (sums_low 80000 (operation ∷ []) (one_low first operation are fits, tt) (omega arith) (omega arith)) second)
 
 pub takes_the_first : TakesTheFirst
 takes_the_first first second operation waiting are fits =

@@ -1,9 +1,13 @@
 -- What is written of operations by kind: which files are there, and what each says.
-use Rattle.std.proofs.Common.{◌≡◌, ◌∙◌, ℕ, ◌≤◌, Bool, true, false, nat_lt, List, [], ◌∷◌, ◌++◌, length, Option, Some, None, option_map, refl, ap, arith}
+use Rattle.std.proofs.Common.{◌≡◌, ◌∙◌, ℕ, ◌≤◌, Bool, true, false, nat_lt, List, [], ◌∷◌, ◌++◌, codes, length, Option, Some, None, option_map, refl, ap, arith}
 use Rattle.std.specs.Prelude.{slice_get}
 use Rattle.std.specs.List.{filter_map}
 use Rattle.std.proofs.lemmas.Bool.Decides.{nat_tests}
-use Rattle.st_canon.specs.Canonical.{canonical}
+use Rattle.st_canon.specs.Canonical.{canonical, canonical_items, escape}
+use Rattle.st_canon.specs.Objects.{put_some, some_list}
+use Rattle.st_canon.specs.Plain.{Plain}
+use Rattle.st_canon.specs.View.{items_of}
+use Rattle.st_datafiles.specs.Chunk.{chunk_json}
 use Rattle.st_datafiles.specs.ProofFiles.{core_proof_json, provisional_proof_json}
 use Rattle.st_datafiles.specs.declared.role.Role.{Role}
 use Rattle.st_hash.specs.Hash.{HashValue, uri_of}
@@ -31,6 +35,27 @@ no_more n are e is = grind (arith, nat_tests)
 pub are_some : (n : ℕ) (are : Bool) → are ≡ nat_lt 0 n → are ≡ true → 1 ≤ n
 are_some n are e is = grind (arith, nat_tests)
 
+-- ---- the text of a chunk file
+
+-- without deltas
+pub no_chunk : (deltas : List Plain) → length deltas ≡ 0 → codes "{}" ≡ canonical (chunk_json deltas)
+unfolding put_some some_list
+no_chunk [] none = refl
+no_chunk (delta ∷ deltas) none = absurd (omega (arith, none))
+
+closed : (bytes : List ℕ) → bytes ++ 93 ∷ 125 ∷ [] ≡ ((bytes ++ 93 ∷ []) ++ []) ++ 125 ∷ []
+closed [] = refl
+closed (byte ∷ bytes) = ap (λ others. byte ∷ others) (closed bytes)
+
+-- and with some, with commas between them
+pub some_chunk : (deltas : List Plain) → 1 ≤ length deltas
+    → (codes "{\"deltas\":[" ++ canonical_items false (items_of deltas)) ++ codes "]}" ≡ canonical (chunk_json deltas)
+unfolding put_some some_list escape
+some_chunk [] some = absurd (omega (arith, some))
+some_chunk (delta ∷ deltas) some = ap (λ rest. codes "{\"deltas\":[" ++ rest) (closed (canonical_items false (items_of (delta ∷ deltas))))
+
+-- ---- URIs
+
 -- the URI of a file, where it is there
 pub first_filed : (role : Role) (file : Option (List ℕ)) → option_map (λ found. found.uri) (slice_get (filed role file) 0) ≡ option_map uri_of file
 first_filed role None = refl
@@ -56,9 +81,6 @@ module _ (groups : Grouped) where
       → provisional_proof_file groups ≡ Some (canonical (provisional_proof_json (filter_map signed_text_in groups.updates)))
   unfolding provisional_proof_file
   provisional_proof_some some = any_some groups.updates _ some
-
-  pub chunk_none : length (with_delta groups) ≡ 0 → chunk_file groups ≡ None
-  chunk_none none = any_none (with_delta groups) (chunk_text groups) none
 
   pub chunk_some : 1 ≤ length (with_delta groups) → chunk_file groups ≡ Some (chunk_text groups)
   chunk_some some = any_some (with_delta groups) (chunk_text groups) some

@@ -1,6 +1,5 @@
 -- Sizes of the entries in lists, summed. No public call speaks of them.
-use Rattle.std.specs.Prelude.{◌+◌}
-use Rattle.st_canon.specs.Measure.{saturated}
+use Rattle.std.specs.Prelude.{ℕ, ◌+◌}
 use Rattle.st_batch.specs.declared.sizes.Sizes.{Sizes}
 
 -- no entries
@@ -29,15 +28,8 @@ both_sizes some others = record {
   deltas = some.deltas + others.deltas;
 }
 
--- each of the sizes, or the greatest number that 64 bits hold
-abbrev pub saturated_sizes : Sizes → Sizes
-saturated_sizes sizes = record {
-  creates = saturated sizes.creates;
-  recovers = saturated sizes.recovers;
-  deactivates = saturated sizes.deactivates;
-  updates = saturated sizes.updates;
-  recover_proofs = saturated sizes.recover_proofs;
-  deactivate_proofs = saturated sizes.deactivate_proofs;
-  update_proofs = saturated sizes.update_proofs;
-  deltas = saturated sizes.deltas;
-}
+-- the entries of all lists together
+abbrev pub all_bytes : Sizes → ℕ
+all_bytes sizes =
+    sizes.creates + sizes.recovers + sizes.deactivates + sizes.updates
+    + sizes.recover_proofs + sizes.deactivate_proofs + sizes.update_proofs + sizes.deltas

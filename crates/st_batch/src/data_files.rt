@@ -1,19 +1,19 @@
-ghost use Rattle.std.specs.Prelude.{◌≡◌, length, map, nat_lt, IfOk};
+ghost use Rattle.std.specs.Prelude.{◌≡◌, length, nat_lt, IfOk};
 ghost use Rattle.std.specs.List.{filter_map};
 ghost use Rattle.st_batch.specs.BatchFiles.{chunk_file, core_proof_file, filed, provisional_proof_file};
 ghost use Rattle.st_batch.specs.Grouping.{plain_groups};
 ghost use Rattle.st_batch.specs.Groups.{signed_text_in, with_core_proof, with_delta};
-ghost use Rattle.st_canon.specs.View.{plain};
 ghost use Rattle.st_datafiles.specs.declared.role.Role.TheVariants.{Chunk, CoreProof, ProvisionalProof};
 ghost use Rattle.st_ops.specs.RequestText.{delta_there};
 
 use crate::batch::BatchFile;
+use crate::chunk_text::chunk_text;
 use crate::files::filed;
 use crate::gathering::{push_deltas, signed_texts_of};
 use crate::grouping::Groups;
 use st_base::{List, WantOfMemory};
-use st_canon::Json;
-use st_datafiles::{CoreProofs, Role, write_chunk, write_core_proof, write_provisional_proof};
+use st_canon::PackedJson;
+use st_datafiles::{CoreProofs, Role, write_core_proof, write_provisional_proof};
 use std::alloc::Global;
 
 /// The core proof file, where there is a recover or a deactivate.
@@ -78,7 +78,7 @@ pub(crate) fn chunk_file(alloc: Global, groups: &Groups) -> Result<List<BatchFil
         return Ok(List::new(alloc));
     }
     let deltas = deltas(alloc, groups)?;
-    let bytes = write_chunk(alloc, deltas.as_slice())?;
+    let bytes = chunk_text(alloc, deltas.as_slice())?;
     Ok(filed(alloc, Role::Chunk, bytes)?)
 }
 
@@ -95,8 +95,8 @@ fn has_chunk(groups: &Groups) -> bool
     groups.updates.len() > 0
 }
 
-fn deltas(alloc: Global, groups: &Groups) -> Result<List<Json>, WantOfMemory>
-    ensures { IfOk result (λ deltas. map plain deltas ≡ filter_map delta_there (with_delta (plain_groups groups.now))) }
+fn deltas(alloc: Global, groups: &Groups) -> Result<List<PackedJson>, WantOfMemory>
+    ensures { IfOk result (λ deltas. deltas ≡ filter_map delta_there (with_delta (plain_groups groups.now))) }
 {
     let mut deltas = List::new(alloc);
     push_deltas(alloc, &mut deltas, groups.creates.as_slice())?;

@@ -4,7 +4,7 @@ ghost use Rattle.st_base.specs.Answers.{Gives, GivesAs};
 ghost use Rattle.st_batch.specs.Kept.{IsKept, IsQueued, operations_of};
 ghost use Rattle.st_batch.specs.Submitted.{queued_with, refusal_of, suffix_to_queue};
 ghost use Rattle.st_hash.specs.Hash.{same_hash};
-ghost use Rattle.st_ops.specs.Operation.{plain_operation, suffix_of};
+ghost use Rattle.st_ops.specs.Operation.{plain_operation};
 
 use crate::refused::SubmitRefused;
 use indexmap::IndexMap;

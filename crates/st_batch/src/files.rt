@@ -1,5 +1,6 @@
 ghost use Rattle.std.specs.Prelude.{◌≡◌, ◌++◌, Some, slice_get, option_map, IfOk, OnOk};
 ghost use Rattle.st_batch.specs.BatchFiles.{filed};
+ghost use Rattle.st_hash.specs.Hash.{uri_of};
 
 use crate::batch::BatchFile;
 use st_base::{Bytes, List, WantOfMemory};
@@ -16,6 +17,19 @@ pub(crate) fn filed(
     ensures { IfOk result (λ files. files ≡ filed role (Some bytes)) }
 {
     let uri = uri_of(bytes.as_slice());
+    Ok(filed_under(alloc, role, uri, bytes)?)
+}
+
+/// The same of a file whose URI is known.
+pub(crate) fn filed_under(
+    alloc: Global,
+    role: Role,
+    uri: Hash,
+    bytes: Bytes,
+) -> Result<List<BatchFile>, WantOfMemory>
+    requires { uri ≡ uri_of bytes }
+    ensures { IfOk result (λ files. files ≡ filed role (Some bytes)) }
+{
     let mut files = List::new(alloc);
     files.push(alloc, BatchFile { role, uri, bytes })?;
     Ok(files)

@@ -25,7 +25,7 @@ pub(crate) fn flush(
     // For proofs: the limits are those of their version, and no suffix stands twice.
     let _version = params.version();
     let _length = queued.len();
-    let count = batch_count(alloc, &queued, params)?;
+    let count = batch_count(&queued, params);
     let (taken, rest) = split(queued, count)?;
     let groups = groups_of(alloc, taken)?;
     let batch = write_batch(alloc, count, &groups)?;

@@ -1,14 +1,13 @@
 ghost use Rattle.std.specs.Prelude.{◌≡◌, ◌++◌, map, IfOk, OnOk};
 ghost use Rattle.std.specs.List.{filter_map};
 ghost use Rattle.st_batch.specs.Groups.{signed_text_in, suffix_data_in, target_in};
-ghost use Rattle.st_canon.specs.View.{plain};
 ghost use Rattle.st_ops.specs.Operation.{plain_operation};
 ghost use Rattle.st_ops.specs.RequestText.{delta_there};
 
 use crate::in_files::{delta_in, suffix_data_in, target_in};
 use crate::parts::signed_text_in;
 use st_base::{Copied, List, Text, WantOfMemory};
-use st_canon::Json;
+use st_canon::PackedJson;
 use st_indexfiles::{SuffixData, Target};
 use st_ops::Operation;
 use std::alloc::Global;
@@ -64,14 +63,14 @@ pub(crate) fn signed_texts_of(
 /// Appends the deltas of these operations, in order.
 pub(crate) fn push_deltas(
     alloc: Global,
-    deltas: &mut List<Json>,
+    deltas: &mut List<PackedJson>,
     operations: &[Operation],
 ) -> Result<(), WantOfMemory>
-    ensures { OnOk result (map plain deltas.new ≡ map plain deltas.old ++ filter_map delta_there (map plain_operation operations.now)) }
+    ensures { OnOk result (deltas.new ≡ deltas.old ++ filter_map delta_there (map plain_operation operations.now)) }
 {
     'operations: for operation in operations {
         if let Some(delta) = delta_in(operation) {
-            deltas.push(alloc, delta.unpack(alloc)?)?;
+            deltas.push(alloc, delta.copy(alloc)?)?;
         }
     }
     Ok(())

@@ -1,5 +1,4 @@
-ghost use Rattle.std.specs.Prelude.{◌≡◌, IfSome, option_map};
-ghost use Rattle.std.specs.Option.{option_copied};
+ghost use Rattle.std.specs.Prelude.{IfSome};
 ghost use Rattle.std.specs.Str.{IsUtf8};
 ghost use Rattle.st_batch.specs.Groups.{signed_text_in};
 ghost use Rattle.st_ops.specs.KnownHashes.{HasHashes};

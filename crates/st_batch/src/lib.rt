@@ -5,6 +5,7 @@
 
 mod asking;
 mod batch;
+mod chunk_text;
 mod counting;
 mod data_files;
 mod delta_checking;

@@ -1,87 +1,83 @@
-ghost use Rattle.std.specs.Prelude.{◌≡◌, ◌+◌, ◌≤◌, length, option_map, IfOk};
-ghost use Rattle.st_batch.specs.OperationSizes.{entry_size, proof_size, sizes_in};
-ghost use Rattle.st_batch.specs.Sums.{saturated_sizes};
-ghost use Rattle.st_canon.specs.Canonical.{quoted};
-ghost use Rattle.st_canon.specs.Measure.{saturated, size_of};
-ghost use Rattle.st_datafiles.specs.ProofFiles.{signed_json};
+ghost use Rattle.std.specs.Prelude.{◌≡◌, ◌+◌, ◌≤◌, IfSome};
+ghost use Rattle.st_batch.specs.Groups.{signed_text_in};
+ghost use Rattle.st_batch.specs.OperationSizes.{IsBare, IsShort, delta_size, index_size, proof_size, sizes_in};
+ghost use Rattle.st_canon.specs.Measure.{size_of};
 ghost use Rattle.st_hash.specs.Hash.{IsHash, text_length as text_length_of};
 ghost use Rattle.st_indexfiles.specs.SuffixData.{create_json};
 ghost use Rattle.st_indexfiles.specs.Target.{target_json};
-ghost use Rattle.st_ops.specs.Operation.{plain_operation, plain_proof};
+ghost use Rattle.st_ops.specs.Operation.{plain_operation};
 
+use crate::in_files::delta_in;
+use crate::parts::signed_text_in;
 use crate::sizes::Sizes;
-use st_base::{Copied, Shared, Text, WantOfMemory};
-use st_canon::{Json, PackedJson, size};
 use st_hash::{Hash, SHA_512};
 use st_indexfiles::SuffixData;
-use st_jws::Signed;
 use st_ops::Operation;
-use std::alloc::Global;
 
 // What of an entry stands round its hash texts or its signed text, and the comma behind it.
 const CREATE: &str = "{\"suffixData\":{\"deltaHash\":\"\",\"recoveryCommitment\":\"\"}},";
 
 const TARGET: &str = "{\"didSuffix\":\"\",\"revealValue\":\"\"},";
 
-const SIGNED: &str = "{\"signedData\":},";
+const SIGNED: &str = "{\"signedData\":\"\"},";
 
 /// How many bytes an operation puts into each list of its files.
 #[tactic(auto, unfolding(crate::specs::OperationSizes::sizes_in))]
-pub(crate) fn sizes_in(alloc: Global, operation: &Operation) -> Result<Sizes, WantOfMemory>
-    ensures { IfOk result (λ sizes. sizes ≡ saturated_sizes (sizes_in (plain_operation operation.now))) }
+pub(crate) fn sizes_in(operation: &Operation) -> Sizes
+    requires { IsShort (plain_operation operation.now) }
+    ensures { result ≡ sizes_in (plain_operation operation.now) }
 {
+    let index = index_size(operation);
+    let proof = proof_size(operation);
+    let delta = delta_size(operation);
     match operation {
-        Operation::Create { suffix_data, delta } => Ok(Sizes {
-            creates: create_size(suffix_data),
-            deltas: delta_size(delta),
+        Operation::Create { .. } => Sizes {
+            creates: index,
+            deltas: delta,
             ..Sizes::none()
-        }),
-        Operation::Update {
-            suffix,
-            reveal,
-            proof,
-            delta,
-        } => Ok(Sizes {
-            updates: target_size(suffix, reveal),
-            update_proofs: proof_size(alloc, proof)?,
-            deltas: delta_size(delta),
+        },
+        Operation::Update { .. } => Sizes {
+            updates: index,
+            update_proofs: proof,
+            deltas: delta,
             ..Sizes::none()
-        }),
-        Operation::Recover {
-            suffix,
-            reveal,
-            proof,
-            delta,
-        } => Ok(Sizes {
-            recovers: target_size(suffix, reveal),
-            recover_proofs: proof_size(alloc, proof)?,
-            deltas: delta_size(delta),
+        },
+        Operation::Recover { .. } => Sizes {
+            recovers: index,
+            recover_proofs: proof,
+            deltas: delta,
             ..Sizes::none()
-        }),
-        Operation::Deactivate {
-            suffix,
-            reveal,
-            proof,
-        } => Ok(Sizes {
-            deactivates: target_size(suffix, reveal),
-            deactivate_proofs: proof_size(alloc, proof)?,
+        },
+        Operation::Deactivate { .. } => Sizes {
+            deactivates: index,
+            deactivate_proofs: proof,
             ..Sizes::none()
-        }),
+        },
     }
 }
 
-// The entry of a create.
+// Its entry in an index file.
+fn index_size(operation: &Operation) -> u64
+    ensures { result ≡ index_size (plain_operation operation.now) }
+{
+    match operation {
+        Operation::Create { suffix_data, .. } => create_size(suffix_data),
+        Operation::Update { suffix, reveal, .. } => target_size(suffix, reveal),
+        Operation::Recover { suffix, reveal, .. } => target_size(suffix, reveal),
+        Operation::Deactivate { suffix, reveal, .. } => target_size(suffix, reveal),
+    }
+}
+
 fn create_size(suffix_data: &SuffixData) -> u64
-    ensures { result ≡ saturated (size_of (create_json suffix_data.now) + 1) }
+    ensures { result ≡ size_of (create_json suffix_data.now) + 1 }
 {
     let hashes = text_length(&suffix_data.delta_hash)
         + text_length(&suffix_data.recovery_commitment);
     CREATE.len() as u64 + hashes
 }
 
-// The entry of an operation of another kind.
 fn target_size(suffix: &Hash, reveal: &Hash) -> u64
-    ensures { result ≡ saturated (size_of (target_json (record { suffix = suffix.now; reveal = reveal.now })) + 1) }
+    ensures { result ≡ size_of (target_json (record { suffix = suffix.now; reveal = reveal.now })) + 1 }
 {
     TARGET.len() as u64 + text_length(suffix) + text_length(reveal)
 }
@@ -95,38 +91,25 @@ fn text_length(hash: &Hash) -> u64
     if hash.code() == SHA_512 { 88 } else { 46 }
 }
 
-// The entry of a proof, where there is one.
-fn proof_size(alloc: Global, proof: &Option<Shared<Signed>>) -> Result<u64, WantOfMemory>
-    ensures { IfOk result (λ size. size ≡ saturated (proof_size (option_map plain_proof proof.now))) }
+// Its entry in a proof file. A signed text that was opened has nothing that is escaped.
+fn proof_size(operation: &Operation) -> u64
+    requires bare { IfSome (signed_text_in (plain_operation operation.now)) IsBare }
+    requires short { proof_size (plain_operation operation.now) ≤ 15000 }
+    ensures { result ≡ proof_size (plain_operation operation.now) }
 {
-    match proof {
-        Some(proof) => Ok(signed_size(alloc, &proof.get().text)?),
-        None => Ok(0),
+    match signed_text_in(operation) {
+        Some(text) => text.as_str().len() as u64 + SIGNED.len() as u64,
+        None => 0,
     }
 }
 
-// The entry of a signed text.
-fn signed_size(alloc: Global, signed: &Text) -> Result<u64, WantOfMemory>
-    ensures { IfOk result (λ size. size ≡ saturated (size_of (signed_json signed.now) + 1)) }
+// Its entry in the chunk file.
+fn delta_size(operation: &Operation) -> u64
+    requires { delta_size (plain_operation operation.now) ≤ 5000 }
+    ensures { result ≡ delta_size (plain_operation operation.now) }
 {
-    let quoted = text_size(alloc, signed)?;
-    Ok(quoted.saturating_add(SIGNED.len() as u64))
-}
-
-// How long a text is in JSON, in its quotes.
-fn text_size(alloc: Global, text: &Text) -> Result<u64, WantOfMemory>
-    ensures { IfOk result (λ size. size ≡ saturated (length (quoted text.now))) }
-{
-    let text = Json::Text(text.copy(alloc)?);
-    Ok(size(&text))
-}
-
-// A delta, where there is one.
-fn delta_size(delta: &Option<PackedJson>) -> u64
-    ensures { result ≡ saturated (entry_size delta.now) }
-{
-    match delta {
-        Some(delta) => delta.size().saturating_add(1),
+    match delta_in(operation) {
+        Some(delta) => delta.size() + 1,
         None => 0,
     }
 }

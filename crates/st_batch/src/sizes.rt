@@ -1,9 +1,8 @@
-ghost use Rattle.std.specs.Prelude.{◌≡◌};
-ghost use Rattle.st_batch.specs.Sums.{both_sizes, no_sizes, saturated_sizes};
+ghost use Rattle.std.specs.Prelude.{◌≡◌, ◌+◌, ◌<◌, ◌^◌};
+ghost use Rattle.st_batch.specs.Sums.{all_bytes, both_sizes, no_sizes};
 
 /// How many bytes the entries of operations have in each list of their files, each entry with a comma
-/// behind it. A sum that 64 bits do not hold is the greatest number that they do, which makes a file
-/// too long as that sum does.
+/// behind it.
 #[derive(Clone, Copy)]
 pub(crate) struct Sizes {
     /// In the core index file.
@@ -40,19 +39,18 @@ impl Sizes {
 
     /// Of these and of more operations.
     pub(crate) fn with(&self, more: &Sizes) -> Sizes
-        ensures { result ≡ saturated_sizes (both_sizes self.now more.now) }
+        requires { all_bytes self.now + all_bytes more.now < 2 ^ 64 }
+        ensures { result ≡ both_sizes self.now more.now }
     {
         Sizes {
-            creates: self.creates.saturating_add(more.creates),
-            recovers: self.recovers.saturating_add(more.recovers),
-            deactivates: self.deactivates.saturating_add(more.deactivates),
-            updates: self.updates.saturating_add(more.updates),
-            recover_proofs: self.recover_proofs.saturating_add(more.recover_proofs),
-            deactivate_proofs: self
-                .deactivate_proofs
-                .saturating_add(more.deactivate_proofs),
-            update_proofs: self.update_proofs.saturating_add(more.update_proofs),
-            deltas: self.deltas.saturating_add(more.deltas),
+            creates: self.creates + more.creates,
+            recovers: self.recovers + more.recovers,
+            deactivates: self.deactivates + more.deactivates,
+            updates: self.updates + more.updates,
+            recover_proofs: self.recover_proofs + more.recover_proofs,
+            deactivate_proofs: self.deactivate_proofs + more.deactivate_proofs,
+            update_proofs: self.update_proofs + more.update_proofs,
+            deltas: self.deltas + more.deltas,
         }
     }
 }

@@ -1,94 +1,119 @@
-mod counts;
 mod flushing;
 mod making;
 mod samples;
 
-use crate::tests::samples::{
-    CREATE, DEACTIVATE, NO_HASH, OTHER_DELTA, OTHER_SUFFIX, RECOVER, UPDATE,
-};
+use crate::tests::samples::named;
 use crate::{Queue, SubmitRefused};
 use st_base::Work;
-use st_hash::hash_text;
+use st_hash::{Hash, hash_text};
 use st_params::Schedule;
-use std::alloc::Global;
 use std::test::Fail;
 
-// A queue to which these requests were submitted at the limits of version 1, and the last answer.
-pub(crate) fn after(
-    alloc: Global,
-    requests: &[&str],
+/// Submits the requests of a line, in this order, at the limits of version 1. Gives the last answer.
+pub(crate) fn submit_all(
+    rt: &HostRuntime,
+    queue: &mut Queue,
+    requests: &str,
     work: &mut Work,
-) -> (Queue, Result<(), SubmitRefused>) {
+) -> Result<(), SubmitRefused> {
     let params = Schedule::new().at(0);
-    let mut queue = Queue::new(alloc);
     let mut answer = Ok(());
-    for request in requests {
-        answer = match queue.submit(alloc, request.as_bytes(), &params, work) {
+    for word in requests.split(' ') {
+        answer = match queue.submit(rt.alloc(), named(word).as_bytes(), &params, work) {
             Ok(_) => Ok(()),
             Err(refused) => Err(refused),
         };
     }
-    (queue, answer)
+    answer
 }
 
-// Whether the last of these requests is refused so, and how many are queued then.
-fn refuses(rt: &HostRuntime, requests: &[&str], wanted: SubmitRefused, queued: usize) -> bool {
+// An answer as a word.
+fn word_of(answer: Result<(), SubmitRefused>) -> &'static str {
+    match answer {
+        Ok(()) => "queued",
+        Err(SubmitRefused::NotJson) => "not-json",
+        Err(SubmitRefused::NotWhole) => "not-whole",
+        Err(SubmitRefused::BadForm) => "bad-form",
+        Err(SubmitRefused::BadHash) => "bad-hash",
+        Err(SubmitRefused::BadProof) => "bad-proof",
+        Err(SubmitRefused::BadDelta) => "bad-delta",
+        Err(SubmitRefused::AlreadyQueued) => "already-queued",
+        Err(SubmitRefused::QueueFull) => "full",
+        Err(SubmitRefused::WantOfMemory) => "no-memory",
+    }
+}
+
+// The last answer to these requests, how many are queued then, and how many proofs were counted.
+fn seen_after(rt: &HostRuntime, requests: &str) -> (&'static str, usize, u64) {
     let mut work = Work::new(rt);
-    let (queue, answer) = after(rt.alloc(), requests, &mut work);
-    answer == Err(wanted) && queue.len() == queued
+    let mut queue = Queue::new(rt.alloc());
+    let answer = submit_all(rt, &mut queue, requests, &mut work);
+    (word_of(answer), queue.len(), work.proofs())
+}
+
+// Requests, and what is seen once they were submitted to an empty queue.
+const LINES: &str = "{ => not-json 0 0
+{\"a\":1.5} => not-whole 0 0
+{} => bad-form 0 0
+no-hash => bad-hash 0 0
+other-suffix => bad-proof 0 1
+other-delta => bad-delta 0 0
+create create => already-queued 1 0
+create => queued 1 0
+deactivate update create recover => queued 4 3";
+
+// The first line at which something else is seen.
+fn first_wrong(rt: &HostRuntime) -> Result<Option<&'static str>, Fail> {
+    for line in LINES.lines() {
+        let (requests, wanted) = line.split_once(" => ").ok_or("no answer")?;
+        let (answer, queued, proofs) = seen_after(rt, requests);
+        let seen = format!(in rt.alloc(); "{answer} {queued} {proofs}")?;
+        if seen.as_str() != wanted {
+            return Ok(Some(line));
+        }
+    }
+    Ok(None)
 }
 
 #[test]
-fn a_request_is_refused_by_its_first_cause(rt: HostRuntime) {
-    assert!(rt; refuses(&rt, &["{"], SubmitRefused::NotJson, 0));
-    assert!(rt; refuses(&rt, &["{\"a\":1.5}"], SubmitRefused::NotWhole, 0));
-    assert!(rt; refuses(&rt, &["{}"], SubmitRefused::BadForm, 0));
-    assert!(rt; refuses(&rt, &[NO_HASH], SubmitRefused::BadHash, 0));
-    assert!(rt; refuses(&rt, &[OTHER_SUFFIX], SubmitRefused::BadProof, 0));
-    assert!(rt; refuses(&rt, &[OTHER_DELTA], SubmitRefused::BadDelta, 0));
-    assert!(rt; refuses(&rt, &[CREATE, CREATE], SubmitRefused::AlreadyQueued, 1));
+fn a_request_is_queued_or_refused_by_its_first_cause(rt: HostRuntime) -> Result<(), Fail> {
+    match first_wrong(&rt)? {
+        None => Ok(()),
+        Some(line) => Err(Fail::from(line)),
+    }
 }
 
-// Whether the last of these requests is queued, behind the others, and how many proofs were counted.
-fn queues(rt: &HostRuntime, requests: &[&str], queued: usize, proofs: u64) -> bool {
+// The suffix that a request is queued for, by an empty queue.
+fn suffix_of(rt: &HostRuntime, request: &str) -> Option<Hash> {
     let mut work = Work::new(rt);
-    let (queue, answer) = after(rt.alloc(), requests, &mut work);
-    answer == Ok(()) && queue.len() == queued && work.proofs() == proofs
-}
-
-#[test]
-fn requests_of_each_kind_are_queued(rt: HostRuntime) {
-    assert!(rt; queues(&rt, &[CREATE], 1, 0));
-    assert!(rt; queues(&rt, &[DEACTIVATE, UPDATE, CREATE, RECOVER], 4, 3));
-}
-
-// The hash text of the suffix that a request is queued for, by an empty queue.
-fn suffix_is(rt: &HostRuntime, request: &str, wanted: &str) -> Result<bool, Fail> {
-    let alloc = rt.alloc();
-    let mut work = Work::new(rt);
-    let mut queue = Queue::new(alloc);
+    let mut queue = Queue::new(rt.alloc());
     let params = Schedule::new().at(0);
-    match queue.submit(alloc, request.as_bytes(), &params, &mut work) {
-        Ok(suffix) => Ok(hash_text(alloc, &suffix)?.as_str() == wanted),
-        Err(_) => Ok(false),
+    match queue.submit(rt.alloc(), named(request).as_bytes(), &params, &mut work) {
+        Ok(suffix) => Some(suffix),
+        Err(_) => None,
+    }
+}
+
+// Whether it has this hash text.
+fn suffix_is(rt: &HostRuntime, request: &str, wanted: &str) -> Result<bool, Fail> {
+    match suffix_of(rt, request) {
+        Some(suffix) => Ok(hash_text(rt.alloc(), &suffix)?.as_str() == wanted),
+        None => Ok(false),
     }
 }
 
 #[test]
 fn an_operation_is_queued_for_its_suffix(rt: HostRuntime) -> Result<(), Fail> {
-    assert!(rt;
-        suffix_is(
-            &rt,
-            CREATE,
-            "EiCNA_edP2ZS7hJ_z7lDpDE8xR-dlL9ygjUmrf2IAn6ziQ"
-        )?
-    );
-    assert!(rt;
-        suffix_is(
-            &rt,
-            UPDATE,
-            "EiAH6kMDyuj_41tkoBLAV1kt1vB9nEM1U6KBsUUCwuffRg"
-        )?
-    );
+    let create = suffix_is(
+        &rt,
+        "create",
+        "EiCNA_edP2ZS7hJ_z7lDpDE8xR-dlL9ygjUmrf2IAn6ziQ",
+    )?;
+    let update = suffix_is(
+        &rt,
+        "update",
+        "EiAH6kMDyuj_41tkoBLAV1kt1vB9nEM1U6KBsUUCwuffRg",
+    )?;
+    assert!(rt; create && update);
     Ok(())
 }

@@ -4,7 +4,7 @@ ghost use Rattle.st_batch.specs.Grouping.{plain_groups};
 
 use crate::batch::Batch;
 use crate::data_files::{chunk_file, core_proof_file, provisional_proof_file};
-use crate::files::{append, filed};
+use crate::files::{append, filed_under};
 use crate::grouping::Groups;
 use crate::index_files::{core_file, provisional_file};
 use st_base::{Text, WantOfMemory};
@@ -25,8 +25,9 @@ pub(crate) fn write_batch(
     let provisional = provisional_file(alloc, groups, &provisional_proof, &chunk)?;
     let core_proof = core_proof_file(alloc, groups)?;
     let core = core_file(alloc, groups, &core_proof, &provisional)?;
-    let anchor = anchor_text(alloc, count, &uri_of(core.as_slice()))?;
-    let mut files = filed(alloc, Role::Core, core)?;
+    let uri = uri_of(core.as_slice());
+    let anchor = anchor_text(alloc, count, &uri)?;
+    let mut files = filed_under(alloc, Role::Core, uri, core)?;
     append(alloc, &mut files, core_proof)?;
     append(alloc, &mut files, provisional)?;
     append(alloc, &mut files, provisional_proof)?;

@@ -20,6 +20,8 @@ pub mod Converting
 pub mod DirectLemmas
 -- a list of values that is edited, over its plain items
 pub mod ItemLists
+-- the text of an object whose members were listed in any order
+pub mod ListedLemmas
 -- what is found by name after a put or a removal
 pub mod Named
 -- what is read back of an object whose members were listed, of a list and of a text

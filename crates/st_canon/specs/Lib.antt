@@ -6,6 +6,7 @@ pub mod Find
 pub mod InOrder
 pub mod Lends
 pub mod LendsValue
+pub mod Listed
 pub mod Measure
 pub mod Names
 pub mod Objects

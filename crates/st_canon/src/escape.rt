@@ -7,8 +7,8 @@ use crate::runs::split_run;
 use st_base::{Bytes, WantOfMemory};
 use std::alloc::Global;
 
-// Appends the text between quotes.
-pub(crate) fn append_text(alloc: Global, out: &mut Bytes, text: &str) -> Result<(), WantOfMemory>
+/// Appends the text as a JSON string: escaped, between quotes.
+pub fn append_text(alloc: Global, out: &mut Bytes, text: &str) -> Result<(), WantOfMemory>
     ensures text { OnOk result (out.new ≡ out.old ++ quoted text.now) }
     ensures utf8 { OnOk result (IsUtf8 text.now) }
 {
@@ -17,8 +17,9 @@ pub(crate) fn append_text(alloc: Global, out: &mut Bytes, text: &str) -> Result<
     out.push_all(alloc, b"\"")
 }
 
-// What stands between two bytes that are escaped is put in at once.
-fn append_escaped(alloc: Global, out: &mut Bytes, bytes: &[u8]) -> Result<(), WantOfMemory>
+/// Appends what stands between the quotes of a JSON string. What lies between two bytes that are escaped is
+/// put in at once.
+pub fn append_escaped(alloc: Global, out: &mut Bytes, bytes: &[u8]) -> Result<(), WantOfMemory>
     ensures { OnOk result (out.new ≡ out.old ++ flat_map escape bytes.now) }
 {
     let (run, mut rest) = split_run(bytes);

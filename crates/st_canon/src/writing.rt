@@ -1,6 +1,8 @@
-ghost use Rattle.std.specs.Prelude.{◌≡◌, ◌++◌, ◌≤◌, IfOk, OnOk, Ok, false};
+ghost use Rattle.std.specs.Prelude.{◌≡◌, ◌++◌, ◌≤◌, IfOk, OnOk, Ok, false, option_map};
+ghost use Rattle.std.specs.Option.{option_copied};
 ghost use Rattle.st_canon.specs.Canonical.{canonical, canonical_items, canonical_members, comma as comma_text};
 ghost use Rattle.st_canon.specs.Depth.{depth_of};
+ghost use Rattle.st_canon.specs.Listed.{text_there};
 ghost use Rattle.st_canon.specs.Plain.{IsWhole, Plain, boolean, whole as whole_number};
 ghost use Rattle.st_canon.specs.Proper.{IsProper, ItemsAreProper, MembersAreProper};
 ghost use Rattle.st_canon.specs.Reading.{json_of};
@@ -33,8 +35,9 @@ pub fn write(alloc: Global, value: &Json) -> Result<Bytes, WantOfMemory>
     Ok(out)
 }
 
+/// Appends the canonical text of a value.
 #[cycle(append)]
-fn append(alloc: Global, out: &mut Bytes, value: &Json) -> Result<(), WantOfMemory>
+pub fn append(alloc: Global, out: &mut Bytes, value: &Json) -> Result<(), WantOfMemory>
     ensures text { OnOk result (out.new ≡ out.old ++ canonical (plain value.now)) }
     ensures proper { OnOk result (IsProper (plain value.now)) }
 {
@@ -87,8 +90,28 @@ fn append_members(alloc: Global, out: &mut Bytes, members: &Object) -> Result<()
     Ok(())
 }
 
-// The comma before what is not the first.
-pub(crate) fn append_comma(alloc: Global, out: &mut Bytes, comma: bool) -> Result<(), WantOfMemory>
+/// Appends the text of what may be there between these texts, and nothing where there is nothing.
+pub fn append_there(
+    alloc: Global,
+    out: &mut Bytes,
+    front: &[u8],
+    there: Option<&Json>,
+    back: &[u8],
+) -> Result<(), WantOfMemory>
+    ensures { OnOk result (out.new ≡ out.old ++ text_there front.now (option_map plain (option_copied there.entry)) back.now) }
+{
+    match there {
+        Some(value) => {
+            out.push_all(alloc, front)?;
+            append(alloc, out, value)?;
+            out.push_all(alloc, back)
+        }
+        None => Ok(()),
+    }
+}
+
+/// Appends the comma before what is not the first.
+pub fn append_comma(alloc: Global, out: &mut Bytes, comma: bool) -> Result<(), WantOfMemory>
     ensures { OnOk result (out.new ≡ out.old ++ comma_text comma) }
 {
     if comma {

@@ -1,8 +1,7 @@
 -- What becomes of an operation in the state before it. The rules are this project's own, after DIF Sidetree v1.0.0,
 -- "Operation Compilation".
 use Rattle.std.specs.Prelude.{Bool, true, false, not, ◌&&◌, List, [], ◌∷◌, if◌then◌else◌, None}
-use Rattle.st_apply.specs.Acting.{reveals}
-use Rattle.st_apply.specs.Resolution.{is_create}
+use Rattle.st_apply.specs.Acting.{has_bad_delta, is_create, reveals}
 use Rattle.st_apply.specs.Seen.{Rules, Seen, creates, recovers, deactivates, updates, unclaimed, State, absent, active, deactivated}
 use Rattle.st_cert.specs.declared.verdict.Verdict.{Verdict}
 use Rattle.st_cert.specs.declared.verdict.Verdict.TheVariants.{Before, Again, Ended, Unclaimed, NoUpdates, WrongReveal, BadDelta, Created, Updated, Recovered, Deactivated}
@@ -42,11 +41,6 @@ module _ {Hash Document : Type 0} where
   abbrev pub is_update : Seen Hash Document → Bool
   is_update (updates reveal change) = true
   is_update operation = false
-
-  -- it is an update whose delta does not count
-  abbrev pub has_bad_delta : Seen Hash Document → Bool
-  has_bad_delta (updates reveal None) = true
-  has_bad_delta operation = false
 
   -- what an operation did that acts, by its kind; one without a claim never does
   abbrev pub acting_verdict : Seen Hash Document → Verdict

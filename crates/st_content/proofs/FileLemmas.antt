@@ -105,9 +105,6 @@ file_at-with_file-other uri file files other = other_by (is_some (file_at (uri_o
 
 -- ---- each file stands under its URI
 
-pub AreNamed-nil : AreNamed []
-AreNamed-nil uri file found = cc
-
 named_or : (file : List ℕ) (files : Files) (old : Option (List ℕ)) (found : List ℕ) → AreNamed files
     → file_at (uri_of file) files ≡ old → option_or old (Some file) ≡ Some found → uri_of found ≡ uri_of file
 named_or file files None found named e is = let same : file ≡ found = cc in rw same refl

@@ -38,6 +38,13 @@ chunk_rules limits wanted file =
     ∷ (K2, is_none (json_in file))
     ∷ chunk_json_rules wanted (json_in file)
 
+-- the name of a rule: a letter for chunk files, and its number
+abbrev pub chunk_rule_name : ChunkRule → List ℕ
+chunk_rule_name K1 = codes "K1"
+chunk_rule_name K2 = codes "K2"
+chunk_rule_name K3 = codes "K3"
+chunk_rule_name K4 = codes "K4"
+
 -- the first rule that a chunk file fails
 abbrev pub first_failing_chunk_rule : Limits → ℕ → List ℕ → Option ChunkRule
 first_failing_chunk_rule limits wanted file = first_failing (chunk_rules limits wanted file)

@@ -62,6 +62,13 @@ provisional_proof_rules limits updates file =
     ∷ (Q2, is_none (json_in file))
     ∷ provisional_proof_json_rules updates (json_in file)
 
+-- the name of a rule: a letter for both proof files, and its number
+abbrev pub proof_rule_name : ProofRule → List ℕ
+proof_rule_name Q1 = codes "Q1"
+proof_rule_name Q2 = codes "Q2"
+proof_rule_name Q3 = codes "Q3"
+proof_rule_name Q4 = codes "Q4"
+
 -- the first rule that a core proof file fails
 abbrev pub first_failing_core_proof_rule : Limits → ℕ → ℕ → List ℕ → Option ProofRule
 first_failing_core_proof_rule limits recovers deactivates file =

@@ -1,3 +1,6 @@
+ghost use Rattle.std.specs.Prelude.{◌≡◌};
+ghost use Rattle.st_datafiles.specs.Chunk.{chunk_rule_name};
+
 use st_base::FileRefused;
 
 /// The rules of a chunk file, in their order.
@@ -11,6 +14,20 @@ pub enum ChunkRule {
     K3,
     /// The number of deltas isn't that of creates, recovers and updates together.
     K4,
+}
+
+impl ChunkRule {
+    /// The name of the rule: a letter for what it judges, and its number, as `K4`.
+    pub fn name(&self) -> &'static str
+        ensures { result.now ≡ chunk_rule_name self.now }
+    {
+        match self {
+            ChunkRule::K1 => "K1",
+            ChunkRule::K2 => "K2",
+            ChunkRule::K3 => "K3",
+            ChunkRule::K4 => "K4",
+        }
+    }
 }
 
 /// Why a chunk file is not accepted.

@@ -1,5 +1,5 @@
 -- No value nests deeper than its canonical text is long, but for a scalar, whose depth is 1.
-use Rattle.std.proofs.Common.{◌≡◌, ℕ, ◌+◌, ◌-◌, ◌<◌, ◌≤◌, ◌^◌, max, Bool, true, false, not, nat_le, nat_lt, [], ◌∷◌, ◌++◌, length, arith, length-append}
+use Rattle.std.proofs.Common.{◌≡◌, ℕ, ◌+◌, ◌-◌, ◌<◌, ◌≤◌, ◌^◌, max, Bool, true, false, nat_le, [], ◌∷◌, ◌++◌, length, arith, length-append}
 use Rattle.std.specs.Prelude.{◌&&◌}
 use Rattle.std.proofs.lemmas.Bool.Decides.{nat_tests}
 use Rattle.st_canon.specs.Canonical.{canonical, canonical_items, canonical_members, comma, quoted}
@@ -38,9 +38,9 @@ mutual
       )
 
 bounded : (depth size most : ℕ) → depth ≤ max 1 size → most < 2 ^ 64
-    → not (nat_le depth (2 ^ 64 - 1) && nat_le size most) ≡ nat_lt most size
+    → nat_le depth (2 ^ 64 - 1) && nat_le size most ≡ nat_le size most
 bounded depth size most shallow fits = grind (arith, nat_tests)
 
 -- where 64 bits hold the bound on the size, none on the depth is needed beside it
-pub too_long : (p : Plain) (most : ℕ) → most < 2 ^ 64 → not (fits (2 ^ 64 - 1) most p) ≡ nat_lt most (size_of p)
-too_long p most held = bounded (depth_of p) (length (canonical p)) most (shallow p) held
+pub fits_by_size : (p : Plain) (most : ℕ) → most < 2 ^ 64 → fits (2 ^ 64 - 1) most p ≡ nat_le (size_of p) most
+fits_by_size p most held = bounded (depth_of p) (length (canonical p)) most (shallow p) held

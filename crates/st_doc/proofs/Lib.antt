@@ -1,3 +1,4 @@
+pub mod DeltaLemmas
 pub mod DepthLemmas
 pub mod EffectLemmas
 pub mod PatchLists

@@ -1,7 +1,7 @@
 ghost use Rattle.std.specs.Prelude.{◌≡◌, map, option_map, IfOk, Some};
 ghost use Rattle.st_canon.specs.Entries.{items_in};
 ghost use Rattle.st_canon.specs.Plain.{object};
-ghost use Rattle.st_canon.specs.Shapes.{entries_in, member_in};
+ghost use Rattle.st_canon.specs.Shapes.{entries_in, list_at, member_in};
 ghost use Rattle.st_canon.specs.View.{plain, plain_items, plain_members};
 ghost use Rattle.st_doc.specs.Document.{document_in, plain_document};
 ghost use Rattle.st_doc.specs.Entries.{texts_of};
@@ -76,6 +76,17 @@ pub(crate) fn take_member(value: Json, name: &str) -> Option<Json>
     match value {
         Json::Object(mut members) => members.remove(name),
         _ => None,
+    }
+}
+
+/// Takes the items of the list that is the member of this name out of an object that has one.
+#[tactic(auto, using(st_canon::proofs::ItemLists::entries_listed))]
+pub(crate) fn take_list(value: Json, name: &str) -> Option<List<Json>>
+    ensures { option_map (λ items. map plain items) result ≡ list_at name.now (Some (plain value)) }
+{
+    match items_of(take_member(value, name)?) {
+        Some(items) => Some(items),
+        None => None,
     }
 }
 

@@ -2,13 +2,15 @@ mod applied;
 mod bounds;
 mod forms;
 
-use crate::{Delta, DeltaRefused, Document, DocumentRefused, PatchRefused, apply_all, check_delta};
+use crate::{Delta, DeltaRefused, Document, PatchRefused, apply_all, check_delta};
+use st_base::{Copied, read_number};
 use st_canon::{Json, read, write};
 use st_params::{Params, Schedule};
-use std::test::Fail;
+use std::alloc::Global;
 
-// The hash text of `abc`.
-const COMMITMENT: &str = "EiC6eBa_jwHP6kFBQN5driIjsANho5YXepy0EP9h8gAVrQ";
+// A delta with these patches, and the hash text of `abc`.
+const PATCHES: &str =
+    r#"{"patches":%,"updateCommitment":"EiC6eBa_jwHP6kFBQN5driIjsANho5YXepy0EP9h8gAVrQ"}"#;
 
 fn params(version: &str) -> Params {
     if version == "2" {
@@ -18,58 +20,97 @@ fn params(version: &str) -> Params {
     }
 }
 
-fn json(rt: &HostRuntime, text: &str) -> Result<Json, Fail> {
-    match read(rt.alloc(), text.as_bytes()) {
-        Ok(json) => Ok(json),
-        Err(_) => Err(Fail::from("not read")),
+fn json(alloc: Global, text: &str) -> Option<Json> {
+    read(alloc, text.as_bytes()).ok()
+}
+
+// The JSON of the frame, with this in place of `%`.
+fn framed(alloc: Global, frame: &str, text: &str) -> Option<Json> {
+    match frame.replace(alloc, "%", text) {
+        Ok(whole) => json(alloc, whole.as_str()),
+        Err(_) => None,
     }
 }
 
-fn document(rt: &HostRuntime, text: &str, params: &Params) -> Result<Option<Document>, Fail> {
-    match Document::read(rt.alloc(), &json(rt, text)?, params) {
-        Ok(document) => Ok(Some(document)),
-        Err(DocumentRefused::NotDocument) => Ok(None),
-        Err(DocumentRefused::WantOfMemory) => Err(Fail::from("out of memory")),
+// Whether the text is this word, and this number.
+fn is_numbered(text: &str, word: &str, at: usize) -> bool {
+    match text.strip_prefix(word) {
+        Some(number) => match read_number(number.as_bytes(), 1_000) {
+            Some(number) => number as usize == at,
+            None => false,
+        },
+        None => false,
     }
 }
 
-fn text(rt: &HostRuntime, document: &Document) -> Result<String, Fail> {
-    let json = document.json(rt.alloc())?;
-    Ok(String::from_utf8(write(rt.alloc(), &json)?.into_vec())?)
-}
-
-fn delta(rt: &HostRuntime, text: &str, params: &Params) -> Result<Result<Delta, String>, Fail> {
-    match check_delta(rt.alloc(), json(rt, text)?, params) {
-        Ok(delta) => Ok(Ok(delta)),
-        Err(DeltaRefused::TooLong) => Ok(Err(String::from_str(rt.alloc(), "too long")?)),
-        Err(DeltaRefused::BadDelta) => Ok(Err(String::from_str(rt.alloc(), "bad delta")?)),
-        Err(DeltaRefused::BadPatch(at)) => Ok(Err(format!(in rt.alloc(); "bad patch {at}")?)),
-        Err(DeltaRefused::WantOfMemory) => Err(Fail::from("out of memory")),
+// Whether this is the canonical text of the document.
+fn is_text(alloc: Global, document: &Document, text: &str) -> bool {
+    match document.json(alloc) {
+        Ok(json) => match write(alloc, &json) {
+            Ok(written) => written.as_slice() == text.as_bytes(),
+            Err(_) => false,
+        },
+        Err(_) => false,
     }
 }
 
-// What is wrong with the delta, or nothing.
-fn refusal(rt: &HostRuntime, text: &str, params: &Params) -> Result<String, Fail> {
-    match delta(rt, text, params)? {
-        Ok(_) => Ok(String::from_str(rt.alloc(), "accepted")?),
-        Err(refusal) => Ok(refusal),
+// Whether the value is taken so: `accepted`, or why it is no delta.
+fn is_taken(alloc: Global, value: Json, params: &Params, taken: &str) -> bool {
+    match check_delta(alloc, value, params) {
+        Ok(_) => taken == "accepted",
+        Err(DeltaRefused::TooLong) => taken == "too long",
+        Err(DeltaRefused::BadDelta) => taken == "bad delta",
+        Err(DeltaRefused::BadPatch(at)) => is_numbered(taken, "bad patch ", at),
+        Err(DeltaRefused::WantOfMemory) => false,
     }
 }
 
-fn with_patches(rt: &HostRuntime, patches: &str) -> Result<String, Fail> {
-    Ok(format!(in rt.alloc(); "{{\"patches\":{patches},\"updateCommitment\":\"{COMMITMENT}\"}}")?)
+// Whether the patches make this of the document: its canonical text, or the number of the patch that fails.
+fn make(alloc: Global, document: Document, delta: Delta, params: &Params, made: &str) -> bool {
+    match apply_all(alloc, document, delta, params) {
+        Ok(document) => is_text(alloc, &document, made),
+        Err(PatchRefused::PatchFailed(at)) => is_numbered(made, "failed ", at),
+        Err(PatchRefused::WantOfMemory) => false,
+    }
 }
 
-// The text of the document after the patches, or what is wrong with the delta, or which patch fails.
-fn after(rt: &HostRuntime, value: &str, patches: &str, params: &Params) -> Result<String, Fail> {
-    let document = document(rt, value, params)?.ok_or("no document")?;
-    let delta = match delta(rt, with_patches(rt, patches)?.as_str(), params)? {
-        Ok(delta) => delta,
-        Err(refusal) => return Ok(refusal),
-    };
-    match apply_all(rt.alloc(), document, delta, params) {
-        Ok(document) => text(rt, &document),
-        Err(PatchRefused::PatchFailed(at)) => Ok(format!(in rt.alloc(); "failed {at}")?),
-        Err(PatchRefused::WantOfMemory) => Err(Fail::from("out of memory")),
+// The same of copies of both, after which both are what they were.
+fn copies_make(
+    alloc: Global,
+    document: &Document,
+    delta: &Delta,
+    params: &Params,
+    made: &str,
+) -> bool {
+    match document.copy(alloc) {
+        Ok(document) => match delta.copy(alloc) {
+            Ok(delta) => make(alloc, document, delta, params, made),
+            Err(_) => false,
+        },
+        Err(_) => false,
+    }
+}
+
+fn delta_makes(
+    alloc: Global,
+    document: &Document,
+    delta: Json,
+    params: &Params,
+    made: &str,
+) -> bool {
+    match check_delta(alloc, delta, params) {
+        Ok(delta) => copies_make(alloc, document, &delta, params, made),
+        Err(_) => false,
+    }
+}
+
+// Whether the patches make this of the document that the value is.
+fn patches_make(alloc: Global, value: &Json, patches: &str, params: &Params, made: &str) -> bool {
+    match Document::read(alloc, value, params) {
+        Ok(document) => match framed(alloc, PATCHES, patches) {
+            Some(delta) => delta_makes(alloc, &document, delta, params, made),
+            None => false,
+        },
+        Err(_) => false,
     }
 }

@@ -7,14 +7,13 @@ use Rattle.std.specs.Io.KnownBytes.{Consumes, Keeps, IsAtEnd}
 use Rattle.std.proofs.KnownBytes.{Appends-nil, Appends-trans, Consumes-nil, Consumes-trans, Consumes-kept}
 use Rattle.st_drive.specs.declared.stop.Stop.{Stop}
 use Rattle.st_drive.specs.declared.stop.Stop.TheVariants.{ReadFault, WriteFault, DeviceFault, OverLimit, WantOfMemory}
-use Rattle.st_base.specs.Words.{HasNo}
 use Rattle.st_drive.specs.Lines.{split, capped, whole_lines, last_line, all_lines, CutTo}
 use Rattle.st_drive.specs.Meaning.{Meaning, Laws}
 use Rattle.st_drive.specs.Runs.{Begins, Course, course}
 use Rattle.st_drive.specs.Parts.{Goes, Stops, GoesOverCut, Wrote, WroteSome}
 use Rattle.st_drive.specs.Stops.{IsAnswerStop}
 use Rattle.st_drive.specs.Tables.{Answered, AnsweredFirst, SoFar, Row, Table}
-use Rattle.st_drive.proofs.LineLemmas.{split_append, capped_append, capped_rest, capped_nil}
+use Rattle.st_drive.proofs.LineLemmas.{split_append, capped_append, capped_nil}
 use Rattle.st_drive.proofs.CutLemmas.{whole_cut, all_cut}
 use Rattle.st_drive.proofs.RunLemmas.{went_none, went_more, stopped_more, goes_stops, stops_longer}
 
@@ -103,10 +102,6 @@ module _ {M C : Type 0} {means : Meaning M C} {cap : ℕ} (laws : Laws means cap
     wrote = record { written = []; went = went_none laws start.machine start.context; writes = Appends-nil start.holds };
     budget = omega arith;
   }
-
-  pub taken_open : {limit room : ℕ} {line : List ℕ} {start now : Place M C} → Taken means cap limit room line start now
-      → HasNo 10 line
-  taken_open t = subst (HasNo 10) (sym t.line_is) (capped_rest cap t.taken)
 
   -- the lines of what was taken and of a piece
   piece_lines : {limit room : ℕ} {line : List ℕ} {start now : Place M C} (t : Taken means cap limit room line start now) (piece : List ℕ)

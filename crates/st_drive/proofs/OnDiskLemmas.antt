@@ -4,7 +4,7 @@ use Rattle.std.proofs.lemmas.List.{nil_from_length}
 use Rattle.st_io.specs.Past.{Past, Leaves}
 use Rattle.st_io.proofs.PastLemmas.{stands, goes_on, splits_since_sync}
 use Rattle.st_drive.specs.DiskLaws.{head_is}
-use Rattle.st_drive.specs.Runs.{Begins, RanOver, GaveUpOver, EndsWithin, course}
+use Rattle.st_drive.specs.Runs.{Begins, course}
 use Rattle.st_drive.specs.Tables.{AnsweredFirst}
 use Rattle.st_drive.specs.OnDisk.{Rules, replies, after, AllHold, HoldsEither, HoldsFirst, Went, GaveUp, Store, IsTold, disk_meaning, HasReleased, LeavesOnDisk, Opens, RunLeaves}
 use Rattle.st_drive.proofs.RunLemmas.{begins_trans}
@@ -75,10 +75,6 @@ module _ {M C K : Type 0} (rules : Rules M C K) (m : M) (k : K) (line : List ℕ
         (h.0, h.1, omega arith, h.2);
   }
 
-  -- nothing was done to the disk
-  pub line_stays : (a : Past) → AllHold rules k a → Leaves (HoldsEither rules m k line) a a
-  line_stays a all = record { goes = stands a; each = λ image left. inl (all image left) }
-
 -- the machine has replied to a line
 pub replied : {M C K : Type 0} (rules : Rules M C K) (m n : M) (line reply : List ℕ) → reply ≡ rules.reply m line → n ≡ rules.next m line
     → (more : List (List ℕ)) → replies rules m (line ∷ more) ≡ reply ++ replies rules n more
@@ -98,13 +94,6 @@ module _ {M C K : Type 0} (rules : Rules M C K) where
 
 module _ {M C K D : Type 0} (rules : Rules M C K) (store : Store D) where
   -- ---- the end of a run
-
-  -- the context went by the effect over the lines that were answered, or also over the next one
-  pub effect_within : {m : M} {c d : C × D} (answered later : List (List ℕ))
-      → EndsWithin (RanOver (disk_meaning rules store) m c d) (GaveUpOver (disk_meaning rules store) m c d) answered later
-      → EndsWithin (λ lines. (n : M) × rules.effect.ran m c.0 lines n d.0) (λ lines. rules.effect.gave_up m c.0 lines d.0) answered later
-  effect_within answered later (inl ran) = inl (ran.0, ran.1.effect)
-  effect_within answered later (inr gave) = inr (gave.0, gave.1, gave.2, gave.3.effect)
 
   module _ {m : M} {c d : C × D} {written : List ℕ} {lines : List (List ℕ)} (told : IsTold store c.1)
       (first : AnsweredFirst (course (disk_meaning rules store) m c d) written lines) where

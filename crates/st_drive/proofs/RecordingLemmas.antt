@@ -2,8 +2,8 @@
 use Rattle.std.proofs.Common.{◌≡◌, ◌∙◌, inl, inr, ⊎_elim, ◌++◌, List, [], ◌∷◌, ℕ, true, Some, ap, sym, append_assoc, append-nil}
 use Rattle.st_io.specs.Past.{Past, Leaves}
 use Rattle.st_drive.specs.OnDisk.{Rules, kept, AllHold, HoldsEither, HoldsFirst, Store, RanOnDisk, GaveUpOnDisk, RunLeaves}
-use Rattle.st_drive.specs.Recording.{Recorder, recorded, recording, changing, LeavesOneMore, HasRecorded, GaveUpRecording, HasIdled, HasPrefix, KeepsRecords}
-use Rattle.st_drive.proofs.OnDiskLemmas.{line_went, line_gave, line_stays}
+use Rattle.st_drive.specs.Recording.{Recorder, recorded, recording, changing, LeavesOneMore, HasRecorded, GaveUpRecording, HasPrefix, KeepsRecords}
+use Rattle.st_drive.proofs.OnDiskLemmas.{line_went, line_gave}
 
 module _ {M C : Type 0} (recorder : Recorder M C) where
   abbrev rules : Rules M C (List (List ℕ))
@@ -46,26 +46,6 @@ module _ {M C : Type 0} (recorder : Recorder M C) where
     effect = p.effect;
     disk = λ told r all. line_gave rules m r line (store.past c.1) (store.past d.1)
         (either m line r (store.past c.1) (store.past d.1) p.changes all (p.moments told));
-  }
-
-  -- a line that changes nothing leaves the disk
-  pub has_idled : {D : Type 0} {store : Store D} {m n : M} {c d : C} {line : List ℕ} {disk : D} → HasIdled recorder store m c line n d disk
-      → RanOnDisk rules store m (c, disk) (line ∷ []) n (d, disk)
-  has_idled {D} {store} {m} {n} {c} {d} {line} {disk} p = record {
-    effect = p.effect;
-    told = λ told. told;
-    came = p.came;
-    disk = λ told r all. line_went rules m r line (store.past disk) (store.past disk)
-        (line_stays rules m r line (store.past disk) all)
-        (λ image here. all image here ∙ sym (ap Some (ap (λ t. r ++ recorded t line) p.idle ∙ append-nil r)));
-  }
-
-  -- want of memory before the disk was touched, at any line
-  pub gave_up_idle : {D : Type 0} (store : Store D) (m : M) (c d : C) (line : List ℕ) (disk : D) → recorder.effect.gave_up m c (line ∷ []) d
-      → GaveUpOnDisk rules store m (c, disk) (line ∷ []) (d, disk)
-  gave_up_idle store m c d line disk effect = record {
-    effect = effect;
-    disk = λ told r all. line_gave rules m r line (store.past disk) (store.past disk) (line_stays rules m r line (store.past disk) all);
   }
 
   -- ---- a whole run

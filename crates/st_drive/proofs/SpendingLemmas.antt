@@ -3,7 +3,7 @@ use Rattle.std.proofs.Common.{◌≡◌, inl, inr, ⊎_elim, ◌++◌, ◌+◌, 
 use Rattle.std.specs.Prelude.{Contains}
 use Rattle.std.proofs.lemmas.List.Elements.{Contains-append_left, Contains-append_right, Contains-append_cases}
 use Rattle.st_io.specs.Past.{Past, Images, Only, Leaves}
-use Rattle.st_io.proofs.PastLemmas.{stands, goes_on}
+use Rattle.st_io.proofs.PastLemmas.{stands}
 use Rattle.st_drive.specs.OnDisk.{Rules, replies, after, kept, AllHold, HoldsEither, Store, IsTold, disk_meaning, RanOnDisk, GaveUpOnDisk, Opens, RunLeaves}
 use Rattle.st_drive.specs.Released.{Ascend, KeepsNumbers}
 use Rattle.st_drive.specs.Runs.{Begins, course}
@@ -16,16 +16,6 @@ use Rattle.st_drive.proofs.ReleasedLemmas.{none_in, one_in, ascend_lower, at_lea
 -- no call was made
 pub spent_stands : (spent : List ℕ → ℕ → Type 0) (past : Past) → StaysSpent spent past past
 spent_stands spent past = record { goes = stands past; stays = λ q all image left. all image left }
-
--- one call and then another
-pub spent_on : (spent : List ℕ → ℕ → Type 0) (a b c : Past) → StaysSpent spent a b → StaysSpent spent b c → StaysSpent spent a c
-spent_on spent a b c first second = record {
-  goes = goes_on a b c first.goes second.goes;
-  stays = λ q all image left. ⊎_elim
-      (λ was. first.stays q all image was)
-      (λ new. second.stays q (λ y is. first.stays q all y (b.earlier a.now b.now y first.goes.later is)) image new)
-      (second.goes.splits a.now image first.goes.later left);
-}
 
 module _ {M C : Type 0} (spender : Spender M C) where
   abbrev rules : Rules M C (List ℕ)

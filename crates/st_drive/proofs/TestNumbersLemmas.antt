@@ -3,8 +3,8 @@ use Rattle.std.proofs.Common.{◌≡◌, ◌∙◌, ◌++◌, ◌+◌, ℕ, true
 use Rattle.std.specs.Prelude.{IsSome}
 use Rattle.std.proofs.lemmas.Bool.{false≢true}
 use Rattle.std.proofs.lemmas.Option.{same_Some, none-some}
-use Rattle.st_io.specs.Past.{Past, GoesOn, AddsNone, Follow, Only}
-use Rattle.st_io.specs.Tears.{IfTold, Turns, Holds, Torn}
+use Rattle.st_io.specs.Past.{Past, Only}
+use Rattle.st_io.specs.Tears.{IfTold, Turns, Holds}
 use Rattle.st_io.proofs.TearLemmas.{length_overwritten}
 use Rattle.std.specs.Io.KnownBytes.{Consumes, Appends}
 use Rattle.st_drive.specs.Lines.{all_lines}
@@ -16,17 +16,6 @@ use Rattle.st_drive.specs.TestNumbers.{is_bump, bump_next, bump_number, IsBumped
 use Rattle.st_drive.specs.TestNumbersLaws.{number_laws}
 use Rattle.st_drive.proofs.InputLemmas.{Tells, answered_input, nothing_written}
 use Rattle.st_drive.proofs.SpendingLemmas.{has_spent, gave_up_spending, spent_stands, kept_numbers, spending_leaves, spending_opened}
-
--- no image is added
-pub stays_read : (a b : Past) → GoesOn a b → AddsNone a b → StaysSpent IsBumped a b
-stays_read a b goes none = record { goes = goes; stays = λ q all image left. all image (none image left) }
-
--- one byte may have been written
-pub stays_written : (at : ℕ) (a b : Past) → GoesOn a b → Follow (Torn at 1) a b → StaysSpent IsBumped a b
-stays_written at a b goes follow = record {
-  goes = goes;
-  stays = λ q all image left. let from = follow image left in omega (arith, all from.0 from.1, from.2.no_shorter);
-}
 
 -- it was written behind the others
 pub one_longer : (old new : Option (List ℕ)) (number : ℕ) → IfTold old (λ image. length image ≡ number) → Turns old new (Holds number (1 ∷ []))

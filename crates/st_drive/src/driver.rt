@@ -14,6 +14,7 @@ use crate::progress::Progress;
 use crate::stop::Stop;
 use st_io::{Failed, Sink, Source};
 use std::alloc::Global;
+use std::mem::forget;
 
 // At most `want` bytes, to the front of the buffer.
 fn read_some<S: Source>(source: &mut S, buffer: &mut [u8], want: usize) -> Result<usize, Failed>
@@ -84,10 +85,14 @@ fn end_run<M: Machine, K: Sink>(
 {
     match answer_last(alloc, progress, context, device, sink) {
         Err(stop) => Err(stop),
-        Ok(_) => match sink.finish() {
-            Ok(()) => Ok(()),
-            Err(_) => Err(Stop::WriteFault),
-        },
+        Ok(machine) => {
+            // A run ends with its process, which gives all memory back at once.
+            forget(machine);
+            match sink.finish() {
+                Ok(()) => Ok(()),
+                Err(_) => Err(Stop::WriteFault),
+            }
+        }
     }
 }
 
@@ -107,6 +112,9 @@ fn end_run<M: Machine, K: Sink>(
 /// `OverLimit` every whole line is answered and the replies are written; under `WriteFault`,
 /// `DeviceFault` and `WantOfMemory` a beginning of the replies is. Want of memory is free. What is said
 /// of replies stands where the machine's meaning tells them.
+///
+/// At the end of the input the machine is let go with the process: its memory is not given back piece by
+/// piece.
 pub fn drive<M: Machine, S: Source, K: Sink>(
     alloc: Global,
     buffer: &mut [u8],

@@ -5,6 +5,7 @@ ghost use Rattle.st_exchange.specs.Message.{IsMessage, IsShort};
 
 use crate::asking::{once, wanted_of};
 use crate::message::{Answer, LONGEST_BLOB, Message};
+use crate::wanting::Wants;
 use st_base::{Bytes, Copied, List, WantOfMemory};
 use st_content::Content;
 use st_hash::{Hash, uri_of};
@@ -15,15 +16,17 @@ use std::alloc::Global;
 /// To a `Want` it sends one `Blob` for each different URI of the list whose file it has, in the order of
 /// their first places, but for files of more than 16,000,000 bytes. To a `Have` it sends one `Want` of
 /// those of the list that it wants, in order and as often as they stand there, or nothing where it wants
-/// none. A `Blob` it keeps exactly where it wants the file, and hashes it once. It sends and keeps nothing
-/// else.
-pub fn answer(
+/// none. A `Blob` it keeps exactly where it wants the file. It sends and keeps nothing else.
+///
+/// Whether a file is wanted is asked once for each URI of a `Have`, once for a `Blob`, which is hashed once
+/// for that, and never for a `Want`. Who has a list of what is wanted makes a set of it.
+pub fn answer<W: Wants>(
     alloc: Global,
     content: &Content,
-    wanted: &[Hash],
+    wanted: &W,
     message: &Message,
 ) -> Result<Answer, WantOfMemory>
-    ensures value { IfOk result (λ answer. answer ≡ answer_of content.now wanted.now message.now) }
+    ensures value { IfOk result (λ answer. answer ≡ answer_of content.now (W.wanted wanted.now) message.now) }
     // What is sent keeps to the limits of a message, and has a spelling.
     ensures short { IsShort message.now → IfOk result (λ answer. AllByRecursion IsShort answer.send) }
     ensures sent { IsMessage message.now → IfOk result (λ answer. AllByRecursion IsMessage answer.send) }
@@ -31,13 +34,13 @@ pub fn answer(
     answered(alloc, content, wanted, message)
 }
 
-fn answered(
+fn answered<W: Wants>(
     alloc: Global,
     content: &Content,
-    wanted: &[Hash],
+    wanted: &W,
     message: &Message,
 ) -> Result<Answer, WantOfMemory>
-    ensures { IfOk result (λ answer. answer ≡ answer_of content.now wanted.now message.now) }
+    ensures { IfOk result (λ answer. answer ≡ answer_of content.now (W.wanted wanted.now) message.now) }
 {
     match message {
         Message::Want(uris) => Ok(Answer {
@@ -92,8 +95,8 @@ fn put_blob(
 }
 
 // One message that asks for those that are wanted.
-fn asked(alloc: Global, wanted: &[Hash], uris: &[Hash]) -> Result<List<Message>, WantOfMemory>
-    ensures { IfOk result (λ asked. asked ≡ want_of (filter (is_among wanted.now) uris.now)) }
+fn asked<W: Wants>(alloc: Global, wanted: &W, uris: &[Hash]) -> Result<List<Message>, WantOfMemory>
+    ensures { IfOk result (λ asked. asked ≡ want_of (filter (is_among (W.wanted wanted.now)) uris.now)) }
 {
     let those = wanted_of(alloc, wanted, uris)?;
     let mut asked = List::new(alloc);
@@ -104,18 +107,12 @@ fn asked(alloc: Global, wanted: &[Hash], uris: &[Hash]) -> Result<List<Message>,
 }
 
 // The bytes, where their URI is wanted.
-fn kept(alloc: Global, wanted: &[Hash], bytes: &Bytes) -> Result<Option<Bytes>, WantOfMemory>
-    ensures { IfOk result (λ kept. kept ≡ kept_of wanted.now bytes.now) }
+fn kept<W: Wants>(alloc: Global, wanted: &W, bytes: &Bytes) -> Result<Option<Bytes>, WantOfMemory>
+    ensures { IfOk result (λ kept. kept ≡ kept_of (W.wanted wanted.now) bytes.now) }
 {
     let uri = uri_of(bytes.as_slice());
-    if contains(wanted, &uri) {
+    if wanted.wants(alloc, &uri)? {
         return Ok(Some(bytes.copy(alloc)?));
     }
     Ok(None)
-}
-
-fn contains(uris: &[Hash], uri: &Hash) -> bool
-    ensures { result ≡ is_among uris.now uri.now }
-{
-    uris.contains(uri)
 }

@@ -1,14 +1,14 @@
 ghost use Rattle.std.specs.Prelude.{◌≡◌, ◌++◌, ◌∷◌, [], IfOk, OnOk, filter, take};
-ghost use Rattle.std.specs.BTreeSet.{IsFromIterResult, contains};
 ghost use Rattle.std.specs.List.{AllByRecursion};
 ghost use Rattle.st_exchange.specs.Among.{HasThose};
 ghost use Rattle.st_exchange.specs.Answer.{ask_of, each_once, is_among, with_one};
 ghost use Rattle.st_exchange.specs.Message.{IsMessage, IsShort, IsUri, most_uris};
 
 use crate::message::{MOST_URIS, Message};
+use crate::wanting::Wants;
 use st_base::{List, WantOfMemory};
 use st_hash::Hash;
-use std::alloc::{AllocError, Global};
+use std::alloc::Global;
 use std::collections::BTreeSet;
 
 /// What a node asks for that wants the files of these URIs: the first 1,000 of them.
@@ -67,25 +67,13 @@ fn put_once(
     Ok(())
 }
 
-/// Those of these URIs that are among the wanted, in order.
-pub(crate) fn wanted_of(
+/// Those of these URIs that are wanted, in order.
+pub(crate) fn wanted_of<W: Wants>(
     alloc: Global,
-    wanted: &[Hash],
+    wanted: &W,
     uris: &[Hash],
 ) -> Result<List<Hash>, WantOfMemory>
-    ensures { IfOk result (λ those. those ≡ filter (is_among wanted.now) uris.now) }
-{
-    let wanted = set_of(alloc, wanted)?;
-    let those = those_in(alloc, &wanted, uris)?;
-    Ok(those)
-}
-
-fn those_in(
-    alloc: Global,
-    wanted: &BTreeSet<Hash>,
-    uris: &[Hash],
-) -> Result<List<Hash>, WantOfMemory>
-    ensures { IfOk result (λ those. those ≡ filter (contains ⟦<Hash as Ord>⟧.cmp wanted.now) uris.now) }
+    ensures { IfOk result (λ those. those ≡ filter (is_among (W.wanted wanted.now)) uris.now) }
 {
     let mut those = List::new(alloc);
     for uri in uris {
@@ -94,23 +82,16 @@ fn those_in(
     Ok(those)
 }
 
-fn put_wanted(
+fn put_wanted<W: Wants>(
     alloc: Global,
     those: &mut List<Hash>,
-    wanted: &BTreeSet<Hash>,
+    wanted: &W,
     uri: &Hash,
 ) -> Result<(), WantOfMemory>
-    ensures { OnOk result (those.new ≡ those.old ++ filter (contains ⟦<Hash as Ord>⟧.cmp wanted.now) (uri.now ∷ [])) }
+    ensures { OnOk result (those.new ≡ those.old ++ filter (is_among (W.wanted wanted.now)) (uri.now ∷ [])) }
 {
-    if wanted.contains(uri) {
+    if wanted.wants(alloc, uri)? {
         those.push(alloc, *uri)?;
     }
     Ok(())
-}
-
-// The hashes, each once and in order.
-fn set_of(alloc: Global, hashes: &[Hash]) -> Result<BTreeSet<Hash>, AllocError>
-    ensures { IfOk result (IsFromIterResult ⟦<Hash as Ord>⟧.cmp hashes.now) }
-{
-    hashes.iter().copied().collect(alloc)
 }

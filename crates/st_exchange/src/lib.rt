@@ -10,9 +10,11 @@ mod encoding;
 mod message;
 #[cfg(test)]
 mod tests;
+mod wanting;
 
 pub use answering::answer;
 pub use asking::ask;
 pub use decoding::decode;
 pub use encoding::encode;
 pub use message::{Answer, DecodeRefused, LONGEST_BLOB, MOST_URIS, Message};
+pub use wanting::Wants;

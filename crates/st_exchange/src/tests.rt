@@ -1,8 +1,9 @@
 use crate::{Answer, DecodeRefused, Message, answer, ask, decode, encode};
-use st_base::{Bytes, List, WantOfMemory};
+use st_base::{Bytes, WantOfMemory};
 use st_content::Content;
 use st_hash::{DecRefused, Hash, dec, enc, read_hash};
 use std::alloc::Global;
+use std::collections::BTreeSet;
 use std::test::Fail;
 
 // A message, the URIs that are wanted, the messages that are sent back, and the bytes that are kept, or `bad`
@@ -73,7 +74,7 @@ fn is_answered(alloc: Global, content: &Content, line: &str) -> Result<bool, Wan
     let wanted = uris(alloc, wanted)?;
     match decode(alloc, bytes.as_slice()) {
         Ok(message) => {
-            let answer = answer(alloc, content, wanted.as_slice(), &message)?;
+            let answer = answer(alloc, content, &wanted, &message)?;
             let spelled = encode(alloc, &message)?;
             Ok(is_told(alloc, &answer, told)? && spelled.as_slice() == bytes.as_slice())
         }
@@ -134,11 +135,11 @@ fn decoded(alloc: Global, text: &str) -> Result<Bytes, WantOfMemory> {
 }
 
 // The hashes of these texts, of which `-` is none.
-fn uris(alloc: Global, texts: &str) -> Result<List<Hash>, WantOfMemory> {
-    let mut uris = List::new(alloc);
+fn uris(alloc: Global, texts: &str) -> Result<BTreeSet<Hash>, WantOfMemory> {
+    let mut uris = BTreeSet::new(alloc);
     for text in texts.split(',') {
         if let Ok(uri) = read_hash(text.as_bytes()) {
-            uris.push(alloc, uri)?;
+            uris.insert(uri)?;
         }
     }
     Ok(uris)

@@ -9,7 +9,5 @@ abbrev pub is_generate_end : ℕ → Bool
 is_generate_end status = status == 0 || (status == 3 || status == 6)
 
 -- a beginning of the text is behind what was written
-pub record WritesFront (text : List ℕ) (held holds : Option (List ℕ)) : Type 0 where
-  pub front : List ℕ
-  pub begins : Begins front text
-  pub writes : Appends held holds front
+abbrev pub WritesFront : (text : List ℕ) (held holds : Option (List ℕ)) → Type 0
+WritesFront text held holds = (front : List ℕ) × Begins front text × Appends held holds front

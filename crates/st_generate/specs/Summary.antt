@@ -11,7 +11,7 @@ use Rattle.st_workload.specs.Identifier.{did_suffix}
 use Rattle.st_workload.specs.Order.{events}
 
 -- the line that resolves the short form of an identifier
-abbrev pub resolve_line : HashValue → List ℕ
+unfoldable pub resolve_line : HashValue → List ℕ
 resolve_line suffix = codes "resolve did:sidetree:" ++ hash_text suffix
 
 -- Once both nodes have resolved a line: the second resolved it where its reply says so, and they agree

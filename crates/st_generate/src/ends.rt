@@ -1,5 +1,6 @@
-ghost use Rattle.std.specs.Prelude.{◌≡◌, bytes_eq, IfOk};
+ghost use Rattle.std.specs.Prelude.{◌≡◌, ◌+◌, bytes_eq, codes, IfOk};
 ghost use Rattle.st_generate.specs.Summary.{all_asked, asked, resolve_line};
+ghost use Rattle.st_generate.specs.Talk.{begins_with, one_if};
 ghost use Rattle.st_workload.specs.Each.{each};
 ghost use Rattle.st_workload.specs.Identity.{identity_of};
 
@@ -39,9 +40,17 @@ pub fn ask_all(
 }
 
 // Asks both nodes for the identifier of this suffix.
-#[tactic(auto, unfolding(crate::specs::Summary::asked))]
 fn ask(alloc: Global, suffix: &Hash, ends: Ends, work: &mut Work) -> Result<Ends, WantOfMemory>
     ensures { IfOk result (λ more. more ≡ asked (resolve_line suffix.now) ends) }
+{
+    let line = resolve_line(alloc, suffix)?;
+    Ok(ask_line(alloc, line.as_slice(), ends, work)?)
+}
+
+// Asks both nodes this line.
+#[tactic(auto, unfolding(crate::specs::Summary::asked))]
+fn ask_line(alloc: Global, line: &[u8], ends: Ends, work: &mut Work) -> Result<Ends, WantOfMemory>
+    ensures { IfOk result (λ more. more ≡ asked line.now ends) }
 {
     let Ends {
         first,
@@ -49,17 +58,26 @@ fn ask(alloc: Global, suffix: &Hash, ends: Ends, work: &mut Work) -> Result<Ends
         resolved,
         agreed,
     } = ends;
-    let line = resolve_line(alloc, suffix)?;
-    let (first, one) = first.tell(alloc, line.as_slice(), work)?;
-    let (second, other) = second.tell(alloc, line.as_slice(), work)?;
-    let resolved = plus_one_if(resolved, begins_with(b"resolved", other.as_slice()))?;
-    let agreed = plus_one_if(agreed, is_same(one.as_slice(), other.as_slice()))?;
+    let (first, one) = first.tell(alloc, line, work)?;
+    let (second, other) = second.tell(alloc, line, work)?;
+    let (resolved, agreed) = count(resolved, agreed, one.as_slice(), other.as_slice())?;
     Ok(Ends {
         first,
         second,
         resolved,
         agreed,
     })
+}
+
+// How many were resolved and answered alike, with the replies of both nodes to one line more.
+fn count(resolved: u64, agreed: u64, one: &[u8], other: &[u8]) -> Result<(u64, u64), WantOfMemory>
+    ensures { IfOk result (λ more.
+        (more.0 ≡ resolved + one_if (begins_with (codes "resolved") other.now))
+        × (more.1 ≡ agreed + one_if (bytes_eq one.now other.now))) }
+{
+    let resolved = plus_one_if(resolved, begins_with(b"resolved", other))?;
+    let agreed = plus_one_if(agreed, is_same(one, other))?;
+    Ok((resolved, agreed))
 }
 
 fn is_same(one: &[u8], other: &[u8]) -> bool
@@ -69,6 +87,7 @@ fn is_same(one: &[u8], other: &[u8]) -> bool
 }
 
 // The line that resolves the short form of an identifier.
+#[tactic(auto, unfolding(crate::specs::Summary::resolve_line))]
 fn resolve_line(alloc: Global, suffix: &Hash) -> Result<Bytes, WantOfMemory>
     ensures { IfOk result (λ line. line ≡ resolve_line suffix.now) }
 {

@@ -1,6 +1,5 @@
-ghost use Rattle.std.specs.Prelude.{◌≡◌, ◌≢◌, ◌≤◌, ◌⊎◌, ℕ, List, true, IsTrue, OnOk, OnErr};
+ghost use Rattle.std.specs.Prelude.{◌≡◌, ◌≢◌, ◌≤◌, ◌⊎◌, true, IsTrue, OnOk, OnErr};
 ghost use Rattle.std.specs.Io.KnownBytes.{Appends};
-ghost use Rattle.st_drive.specs.Runs.{Begins};
 ghost use Rattle.st_io.specs.Causes.{HasCause, Rose};
 ghost use Rattle.st_io.specs.Sinks.{FinishesNothing};
 ghost use Rattle.st_generate.specs.Plan.{most_rounds};
@@ -10,6 +9,7 @@ ghost use Rattle.st_generate.specs.Summary.{summary};
 use crate::plan::Plan;
 use crate::summary::generate;
 use st_base::Work;
+use st_drive::write_all;
 use st_io::{Failed, Sink};
 use std::alloc::Global;
 
@@ -47,20 +47,5 @@ fn write_whole<K: Sink>(sink: &mut K, text: &[u8]) -> Result<(), Failed>
 {
     write_all(sink, text)?;
     sink.finish()?;
-    Ok(())
-}
-
-// Writes all of it, or a front of it where the sink fails.
-fn write_all<K: Sink>(sink: &mut K, text: &[u8]) -> Result<(), Failed>
-    ensures ok { OnOk result (Appends (K.written sink.old) (K.written sink.new) text.now) }
-    ensures front { WritesFront text.now (K.written sink.old) (K.written sink.new) }
-    ensures unfinished { FinishesNothing (K.is_finished sink.old) (K.is_finished sink.new) }
-    ensures cause { HasCause (K.faults sink.old) (K.faults sink.new) result }
-{
-    let mut rest = text;
-    'writes: while !rest.is_empty() {
-        let count = sink.write(rest)?;
-        rest = &rest[count..];
-    }
     Ok(())
 }

@@ -1,5 +1,5 @@
 -- Base64url and hash texts have one spelling each.
-use Rattle.std.proofs.Common.{◌≡◌, ◌≢◌, ◌∙◌, ◌+◌, ◌*◌, ◌/◌, ℕ, [], length, arith, List, Some, None, refl, sym, ap}
+use Rattle.std.proofs.Common.{◌≡◌, ◌≢◌, ◌∙◌, ◌+◌, ◌*◌, ◌/◌, ℕ, [], length, arith, List, Some, refl, ap}
 use Rattle.std.specs.declared.result.Result.{Result}
 use Rattle.std.specs.declared.result.Result.TheVariants.{Ok, Err}
 use Rattle.std.specs.Result.{result_ok}
@@ -23,12 +23,6 @@ spelled text bytes are_bytes found =
 -- and what was written is read again
 pub bytes_of_text-base64url : (bytes : List ℕ) → IsBytes bytes → bytes_of_text (base64url bytes) ≡ Some bytes
 bytes_of_text-base64url bytes are_bytes = ap result_ok (decode_of-encode_of url_safe_no_pad bytes refl are_bytes)
-
-pub bytes_of_text-none : (text bytes : List ℕ) → bytes_of_text text ≡ None → IsBytes bytes → text ≢ base64url bytes
-bytes_of_text-none text bytes none are_bytes same =
-    let read = bytes_of_text-base64url bytes are_bytes in
-    let refused : bytes_of_text (base64url bytes) ≡ None = ap bytes_of_text (sym same) ∙ none in
-    cc
 
 -- how long a text is
 pub length-base64url : (bytes : List ℕ) → length (base64url bytes) ≡ (4 * length bytes + 2) / 3

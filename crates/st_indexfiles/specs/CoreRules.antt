@@ -88,6 +88,17 @@ core_rules limits count file =
     ∷ (C2, is_none (json_in file))
     ∷ core_json_rules limits count (json_in file)
 
+-- the name of a rule: a letter for core index files, and its number
+abbrev pub core_rule_name : CoreRule → List ℕ
+core_rule_name C1 = codes "C1"
+core_rule_name C2 = codes "C2"
+core_rule_name C3 = codes "C3"
+core_rule_name C4 = codes "C4"
+core_rule_name C5 = codes "C5"
+core_rule_name C6 = codes "C6"
+core_rule_name C7 = codes "C7"
+core_rule_name C8 = codes "C8"
+
 -- the first rule that a core index file fails
 abbrev pub first_failing_core_rule : Limits → ℕ → List ℕ → Option CoreRule
 first_failing_core_rule limits count file = first_failing (core_rules limits count file)

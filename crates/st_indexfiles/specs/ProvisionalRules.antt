@@ -69,6 +69,18 @@ provisional_rules limits count core file =
     ∷ (P2, is_none (json_in file))
     ∷ provisional_json_rules limits count core (json_in file)
 
+-- the name of a rule: a letter for provisional index files, and its number
+abbrev pub provisional_rule_name : ProvisionalRule → List ℕ
+provisional_rule_name P1 = codes "P1"
+provisional_rule_name P2 = codes "P2"
+provisional_rule_name P3 = codes "P3"
+provisional_rule_name P4 = codes "P4"
+provisional_rule_name P5 = codes "P5"
+provisional_rule_name P6 = codes "P6"
+provisional_rule_name P7 = codes "P7"
+provisional_rule_name P8 = codes "P8"
+provisional_rule_name P9 = codes "P9"
+
 -- the first rule that a provisional index file fails
 abbrev pub first_failing_provisional_rule : Limits → ℕ → CoreIndex → List ℕ → Option ProvisionalRule
 first_failing_provisional_rule limits count core file = first_failing (provisional_rules limits count core file)

@@ -1,3 +1,6 @@
+ghost use Rattle.std.specs.Prelude.{◌≡◌};
+ghost use Rattle.st_indexfiles.specs.CoreRules.{core_rule_name};
+
 use st_base::FileRefused;
 
 /// The rules of a core index file, in their order.
@@ -21,6 +24,24 @@ pub enum CoreRule {
     C7,
     /// `coreProofFileUri` is there and there is no recover or deactivate, or the reverse.
     C8,
+}
+
+impl CoreRule {
+    /// The name of the rule: a letter for what it judges, and its number, as `C8`.
+    pub fn name(&self) -> &'static str
+        ensures { result.now ≡ core_rule_name self.now }
+    {
+        match self {
+            CoreRule::C1 => "C1",
+            CoreRule::C2 => "C2",
+            CoreRule::C3 => "C3",
+            CoreRule::C4 => "C4",
+            CoreRule::C5 => "C5",
+            CoreRule::C6 => "C6",
+            CoreRule::C7 => "C7",
+            CoreRule::C8 => "C8",
+        }
+    }
 }
 
 /// Why a core index file is not accepted.

@@ -1,3 +1,6 @@
+ghost use Rattle.std.specs.Prelude.{◌≡◌};
+ghost use Rattle.st_indexfiles.specs.ProvisionalRules.{provisional_rule_name};
+
 use st_base::FileRefused;
 
 /// The rules of a provisional index file, in their order.
@@ -24,6 +27,25 @@ pub enum ProvisionalRule {
     P8,
     /// There is no create, no recover and no update.
     P9,
+}
+
+impl ProvisionalRule {
+    /// The name of the rule: a letter for what it judges, and its number, as `P9`.
+    pub fn name(&self) -> &'static str
+        ensures { result.now ≡ provisional_rule_name self.now }
+    {
+        match self {
+            ProvisionalRule::P1 => "P1",
+            ProvisionalRule::P2 => "P2",
+            ProvisionalRule::P3 => "P3",
+            ProvisionalRule::P4 => "P4",
+            ProvisionalRule::P5 => "P5",
+            ProvisionalRule::P6 => "P6",
+            ProvisionalRule::P7 => "P7",
+            ProvisionalRule::P8 => "P8",
+            ProvisionalRule::P9 => "P9",
+        }
+    }
 }
 
 /// Why a provisional index file is not accepted.

@@ -2,8 +2,8 @@
 use Rattle.std.proofs.Common.{◌≡◌, inr, ℕ, ◌+◌, ◌<◌, ◌≤◌, max, List, [], ◌∷◌, ◌++◌, length, get_or, take, drop, replicate, refl, sym, ◌∙◌, ap, subst, arith}
 use Rattle.std.proofs.lemmas.List.{length-replicate, reverse-append, take_more, take-append-drop}
 use Rattle.std.specs.Prelude.{reverse}
-use Rattle.st_io.specs.Crashes.{torn_by, crash_step, crashed, BeginsWithin}
-use Rattle.st_io.specs.Histories.{DiskHistory, IsImage, after_step, reads_after, past_of, AllBeganWithin}
+use Rattle.st_io.specs.Crashes.{torn_by, crashed, BeginsWithin}
+use Rattle.st_io.specs.Histories.{DiskHistory, IsImage, reads_after, past_of, AllBeganWithin}
 use Rattle.st_io.specs.Past.{Images}
 use Rattle.st_io.specs.Tears.{overwritten, Torn}
 use Rattle.st_io.specs.declared.history.Step.{Step}
@@ -93,12 +93,3 @@ module _ {pick : Pick} {first : List ℕ} {steps : List Step} {i : ℕ} {reads i
       subst (λ r. BeginsWithin step r image) (sym gone.reads_are)
       (subst (BeginsWithin step (reads_after first (reverse (take i steps)))) (sym gone.image_is)
       (begins_within pick first step (reverse (take i steps)) next))
-
-  -- and goes on
-  pub goes_on : HasGone pick first steps (i + 1) (after_step step reads) (crash_step pick step reads image)
-  goes_on = record {
-    reads_are = ap (after_step step) gone.reads_are ∙ sym (ap (reads_after first) (one_more steps i step lt is));
-    image_is = ap (λ r. crash_step pick step r image) gone.reads_are
-        ∙ ap (crash_step pick step (reads_after first (reverse (take i steps)))) gone.image_is
-        ∙ sym (ap (crashed pick first) (one_more steps i step lt is));
-  }

@@ -1,6 +1,6 @@
 -- How a run of calls of a disk goes on. For crates that speak of stops inside a call.
-use Rattle.std.proofs.Common.{◌⊎◌, inl, inr, ⊎_elim, ℕ, zero, suc, ◌<◌, ◌≤◌, List, subst, arith}
-use Rattle.st_io.specs.Past.{Past, Images, GoesOn, NoSync, OneSync, AddsNone, Follow, LeftSinceSync, Leaves, SplitsSinceSync}
+use Rattle.std.proofs.Common.{◌⊎◌, inl, inr, ⊎_elim, ℕ, zero, suc, ◌<◌, ◌≤◌, List, arith}
+use Rattle.st_io.specs.Past.{Past, GoesOn, AddsNone, LeftSinceSync, Leaves, SplitsSinceSync}
 
 -- no call
 pub stands : (p : Past) → GoesOn p p
@@ -21,25 +21,12 @@ goes_on a b c ab bc = record {
       (λ new. first.0 (second.0 new), λ was. second.1 (first.1 was));
 }
 
--- the images of now are among those since an earlier moment
-pub now_too : (P : List ℕ → Type 0) (a b : Past) → Leaves P a b → (x : List ℕ) → Images b x → P x
-now_too P a b so_far x image = so_far.each x (b.earlier a.now b.now x so_far.goes.later image)
-
 -- one call more
 pub more : (P : List ℕ → Type 0) (a b c : Past) → Leaves P a b → GoesOn b c → ((x : List ℕ) → c.left_since b.now x → P x) → Leaves P a c
 more P a b c so_far goes since = record {
   goes = goes_on a b c so_far.goes goes;
   each = λ x left. ⊎_elim (so_far.each x) (since x) (goes.splits a.now x so_far.goes.later left);
 }
-
--- one call more that adds no image
-pub more_none : (P : List ℕ → Type 0) (a b c : Past) → Leaves P a b → GoesOn b c → AddsNone b c → Leaves P a c
-more_none P a b c so_far goes none = more P a b c so_far goes (λ x left. now_too P a b so_far x (none x left))
-
--- one call more that writes
-pub more_write : (P : List ℕ → Type 0) (step : List ℕ → List ℕ → Type 0) (a b c : Past) → Leaves P a b → GoesOn b c → Follow step b c
-    → ((d x : List ℕ) → Images b d → step d x → P x) → Leaves P a c
-more_write P step a b c so_far goes follow to = more P a b c so_far goes (λ x left. let f = follow x left in to f.0 x f.1 f.2)
 
 -- two runs that add no image
 pub adds_none : (a b c : Past) → GoesOn a b → AddsNone a b → GoesOn b c → AddsNone b c → AddsNone a c
@@ -52,21 +39,6 @@ pub le_or_lt : (s n : ℕ) → (s ≤ n) ⊎ (n < s)
 le_or_lt zero n = inl (omega arith)
 le_or_lt (suc s) zero = inr (omega arith)
 le_or_lt (suc s) (suc n) = ⊎_elim (λ le. inl (omega (arith, le))) (λ lt. inr (omega (arith, lt))) (le_or_lt s n)
-
--- two runs without a good sync
-pub no_syncs : (a b c : Past) → NoSync a b → GoesOn b c → NoSync b c → NoSync a c
-no_syncs a b c none_first bc none_then s lt synced = ⊎_elim
-    (λ le. none_first s lt ((bc.syncs s le).0 synced))
-    (λ more. none_then s more synced)
-    (le_or_lt s b.now)
-
--- where one good sync has come since a time, the images from the first one on are those since it
-pub since_sync : (a b c : Past) → OneSync a b → GoesOn b c → (x : List ℕ) → LeftSinceSync c a.now x → c.left_since b.now x
-since_sync a b c one goes x left =
-    ⊎_elim
-    (λ le. subst (λ s. c.left_since s x) (one.no_other left.0 left.1 ((goes.syncs left.0 le).0 left.2)) left.3)
-    (λ lt. c.earlier b.now left.0 x (omega (arith, lt)) left.3)
-    (le_or_lt left.0 b.now)
 
 -- the images from the first good sync on split at a later moment
 pub splits_since_sync : (b c : Past) → GoesOn b c → (t : ℕ) (x : List ℕ) → LeftSinceSync c t x → LeftSinceSync b t x ⊎ c.left_since b.now x

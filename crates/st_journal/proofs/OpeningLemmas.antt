@@ -1,33 +1,23 @@
 -- What opening leaves of a disk, and how it stands afterwards.
-use Rattle.std.proofs.Common.{◌≡◌, inl, inr, ⊎_elim, ◌∙◌, ℕ, ◌^◌, ◌<◌, ◌≤◌, Bool, true, false, nat_le, nat_lt, List, [], ◌∷◌, length, drop, Option, Some, None, option_map, Result, Ok, Err, IfOk, OnOk, ap, sym, arith}
-use Rattle.std.specs.Option.{ok_or}
+use Rattle.std.proofs.Common.{◌≡◌, ⊎_elim, ◌∙◌, ℕ, ◌+◌, ◌^◌, ◌<◌, ◌≤◌, nat_lt, List, [], ◌∷◌, length, drop, Option, Some, None, ap, sym, arith}
 use Rattle.std.proofs.lemmas.Bool.{cond-false, cond-true, le-ltb, lt-ltb}
 use Rattle.std.proofs.lemmas.List.{drop_all}
-use Rattle.st_base.specs.Answers.{◌>>◌, holds_or}
-use Rattle.st_io.proofs.PastLemmas.{goes_on, since_sync, stands}
-use Rattle.st_io.specs.Past.{Past, GoesOn, AddsNone, Follow, LeftSinceSync, Leaves, NoSync, OneSync, Only}
-use Rattle.st_io.specs.Tears.{IfTold, Holds, Torn}
+use Rattle.st_io.proofs.MomentLemmas.{only_after, over, stays_only}
+use Rattle.st_io.proofs.PastLemmas.{more, splits_since_sync}
+use Rattle.st_io.specs.Past.{Past, AddsNoImage, GoesOn, Follow, Leaves, LeftSinceSync, Only}
+use Rattle.st_io.specs.Tears.{Holds, IfTold, Torn, Turns}
 use Rattle.st_journal.proofs.AppendLemmas.{records-short, records_of}
+use Rattle.st_journal.proofs.ComingLemmas.{closed_begun, closed_next, closed_none}
 use Rattle.st_journal.proofs.ImageLemmas.{found-closed}
-use Rattle.st_io.proofs.MomentLemmas.{over, stays_only, only_after}
-use Rattle.st_journal.proofs.ReadingLemmas.{SoFar}
-use Rattle.st_journal.proofs.SplitLemmas.{after_none}
+use Rattle.st_journal.proofs.ReadingLemmas.{record_closed}
 use Rattle.st_journal.proofs.WriteLemmas.{ready_only}
-use Rattle.st_journal.specs.Heads.{Reads}
+use Rattle.st_journal.specs.Coming.{IsReading, record_at}
 use Rattle.st_journal.specs.Image.{found, only_closed, records}
-use Rattle.st_journal.specs.Moments.{IsOldOrHas, IsReady}
-use Rattle.st_io.specs.Past.{AddsNoImage}
-use Rattle.st_journal.specs.Opening.{begun, opened}
-use Rattle.st_journal.specs.declared.journal.Journal.{Journal}
-use Rattle.st_journal.specs.declared.refused.JournalRefused.{JournalRefused}
-use Rattle.st_journal.specs.declared.refused.JournalRefused.TheVariants.{TooLong, Damaged}
-
--- no call yet
-pub none_added : (p : Past) → AddsNoImage p p
-none_added p = record { goes = stands p; none = λ c left. left }
-
-pub none_read : (image : List ℕ) → SoFar [] 0 image
-none_read image = record { is = after_none (found image) }
+use Rattle.st_journal.specs.Moments.{IsReady}
+use Rattle.st_journal.specs.Opening.{begun}
+use Rattle.st_journal.specs.Windows.{IsSound, Shows}
+use Rattle.st_journal.specs.declared.opening.Opening.{Opening}
+use Rattle.st_journal.specs.declared.window.Window.{Window}
 
 -- ---- fewer than 2 bytes
 
@@ -45,52 +35,86 @@ closed_first old new holds = ap found holds ∙ found-closed 0 (drop 1 old) (λ 
 pub begun_same : (old new : List ℕ) → length old < 2 → Holds 0 (0 ∷ []) old new → records new ≡ records old
 begun_same old new short holds = records_of new only_closed (closed_first old new holds) ∙ sym (records-short old short)
 
+pub closed_at : (old new : List ℕ) → Holds 0 (0 ∷ []) old new → record_at new ≡ Some None
+closed_at old new holds = ap record_at holds ∙ record_closed 0 (drop 1 old) (λ same. omega (arith, same))
+
 pub begin_moments : (old : List ℕ) (a b : Past) → length old < 2 → Only a old → GoesOn a b → Follow (Torn 0 1) a b → Leaves (λ image. records image ≡ records old) a b
 begin_moments old a b short only goes follow =
     over (λ image. records image ≡ records old) (Torn 0 1) a b old only goes follow
     (λ x torn. records-short x (omega (arith, short, torn.no_longer)) ∙ sym (records-short old short))
 
--- ---- after reading
+-- ---- reading
 
-pub read_ready : (old new : Option (List ℕ)) (a b : Past) (result : Result (Journal × List (List ℕ)) JournalRefused) → new ≡ old → IfTold old (Only a) → AddsNoImage a b
-    → IfTold old (λ image. Reads image result) → IfOk result (λ given. IsReady given.0 new b)
-read_ready old new a b (Ok given) same only none reads =
-    ready_only given.0.end new b
-    (λ now told. ap (option_map (λ found. found.end)) (reads now (sym same ∙ told)))
-    (λ now told. only_after a b now (only now (sym same ∙ told)) none)
-read_ready old new a b (Err refused) same only none reads = tt
+-- a disk of which nothing is known yet but how long it is
+pub begin_reading : (window : Window) (len : ℕ) (told : Option (List ℕ)) (past : Past) → 2 ≤ len → len ≤ 2 ^ 40 → IsSound window
+    → ((image : List ℕ) → Shows window image) → IfTold told (λ image. length image ≡ len) → IfTold told (Only past)
+    → IsReading (record { window = window; place = 0; len = len }) told past
+begin_reading window len told past some small sound shows long only = record {
+  small = small;
+  below = omega arith;
+  sound = λ more. sound;
+  shows = λ image is. shows image;
+  long = λ image is more. long image is;
+  closed = λ image is none. absurd (omega (arith, some, none));
+  gate = λ image is. closed_begun image;
+  only = only;
+}
+
+-- a disk on which a closed gate was written
+pub begin_closed_gate : (window : Window) (told : Option (List ℕ)) (past : Past) → ((image : List ℕ) → Shows window image)
+    → IfTold told (λ image. record_at image ≡ Some None) → IfTold told (Only past)
+    → IsReading (record { window = window; place = 0; len = 0 }) told past
+begin_closed_gate window told past shows closed only = record {
+  small = omega arith;
+  below = omega arith;
+  sound = λ more. absurd (omega (arith, more));
+  shows = λ image is. shows image;
+  long = λ image is more. absurd (omega (arith, more));
+  closed = λ image is none. closed image is;
+  gate = λ image is. closed_begun image;
+  only = only;
+}
+
+-- a read further, with a record more or with none
+module _ {opening : Opening} {told now : Option (List ℕ)} {old new : Past} (reading : IsReading opening told old) (same : now ≡ told) (adds : AddsNoImage old new) where
+  still_only : IfTold now (Only new)
+  still_only image is = only_after old new image (reading.only image (sym same ∙ is)) adds
+
+  pub reading_on : (next : Window) (body : List ℕ) → opening.place + 5 + length body < opening.len
+      → IfTold told (λ image. record_at (drop opening.place image) ≡ Some (Some body)) → IsSound next → IfTold now (Shows next)
+      → IsReading (record { window = next; place = opening.place + (5 + length body); len = opening.len }) now new
+  reading_on next body fits is_record sound shows = record {
+    small = reading.small;
+    below = omega (arith, fits, reading.small);
+    sound = λ more. sound;
+    shows = shows;
+    long = λ image is more. reading.long image (sym same ∙ is) (omega (arith, fits));
+    closed = λ image is none. absurd (omega (arith, fits, none));
+    gate = λ image is. reading.gate image (sym same ∙ is) ∙ closed_next opening.place image body (is_record image (sym same ∙ is));
+    only = still_only;
+  }
+
+  -- behind the last record
+  pub ready_behind : IfTold told (λ image. record_at (drop opening.place image) ≡ Some None) → IsReady (record { end = opening.place }) now new
+  ready_behind closed =
+      ready_only opening.place now new
+      (λ image is. reading.gate image (sym same ∙ is) ∙ closed_none opening.place image (closed image (sym same ∙ is)))
+      still_only
+
+-- ---- after reading
 
 pub read_moments : (old : List ℕ) (a b : Past) → Only a old → AddsNoImage a b → Leaves (λ image. records image ≡ records old) a b
 read_moments old a b only none = stays_only (λ image. records image ≡ records old) a b old only none (λ x same. ap records same)
 
-pub on_ok_always : {T E P : Type 0} (r : Result T E) → P → OnOk r P
-on_ok_always (Ok x) p = p
-on_ok_always (Err y) p = tt
+-- Behind the beginning, after which the disk reads as what has the same records, nothing is written.
+module _ {told now : Option (List ℕ)} {b c : Past} {old : List ℕ} (here : told ≡ Some old)
+    (same : Turns told now (λ old new. records new ≡ records old)) (only : IfTold now (Only b)) (adds : AddsNoImage b c) where
+  stay : (x : List ℕ) → c.left_since b.now x → records x ≡ records old
+  stay x left = let to = same.forward old here in ap records (only to.0 to.1 x (adds.none x left)) ∙ to.2
 
--- ---- the whole call
+  -- what a stop leaves over both
+  pub moments_on : {a : Past} (P : List ℕ → Type 0) → ((x : List ℕ) → records x ≡ records old → P x) → Leaves P a b → Leaves P a c
+  moments_on {a} P has leaves = more P a b c leaves adds.goes (λ x left. has x (stay x left))
 
-pub records-opened : (image : List ℕ) (bodies : List (List ℕ)) → opened image ≡ Ok bodies → records image ≡ Some bodies
-records-opened image bodies is = by (nat_le (length image) (2 ^ 40)) (records image) is
-  where
-    by : (fits : Bool) (o : Option (List (List ℕ))) → (holds_or fits TooLong >> ok_or o Damaged) ≡ Ok bodies → o ≡ Some bodies
-    by true (Some x) same = cc
-    by true None same = absurd (cc)
-    by false o same = absurd (cc)
-
--- a sync that failed
-pub unsynced_moments : (bodies : Option (List (List ℕ))) (a b : Past) → GoesOn a b → AddsNone a b → Leaves (IsOldOrHas a bodies) a b
-unsynced_moments bodies a b goes none = record { goes = goes; each = λ x left. inl (none x left) }
-
-pub unsynced : (P : List ℕ → Type 0) (a b : Past) → NoSync a b → (image : List ℕ) → LeftSinceSync b a.now image → P image
-unsynced P a b none image left = absurd (none left.0 left.1 left.2)
-
--- a good one, and what follows
-pub synced_moments : (bodies : Option (List (List ℕ))) (a b c : Past) → GoesOn a b → AddsNone a b → Leaves (λ image. records image ≡ bodies) b c → Leaves (IsOldOrHas a bodies) a c
-synced_moments bodies a b c goes none leaves = record {
-  goes = goes_on a b c goes leaves.goes;
-  each = λ x left. ⊎_elim (λ was. inl (none x was)) (λ new. inr (leaves.each x new)) (leaves.goes.splits a.now x goes.later left);
-}
-
-pub synced : (bodies : Option (List (List ℕ))) (a b c : Past) → OneSync a b → Leaves (λ image. records image ≡ bodies) b c
-    → (image : List ℕ) → LeftSinceSync c a.now image → records image ≡ bodies
-synced bodies a b c one leaves image left = leaves.each image (since_sync a b c one leaves.goes image left)
+  pub synced_on : (a : Past) → ((x : List ℕ) → LeftSinceSync b a.now x → records x ≡ records old) → (x : List ℕ) → LeftSinceSync c a.now x → records x ≡ records old
+  synced_on a synced x left = ⊎_elim (synced x) (stay x) (splits_since_sync b c adds.goes a.now x left)

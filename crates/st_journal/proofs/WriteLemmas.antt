@@ -63,10 +63,5 @@ ready_only end told past gate only = record {
       (ap first_closed same ∙ gate now is, ap records same);
 }
 
--- after the record
-pub ends_more : (end : ℕ) (old body new : List ℕ) → Ends end old → found new ≡ option_map (put_last body) (found old) → first_closed new ≡ Some (end + 5 + length body)
-ends_more end old body new is more =
-    ap (option_map (λ found. found.end)) (more ∙ ap (option_map (put_last body)) is.is) ∙ ap (λ k. Some (k + 5 + length body)) is.at
-
 pub records_more : (end : ℕ) (old body new : List ℕ) → Ends end old → found new ≡ option_map (put_last body) (found old) → records new ≡ with_record body (records old)
 records_more end old body new is more = has_more old new body is.it is.is (more ∙ ap (option_map (put_last body)) is.is)

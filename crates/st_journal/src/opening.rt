@@ -1,68 +1,127 @@
-ghost use Rattle.std.specs.Prelude.{◌≡◌, ◌≢◌, ◌≤◌, ◌<◌, ◌^◌, List, ℕ, Some, length, IfErr, IfOk, OnOk, IsErrOf};
-ghost use Rattle.st_base.specs.Answers.{GivesAs};
+ghost use Rattle.std.specs.Prelude.{◌≡◌, ◌≢◌, ◌≤◌, ◌<◌, ◌^◌, List, ℕ, None, Ok, Err, drop, length, IfErr, IfOk, IfSome, OnOk, IsErrOf};
+ghost use Rattle.std.specs.Option.{ok_or};
 ghost use Rattle.st_io.specs.Causes.{Rose};
-ghost use Rattle.st_io.specs.Past.{Images, Leaves, LeftSinceSync, Only};
+ghost use Rattle.st_io.specs.Past.{AddsNoImage, Leaves, LeftSinceSync, Only};
 ghost use Rattle.st_io.specs.Tears.{IfTold, Turns};
+ghost use Rattle.st_journal.specs.Coming.{Comes, IsReading, RecordIs, coming, left_of};
 ghost use Rattle.st_journal.specs.Image.{records};
 ghost use Rattle.st_journal.specs.Moments.{IsReady, IsOldOrHas, StaysAsItWas};
 ghost use Rattle.st_journal.specs.Opening.{begun, opened, refusal_of};
+ghost use Rattle.st_journal.specs.Values.{at_end};
+ghost use Rattle.st_journal.specs.declared.refused.JournalRefused.TheVariants.{Damaged};
 
 use crate::journal::Journal;
-use crate::layout::{CLOSED_GATE, LONGEST};
-use crate::reading::read_records;
+use crate::layout::{CLOSED_GATE, HEAD_LEN, LONGEST};
+use crate::reading::read_record;
 use crate::refused::JournalRefused;
-use st_base::{Bytes, List};
+use crate::window::{Window, bare_window, no_window};
+use st_base::Bytes;
 use st_io::{Disk, write_synced};
 use std::alloc::Global;
 
-/// The journal that a disk reads as after a sync, and its records, the oldest first. Where it has fewer
-/// than 2 bytes, a closed gate is written in place of them, and synced; else nothing is written.
+/// The opening of a disk as a journal: its records come one by one, the oldest first, and behind the last
+/// of them it gives the journal.
 ///
-/// `TooLong` comes exactly where the disk has more than 2^40 bytes, and `Damaged` exactly where else
-/// too few bytes follow an open gate before any closed one. `DiskFault` comes only where the disk's
-/// count of faults rose. After `TooLong`, `Damaged` and `WantOfMemory` the disk is as it was. It takes
-/// memory for the records and 65,536 bytes at once.
-pub fn open_journal<D: Disk>(
-    alloc: Global,
-    disk: &mut D,
-) -> Result<(Journal, List<Bytes>), JournalRefused>
-    ensures gives { IfTold (D.reads disk.old) (λ old. GivesAs (λ given. given.1) refusal_of (opened old) result) }
-
-    // The disk then stands ready for the journal, and in every image the records are those that are given.
-    ensures ready { IfOk result (λ given. IsReady given.0 (D.reads disk.new) (D.past disk.new)) }
-    ensures begun { OnOk result (Turns (D.reads disk.old) (D.reads disk.new) (λ old new. new ≡ begun old)) }
-    ensures same { OnOk result (Turns (D.reads disk.old) (D.reads disk.new) (λ old new. records new ≡ records old)) }
-    ensures lasting { IfOk result (λ given. IfTold (D.reads disk.old) (λ old. (image : List ℕ)
-        → Images (D.past disk.new) image → records image ≡ Some given.1)) }
-    ensures small { IfOk result (λ given. given.0.end < 2 ^ 40) }
-
-    // What is refused is left as it was.
-    ensures refused { IfErr result (λ refused. refused ≢ JournalRefused.DiskFault
-        → StaysAsItWas (D.reads disk.old) (D.reads disk.new) (D.past disk.old) (D.past disk.new)) }
-
-    // A stop at any moment of the call leaves what it might have left before, or the same records; from
-    // the first good sync on, the same records.
-    ensures moments { IfTold (D.reads disk.old) (λ old. Leaves (IsOldOrHas (D.past disk.old) (records old)) (D.past disk.old) (D.past disk.new)) }
-    ensures synced { IfTold (D.reads disk.old) (λ old. (image : List ℕ)
-        → LeftSinceSync (D.past disk.new) (D.past disk.old).now image → records image ≡ records old) }
-    ensures fault { IsErrOf result JournalRefused.DiskFault → Rose (D.faults disk.old) (D.faults disk.new) }
-    ensures later { D.faults disk.old ≤ D.faults disk.new }
-{
-    disk.sync()?;
-    open_synced(alloc, disk)
+/// It is handed from call to call with its disk, which nobody else may write to in between.
+#[derive(Drop)]
+pub struct Opening {
+    window: Window,
+    place: u64,
+    len: u64,
 }
 
-/// Opens a disk of which a stop leaves just what it reads as.
-fn open_synced<D: Disk>(
-    alloc: Global,
-    disk: &mut D,
-) -> Result<(Journal, List<Bytes>), JournalRefused>
+impl Opening {
+    /// Begins the opening of what a disk reads as after a sync. Where that has fewer than 2 bytes, a closed
+    /// gate is written in place of them, and synced; else nothing is written.
+    ///
+    /// `TooLong` comes exactly where the disk has more than 2^40 bytes. `DiskFault` comes only where the
+    /// disk's count of faults rose. After `TooLong` and `WantOfMemory` the disk is as it was. It takes memory
+    /// for 65,536 bytes.
+    pub fn begin<D: Disk>(alloc: Global, disk: &mut D) -> Result<Opening, JournalRefused>
+        // The records that are still to come are then all that the disk is opened as.
+        ensures reading { IfOk result (λ opening. IsReading opening (D.reads disk.new) (D.past disk.new)) }
+        ensures comes { IfOk result (λ opening. Turns (D.reads disk.old) (D.reads disk.new) (λ old new. opened old ≡ ok_or (coming opening new) Damaged)) }
+        ensures begun { OnOk result (Turns (D.reads disk.old) (D.reads disk.new) (λ old new. new ≡ begun old)) }
+        ensures same { OnOk result (Turns (D.reads disk.old) (D.reads disk.new) (λ old new. records new ≡ records old)) }
+
+        // Where something is to be read, and where it is refused, the disk was left as it was.
+        ensures unwritten { IfOk result (λ opening. 0 < left_of opening
+            → StaysAsItWas (D.reads disk.old) (D.reads disk.new) (D.past disk.old) (D.past disk.new)) }
+        ensures refusal { IfErr result (λ error. IfTold (D.reads disk.old) (λ old. IfSome (refusal_of error) (λ refusal. opened old ≡ Err refusal))) }
+        ensures refused { IfErr result (λ refused. refused ≢ JournalRefused.DiskFault
+            → StaysAsItWas (D.reads disk.old) (D.reads disk.new) (D.past disk.old) (D.past disk.new)) }
+
+        // A stop at any moment of the call leaves what it might have left before, or the same records; from
+        // the first good sync on, the same records.
+        ensures moments { IfTold (D.reads disk.old) (λ old. Leaves (IsOldOrHas (D.past disk.old) (records old)) (D.past disk.old) (D.past disk.new)) }
+        ensures synced { IfTold (D.reads disk.old) (λ old. (image : List ℕ)
+            → LeftSinceSync (D.past disk.new) (D.past disk.old).now image → records image ≡ records old) }
+        ensures fault { IsErrOf result JournalRefused.DiskFault → Rose (D.faults disk.old) (D.faults disk.new) }
+        ensures later { D.faults disk.old ≤ D.faults disk.new }
+    {
+        disk.sync()?;
+        begin_synced(alloc, disk)
+    }
+
+    /// The next record, or none behind the last of them: what stands at the place that was reached, exactly.
+    ///
+    /// `Damaged` comes exactly where too few bytes follow an open gate there. `DiskFault` comes only where
+    /// the disk's count of faults rose. Nothing is written. It takes memory for the record.
+    pub fn next<D: Disk>(
+        &mut self,
+        alloc: Global,
+        disk: &mut D,
+    ) -> Result<Option<Bytes>, JournalRefused>
+        requires reading { IsReading self.old (D.reads disk.old) (D.past disk.old) }
+
+        // What came, and what is still to come, are what was to come.
+        ensures reading { IsReading self.new (D.reads disk.new) (D.past disk.new) }
+        ensures gives { IfTold (D.reads disk.old) (λ image. RecordIs (drop self.old.place image) result) }
+        ensures comes { IfTold (D.reads disk.old) (λ image. Comes (coming self.old image) (coming self.new image) result) }
+
+        // Behind the last record the disk stands ready for the journal that ends there.
+        ensures ready { IfOk result (λ next. next ≡ None → IsReady (at_end self.new.place) (D.reads disk.new) (D.past disk.new)) }
+        ensures small { self.new.place < 2 ^ 40 }
+
+        // It goes on, and refuses only where something was left to be read.
+        ensures shorter { IfOk result (λ next. IfSome next (λ body. left_of self.new < left_of self.old)) }
+        ensures refuses { IfErr result (λ refused. 0 < left_of self.old) }
+        ensures reads { D.reads disk.new ≡ D.reads disk.old }
+        ensures images { AddsNoImage (D.past disk.old) (D.past disk.new) }
+        ensures fault { IsErrOf result JournalRefused.DiskFault → Rose (D.faults disk.old) (D.faults disk.new) }
+        ensures later { D.faults disk.old ≤ D.faults disk.new }
+    {
+        if self.len <= self.place {
+            return Ok(None);
+        }
+        match read_record(alloc, disk, &mut self.window, self.place, self.len) {
+            Ok(Some(body)) => {
+                self.place += HEAD_LEN + body.as_slice().len() as u64;
+                Ok(Some(body))
+            }
+            Ok(None) => Ok(None),
+            Err(refused) => Err(refused),
+        }
+    }
+
+    /// The journal that ends at the place that was reached.
+    pub fn finish(self) -> Journal
+        ensures { result ≡ at_end self.place }
+    {
+        Journal::new(self.place)
+    }
+}
+
+/// Begins the opening of a disk of which a stop leaves just what it reads as.
+pub(crate) fn begin_synced<D: Disk>(alloc: Global, disk: &mut D) -> Result<Opening, JournalRefused>
     requires { IfTold (D.reads disk.old) (Only (D.past disk.old)) }
-    ensures gives { IfTold (D.reads disk.old) (λ old. GivesAs (λ given. given.1) refusal_of (opened old) result) }
-    ensures ready { IfOk result (λ given. IsReady given.0 (D.reads disk.new) (D.past disk.new)) }
+    ensures reading { IfOk result (λ opening. IsReading opening (D.reads disk.new) (D.past disk.new)) }
+    ensures comes { IfOk result (λ opening. Turns (D.reads disk.old) (D.reads disk.new) (λ old new. opened old ≡ ok_or (coming opening new) Damaged)) }
     ensures begun { OnOk result (Turns (D.reads disk.old) (D.reads disk.new) (λ old new. new ≡ begun old)) }
     ensures same { OnOk result (Turns (D.reads disk.old) (D.reads disk.new) (λ old new. records new ≡ records old)) }
-    ensures small { IfOk result (λ given. given.0.end < 2 ^ 40) }
+    ensures unwritten { IfOk result (λ opening. 0 < left_of opening
+        → StaysAsItWas (D.reads disk.old) (D.reads disk.new) (D.past disk.old) (D.past disk.new)) }
+    ensures refusal { IfErr result (λ error. IfTold (D.reads disk.old) (λ old. IfSome (refusal_of error) (λ refusal. opened old ≡ Err refusal))) }
     ensures refused { IfErr result (λ refused. refused ≢ JournalRefused.DiskFault
         → StaysAsItWas (D.reads disk.old) (D.reads disk.new) (D.past disk.old) (D.past disk.new)) }
     ensures moments { IfTold (D.reads disk.old) (λ old. Leaves (λ image. records image ≡ records old) (D.past disk.old) (D.past disk.new)) }
@@ -74,25 +133,34 @@ fn open_synced<D: Disk>(
         return Err(JournalRefused::TooLong);
     }
     if len < 2 {
-        return begin(alloc, disk);
+        return begin_closed(alloc, disk);
     }
-    read_records(alloc, disk, len)
+    let window = no_window(alloc)?;
+    Ok(Opening {
+        window,
+        place: 0,
+        len,
+    })
 }
 
-/// Writes a closed gate over fewer than 2 bytes.
-fn begin<D: Disk>(alloc: Global, disk: &mut D) -> Result<(Journal, List<Bytes>), JournalRefused>
+/// Writes a closed gate over fewer than 2 bytes, behind which nothing is to be read.
+fn begin_closed<D: Disk>(alloc: Global, disk: &mut D) -> Result<Opening, JournalRefused>
     requires short { IfTold (D.reads disk.old) (λ old. length old < 2) }
     requires only { IfTold (D.reads disk.old) (Only (D.past disk.old)) }
-    ensures gives { IfTold (D.reads disk.old) (λ old. GivesAs (λ given. given.1) refusal_of (opened old) result) }
-    ensures ready { IfOk result (λ given. IsReady given.0 (D.reads disk.new) (D.past disk.new)) }
+    ensures reading { IfOk result (λ opening. IsReading opening (D.reads disk.new) (D.past disk.new)) }
+    ensures comes { IfOk result (λ opening. Turns (D.reads disk.old) (D.reads disk.new) (λ old new. opened old ≡ ok_or (coming opening new) Damaged)) }
     ensures begun { OnOk result (Turns (D.reads disk.old) (D.reads disk.new) (λ old new. new ≡ begun old)) }
     ensures same { OnOk result (Turns (D.reads disk.old) (D.reads disk.new) (λ old new. records new ≡ records old)) }
-    ensures small { IfOk result (λ given. given.0.end ≡ 0) }
+    ensures none { IfOk result (λ opening. left_of opening ≡ 0) }
     ensures refused { IfErr result (λ refused. refused ≡ JournalRefused.DiskFault) }
     ensures moments { IfTold (D.reads disk.old) (λ old. Leaves (λ image. records image ≡ records old) (D.past disk.old) (D.past disk.new)) }
     ensures fault { IsErrOf result JournalRefused.DiskFault → Rose (D.faults disk.old) (D.faults disk.new) }
     ensures later { D.faults disk.old ≤ D.faults disk.new }
 {
     write_synced(disk, 0, &[CLOSED_GATE])?;
-    Ok((Journal::new(0), List::new(alloc)))
+    Ok(Opening {
+        window: bare_window(alloc),
+        place: 0,
+        len: 0,
+    })
 }

@@ -7,7 +7,7 @@ use Rattle.st_drive.specs.OnDisk.{EffectLaws}
 use Rattle.st_journal.specs.Image.{records}
 use Rattle.st_journal.specs.Opening.{opened, refusal_of}
 use Rattle.st_journal.specs.declared.refused.JournalRefused.{JournalRefused}
-use Rattle.st_journal.specs.declared.refused.JournalRefused.TheVariants.{TooLong, Damaged}
+use Rattle.st_journal.specs.declared.refused.JournalRefused.TheVariants.{TooLong, Damaged, DiskFault, WantOfMemory}
 use Rattle.st_status.specs.Status.{is_end}
 use Rattle.st_journal_lines.specs.Answering.{Answering, StayedOrWent, behind, behind_opened}
 use Rattle.st_journal_lines.specs.Journalled.{WentWithin}
@@ -19,6 +19,11 @@ value_or other (Err e) = other
 abbrev error_or : {A E : Type 0} → E → Result A E → E
 error_or other (Ok x) = other
 error_or other (Err e) = e
+
+-- what was given in place of a refusal
+pub ok_some : {A E : Type 0} (o : Option A) (e : E) (x : A) → ok_or o e ≡ Ok x → o ≡ Some x
+ok_some None e x is = absurd (let no = is in cc)
+ok_some (Some y) e x is = ap Some (ap (value_or y) is)
 
 records_by : (short : Bool) (found : Option (List (List ℕ))) (r : List (List ℕ)) → (holds_or short TooLong >> ok_or found Damaged) ≡ Ok r
     → found ≡ Some r
@@ -59,6 +64,14 @@ module _ {M C : Type 0} (answering : Answering M C) (m : M) where
 
   pub too_long_is : (image : List ℕ) (error : JournalRefused) → SaysOf image error → error ≡ TooLong → opened image ≡ Err TooLong
   too_long_is image error says is = refusal_is image TooLong (subst (SaysOf image) is says)
+
+  -- what is refused when the journal is opened is refused
+  pub refused_by : (opening : Result (List (List ℕ)) JournalRefused) (error : JournalRefused) → IfSome (refusal_of error) (λ refusal. opening ≡ Err refusal)
+      → IfSome (refusal_of error) (λ refusal. behind_opened answering m opening ≡ Err refusal)
+  refused_by opening TooLong is = ap (behind_opened answering m) is
+  refused_by opening Damaged is = ap (behind_opened answering m) is
+  refused_by opening DiskFault is = tt
+  refused_by opening WantOfMemory is = tt
 
   gave_by : (opening : Result (List (List ℕ)) JournalRefused) (n : M) (refusal : JournalRefused) → behind_opened answering m opening ≡ Ok n
       → opening ≡ Err refusal → ⊥

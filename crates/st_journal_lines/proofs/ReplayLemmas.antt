@@ -1,35 +1,77 @@
--- A machine that goes over lines once more.
-use Rattle.std.proofs.Common.{◌≡◌, ◌∙◌, ◌++◌, ℕ, List, [], ◌∷◌, ap, sym, append_assoc}
-use Rattle.st_drive.specs.OnDisk.{EffectLaws}
-use Rattle.st_journal_lines.specs.Answering.{Answering, GaveUpWithin, behind}
+-- A machine that goes over the records of a journal as they come.
+use Rattle.std.proofs.Common.{◌≡◌, ◌∙◌, ◌⊎◌, inl, inr, ⊎_elim, ◌++◌, ℕ, List, [], ◌∷◌, Option, Some, Result, Ok, Err, refl, ap, sym, subst}
+use Rattle.std.specs.Prelude.{IfSome}
+use Rattle.std.specs.Option.{ok_or}
+use Rattle.std.proofs.lemmas.Option.{same_Some}
+use Rattle.st_drive.specs.Runs.{Begins}
+use Rattle.st_journal.proofs.ComingLemmas.{given_all, given_damaged, given_more, given_none}
+use Rattle.st_journal.proofs.SplitLemmas.{map_some}
+use Rattle.st_journal.specs.Coming.{Comes, put_before}
+use Rattle.st_journal.specs.Opening.{refusal_of}
+use Rattle.st_journal.specs.declared.refused.JournalRefused.{JournalRefused}
+use Rattle.st_journal.specs.declared.refused.JournalRefused.TheVariants.{TooLong, Damaged, DiskFault, WantOfMemory}
+use Rattle.st_journal_lines.specs.Answering.{Answering, AnsweringLaws, StayedOrWent, behind, behind_opened}
 
--- of lines, these have been answered, and those are left: the machine n at d has gone over the first, from m at c
-pub record Replayed {M C : Type 0} (answering : Answering M C) (m : M) (c : C) (lines left : List (List ℕ)) (n : M) (d : C) : Type 0 where
+-- Of the records that were to come, some have come, and the rest is still to come: the machine n at d has gone
+-- over those, from m at c, or has done nothing yet.
+pub record Replayed {M C : Type 0} (answering : Answering M C) (m : M) (c : C) (all rest : Option (List (List ℕ))) (n : M) (d : C) : Type 0 where
   pub done : List (List ℕ)
-  pub split : done ++ left ≡ lines
-  pub machine : behind answering n left ≡ behind answering m lines
+  pub split : all ≡ put_before done rest
+  pub machine : n ≡ behind answering m done
   pub context : answering.effect.ran m c done n d
+  pub stayed : (d ≡ c) ⊎ answering.effect.gave_up m c done d
 
-module _ {M C : Type 0} {answering : Answering M C} {cap : ℕ} (laws : EffectLaws answering.effect cap) where
-  module _ {m n : M} {c d : C} (lines : List (List ℕ)) (line : List ℕ) (left more : List (List ℕ)) (next : left ≡ line ∷ more)
-      (so_far : Replayed answering m c lines left n d) where
-    split_on : (so_far.done ++ line ∷ []) ++ more ≡ lines
-    split_on = append_assoc so_far.done (line ∷ []) more ∙ (ap (λ ls. so_far.done ++ ls) (sym next) ∙ so_far.split)
+begins_so_far : (first : List (List ℕ)) (all rest : Option (List (List ℕ))) (r : List (List ℕ)) → all ≡ put_before first rest → all ≡ Some r → Begins first r
+begins_so_far first all rest r split is = let more = map_some (λ x. first ++ x) rest r (sym split ∙ is) in (more.0, more.2)
 
-    pub replayed_more : {o : M} {e : C} → o ≡ answering.next n line → answering.effect.ran n d (line ∷ []) o e
-        → Replayed answering m c lines more o e
-    replayed_more {o} {e} stepped ran = record {
+module _ {M C : Type 0} {answering : Answering M C} {cap : ℕ} (laws : AnsweringLaws answering cap) where
+  behind_more : (m : M) (first : List (List ℕ)) (line : List ℕ) → behind answering m (first ++ line ∷ []) ≡ answering.next (behind answering m first) line
+  behind_more m [] line = refl
+  behind_more m (l ∷ first) line = behind_more (answering.next m l) first line
+
+  pub replayed_none : (m : M) (c : C) (rest : Option (List (List ℕ))) → Replayed answering m c rest rest m c
+  replayed_none m c rest = record { done = []; split = given_none rest; machine = refl; context = laws.effect.ran_none m c; stayed = inl refl }
+
+  module _ {m n : M} {c d : C} {all rest : Option (List (List ℕ))} (so_far : Replayed answering m c all rest n d) where
+    -- one record more
+    pub replayed_more : {o : M} {e : C} {line : List ℕ} {more : Option (List (List ℕ))} → rest ≡ put_before (line ∷ []) more
+        → o ≡ answering.next n line → answering.effect.ran n d (line ∷ []) o e → Replayed answering m c all more o e
+    replayed_more {o} {e} {line} {more} next stepped ran = record {
       done = so_far.done ++ line ∷ [];
-      split = split_on;
-      machine =
-          ap (λ x. behind answering x more) stepped
-          ∙ (ap (behind answering n) (sym next) ∙ so_far.machine);
-      context = laws.ran_more m n o c d e so_far.done (line ∷ []) so_far.context ran;
+      split = given_more so_far.done so_far.split line more next;
+      machine = stepped ∙ ap (λ x. answering.next x line) so_far.machine ∙ sym (behind_more m so_far.done line);
+      context = laws.effect.ran_more m n o c d e so_far.done (line ∷ []) so_far.context ran;
+      stayed = inr (laws.effect.gave_up_more m n c d e so_far.done (line ∷ []) so_far.context (laws.gave_up_behind n o d e line ran));
     }
 
-    pub gave_up_within : {e : C} → answering.effect.gave_up n d (line ∷ []) e → GaveUpWithin answering m lines c e
-    gave_up_within {e} gave = (
+    -- no record more
+    pub replayed_all : rest ≡ Some [] → behind_opened answering m (ok_or all Damaged) ≡ Ok n
+    replayed_all end =
+        ap (λ r. behind_opened answering m (ok_or r Damaged)) (given_all so_far.done so_far.split end) ∙ ap Ok (sym so_far.machine)
+
+    pub ran_all : rest ≡ Some [] → (r : List (List ℕ)) → all ≡ Some r → answering.effect.ran m c r n d
+    ran_all end r is =
+        subst (λ rs. answering.effect.ran m c rs n d) (same_Some so_far.done r (sym (given_all so_far.done so_far.split end) ∙ is)) so_far.context
+
+    -- the next record could not be had
+    pub refused_as : (more : Option (List (List ℕ))) (error : JournalRefused) → Comes rest more (Err error)
+        → IfSome (refusal_of error) (λ refusal. behind_opened answering m (ok_or all Damaged) ≡ Err refusal)
+    refused_as more TooLong is = absurd is
+    refused_as more Damaged is = ap (λ r. behind_opened answering m (ok_or r Damaged)) (given_damaged so_far.done so_far.split is)
+    refused_as more DiskFault is = tt
+    refused_as more WantOfMemory is = tt
+
+    pub stayed_within : (r : List (List ℕ)) → all ≡ Some r → StayedOrWent answering m r c d
+    stayed_within r is = ⊎_elim
+        (λ same. inl same)
+        (λ gave. inr (so_far.done, begins_so_far so_far.done all rest r so_far.split is, gave))
+        so_far.stayed
+
+    -- the machine gave up at it
+    pub gave_within : {e : C} {line : List ℕ} (more : Option (List (List ℕ))) → rest ≡ put_before (line ∷ []) more
+        → answering.effect.gave_up n d (line ∷ []) e → (r : List (List ℕ)) → all ≡ Some r → StayedOrWent answering m r c e
+    gave_within {e} {line} more next gave r is = inr (
       so_far.done ++ line ∷ [],
-      (more, split_on),
-      laws.gave_up_more m n c d e so_far.done (line ∷ []) so_far.context gave,
+      begins_so_far (so_far.done ++ line ∷ []) all more r (given_more so_far.done so_far.split line more next) is,
+      laws.effect.gave_up_more m n c d e so_far.done (line ∷ []) so_far.context gave,
     )

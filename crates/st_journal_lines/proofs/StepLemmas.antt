@@ -6,7 +6,7 @@ use Rattle.st_io.specs.Past.{Past, Images, Leaves}
 use Rattle.st_io.specs.Tears.{IfTold}
 use Rattle.st_drive.specs.OnDisk.{AllHold, GaveUpOnDisk, IsTold, RanOnDisk, Rules, Store}
 use Rattle.st_drive.specs.Recording.{recording}
-use Rattle.st_drive.proofs.RecordingLemmas.{gave_up_idle, gave_up_recording, has_idled, has_recorded}
+use Rattle.st_drive.proofs.RecordingLemmas.{gave_up_recording, has_recorded}
 use Rattle.st_journal.specs.Image.{records}
 use Rattle.st_journal.specs.Moments.{IsBeforeOrAfter, with_record}
 use Rattle.st_journal.specs.Values.{JournalValue, at_end}
@@ -73,19 +73,3 @@ module _ {M C : Type 0} (answering : Answering M C) where
     pub gave_recorded : answering.effect.gave_up m c (line ∷ []) d
         → GaveUpOnDisk (recording (recorder_of answering)) store (m, journal) (c, a) (line ∷ []) (d, b)
     gave_recorded gave = gave_up_recording (recorder_of answering) (record { changes = is; effect = gave; moments = moments_told })
-
-  -- a line that changes nothing
-  pub ran_idle : {D : Type 0} (store : Store D) (m n : M) (journal : JournalValue) (line : List ℕ) (c d : C) (a : D)
-      → answering.changes m line ≡ false → answering.effect.ran m c (line ∷ []) n d → n ≡ answering.next m line
-      → RanOnDisk (recording (recorder_of answering)) store (m, journal) (c, a) (line ∷ []) (n, journal) (d, a)
-  ran_idle store m n journal line c d a is ran next = has_idled (recorder_of answering) (record {
-    idle = is;
-    effect = ran;
-    came = λ t. ap (λ x. (x, journal)) next ∙ sym (ap (λ t. (answering.next m line, grown t journal line)) is);
-  })
-
-  -- want of memory before the disk was touched
-  pub gave_idle : {D : Type 0} (store : Store D) (m : M) (journal : JournalValue) (line : List ℕ) (c d : C) (a : D)
-      → answering.effect.gave_up m c (line ∷ []) d
-      → GaveUpOnDisk (recording (recorder_of answering)) store (m, journal) (c, a) (line ∷ []) (d, a)
-  gave_idle store m journal line c d a gave = gave_up_idle (recorder_of answering) store (m, journal) c d line a gave

@@ -1,5 +1,5 @@
 -- Anchor strings: the count of operations, a dot, the URI of the core index file.
-use Rattle.std.specs.Prelude.{◌≡◌, ℕ, nat_le, if◌then◌else◌, List, [], ◌∷◌, Option, Some, None, is_none, option_map, option_and_then, Result, Ok, Err}
+use Rattle.std.specs.Prelude.{◌≡◌, ℕ, nat_le, if◌then◌else◌, List, [], ◌∷◌, codes, Option, Some, None, is_none, option_map, option_and_then, Result, Ok, Err}
 use Rattle.st_base.specs.Rules.{Table, first_failing}
 use Rattle.st_base.specs.Words.{cut_at, number_of}
 use Rattle.st_hash.specs.Hash.{HashValue, hash_of_text}
@@ -32,6 +32,12 @@ anchor_rules limits text =
     ∷ (A2, is_none (count_of limits text))
     ∷ (A3, is_none (core_of text))
     ∷ []
+
+-- the name of a rule: a letter for anchor strings, and its number
+abbrev pub anchor_rule_name : AnchorRule → List ℕ
+anchor_rule_name A1 = codes "A1"
+anchor_rule_name A2 = codes "A2"
+anchor_rule_name A3 = codes "A3"
 
 -- what an anchor string says, where it has both
 abbrev pub anchor_of : Limits → List ℕ → Option Anchor

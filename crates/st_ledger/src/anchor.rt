@@ -1,5 +1,5 @@
 ghost use Rattle.std.specs.Prelude.{◌≡◌};
-ghost use Rattle.st_ledger.specs.Anchor.{AnswersByRule, anchor_of, anchor_rules, count_in};
+ghost use Rattle.st_ledger.specs.Anchor.{AnswersByRule, anchor_of, anchor_rule_name, anchor_rules, count_in};
 
 use st_base::{cut_at, read_number};
 use st_hash::{Hash, read_hash};
@@ -27,6 +27,19 @@ pub enum AnchorRule {
     /// What stands after the first `.` is no hash text.
     #[error("an anchor string without a hash text")]
     A3,
+}
+
+impl AnchorRule {
+    /// The name of the rule: a letter for what it judges, and its number, as `A3`.
+    pub fn name(&self) -> &'static str
+        ensures { result.now ≡ anchor_rule_name self.now }
+    {
+        match self {
+            AnchorRule::A1 => "A1",
+            AnchorRule::A2 => "A2",
+            AnchorRule::A3 => "A3",
+        }
+    }
 }
 
 /// What an anchor string says: a decimal count, a dot, and the URI of the core index file. It takes

@@ -6,7 +6,7 @@ use Rattle.std.proofs.lemmas.Nat.{pow_pos}
 use Rattle.std.proofs.Math.Nat.{pow-suc, pow-le-pow_right}
 use Rattle.st_lms.specs.Keys.{SecretKey}
 use Rattle.st_lms.specs.KeptNodes.{HoldsFrom, past_last, place_of}
-use Rattle.st_lms.specs.Parameters.{IsTreeType, height}
+use Rattle.st_lms.specs.Parameters.{height}
 use Rattle.st_lms.specs.Strings.{value_at}
 use Rattle.st_lms.specs.Tree.{IsNode, inner, node}
 use Rattle.st_lms.proofs.Nodes.{left_node, node-level, right_node}
@@ -52,12 +52,6 @@ inner_level t zero r is below =
     let all : height t - 0 ≡ height t = omega arith in
     absurd (omega (arith, rw all at is.low))
 inner_level t (suc n) r is below = omega arith
-
--- a number of a leaf is that of a node of height 0
-pub leaf_is_node : (t r : ℕ) → IsTreeType t → 2 ^ height t ≤ r → r < past_last t → IsNode t 0 r
-leaf_is_node t r known low high =
-    let all : height t - 0 ≡ height t = omega arith in
-    record { known = known; level = omega arith; low = rw all low; high = rw all high }
 
 -- ---- nodes that are kept
 

@@ -11,10 +11,10 @@ use crate::cause::{Cause, StepRefused};
 use crate::letter::{Letter, Step};
 use crate::network::Network;
 use crate::reading::node_at;
+use crate::wanting::WantedBy;
 use crate::words::number;
 use st_base::{List, WantOfMemory};
 use st_exchange::{Answer, DecodeRefused, Message, answer, decode, encode};
-use st_hash::Hash;
 use st_node::Node;
 use std::alloc::Global;
 
@@ -53,28 +53,9 @@ fn answered(
     ensures { IfOk result (λ step. step ≡ answer_step received.now
         (answer_of to.now.observed.files (wanted to.now.observed) message.now)) }
 {
-    let wanted = wanted_for(alloc, to, message)?;
-    let answer = answer(alloc, to.observer().content(), wanted.as_slice(), message)?;
+    let observer = to.observer();
+    let answer = answer(alloc, observer.content(), &WantedBy { observer }, message)?;
     step_by(alloc, received, answer)
-}
-
-// Which files the node wants, as far as the message asks. A `Want` doesn't ask, and so costs no list of them.
-fn wanted_for(alloc: Global, to: &Node, message: &Message) -> Result<List<Hash>, WantOfMemory>
-    ensures { IfOk result (λ uris. answer_of to.now.observed.files uris message.now
-        ≡ answer_of to.now.observed.files (wanted to.now.observed) message.now) }
-{
-    match message {
-        Message::Want(_) => Ok(List::new(alloc)),
-        Message::Have(_) => all_wanted(alloc, to),
-        Message::Blob(_) => all_wanted(alloc, to),
-    }
-}
-
-fn all_wanted(alloc: Global, node: &Node) -> Result<List<Hash>, WantOfMemory>
-    ensures { IfOk result (λ uris. uris ≡ wanted node.now.observed) }
-{
-    let uris = node.observer().wanted(alloc)?;
-    Ok(uris)
 }
 
 fn step_by(alloc: Global, received: &Letter, answer: Answer) -> Result<Step, WantOfMemory>

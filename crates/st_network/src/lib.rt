@@ -17,6 +17,7 @@ mod running;
 mod telling;
 #[cfg(test)]
 mod tests;
+mod wanting;
 mod words;
 
 pub use laws::exchange_law;

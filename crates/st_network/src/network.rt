@@ -64,8 +64,9 @@ impl Network {
 
     /// Answers a line, which comes without its line feed. The reply has its line end.
     ///
-    /// A line that is refused changes nothing. A `deliver` takes the time of its message, of its answer, and,
-    /// where it is no `Want`, of listing what its addressee wants; how many messages there are is no part of it.
+    /// A line that is refused changes nothing. A `deliver` takes the time of its message and of its answer, and
+    /// of looking up whether its addressee wants the blob, or each file that it is told of; how many messages
+    /// there are is no part of it, and no list of what is wanted is made.
     pub fn answer(
         self,
         alloc: Global,

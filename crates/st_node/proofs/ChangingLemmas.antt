@@ -5,7 +5,7 @@ use Rattle.std.proofs.lemmas.Bool.Decides.{nat_tests}
 use Rattle.st_base.specs.Answers.{◌>>◌, holds_or}
 use Rattle.st_base.specs.Words.{first_word, other_words}
 use Rattle.st_node.specs.Changing.{is_changing}
-use Rattle.st_node.specs.Command.{command_of, command_of_words, longest_line, space}
+use Rattle.st_node.specs.Command.{command_of_words, longest_line, space}
 use Rattle.st_node.specs.Machine.{Machine, answered, answered_read}
 use Rattle.st_node.specs.declared.command.Command.{Command}
 use Rattle.st_node.specs.declared.command.LineCause.{LineCause}

@@ -3,11 +3,11 @@
 --     command_due      of a command
 --     line_due         of a line
 --     none_counted     where nothing is counted, the bounds of whatever line are kept
-use Rattle.std.proofs.Common.{◌≡◌, ℕ, Bool, true, false, nat_le, List, [], ◌∷◌, length, Option, Some, None, Result, Ok, Err, refl, ap, arith, if◌then◌else◌}
+use Rattle.std.proofs.Common.{◌≡◌, ℕ, ◌*◌, Bool, true, false, nat_le, List, [], ◌∷◌, length, Option, Some, None, Result, Ok, Err, refl, ap, arith, if◌then◌else◌}
 use Rattle.std.proofs.lemmas.List.Sums.{sum_by-take-le, sum_by_push}
 use Rattle.std.specs.Prelude.{codes}
 use Rattle.st_anchor.specs.declared.role_state.RoleState.{RoleState}
-use Rattle.st_base.specs.Work.{Counts, ProofsAtMost}
+use Rattle.st_base.specs.Work.{AppliesAtMost, Counts, ProofsAtMost}
 use Rattle.st_batch.specs.Prefix.{batch_of, rest_of}
 use Rattle.st_batch.specs.declared.batch.Batch.{Batch}
 use Rattle.st_batch.specs.declared.batch.BatchFile.{BatchFile}
@@ -17,12 +17,13 @@ use Rattle.st_ledger.specs.declared.refused.LedgerRefused.{LedgerRefused}
 use Rattle.st_node.proofs.ArrivingLemmas.{arrival_files, arrival_proofs, arrivals_files, arrivals_none, arrivals_proofs}
 use Rattle.st_node.proofs.EntryLemmas.{decided-small, opened-few}
 use Rattle.st_node.specs.Machine.{Machine, all_arrived, answered_admitted, answered_batch, answered_command, answered_read, limits_now, refused, reported, rolled_back}
-use Rattle.st_node.specs.Work.{AdmittedCounts, ArrivalCounts, ArrivalsCounts, CommandCounts, CutCounts, EntryCounts, FittingCounts, LineCounts, QueueCounts, StaysDue, entry_admitted, entry_of_command, entry_of_read, files_due_for, proofs_due_for, submitted_by, submitted_by_read}
+use Rattle.st_node.specs.Work.{AdmittedCounts, ArrivalCounts, ArrivalsCounts, CommandCounts, EntryCounts, FittingCounts, LineCounts, QueueCounts, StaysDue, entry_admitted, entry_of_command, entry_of_read, files_due_for, proofs_due_for, submitted_by, submitted_by_read}
 use Rattle.st_node.specs.declared.command.Command.{Command}
 use Rattle.st_node.specs.declared.command.Command.TheVariants.{Content, Anchor, Rollback, Resolve, Explain, Wanted, Report, Submit, Flush}
 use Rattle.st_node.specs.declared.command.LineCause.{LineCause}
 use Rattle.st_observer.proofs.FellLemmas.{fell-none}
 use Rattle.st_observer.specs.Observed.{Observed, appended, arrived, cut_to, report}
+use Rattle.st_observer.specs.Work.{losing}
 use Rattle.st_ops.specs.Operation.{PlainOperation}
 
 module _ (observed : Observed) where
@@ -46,7 +47,7 @@ module _ (observed : Observed) where
       proofs = omega (arith, counts.opened, sum_by_push (proofs_due_for observed) observed.ledger entry, opened-few observed.schedule observed.files entry);
     }
 
-    cut_due : (n : ℕ) → CutCounts observed n old new → StaysDue observed (cut_to n observed) [] 0 old new
+    cut_due : (n : ℕ) → AppliesAtMost (7 * length (losing n observed)) old new → StaysDue observed (cut_to n observed) [] 0 old new
     cut_due n counts = record {
       files = omega (arith, counts.files, sum_by-take-le (files_due_for observed) observed.ledger n);
       proofs = omega (arith, counts.proofs, sum_by-take-le (proofs_due_for observed) observed.ledger n);
@@ -115,7 +116,7 @@ module _ (machine : Machine) (work : Counts) where
   none_admitted entry (Err cause) = refl
 
   none_cut : (n : ℕ) (fits : Bool) → FittingCounts machine.observed n fits work work
-  none_cut n true = record { files = refl; proofs = refl; least = omega arith; applies = λ names losing. omega arith }
+  none_cut n true = record { files = refl; proofs = refl; least = omega arith; applies = omega arith }
   none_cut n false = refl
 
   none_flushed : (queued : Bool) → QueueCounts machine queued work work

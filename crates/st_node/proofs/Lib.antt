@@ -8,6 +8,7 @@ mod EntryLemmas
 mod FlushLemmas
 mod FormLemmas
 mod IsolationLemmas
+mod ResolvedLemmas
 mod SumLemmas
 mod TellingLemmas
 pub mod ChangingLemmas

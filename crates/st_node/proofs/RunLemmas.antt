@@ -1,12 +1,11 @@
 -- What is counted over a run of lines, for who adds lines up.
 --     due_none       over no lines nothing is counted
---     due_one        over one line, what its answer says
 --     due_more       over some lines, and then over more
 --     run_counts     over all lines from the beginning on
 --     cut_due        over a line that is cut behind its first byte too many, what the line says
 --     after-append   the machine behind some lines and then more
-use Rattle.std.proofs.Common.{◌≡◌, ◌∙◌, ℕ, ◌+◌, Bool, true, false, nat_le, List, [], ◌∷◌, ◌++◌, length, take, sum_by, Option, Some, None, Result, Ok, Err, refl, sym, ap, subst, arith, append_assoc, append-nil, length-append, if◌then◌else◌, codes}
-use Rattle.std.proofs.lemmas.List.Sums.{sum_by-append, sum_by-cons}
+use Rattle.std.proofs.Common.{◌≡◌, ◌∙◌, ℕ, ◌+◌, Bool, true, false, nat_le, List, [], ◌∷◌, ◌++◌, length, take, sum_by, Option, Some, None, Result, Ok, Err, refl, sym, ap, subst, arith, append_assoc, length-append, if◌then◌else◌, codes}
+use Rattle.std.proofs.lemmas.List.Sums.{sum_by-append}
 use Rattle.st_anchor.specs.declared.role_state.RoleState.{RoleState}
 use Rattle.st_base.specs.Work.{Counts}
 use Rattle.st_batch.specs.Prefix.{batch_of, rest_of}
@@ -106,14 +105,6 @@ stays_as {before = before} {last = last} {entries = entries} {old = old} {new = 
 
 pub due_none : (machine : Machine) (work : Counts) → DueOver machine [] work work
 due_none machine work = record { files = omega arith; proofs = omega arith }
-
-pub due_one : (machine : Machine) (line : List ℕ) (old new : Counts)
-    → StaysDue machine.observed (answered machine line).next.observed (entry_of_line machine line) (submitted_by_line line) old new
-    → DueOver machine (line ∷ []) old new
-due_one machine line old new due =
-    let one : submitted_by_line line ≡ submitted_in (line ∷ []) = omega (arith, sum_by-cons submitted_by_line line []) in
-    subst (λ (entries : List Entry). StaysDue machine.observed (answered machine line).next.observed entries (submitted_in (line ∷ [])) old new)
-    (sym (append-nil (entry_of_line machine line))) (stays_as one due)
 
 pub due_more : (machine : Machine) (lines more : List (List ℕ)) (old mid new : Counts)
     → DueOver machine lines old mid → DueOver (after machine lines) more mid new → DueOver machine (lines ++ more) old new

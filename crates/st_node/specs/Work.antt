@@ -5,7 +5,6 @@ use Rattle.st_apply.specs.Anchored.{Anchored}
 use Rattle.st_base.specs.Work.{Counts, AppliesAtMost, ProofsAtMost}
 use Rattle.st_batch.specs.Prefix.{batch_of}
 use Rattle.st_batch.specs.declared.batch.BatchFile.{BatchFile}
-use Rattle.st_hash.specs.Hash.{HashValue}
 use Rattle.st_ledger.specs.Anchor.{anchor_of}
 use Rattle.st_ledger.specs.Ledger.{admitted}
 use Rattle.st_ledger.specs.declared.entry.Entry.{Entry}
@@ -16,7 +15,7 @@ use Rattle.st_node.specs.declared.command.Command.{Command}
 use Rattle.st_node.specs.declared.command.Command.TheVariants.{Content, Anchor, Rollback, Resolve, Explain, Wanted, Report, Submit, Flush}
 use Rattle.st_node.specs.declared.command.LineCause.{LineCause}
 use Rattle.st_observer.specs.Observed.{Observed, appended, arrived, known_of, operations}
-use Rattle.st_observer.specs.Work.{GrewAtMost, NamesLosing, arrival_cost, decided_in, entry_cost, opened_in}
+use Rattle.st_observer.specs.Work.{GrewAtMost, arrival_cost, decided_in, entry_cost, losing, opened_in}
 use Rattle.st_resolve.specs.Identifier.{PlainDid}
 use Rattle.st_params.specs.Schedule.{params_at}
 
@@ -47,16 +46,9 @@ AdmittedCounts observed entry (Ok _) old new = EntryCounts observed entry old ne
 AdmittedCounts observed entry (Err cause) old new = new ≡ old
 
 -- A cut reads and opens nothing, and costs at most 7 applied operations for each identifier that loses
--- one. No count falls.
-pub record CutCounts (observed : Observed) (n : ℕ) (old new : Counts) : Type 0 where
-  pub files : new.files ≡ old.files
-  pub proofs : new.proofs ≡ old.proofs
-  pub least : old.applies ≤ new.applies
-  pub applies : (names : List HashValue) → NamesLosing n observed names → new.applies ≤ old.applies + 7 * length names
-
--- and where it is refused, nothing is counted
+-- one; and where it is refused, nothing is counted.
 abbrev pub FittingCounts : Observed → ℕ → Bool → Counts → Counts → Type 0
-FittingCounts observed n true old new = CutCounts observed n old new
+FittingCounts observed n true old new = AppliesAtMost (7 * length (losing n observed)) old new
 FittingCounts observed n false old new = new ≡ old
 
 -- the same by the number of entries that are kept

@@ -18,6 +18,7 @@ use st_base::{Bytes, WantOfMemory, Work, reply};
 use st_batch::{Batch, FlushRefused, Queue};
 use st_content::Put;
 use st_hash::hash_text;
+use st_ledger::Entry;
 use st_observer::Observer;
 use st_params::Schedule;
 use std::alloc::Global;
@@ -137,7 +138,7 @@ impl Node {
     {
         match command {
             Command::Content(bytes) => self.take(alloc, bytes, work),
-            Command::Anchor { height, text } => self.append(alloc, height, text, work),
+            Command::Anchor { height, text } => self.append(alloc, Entry { height, text }, work),
             Command::Rollback(n) => self.cut(alloc, n, work),
             Command::Resolve(did) => {
                 let text = resolve(alloc, &self.observer, did.as_slice(), work)?;
@@ -179,20 +180,18 @@ impl Node {
     fn append(
         self,
         alloc: Global,
-        height: u32,
-        text: Bytes,
+        entry: Entry,
         work: &mut Work,
     ) -> Result<(Node, Bytes), WantOfMemory>
-        ensures answer { IfOk result (AnswersWith (answered_anchor self (record { height = height; text = text }))) }
-        ensures counts { AdmittedCounts self.observed (record { height = height; text = text })
-            (admitted self.observed.ledger height) work.old work.new }
+        ensures answer { IfOk result (AnswersWith (answered_anchor self entry)) }
+        ensures counts { AdmittedCounts self.observed entry (admitted self.observed.ledger entry.height) work.old work.new }
     {
-        if let Err(refused) = self.observer.ledger().admits(height) {
+        if let Err(refused) = self.observer.ledger().admits(entry.height) {
             let text = reply(alloc, "refused ", ledger_word(refused).as_bytes())?;
             return Ok((self, text));
         }
         let Node { observer, queue } = self;
-        let (observer, number) = observer.append(alloc, height, text, work)?;
+        let (observer, number) = observer.append(alloc, entry, work)?;
         let text = reply(alloc, "anchored ", Buffer::new().format(number).as_bytes())?;
         Ok((Node { observer, queue }, text))
     }

@@ -4,7 +4,6 @@ ghost use Rattle.st_node.specs.Machine.{resolution, resolve_reply, result_for};
 ghost use Rattle.st_resolve.specs.Identifier.{plain_did};
 
 use st_base::{Bytes, WantOfMemory, Work, reply};
-use st_canon::write;
 use st_observer::Observer;
 use st_resolve::{Did, DidRefused, RenderRefused, read_did, render};
 use std::alloc::Global;
@@ -32,6 +31,7 @@ pub fn resolve(
 }
 
 // The reply for an identifier.
+#[tactic(auto, using(crate::proofs::ResolvedLemmas::resolved_by, crate::proofs::ResolvedLemmas::unresolved_by))]
 fn show_result(
     alloc: Global,
     observer: &Observer,
@@ -43,10 +43,7 @@ fn show_result(
 {
     let params = observer.schedule().newest();
     match render(alloc, did, observer.state(&did.suffix), &params, work) {
-        Ok(result) => {
-            let text = write(alloc, &result)?;
-            reply(alloc, "resolved ", text.as_slice())
-        }
+        Ok(text) => reply(alloc, "resolved ", text.as_slice()),
         Err(RenderRefused::NotFound) => reply(alloc, "unresolved ", b"notFound"),
         Err(RenderRefused::WantOfMemory) => Err(WantOfMemory),
     }

@@ -94,68 +94,70 @@ file core EiB8mMGl7eGVHIh_r5IZavALhbNZi3lA9-fEQRERB82cYQ eyJvcGVyYXRpb25zIjp7ImN
 file provisional EiCtUdk7mRKBzGlPjKvXEbZ4DLM0NqtJnA6LV-pepUD09g eyJjaHVua3MiOlt7ImNodW5rRmlsZVVyaSI6IkVpQXA2cXJobjNQcXVJSVh6a2VyXzR4LU1MMDZQQXhla1cxQnlOQjF0MnpTNWcifV19
 file chunk EiAp6qrhn3PquIIXzker_4x-ML06PAxekW1ByNB1t2zS5g eyJkZWx0YXMiOlt7InBhdGNoZXMiOltdLCJ1cGRhdGVDb21taXRtZW50IjoiRWlEanNNUkNtUHdjRkpyNzlNaVpiN2trSjY1QjVHU2JrMHlrbFprYmVGSzRWUSJ9XX0";
 
-#[test]
-fn each_line_has_its_reply(rt: HostRuntime) -> Result<(), Fail> {
-    let mut work = Work::new(&rt);
-    // The last request waits for a batch.
-    assert_eq!(rt; queued_behind(rt.alloc(), SESSION, &mut work)?, Some(1));
-    // One file was read for the first entry whose anchor string passes, and three for that of the batch.
-    assert_eq!(rt; work.files(), 4);
-    assert_eq!(rt; work.proofs(), 0);
-    Ok(())
-}
-
-// How many operations are queued at the end, where a new node gives each line the reply that stands
-// behind it.
-fn queued_behind(
-    alloc: Global,
-    session: &str,
-    work: &mut Work,
-) -> Result<Option<usize>, WantOfMemory> {
+// The first line of the session to which a new node gives another reply than stands behind it, or what is
+// otherwise at the end: the last request waits for a batch.
+fn first_other(alloc: Global, work: &mut Work) -> Result<Option<&'static str>, WantOfMemory> {
     let mut node = Node::new(alloc, Schedule::with_second(10))?;
-    let mut lines = session.lines();
+    let mut lines = SESSION.lines();
     while let Some(line) = lines.next() {
         let expected = lines.next().unwrap_or("");
         let (next, reply) = node.answer(alloc, line.as_bytes(), work)?;
+        if !is_reply(reply.as_slice(), expected) {
+            return Ok(Some(line));
+        }
         node = next;
-        if !is_reply(&reply, expected) {
-            return Ok(None);
-        }
     }
-    Ok(Some(node.queued()))
+    if node.queued() == 1 {
+        return Ok(None);
+    }
+    Ok(Some("the queue"))
 }
 
-fn is_reply(reply: &Bytes, expected: &str) -> bool {
+fn is_reply(reply: &[u8], expected: &str) -> bool {
     let expected = if expected == "BATCH" { BATCH } else { expected };
-    let reply = str::from_utf8(reply.as_slice()).unwrap_or("");
-    reply.strip_suffix('\n') == Some(expected)
+    reply.strip_suffix(b"\n") == Some(expected.as_bytes())
 }
 
 #[test]
-fn a_line_is_read_as_a_command(rt: HostRuntime) -> Result<(), Fail> {
-    match read_command(rt.alloc(), b"anchor 7 1.x y") {
-        Ok(Command::Anchor { height, text }) => {
-            assert_eq!(rt; height, 7);
-            assert_eq!(rt; text.as_slice(), b"1.x y".as_slice());
-        }
-        _ => return Err(Fail::from("another command")),
-    }
-    Ok(())
-}
-
-#[test]
-fn a_command_is_copied_and_carried_out(rt: HostRuntime) -> Result<(), Fail> {
+fn each_line_has_its_reply(rt: HostRuntime) -> Result<(), Fail> {
     let mut work = Work::new(&rt);
-    assert_eq!(rt; entries_after(rt.alloc(), &mut work)?, 1);
-    isolation_law();
-    Ok(())
+    match first_other(rt.alloc(), &mut work)? {
+        Some(line) => Err(Fail::from(line)),
+        None => counted(work.files(), work.proofs()),
+    }
 }
 
-// How many entries there are once a copied command appended one.
-fn entries_after(alloc: Global, work: &mut Work) -> Result<u32, WantOfMemory> {
+// One file was read for the first entry whose anchor string passes, and three for that of the batch.
+fn counted(files: u64, proofs: u64) -> Result<(), Fail> {
+    if files == 4 && proofs == 0 {
+        return Ok(());
+    }
+    Err(Fail::from("the counters"))
+}
+
+fn reads_an_anchor(alloc: Global) -> bool {
+    match read_command(alloc, b"anchor 7 1.x y") {
+        Ok(Command::Anchor { height, text }) => height == 7
+            && text.as_slice() == b"1.x y".as_slice(),
+        _ => false,
+    }
+}
+
+// Whether a copied command appends an entry.
+fn carries_out_a_copy(alloc: Global, work: &mut Work) -> Result<bool, WantOfMemory> {
     let text = Bytes::from_slice(alloc, b"x")?;
     let command = Command::Anchor { height: 0, text };
     let node = Node::new(alloc, Schedule::new())?;
     let (node, _reply) = node.step(alloc, command.copy(alloc)?, work)?;
-    Ok(node.observer().ledger().len())
+    Ok(node.observer().ledger().len() == 1)
+}
+
+#[test]
+fn a_command_is_read_copied_and_carried_out(rt: HostRuntime) -> Result<(), Fail> {
+    let mut work = Work::new(&rt);
+    isolation_law();
+    if reads_an_anchor(rt.alloc()) && carries_out_a_copy(rt.alloc(), &mut work)? {
+        return Ok(());
+    }
+    Err(Fail::from("another command"))
 }

@@ -1,7 +1,7 @@
 -- A file arrives: what is kept, and what was counted.
 --     arrived-start     the entries that wait for it
 --     arrived-kept      once they have been looked at again
---     arrived-exact, arrived-few, arrived-cost
+--     arrived-exact, arrived-few     what was counted
 use Rattle.std.proofs.Common.{◌≡◌, ◌∙◌, ℕ, ◌+◌, ◌-◌, ◌<◌, false, List, Option, length, map, ap, refl, subst, sym, arith}
 use Rattle.std.specs.List.{sum_by}
 use Rattle.std.proofs.lemmas.List.Folds.{fold-map}
@@ -14,12 +14,12 @@ use Rattle.st_observer.specs.Kept.{IsKept}
 use Rattle.st_observer.specs.Observed.{Observed, arrived, known_of}
 use Rattle.st_observer.specs.Steps.{IsGoing, NamesWhere, decided_of, opened_of, over}
 use Rattle.st_observer.specs.Waiting.{is_waiting}
-use Rattle.st_observer.specs.Work.{GrewAtMost, NamesLate, ReadExactly, arrival_cost, decided_in, is_missed_by, named_cost, opened_in}
+use Rattle.st_observer.specs.Work.{GrewAtMost, ReadExactly, arrival_cost, decided_in, is_missed_by, late, named_cost, opened_in}
 use Rattle.st_observer.specs.declared.kept.Kept.{Kept}
 use Rattle.st_observer.proofs.AskedLemmas.{waits-asked}
-use Rattle.st_observer.proofs.CostLemmas.{late-cost, late_names, names-late}
 use Rattle.st_observer.proofs.GoingLemmas.{going-end, going-start}
 use Rattle.st_observer.proofs.LookingLemmas.{entry-at, entry-inside}
+use Rattle.st_observer.proofs.NamesLemmas.{names-late}
 use Rattle.st_observer.proofs.WorkLemmas.{grew-more}
 
 -- what the code hands on is the file, the schedule and the files with it
@@ -53,13 +53,12 @@ module _ (file : List ℕ) (observed : Observed) (before : Kept) (uri : HashValu
         ∙ ap (sum_by count) (going-start file observed before is).same
         ∙ fold-map (λ total bound. total + count bound) (known_of observed.schedule (with_file file observed.files)) 0 observed.ledger
 
-  -- names of all that is late name what the entries give that wait for the file
-  late-where : (names : List (HashValue × ℕ)) → NamesLate file observed names
-      → NamesWhere (λ n. is_waiting uri n before.waiting) (over before.states.schedule observed.ledger later) names
-  late-where names late =
-      subst (λ (o : Observed). NamesWhere (λ n. is_waiting uri n before.waiting) o names) (sym same-over) (λ n entry found waits.
+  -- what entries give that missed the file is what those give that wait for it
+  late-where : NamesWhere (λ n. is_waiting uri n before.waiting) (over before.states.schedule observed.ledger later) (late file observed)
+  late-where =
+      subst (λ (o : Observed). NamesWhere (λ n. is_waiting uri n before.waiting) o (late file observed)) (sym same-over) (λ n entry found waits.
       let inside : n < length observed.ledger = entry-inside observed.ledger n entry found in
-      late n entry found
+      names-late file observed n entry found
       (sym (ap (is_missed_by file observed) (entry-at observed.ledger n entry found))
       ∙ sym (waits-asked (uri_of file) observed before n entry is inside)
       ∙ ap (λ (u : HashValue). is_waiting u n before.waiting) (sym named) ∙ waits))
@@ -69,19 +68,18 @@ module _ (file : List ℕ) (observed : Observed) (before : Kept) (uri : HashValu
       → GrewAtMost (decided_of (map (known_from later) before.bounds.items) - decided_of before.bounds.items)
       (opened_of (map (known_from later) before.bounds.items) - opened_of before.bounds.items)
       (named_cost (over before.states.schedule observed.ledger later) names) old new)
-      → (names : List (HashValue × ℕ)) → NamesLate file observed names
       → GrewAtMost (decided_in (arrived file observed) - decided_in observed) (opened_in (arrived file observed) - opened_in observed)
-      (named_cost (arrived file observed) names) old new
-  arrived-few old new bound names late =
+      (arrival_cost file observed) old new
+  arrived-few old new bound =
       grew-more (decided_of (map (known_from later) before.bounds.items) - decided_of before.bounds.items)
       (opened_of (map (known_from later) before.bounds.items) - opened_of before.bounds.items)
-      (named_cost (over before.states.schedule observed.ledger later) names)
+      (named_cost (over before.states.schedule observed.ledger later) (late file observed))
       (decided_in (arrived file observed) - decided_in observed) (opened_in (arrived file observed) - opened_in observed)
-      (named_cost (arrived file observed) names)
+      (arrival_cost file observed)
       old new
       (omega (arith, sum-arrived decided_roles, sum-known decided_roles observed before is))
       (omega (arith, sum-arrived opened_proofs, sum-known opened_proofs observed before is))
-      (omega (arith, ap (λ (o : Observed). named_cost o names) same-over)) (bound names (late-where names late))
+      (omega (arith, ap (λ (o : Observed). named_cost o (late file observed)) same-over)) (bound (late file observed) late-where)
 
   pub arrived-exact : (after : Kept) (old new : Counts) → IsGoing (over before.states.schedule observed.ledger later) (λ n. false) after
       → ReadExactly (decided_of after.bounds.items - decided_of before.bounds.items) (opened_of after.bounds.items - opened_of before.bounds.items) old new
@@ -97,11 +95,3 @@ module _ (file : List ℕ) (observed : Observed) (before : Kept) (uri : HashValu
       ∙ ap (λ n. opened_in (arrived file observed) - n) (sum-known opened_proofs observed before is) in
       subst (λ n. ReadExactly (decided_in (arrived file observed) - decided_in observed) n old new) opened
       (subst (λ n. ReadExactly n (opened_of after.bounds.items - opened_of before.bounds.items) old new) decided exactly)
-
--- what holds by all names that are late holds by what each entry may cost
-pub arrived-cost : (file : List ℕ) (observed : Observed) (files proofs : ℕ) (old new : Counts)
-    → ((names : List (HashValue × ℕ)) → NamesLate file observed names → GrewAtMost files proofs (named_cost (arrived file observed) names) old new)
-    → GrewAtMost files proofs (arrival_cost file observed) old new
-arrived-cost file observed files proofs old new bound =
-    subst (λ cost. GrewAtMost files proofs cost old new) (late-cost file observed 0 observed.ledger)
-    (bound (late_names file observed 0 observed.ledger) (names-late file observed))

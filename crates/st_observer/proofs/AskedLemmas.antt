@@ -1,6 +1,7 @@
 -- A file is missed exactly where some entry waits for it.
 --     asked-missed      what is missed is what entries wait for
 --     asked-by          and what the reports of entries say
+--     asked-wanted, asked-wants     all that are wanted, and whether one is
 use Rattle.std.proofs.Common.{◌≡◌, ◌∙◌, ⊎_elim, ℕ, ◌<◌, ◌≤◌, ◌↔◌, Bool, true, false, ◌||◌, List, [], ◌∷◌, length, map, get_or, slice_get, Some, option_map, refl, sym, ap, arith}
 use Rattle.std.specs.Cmp.{both_ways}
 use Rattle.std.specs.List.{flat_map, list_any}
@@ -15,12 +16,13 @@ use Rattle.st_hash.specs.Hash.{HashValue, same_hash}
 use Rattle.st_ledger.specs.declared.entry.Entry.{Entry}
 use Rattle.st_observer.specs.Kept.{IsKept, no_needs}
 use Rattle.st_observer.specs.Observed.{Observed, known_of, verdicts_on}
-use Rattle.st_observer.specs.Waiting.{IsWaitedFor, is_waiting}
-use Rattle.st_observer.specs.Wanted.{IsMissed, missed_files, missed_in, one_misses, text_cmp, wanted}
+use Rattle.st_observer.specs.Waiting.{AreRead, IsWaitedFor, is_waiting}
+use Rattle.st_observer.specs.Wanted.{IsMissed, is_wanted, missed_files, missed_in, one_misses, text_cmp, wanted}
 use Rattle.st_observer.specs.declared.kept.Kept.{Kept}
 use Rattle.st_observer.proofs.GoingLemmas.{bound-is, kept-length}
-use Rattle.st_observer.proofs.WaitsLemmas.{states-inside, states-past}
-use Rattle.st_observer.proofs.WantedLemmas.{ascending_once-is}
+use Rattle.st_observer.proofs.WaitingLemmas.{text-same}
+use Rattle.st_observer.proofs.WaitsLemmas.{roles-inside, roles-past}
+use Rattle.st_observer.proofs.WantedLemmas.{ascending_once-has, ascending_once-is}
 
 -- one of the items that a list of lists makes
 any-flat : {X Y : Type 0} (test : Y → Bool) (part : X → List Y) (xs : List X) → list_any test (flat_map part xs) ≡ list_any (λ x. list_any test (part x)) xs
@@ -51,12 +53,12 @@ waits-asked uri observed kept n d is inside =
     let bound : Known = known_of observed.schedule observed.files entry in
     let within : n < length kept.bounds.items = omega (arith, inside, kept-length observed kept is) in
     is.waits.each uri n
-    ∙ ap (one_misses uri) (states-inside n kept.bounds.items bound within ∙ ap role_states (bound-is observed kept n bound d is within))
+    ∙ ap (one_misses uri) (roles-inside n kept.bounds.items bound within ∙ ap role_states (bound-is observed kept n bound d is within))
 
 waits-past : (uri : HashValue) (observed : Observed) (kept : Kept) (n : ℕ) → IsKept observed kept → length observed.ledger ≤ n
     → is_waiting uri n kept.waiting ≡ false
 waits-past uri observed kept n is past =
-    is.waits.each uri n ∙ ap (one_misses uri) (states-past n kept.bounds.items (omega (arith, past, kept-length observed kept is)))
+    is.waits.each uri n ∙ ap (one_misses uri) (roles-past n kept.bounds.items (omega (arith, past, kept-length observed kept is)))
 
 waited-asked : (uri : HashValue) (observed : Observed) (kept : Kept) → IsKept observed kept → IsWaitedFor uri kept.waiting
     → list_any (asks uri observed) observed.ledger ≡ true
@@ -129,3 +131,15 @@ pub asked-wanted : (observed : Observed) (kept : Kept) (uris : List HashValue) �
 unfolding wanted
 asked-wanted observed kept uris is sorted waited all =
     ascending_once-is uris (missed_files observed) sorted (asked-missed observed kept uris is waited all)
+
+-- And one file is wanted where some entry waits for it.
+pub asked-wants : (observed : Observed) (kept : Kept) (uri : HashValue) (found : Bool) → IsKept observed kept → AreRead kept.waiting
+    → (found ≡ true) ↔ IsWaitedFor uri kept.waiting → found ≡ is_wanted uri observed
+unfolding wanted
+asked-wants observed kept uri found is read waits =
+    let waited : (other : HashValue) → list_any (same_hash other) (missed_files observed) ≡ true → IsWaitedFor other kept.waiting =
+    λ other there. asked-waited other observed kept is (sym (missed-asked other observed) ∙ there) in
+    both_ways found (list_any (same_hash uri) (missed_files observed))
+    (λ there. missed-asked uri observed ∙ waited-asked uri observed kept is (waits.0 there)) (λ there. waits.1 (waited uri there))
+    ∙ sym (ascending_once-has (missed_files observed)
+    (λ first second one two same. text-same first second (read first (waited first one)) (read second (waited second two)) same) uri)

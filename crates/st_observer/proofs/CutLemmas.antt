@@ -6,7 +6,7 @@ use Rattle.std.proofs.lemmas.List.{length-take-le, take-take, take_more, take_al
 use Rattle.st_anchor.specs.Known.{Known}
 use Rattle.st_anchor.specs.declared.role_state.RoleState.{RoleState}
 use Rattle.st_hash.specs.Hash.{HashValue}
-use Rattle.st_observer.specs.Kept.{WaitsAgree, no_needs, states_at}
+use Rattle.st_observer.specs.Kept.{WaitsAgree, no_needs, roles_at}
 use Rattle.st_observer.specs.Steps.{unknown}
 use Rattle.st_observer.specs.Waiting.{TurnsTo, Waits, is_waiting}
 use Rattle.st_observer.specs.Wanted.{one_misses}
@@ -24,11 +24,11 @@ module _ (start bounds after : List Known) (left fewer : ℕ) (first : bounds �
   pub taken-first : after ≡ take fewer start
   taken-first = rest-is ∙ ap (take fewer) first ∙ take-take fewer left start (omega (arith, one))
 
-  pub taken-turn : (states : List RoleState) (waits : Waits) → states ≡ states_at (length bounds - 1) bounds → WaitsAgree bounds waits
+  pub taken-turn : (states : List RoleState) (waits : Waits) → states ≡ roles_at (length bounds - 1) bounds → WaitsAgree bounds waits
       → (uri : HashValue) → is_waiting uri fewer waits ≡ one_misses uri states
   taken-turn states waits is agree uri =
       agree.each uri fewer
-      ∙ ap (one_misses uri) (ap (λ n. states_at n bounds) (let e : fewer ≡ length bounds - 1 = omega (arith, many, one) in e) ∙ sym is)
+      ∙ ap (one_misses uri) (ap (λ n. roles_at n bounds) (let e : fewer ≡ length bounds - 1 = omega (arith, many, one) in e) ∙ sym is)
 
   pub taken-waits : (states : List RoleState) (old new : Waits) → states ≡ no_needs → TurnsTo fewer states old new → WaitsAgree bounds old
       → WaitsAgree after new

@@ -28,7 +28,7 @@ use Rattle.st_observer.specs.Waiting.{is_waiting}
 use Rattle.st_observer.specs.Wanted.{misses, one_misses}
 use Rattle.st_observer.specs.declared.kept.Kept.{Kept}
 use Rattle.st_observer.proofs.OperationsLemmas.{agree-settled}
-use Rattle.st_observer.proofs.WaitsLemmas.{states-inside, waits-settled}
+use Rattle.st_observer.proofs.WaitsLemmas.{roles-inside, waits-settled}
 
 -- ---- how many entries
 
@@ -119,7 +119,7 @@ start-settled file observed kept n is none d inside =
     let entry : Entry = get_or observed.ledger n no_entry in
     let at : get_or kept.bounds.items n d ≡ known_of observed.schedule observed.files entry = bound-is observed kept n d no_entry is inside in
     let unasked : one_misses (uri_of file) (role_states (known_of observed.schedule observed.files entry)) ≡ false =
-    ap (λ b. one_misses (uri_of file) (role_states b)) (sym at) ∙ ap (one_misses (uri_of file)) (sym (states-inside n kept.bounds.items d inside))
+    ap (λ b. one_misses (uri_of file) (role_states b)) (sym at) ∙ ap (one_misses (uri_of file)) (sym (roles-inside n kept.bounds.items d inside))
     ∙ sym (is.waits.each (uri_of file) n) ∙ none in
     ap (known_from (with_file file observed.files)) at ∙ known_of-later file observed entry ∙ known_of-unmissed file observed entry unasked ∙ sym at
 

@@ -15,9 +15,10 @@ use Rattle.st_observer.specs.Kept.{IsKept, StatesAgree, WaitsAgree, gifts}
 use Rattle.st_observer.specs.Observed.{Observed, appended, cut_to, known_of, operations, state_of}
 use Rattle.st_observer.specs.States.{NamesFrom, operations_in}
 use Rattle.st_observer.specs.Steps.{Cuts, Pushes}
-use Rattle.st_observer.specs.Work.{NamesLosing, from_place}
+use Rattle.st_observer.specs.Work.{from_place, losing}
 use Rattle.st_observer.specs.declared.kept.Kept.{Kept}
 use Rattle.st_observer.proofs.GoingLemmas.{kept-length}
+use Rattle.st_observer.proofs.NamesLemmas.{losing-has}
 use Rattle.st_observer.proofs.OperationsLemmas.{agree-cut, agree-pushed, operations-agree}
 use Rattle.st_observer.proofs.WaitsLemmas.{waits-pushed}
 
@@ -71,8 +72,8 @@ kept-cut observed n before after is within step = record {
 
 -- ---- an identifier loses operations
 
--- the names of the suffixes that lose an operation, by what is kept
-pub losing-names : (n : ℕ) (observed seen : Observed) (kept : Kept) (names : List HashValue) → IsKept observed kept → observed ≡ seen → NamesLosing n seen names
-    → NamesFrom n kept.states.items names
-losing-names n observed seen kept names is same losing suffix some =
-    losing suffix (subst (λ (xs : List Anchored). 1 ≤ length (from_place n xs)) (kept-operations suffix observed kept is ∙ ap (operations suffix) same) some)
+-- the suffixes that lose an operation, by what is kept
+pub losing-names : (n : ℕ) (observed seen : Observed) (kept : Kept) → IsKept observed kept → observed ≡ seen → NamesFrom n kept.states.items (losing n seen)
+losing-names n observed seen kept is same suffix some =
+    losing-has n seen suffix
+    (subst (λ (xs : List Anchored). 1 ≤ length (from_place n xs)) (kept-operations suffix observed kept is ∙ ap (operations suffix) same) some)

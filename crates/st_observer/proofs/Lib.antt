@@ -1,6 +1,4 @@
 -- Private: what the calls of the observer rest on.
-mod DecodedLemmas
-mod MissedLemmas
 mod WaitingLemmas
 mod WantedLemmas
 mod StatesLemmas
@@ -11,10 +9,12 @@ mod GoingLemmas
 mod WorkLemmas
 mod ClosingLemmas
 mod CostLemmas
+mod NamesLemmas
 mod LookingLemmas
 mod AskedLemmas
 mod IsolationLemmas
 mod KeptLemmas
+mod BackLemmas
 mod SettleLemmas
 mod AppendLemmas
 mod ArriveLemmas

@@ -13,8 +13,9 @@ use Rattle.st_base.specs.Work.{Counts}
 use Rattle.st_hash.specs.Hash.{HashValue, hash_cmp}
 use Rattle.st_ledger.specs.declared.entry.Entry.{Entry}
 use Rattle.st_observer.specs.Observed.{Observed, known_of}
+use Rattle.st_observer.specs.States.{AreNamedAt}
 use Rattle.st_observer.specs.Steps.{IsGoing, NamesWhere, Settles, bound_at, decided_of, is_among, kept_of, opened_of, unknown}
-use Rattle.st_observer.specs.Work.{AreNamedAt, GrewAtMost, ReadExactly}
+use Rattle.st_observer.specs.Work.{GrewAtMost, ReadExactly}
 use Rattle.st_observer.specs.declared.going.Going.{Going}
 use Rattle.st_observer.proofs.GoingLemmas.{among-left, going-length, going-settled, going-skipped}
 use Rattle.st_observer.proofs.WorkLemmas.{Reading, reading-few, reading-settled, reading-wanting}

@@ -2,7 +2,6 @@
 --     settles           what is kept then
 --     settle-few        what was counted, wherever it ended
 use Rattle.std.proofs.Common.{◌≡◌, ◌∙◌, ℕ, List, set, ap, subst, sym}
-use Rattle.std.proofs.lemmas.List.{set-set}
 use Rattle.st_anchor.specs.Coming.{newly_decided, newly_opened}
 use Rattle.st_anchor.specs.Counting.{WorkedAtMost}
 use Rattle.st_anchor.specs.Gives.{given, suffixes_given}
@@ -12,9 +11,10 @@ use Rattle.st_anchor.specs.declared.role_state.RoleState.{RoleState}
 use Rattle.st_base.specs.Work.{Counts}
 use Rattle.st_content.specs.Files.{Files}
 use Rattle.st_hash.specs.Hash.{HashValue}
+use Rattle.st_observer.specs.States.{AreNamedAt}
 use Rattle.st_observer.specs.Steps.{PutsGiven, Settles, bound_at}
 use Rattle.st_observer.specs.Waiting.{TurnsTo}
-use Rattle.st_observer.specs.Work.{AreNamedAt, GrewAtMost}
+use Rattle.st_observer.specs.Work.{GrewAtMost}
 use Rattle.st_observer.specs.declared.kept.Kept.{Kept}
 use Rattle.st_observer.proofs.WorkLemmas.{grew-only}
 
@@ -23,10 +23,8 @@ module _ (files : Files) (bounds : List Known) (n : ℕ) (start settled : Known)
   settled-is : settled ≡ known_from files (bound_at n bounds)
   settled-is = settles_to ∙ ap (known_from files) out
 
-  pub settle-bounds : (without after : List Known) (filler : Known) → without ≡ set bounds n filler → after ≡ set without n settled
-      → after ≡ set bounds n (known_from files (bound_at n bounds))
-  settle-bounds without after filler first second =
-      second ∙ ap (λ xs. set xs n settled) first ∙ set-set bounds n filler settled ∙ ap (set bounds n) settled-is
+  pub settle-bounds : (after : List Known) → after ≡ set bounds n settled → after ≡ set bounds n (known_from files (bound_at n bounds))
+  settle-bounds after back = back ∙ ap (set bounds n) settled-is
 
   pub settle-few : (old new : Counts) → WorkedAtMost (newly_decided files start) (newly_opened files start) old new
       → GrewAtMost (newly_decided files (bound_at n bounds)) (newly_opened files (bound_at n bounds)) 0 old new

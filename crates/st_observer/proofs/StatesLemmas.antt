@@ -26,8 +26,8 @@ use Rattle.st_hash.specs.Hash.{HashValue, hash_cmp, same_hash}
 use Rattle.st_hash.specs.Order.{same_hash-equivalence, same_hash-ties}
 use Rattle.st_hash.proofs.SameHash.{same_hash-is, same_hash-itself}
 use Rattle.st_observer.specs.Observed.{given_for}
-use Rattle.st_observer.specs.States.{BySuffix, NamesFrom, AllAscend, after_place, anchored_item, before_place, cost_from, given_cost, kept_cost, operations_at, stepped, with_given}
-use Rattle.st_observer.specs.Work.{AreNamedAt, from_place}
+use Rattle.st_observer.specs.States.{AreNamedAt, BySuffix, NamesFrom, AllAscend, after_place, anchored_item, before_place, cost_from, given_cost, kept_cost, operations_at, stepped, with_given}
+use Rattle.st_observer.specs.Work.{from_place}
 use Rattle.st_opindex.specs.Changed.{AreNamed, IsNamed, names_cost}
 use Rattle.st_opindex.specs.ByKey.{ChangesAt, NamesLosing, items_at}
 use Rattle.st_opindex.specs.Items.{Held, before, from, after, with_item, folded}
@@ -252,9 +252,6 @@ pub record IsOnWay (place height : ℕ) (all left : Givens) (first now : BySuffi
 pub record IsNaming (place : ℕ) (all left : Givens) (first now : List (HashValue × ℕ)) : Type 0 where
   pub names : (names : List (HashValue × ℕ)) → AreNamed hash_cmp first names → AreNamedAt place (suffixes_given all) names
       → AreNamed hash_cmp now names × AreNamedAt place (suffixes_given left) names
-
-pub naming_start : (place : ℕ) (all : Givens) (first : List (HashValue × ℕ)) → IsNaming place all all first first
-naming_start place all first = record { names = λ names named given. (named, given) }
 
 -- what holds of each holds of the last, and of those before it
 each-last : {X : Type 0} (P : X → Type 0) (xs : List X) (x : X) → AllByRecursion P (xs ++ x ∷ []) → AllByRecursion P xs × P x

@@ -2,13 +2,11 @@
 --     text-same, at-same        texts tell hashes apart that are read from them
 --     rows-insert, rows-remove  the rows stay right
 --     sets-gone, sets-back      what a change of one row makes of who waits
---     sets-none, sets-more      the roles of an entry one by one
---     turns                     what dropping and adding makes of an entry
-use Rattle.std.proofs.Common.{◌≡◌, ◌∙◌, ◌⊎◌, ℕ, ◌≤◌, eqb, Bool, true, false, cond, ◌&&◌, ◌||◌, List, [], ◌∷◌, ◌++◌, length, Option, Some, None, unwrap_or, option_map, Ordering, Less, Equal, Greater, nat_cmp, is_eq, inl, inr, ⊎_elim, refl, sym, ap, subst, arith}
-use Rattle.std.proofs.lemmas.Bool.{eq-eqb, ne_eqb, false_from_ne_true, true≢false}
-use Rattle.std.proofs.lemmas.List.Folds.{list_any-append}
+--     row-waited, rows-read     the row of a URI, and that it is read from its text
+use Rattle.std.proofs.Common.{◌≡◌, ◌∙◌, ◌⊎◌, ℕ, ◌≤◌, ◌↔◌, eqb, Bool, true, false, cond, ◌&&◌, ◌||◌, List, [], ◌∷◌, length, Option, Some, None, is_some, unwrap_or, option_map, Ordering, Less, Equal, Greater, nat_cmp, is_eq, inl, inr, ⊎_elim, refl, sym, ap, subst, arith}
+use Rattle.std.proofs.lemmas.Bool.{eq-eqb, false_from_ne_true, or_cases, true≢false}
 use Rattle.std.proofs.lemmas.Map.Lookups.{exact_bytes}
-use Rattle.std.proofs.lemmas.Map.Made.{lookup-map_values}
+use Rattle.std.proofs.lemmas.Map.Made.{is_some-lookup, lookup-map_values}
 use Rattle.std.specs.BTreeMap.{insert_entry, is_at}
 use Rattle.std.specs.BTreeSet.{BTreeSet, contains}
 use Rattle.std.specs.Cmp.{Equal-is, both_ways, nat_eq_equiv, tied_itself, unsigned_tied}
@@ -16,13 +14,12 @@ use Rattle.std.specs.List.{list_any}
 use Rattle.std.specs.List.Sorted.{IsStrictlySortedBy}
 use Rattle.std.specs.Map.{keys_of, lookup, remove_entry}
 use Rattle.std.specs.Ordering.{match_ordering}
-use Rattle.st_anchor.specs.declared.role_state.RoleState.{RoleState}
 use Rattle.st_anchor.specs.declared.role_state.RoleState.TheVariants.{Missing}
 use Rattle.st_hash.specs.Hash.{HashValue, hash_of_text_at, hash_text, same_hash}
 use Rattle.st_hash.specs.Order.{same_hash-equivalence}
 use Rattle.st_hash.proofs.SameHash.{same_hash-is, same_hash-itself}
-use Rattle.st_observer.specs.Waiting.{AreRows, IsRead, IsRow, IsWaitedFor, SetsMissed, TurnsTo, Waits, WaitsBy, is_waiting, seen, text_cmp-total, waiting_for}
-use Rattle.st_observer.specs.Wanted.{misses, one_misses, text_cmp}
+use Rattle.st_observer.specs.Waiting.{AreRead, AreRows, IsRead, IsRow, IsWaitedFor, SetsMissed, is_waiting, seen, text_cmp-total, waiting_for}
+use Rattle.st_observer.specs.Wanted.{one_misses, text_cmp}
 
 -- ---- texts tell hashes apart
 
@@ -240,63 +237,6 @@ pub some_left : (numbers : List ℕ) (empty : Bool) → empty ≡ false → (len
 some_left [] empty not is = absurd (true≢false (sym (is refl) ∙ not))
 some_left (n ∷ numbers) empty not is = omega arith
 
--- ---- role after role
-
-pub sets-none : (n : ℕ) (waits : Bool) (old : Waits) → SetsMissed [] n waits old old
-sets-none n waits old = record { each = λ uri m. refl }
-
-sets_both : (first second this waits was : Bool) → cond (second && this) waits (cond (first && this) waits was)
-    ≡ cond ((first || second) && this) waits was
-sets_both true true true waits was = refl
-sets_both true true false waits was = refl
-sets_both true false true waits was = refl
-sets_both true false false waits was = refl
-sets_both false true true waits was = refl
-sets_both false true false waits was = refl
-sets_both false false true waits was = refl
-sets_both false false false waits was = refl
-
-pub sets-more : {front back : List RoleState} {n : ℕ} {waits : Bool} {old mid new : Waits}
-    → SetsMissed front n waits old mid → SetsMissed back n waits mid new → SetsMissed (front ++ back) n waits old new
-sets-more {front} {back} {n} {waits} {old} {mid} {new} one two = record {
-  each = λ uri m.
-      two.each uri m ∙ ap (λ was. cond (one_misses uri back && eqb m n) waits was) (one.each uri m)
-      ∙ sets_both (one_misses uri front) (one_misses uri back) (eqb m n) waits (is_waiting uri m old)
-      ∙ ap (λ missed. cond (missed && eqb m n) waits (is_waiting uri m old)) (sym (list_any-append (misses uri) front back));
-}
-
--- ---- an entry turns
-
-turned_own : (before after : Bool) → cond (after && true) true (cond (before && true) false before) ≡ after
-turned_own true true = refl
-turned_own true false = refl
-turned_own false true = refl
-turned_own false false = refl
-
-turned_other : (before after was : Bool) → cond (after && false) true (cond (before && false) false was) ≡ was
-turned_other true true was = refl
-turned_other true false was = refl
-turned_other false true was = refl
-turned_other false false was = refl
-
--- what its roles missed is dropped, and what they miss is added
-pub turns : {before after : List RoleState} {n : ℕ} {old mid new : Waits} → WaitsBy n before old
-    → SetsMissed before n false old mid → SetsMissed after n true mid new → TurnsTo n after old new
-turns {before} {after} {n} {old} {mid} {new} waits drops adds =
-    let whole : (uri : HashValue) (m : ℕ) → is_waiting uri m new
-    ≡ cond (one_misses uri after && eqb m n) true (cond (one_misses uri before && eqb m n) false (is_waiting uri m old)) =
-    λ uri m. adds.each uri m ∙ ap (λ was. cond (one_misses uri after && eqb m n) true was) (drops.each uri m) in
-    record {
-      own = λ uri.
-          whole uri n
-          ∙ (λ i. cond (one_misses uri after && eq-eqb n n refl i) true (cond (one_misses uri before && eq-eqb n n refl i) false (waits uri i)))
-          ∙ turned_own (one_misses uri before) (one_misses uri after);
-      others = λ uri m other.
-          whole uri m
-          ∙ (λ i. cond (one_misses uri after && ne_eqb m n other i) true (cond (one_misses uri before && ne_eqb m n other i) false (is_waiting uri m old)))
-          ∙ turned_other (one_misses uri before) (one_misses uri after) (is_waiting uri m old);
-    }
-
 -- ---- URIs for whose files entries wait
 
 -- nothing ascends
@@ -335,3 +275,21 @@ has_row uri n (row ∷ rows) any =
 
 pub all_waited : (uri : HashValue) (rows : Rows) → IsWaitedFor uri (seen rows) → list_any (same_hash uri) (keys_of rows) ≡ true
 all_waited uri rows waits = has_row uri waits.0 rows waits.1
+
+-- so whether there is a row under its text says whether an entry waits,
+pub row-waited : (uri : HashValue) (rows : Rows) (found : Bool) → IsRead uri → AreRows rows → found ≡ is_some (lookup (is_at (text_cmp uri)) rows)
+    → (found ≡ true) ↔ IsWaitedFor uri (seen rows)
+row-waited uri rows found read are looked =
+    let same : found ≡ list_any (same_hash uri) (keys_of rows) =
+    looked ∙ ap is_some (found_by_text uri rows read are) ∙ is_some-lookup (same_hash uri) rows in
+    ((λ there. waited uri rows are (sym same ∙ there)), (λ waits. same ∙ all_waited uri rows waits))
+
+-- and each such URI is read from its text
+read_row : (uri : HashValue) (rows : Rows) → AreRows rows → list_any (same_hash uri) (keys_of rows) ≡ true → IsRead uri
+read_row uri [] are any = absurd (true≢false (sym any))
+read_row uri (row ∷ rows) are any =
+    ⊎_elim (λ here. subst IsRead (sym (same_hash-is uri row.0 here)) are.0.read) (λ there. read_row uri rows are.1 there)
+    (or_cases (same_hash uri row.0) (list_any (same_hash uri) (keys_of rows)) any)
+
+pub rows-read : (rows : Rows) → AreRows rows → AreRead (seen rows)
+rows-read rows are uri waits = read_row uri rows are (all_waited uri rows waits)

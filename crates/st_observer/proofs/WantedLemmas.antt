@@ -1,7 +1,6 @@
 -- Lists that ascend, and which list `ascending_once` is.
---     ascending_once-ascends   it ascends strictly by the texts
 --     ascending_once-is        a list that does, and has the same hashes, is it
---     wanted-ascends, wanted-missed      both of the files that are wanted
+--     ascending_once-has       which hashes it has
 use Rattle.std.proofs.Common.{◌≡◌, ◌∙◌, Bool, true, false, List, [], ◌∷◌, Ordering, Less, Equal, Greater, is_eq, ⊎_elim, refl, sym, ap, subst}
 use Rattle.std.proofs.lemmas.Bool.{or_left, or_right, or_cases, true≢false}
 use Rattle.std.proofs.lemmas.Map.Lookups.{exact_bytes}
@@ -14,11 +13,9 @@ use Rattle.std.specs.Ordering.{is_lt, match_ordering, ordering_reverse}
 use Rattle.st_base.proofs.Quantifiers.{each-weaker, each-both}
 use Rattle.st_hash.specs.Hash.{HashValue, hash_text, same_hash}
 use Rattle.st_hash.proofs.SameHash.{same_hash-is, same_hash-itself}
-use Rattle.st_observer.specs.Observed.{Observed}
-use Rattle.st_observer.specs.Waiting.{IsRead, text_cmp-total}
-use Rattle.st_observer.specs.Wanted.{ascending_once, missed_files, text_cmp, wanted}
-use Rattle.st_observer.proofs.MissedLemmas.{missed-read}
-use Rattle.st_observer.proofs.WaitingLemmas.{ascends-none, text-same}
+use Rattle.st_observer.specs.Waiting.{text_cmp-total}
+use Rattle.st_observer.specs.Wanted.{ascending_once, text_cmp}
+use Rattle.st_observer.proofs.WaitingLemmas.{ascends-none}
 
 -- ---- keys that are put in one by one
 
@@ -202,7 +199,7 @@ module _ {K : Type 0} {same : K → K → Bool} (is : (first second : K) → sam
     once-among more = each-once cmp (λ key. list_any (same key) more ≡ true) [] more tt (each_among more)
 
     -- and the other way round, where the order tells apart what is put in
-    once-has : (more : List K) (tells : (first second : K) → list_any (same first) more ≡ true → list_any (same second) more ≡ true
+    pub once-has : (more : List K) (tells : (first second : K) → list_any (same first) more ≡ true → list_any (same second) more ≡ true
         → cmp first second ≡ Equal → first ≡ second) (key : K) → list_any (same key) more ≡ true
         → list_any (same key) (fold (insert_key cmp) [] more) ≡ true
     once-has more tells key there =
@@ -229,33 +226,19 @@ module _ {K : Type 0} {same : K → K → Bool} (is : (first second : K) → sam
 
 -- ---- the files that are wanted
 
-pub ascending_once-ascends : (uris : List HashValue) → IsStrictlySortedBy text_cmp (ascending_once uris)
-ascending_once-ascends uris = sorted-once text_cmp-total [] uris (ascends-none text_cmp)
-
 -- a list that ascends strictly by the texts and has the same hashes is it
 pub ascending_once-is : (found uris : List HashValue) → IsStrictlySortedBy text_cmp found
     → ((uri : HashValue) → list_any (same_hash uri) found ≡ list_any (same_hash uri) uris) → found ≡ ascending_once uris
 ascending_once-is found uris sorted alike = once-is same_hash-is same_hash-itself text_cmp-total found uris sorted alike
 
-pub wanted-ascends : (observed : Observed) → IsStrictlySortedBy text_cmp (wanted observed)
-unfolding wanted
-wanted-ascends observed = ascending_once-ascends (missed_files observed)
-
--- a file is wanted exactly where it is missed
-pub wanted-missed : (observed : Observed) (uri : HashValue)
-    → list_any (same_hash uri) (wanted observed) ≡ list_any (same_hash uri) (missed_files observed)
-unfolding wanted
-wanted-missed observed uri =
-    let uris : List HashValue = missed_files observed in
-    let read : AllByRecursion IsRead uris = missed-read observed in
-    let known : (hash : HashValue) → list_any (same_hash hash) uris ≡ true → IsRead hash =
-    λ hash there. at_among same_hash-is same_hash-itself IsRead hash uris read there in
-    let tells : (first second : HashValue) → list_any (same_hash first) uris ≡ true → list_any (same_hash second) uris ≡ true
-    → text_cmp first second ≡ Equal → first ≡ second =
-    λ first second one two equal.
-    text-same first second (known first one) (known second two) (exact_bytes (hash_text first) (hash_text second) equal) in
+-- it has each of these, where their texts tell them apart, and no other
+pub ascending_once-has : (uris : List HashValue)
+    → ((first second : HashValue) → list_any (same_hash first) uris ≡ true → list_any (same_hash second) uris ≡ true
+    → hash_text first ≡ hash_text second → first ≡ second)
+    → (uri : HashValue) → list_any (same_hash uri) (ascending_once uris) ≡ list_any (same_hash uri) uris
+ascending_once-has uris tells uri =
     both_ways (list_any (same_hash uri) (ascending_once uris)) (list_any (same_hash uri) uris)
-    (λ there.
-    at_among same_hash-is same_hash-itself (λ hash. list_any (same_hash hash) uris ≡ true) uri (ascending_once uris)
+    (λ there. at_among same_hash-is same_hash-itself (λ key. list_any (same_hash key) uris ≡ true) uri (ascending_once uris)
     (once-among same_hash-is same_hash-itself text_cmp-total uris) there)
-    (λ there. once-has same_hash-is same_hash-itself text_cmp-total uris tells uri there)
+    (λ there. once-has same_hash-is same_hash-itself text_cmp-total uris
+    (λ first second one two equal. tells first second one two (exact_bytes (hash_text first) (hash_text second) equal)) uri there)

@@ -23,12 +23,12 @@ abbrev pub no_needs : List RoleState
 no_needs = Unneeded ∷ Unneeded ∷ Unneeded ∷ Unneeded ∷ Unneeded ∷ []
 
 -- how it stands with the roles of the entry with this number, by what is known of the entries
-abbrev pub states_at : ℕ → List Known → List RoleState
-states_at n bounds = slice_index_or (map role_states bounds) n no_needs
+abbrev pub roles_at : ℕ → List Known → List RoleState
+roles_at n bounds = slice_index_or (map role_states bounds) n no_needs
 
 -- each entry waits for exactly the files that its roles miss
 pub record WaitsAgree (bounds : List Known) (waits : Waits) : Type 0 where
-  pub each : (uri : HashValue) (n : ℕ) → is_waiting uri n waits ≡ one_misses uri (states_at n bounds)
+  pub each : (uri : HashValue) (n : ℕ) → is_waiting uri n waits ≡ one_misses uri (roles_at n bounds)
 
 -- ---- which operations there are
 

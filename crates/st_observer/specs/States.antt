@@ -1,7 +1,7 @@
 -- The operations of identifiers at their places, as they are kept.
 use Rattle.std.specs.Prelude.{ℕ, ◌+◌, ◌≤◌, ◌≡◌, nat_lt, true, List, ◌∷◌, ◌++◌, filter, length, map, sum, Option, Some, None, refl}
 use Rattle.std.specs.Coded.{Coded, code_by, coded×, coded_list, coded_option, coded_ℕ}
-use Rattle.std.specs.List.{list_any, sum_by}
+use Rattle.std.specs.List.{AllByRecursion, list_any, sum_by}
 use Rattle.st_anchor.specs.Gives.{suffixes_given}
 use Rattle.st_apply.specs.Anchored.{Anchored, place_of}
 use Rattle.st_apply.specs.Applied.{applied}
@@ -13,6 +13,7 @@ use Rattle.st_observer.specs.Observed.{given_for}
 use Rattle.st_observer.specs.Work.{from_place}
 use Rattle.st_observer.specs.declared.states.Held.{Held}
 use Rattle.st_opindex.specs.ByKey.{ByKey, items_at}
+use Rattle.st_opindex.specs.Changed.{IsNamed}
 use Rattle.st_ops.specs.Operation.{PlainOperation, plain_operation}
 use Rattle.st_ops.specs.contracts.operation.Operation as operation_row
 use Rattle.st_ops.specs.declared.operation.Operation.{Operation}
@@ -115,3 +116,7 @@ NamesFrom place items names = (suffix : HashValue) → 1 ≤ length (from_place 
 -- what names, each with a place, may cost: for each 7, and one for each of its operations at its place or later
 abbrev pub kept_cost : BySuffix → List (HashValue × ℕ) → ℕ
 kept_cost items names = sum_by (λ name. cost_from name.1 (operations_at name.0 items)) names
+
+-- each of these suffixes stands among the names, at this place or before
+abbrev pub AreNamedAt : ℕ → List HashValue → List (HashValue × ℕ) → Type 0
+AreNamedAt place suffixes names = AllByRecursion (λ suffix. IsNamed hash_cmp names suffix place) suffixes

@@ -13,9 +13,8 @@ use Rattle.st_ops.specs.Operation.{PlainOperation}
 use Rattle.st_params.specs.Limits.{limits_of}
 use Rattle.st_observer.specs.Kept.{StatesAgree, WaitsAgree, gifts}
 use Rattle.st_observer.specs.Observed.{Observed, given_for, gives_of, known_of}
-use Rattle.st_observer.specs.States.{StatesValue, before_place, operations_in, with_given}
+use Rattle.st_observer.specs.States.{AreNamedAt, StatesValue, before_place, operations_in, with_given}
 use Rattle.st_observer.specs.Waiting.{TurnsTo}
-use Rattle.st_observer.specs.Work.{AreNamedAt}
 use Rattle.st_observer.specs.declared.going.Going.{Going}
 use Rattle.st_observer.specs.declared.kept.Kept.{Kept}
 

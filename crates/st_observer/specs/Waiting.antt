@@ -42,6 +42,10 @@ IsWaitedFor uri waits = (n : ℕ) × (is_waiting uri n waits ≡ true)
 abbrev pub IsRead : HashValue → Type 0
 IsRead hash = hash_of_text_at 2 (hash_text hash) ≡ Some hash
 
+-- and so does that of each file for which some entry waits
+abbrev pub AreRead : Waits → Type 0
+AreRead waits = (uri : HashValue) → IsWaitedFor uri waits → IsRead uri
+
 -- a row of what is kept: the URI is read from its text, and some entry waits for its file
 pub record IsRow (row : HashValue × BTreeSet ℕ) : Type 0 where
   pub read : IsRead row.0

@@ -47,3 +47,7 @@ ascending_once uris = fold (insert_key text_cmp) [] uris
 -- The URIs of the files that some entry misses, each once, ascending by the bytes of their texts.
 unfoldable pub wanted : Observed → List HashValue
 wanted observed = ascending_once (missed_files observed)
+
+-- the file of this URI is one of them
+abbrev pub is_wanted : HashValue → Observed → Bool
+is_wanted uri observed = list_any (same_hash uri) (wanted observed)

@@ -1,17 +1,16 @@
 -- Bounds on the work that is counted while entries and files come and go.
-use Rattle.std.specs.Prelude.{◌≡◌, ℕ, ◌+◌, ◌≤◌, nat_le, Bool, true, if◌then◌else◌, List, [], ◌∷◌, filter, length, slice_get, Some}
-use Rattle.std.specs.List.{AllByRecursion, list_any, sum_by}
+use Rattle.std.specs.Prelude.{◌≡◌, ℕ, ◌+◌, ◌≤◌, nat_le, Bool, not, if◌then◌else◌, List, [], ◌∷◌, ◌++◌, drop, filter, fold, length, map}
+use Rattle.std.specs.BTreeSet.{insert_key}
+use Rattle.std.specs.List.{flat_map, list_any, sum_by}
 use Rattle.st_anchor.specs.Counting.{counted_more}
 use Rattle.st_anchor.specs.Gives.{suffixes_given}
 use Rattle.st_anchor.specs.States.{decided_roles, opened_proofs}
 use Rattle.st_apply.specs.Anchored.{Anchored}
 use Rattle.st_base.specs.Work.{Counts}
-use Rattle.st_content.specs.Files.{with_file}
 use Rattle.st_hash.specs.Hash.{HashValue, hash_cmp, same_hash, uri_of}
 use Rattle.st_ledger.specs.declared.entry.Entry.{Entry}
 use Rattle.st_observer.specs.Observed.{Observed, arrived, gives_of, known_of, operations, verdicts_on}
 use Rattle.st_observer.specs.Wanted.{one_misses}
-use Rattle.st_opindex.specs.Changed.{IsNamed}
 
 -- no count fell
 pub record NoneFell (old new : Counts) : Type 0 where
@@ -54,44 +53,53 @@ from_place place operations = filter (λ anchored. nat_le place anchored.place) 
 abbrev pub suffix_cost : ℕ → Observed → HashValue → ℕ
 suffix_cost place observed suffix = 7 + length (from_place place (operations suffix observed))
 
+-- what identifiers may cost, each with a place: this for each of them
+abbrev pub named_cost : Observed → List (HashValue × ℕ) → ℕ
+named_cost observed names = sum_by (λ name. suffix_cost name.1 observed name.0) names
+
+-- the suffixes for which an entry gives operations
+abbrev pub suffixes_of : Observed → Entry → List HashValue
+suffixes_of observed entry = suffixes_given (gives_of observed.schedule observed.files entry)
+
 -- what an entry may cost: this for each identifier for which it gives an operation
 abbrev pub entry_cost : ℕ → Entry → Observed → ℕ
-entry_cost place entry observed =
-    sum_by (suffix_cost place observed) (suffixes_given (gives_of observed.schedule observed.files entry))
+entry_cost place entry observed = sum_by (suffix_cost place observed) (suffixes_of observed entry)
+
+-- ---- a file that entries missed
 
 -- some role of the entry misses this file
 abbrev pub is_missed_by : List ℕ → Observed → Entry → Bool
 is_missed_by file observed entry = one_misses (uri_of file) (verdicts_on observed.schedule observed.files entry)
 
--- What entries may cost once a file has come, the first of them standing at this place: one that missed
--- the file costs what it then gives, every other nothing.
-abbrev pub costs_from : ℕ → List ℕ → Observed → List Entry → ℕ
-costs_from place file observed [] = 0
-costs_from place file observed (entry ∷ entries) =
-    (if is_missed_by file observed entry then entry_cost place entry (arrived file observed) else 0)
-    + costs_from (place + 1) file observed entries
+-- the suffixes for which an entry gives operations once a file has come that it missed; none of one that didn't
+abbrev pub late_in : List ℕ → Observed → Entry → List HashValue
+late_in file observed entry = if is_missed_by file observed entry then suffixes_of (arrived file observed) entry else []
 
--- the same of all entries
+-- Those of entries, the first of which stands at this place: each suffix once, at the place of the first entry
+-- that gives for it.
+abbrev pub late_from : ℕ → List ℕ → Observed → List Entry → List (HashValue × ℕ)
+late_from place file observed [] = []
+late_from place file observed (entry ∷ entries) =
+    map (λ suffix. (suffix, place)) (late_in file observed entry)
+    ++ filter (λ later. not (list_any (same_hash later.0) (late_in file observed entry))) (late_from (place + 1) file observed entries)
+
+-- The identifiers for which entries that missed a file give operations once it has come, by their suffixes, each
+-- once, with the place of the first such entry.
+abbrev pub late : List ℕ → Observed → List (HashValue × ℕ)
+late file observed = late_from 0 file observed observed.ledger
+
+-- What a file may cost that comes: of each of these identifiers 7, and one for each of its operations at that
+-- place or later.
 abbrev pub arrival_cost : List ℕ → Observed → ℕ
-arrival_cost file observed = costs_from 0 file observed observed.ledger
+arrival_cost file observed = named_cost (arrived file observed) (late file observed)
 
--- among these suffixes is each that loses an operation where the first n entries are kept
-abbrev pub NamesLosing : ℕ → Observed → List HashValue → Type 0
-NamesLosing n observed names = (suffix : HashValue) → 1 ≤ length (from_place n (operations suffix observed))
-    → list_any (same_hash suffix) names ≡ true
+-- ---- entries that are cut
 
--- ---- a file that several entries missed
+-- each of these once, in the order of hashes
+abbrev pub each_once : List HashValue → List HashValue
+each_once suffixes = fold (insert_key hash_cmp) [] suffixes
 
--- each of these suffixes stands among the names, at this place or before
-abbrev pub AreNamedAt : ℕ → List HashValue → List (HashValue × ℕ) → Type 0
-AreNamedAt place suffixes names = AllByRecursion (λ suffix. IsNamed hash_cmp names suffix place) suffixes
-
--- Among these names, each with a place, is every identifier for which some entry that missed the file gives
--- an operation once it has come, at the place of that entry or before.
-abbrev pub NamesLate : List ℕ → Observed → List (HashValue × ℕ) → Type 0
-NamesLate file observed names = (n : ℕ) (entry : Entry) → Some entry ≡ slice_get observed.ledger n → is_missed_by file observed entry ≡ true
-    → AreNamedAt n (suffixes_given (gives_of observed.schedule (with_file file observed.files) entry)) names
-
--- what names may cost: for each 7, and one for each of its operations at its place or later
-abbrev pub named_cost : Observed → List (HashValue × ℕ) → ℕ
-named_cost observed names = sum_by (λ name. suffix_cost name.1 observed name.0) names
+-- The identifiers that lose an operation where the first n entries are kept, by their suffixes, each once: those
+-- for which the entries from there on give one.
+abbrev pub losing : ℕ → Observed → List HashValue
+losing n observed = each_once (flat_map (suffixes_of observed) (drop n observed.ledger))

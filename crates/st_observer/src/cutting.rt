@@ -1,13 +1,12 @@
 ghost use Rattle.std.specs.Prelude.{◌≡◌, ◌≤◌, ◌-◌, ◌*◌, length, take, IfOk, List, OnOk};
 ghost use Rattle.st_base.specs.Work.{AppliesAtMost};
 ghost use Rattle.st_hash.specs.Hash.{HashValue};
-ghost use Rattle.st_observer.specs.Kept.{WaitsAgree, states_at};
+ghost use Rattle.st_observer.specs.Kept.{WaitsAgree, roles_at};
 ghost use Rattle.st_observer.specs.States.{NamesFrom};
 ghost use Rattle.st_observer.specs.Steps.{Cuts};
-ghost use Rattle.st_observer.specs.Work.{ReadsNothing};
 
 use crate::kept::Kept;
-use crate::stands::{no_states, states_of};
+use crate::stands::{no_roles, roles_of};
 use crate::waiting::Waiting;
 use st_anchor::{Bound, RoleState};
 use st_base::{WantOfMemory, Work};
@@ -21,7 +20,6 @@ impl Kept {
         requires waits { WaitsAgree self.bounds.items self.waiting }
         ensures step { IfOk result (Cuts n self) }
         ensures bound { (names : List HashValue) → NamesFrom n self.states.items names → AppliesAtMost (7 * length names) work.old work.new }
-        ensures reads { ReadsNothing work.old work.new }
     {
         let Kept {
             mut bounds,
@@ -55,19 +53,19 @@ fn forget_from(
     let mut left = len;
     'forgetting: while left > n {
         left -= 1;
-        let states = take_last(bounds);
-        waiting.turn(alloc, left, &states, &no_states())?;
+        let roles = take_last(bounds);
+        waiting.turn(alloc, left, &roles, &no_roles())?;
     }
     Ok(())
 }
 
 // Takes the last entry away, and says how it stood with its roles.
 fn take_last(bounds: &mut Vec<Bound>) -> [RoleState; 5]
-    ensures states { result ≡ states_at (length bounds.old.items - 1) bounds.old.items }
+    ensures roles { result ≡ roles_at (length bounds.old.items - 1) bounds.old.items }
     ensures rest { bounds.new.items ≡ take (length bounds.old.items - 1) bounds.old.items }
 {
     match bounds.pop() {
-        Some(bound) => states_of(&bound),
-        None => no_states(),
+        Some(bound) => roles_of(&bound),
+        None => no_roles(),
     }
 }

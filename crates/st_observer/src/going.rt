@@ -1,25 +1,24 @@
-ghost use Rattle.std.specs.Prelude.{◌≡◌, ℕ, ◌<◌, List, length, slice_set, IfOk, OnOk};
+ghost use Rattle.std.specs.Prelude.{◌≡◌, ℕ, ◌+◌, ◌<◌, ◌≤◌, List, length, slice_set, IfOk, OnOk};
+ghost use Rattle.std.specs.List.{swap_remove};
 ghost use Rattle.st_anchor.specs.Coming.{newly_decided, newly_opened};
 ghost use Rattle.st_anchor.specs.Gives.{given, suffixes_given};
-ghost use Rattle.st_anchor.specs.Known.{known_from};
+ghost use Rattle.st_anchor.specs.Known.{Known, known_from};
 ghost use Rattle.st_base.specs.Work.{AppliesAtMost};
 ghost use Rattle.st_hash.specs.Hash.{HashValue, hash_cmp};
 ghost use Rattle.st_observer.specs.Kept.{WaitsAgree};
-ghost use Rattle.st_observer.specs.States.{kept_cost, operations_in};
+ghost use Rattle.st_observer.specs.States.{AreNamedAt, kept_cost, operations_in};
 ghost use Rattle.st_observer.specs.Steps.{Settles, bound_at, kept_of};
-ghost use Rattle.st_observer.specs.Work.{AreNamedAt, GrewAtMost, ReadExactly, ReadsNothing};
+ghost use Rattle.st_observer.specs.Work.{GrewAtMost, ReadExactly, ReadsNothing};
 ghost use Rattle.st_opindex.specs.Changed.{AreNamed};
 
 use crate::kept::{Kept, put_given};
-use crate::stands::states_of;
+use crate::stands::roles_of;
 use crate::states::OpenStates;
 use crate::waiting::Waiting;
 use st_anchor::Bound;
 use st_base::{WantOfMemory, Work};
 use st_content::Content;
-use st_params::Schedule;
 use std::alloc::Global;
-use std::mem;
 
 // What is kept while a file arrives: operations come, and none is applied before all have come.
 #[derive(Drop)]
@@ -60,13 +59,12 @@ impl Going {
             mut waiting,
             states,
         } = self;
-        let filler = nothing_known(alloc)?;
-        let bound = exchange(&mut bounds, n, filler);
-        let before = states_of(&bound);
+        let bound = take_out(&mut bounds, n);
+        let before = roles_of(&bound);
         let bound = bound.settle(alloc, content, work)?;
-        waiting.turn(alloc, n, &before, &states_of(&bound))?;
+        waiting.turn(alloc, n, &before, &roles_of(&bound))?;
         let states = put_given(alloc, n, height, &bound, states)?;
-        let _filler = exchange(&mut bounds, n, bound);
+        put_back(&mut bounds, n, bound)?;
         Ok(Going {
             bounds,
             waiting,
@@ -98,17 +96,24 @@ impl Going {
     }
 }
 
-// Takes out what is known of an entry, and leaves this in its place.
-fn exchange(bounds: &mut Vec<Bound>, n: u32, bound: Bound) -> Bound
+// Takes out what is known of an entry. What is known of the last stands in its place until it is put back.
+fn take_out(bounds: &mut Vec<Bound>, n: u32) -> Bound
     requires { n < length bounds.old.items }
     ensures value { result ≡ bound_at n bounds.old.items }
-    ensures after { bounds.new.items ≡ slice_set bounds.old.items n bound }
+    ensures rest { bounds.new.items ≡ swap_remove bounds.old.items n result }
+    ensures fewer { length bounds.new.items + 1 ≡ length bounds.old.items }
 {
-    mem::replace(&mut bounds[n as usize], bound)
+    bounds.swap_remove(n as usize)
 }
 
-// What stands in the place of an entry that is being looked at.
-fn nothing_known(alloc: Global) -> Result<Bound, WantOfMemory> {
-    let bound = Bound::new(alloc, b"", &Schedule::new().newest())?;
-    Ok(bound)
+// Puts it back, as it is known now.
+fn put_back(bounds: &mut Vec<Bound>, n: u32, bound: Bound) -> Result<(), WantOfMemory>
+    requires { n ≤ length bounds.old.items }
+    ensures { OnOk result ((all : List Known) (out : Known) → n < length all → bounds.old.items ≡ swap_remove all n out
+        → bounds.new.items ≡ slice_set all n bound) }
+{
+    let last = bounds.len();
+    bounds.push(bound)?;
+    bounds.swap(n as usize, last);
+    Ok(())
 }

@@ -4,13 +4,12 @@ ghost use Rattle.st_base.specs.Work.{AppliesAtMost};
 ghost use Rattle.st_hash.specs.Hash.{HashValue, hash_cmp};
 ghost use Rattle.st_observer.specs.Kept.{IsKept, WaitsAgree};
 ghost use Rattle.st_observer.specs.Observed.{nothing_yet};
-ghost use Rattle.st_observer.specs.States.{given_cost};
+ghost use Rattle.st_observer.specs.States.{AreNamedAt, given_cost};
 ghost use Rattle.st_observer.specs.Steps.{Pushes, PutsGiven, opened};
-ghost use Rattle.st_observer.specs.Work.{AreNamedAt};
 ghost use Rattle.st_opindex.specs.Changed.{AreNamed};
 
 use crate::going::Going;
-use crate::stands::{no_states, states_of};
+use crate::stands::{no_roles, roles_of};
 use crate::states::{OpenStates, States};
 use crate::waiting::Waiting;
 use st_anchor::Bound;
@@ -61,7 +60,7 @@ impl Kept {
             mut waiting,
             states,
         } = self;
-        waiting.turn(alloc, n, &no_states(), &states_of(&bound))?;
+        waiting.turn(alloc, n, &no_roles(), &roles_of(&bound))?;
         let states = give_states(alloc, n, height, &bound, states, work)?;
         bounds.push(bound)?;
         Ok(Kept {

@@ -1,4 +1,4 @@
-ghost use Rattle.std.specs.Prelude.{◌≡◌, ℕ, ◌+◌, ◌≤◌, ◌-◌, ◌*◌, ◌↔◌, List, length, map, IfOk, IsOk, IsSome, IsTrue, OnOk};
+ghost use Rattle.std.specs.Prelude.{◌≡◌, ◌≤◌, ◌-◌, ◌*◌, ◌↔◌, length, map, IfOk, IsOk, IsSome, IsTrue, OnOk};
 ghost use Rattle.std.specs.List.{list_any};
 ghost use Rattle.std.specs.List.Sorted.{IsStrictlySortedBy};
 ghost use Rattle.st_anchor.specs.Coming.{newly_decided, newly_opened};
@@ -13,19 +13,19 @@ ghost use Rattle.st_ledger.specs.Ledger.{admitted};
 ghost use Rattle.st_params.specs.Schedule.{params_at};
 ghost use Rattle.st_observer.specs.Observed.{appended, arrived, cut_to, known_of, nothing_yet, operations, report, state_of};
 ghost use Rattle.st_observer.specs.States.{plain_held};
-ghost use Rattle.st_observer.specs.Wanted.{IsMissed, text_cmp, wanted};
-ghost use Rattle.st_observer.specs.Work.{GrewAtMost, NamesLate, NamesLosing, ReadExactly, ReadsNothing, arrival_cost, decided_in, entry_cost, named_cost, opened_in};
+ghost use Rattle.st_observer.specs.Wanted.{IsMissed, is_wanted, text_cmp, wanted};
+ghost use Rattle.st_observer.specs.Work.{GrewAtMost, ReadExactly, arrival_cost, decided_in, entry_cost, losing, opened_in};
 
 use crate::arriving::settle_waiting;
 use crate::kept::Kept;
-use crate::stands::states_of;
+use crate::stands::roles_of;
 use crate::states::Held;
 use st_anchor::{Bound, RoleState};
 use st_apply::DidState;
 use st_base::{Bytes, List, WantOfMemory, Work};
 use st_content::{Content, Put};
 use st_hash::Hash;
-use st_ledger::Ledger;
+use st_ledger::{Entry, Ledger};
 use st_params::Schedule;
 use std::alloc::Global;
 use std::marker::Model;
@@ -96,24 +96,24 @@ impl Observer {
     pub fn append(
         self,
         alloc: Global,
-        height: u32,
-        text: Bytes,
+        entry: Entry,
         work: &mut Work,
     ) -> Result<(Observer, u32), WantOfMemory>
-        requires { IsOk (admitted self.ledger height) }
-        ensures state { IfOk result (λ done. done.0 ≡ appended (record { height = height; text = text }) self) }
+        requires { IsOk (admitted self.ledger entry.height) }
+        ensures state { IfOk result (λ done. done.0 ≡ appended entry self) }
         ensures number { IfOk result (λ done. done.1 ≡ length self.ledger) }
         // Each role whose file is read counts as one file.
         ensures exact { OnOk result (ReadExactly
-            (newly_decided self.files (known_of_text (params_at self.schedule height) text))
-            (newly_opened self.files (known_of_text (params_at self.schedule height) text))
+            (newly_decided self.files (known_of_text (params_at self.schedule entry.height) entry.text))
+            (newly_opened self.files (known_of_text (params_at self.schedule entry.height) entry.text))
             work.old work.new) }
         ensures bound { GrewAtMost
-            (decided_roles (known_of self.schedule self.files (record { height = height; text = text })))
-            (opened_proofs (known_of self.schedule self.files (record { height = height; text = text })))
-            (entry_cost (length self.ledger) (record { height = height; text = text }) (appended (record { height = height; text = text }) self))
+            (decided_roles (known_of self.schedule self.files entry))
+            (opened_proofs (known_of self.schedule self.files entry))
+            (entry_cost (length self.ledger) entry (appended entry self))
             work.old work.new }
     {
+        let Entry { height, text } = entry;
         let Observer {
             schedule,
             mut ledger,
@@ -144,8 +144,7 @@ impl Observer {
         requires { n ≤ length self.ledger }
         ensures state { IfOk result (λ done. done.0 ≡ cut_to n self) }
         ensures removed { IfOk result (λ done. done.1 ≡ length self.ledger - n) }
-        ensures bound { (names : List HashValue) → NamesLosing n self names → AppliesAtMost (7 * length names) work.old work.new }
-        ensures reads { ReadsNothing work.old work.new }
+        ensures bound { AppliesAtMost (7 * length (losing n self)) work.old work.new }
     {
         let Observer {
             schedule,
@@ -168,9 +167,9 @@ impl Observer {
     /// comes exactly where a file of this URI was there; then nothing changes.
     ///
     /// At most so many files are read as roles are newly decided, and so many signed texts opened as
-    /// stand in proof files that are newly read. For each identifier for which an entry that missed the
-    /// file gives an operation, at most 7 are applied, and one for each of its operations at the
-    /// entry's place or later.
+    /// stand in proof files that are newly read. For each identifier for which entries that missed the
+    /// file give operations, at most 7 are applied, and one for each of its operations at the place of
+    /// the first such entry or later.
     pub fn arrive(
         self,
         alloc: Global,
@@ -190,12 +189,6 @@ impl Observer {
             (opened_in (arrived bytes self) - opened_in self)
             (arrival_cost bytes self)
             work.old work.new }
-        // An identifier for which several of those entries give operations is folded once: by any list of
-        // names with places among which all such identifiers are, each at the first such entry's place or
-        // before, at most 7 operations are applied for each name, and one for each of its operations at
-        // its place or later.
-        ensures once { (names : List (HashValue × ℕ)) → NamesLate bytes self names
-            → work.new.applies ≤ work.old.applies + named_cost (arrived bytes self) names }
     {
         let Observer {
             schedule,
@@ -244,13 +237,21 @@ impl Observer {
         Ok(uris)
     }
 
+    /// Whether the file of this URI is wanted. It is looked up, and no list of those that are is made.
+    pub fn wants(&self, alloc: Global, uri: &Hash) -> Result<bool, WantOfMemory>
+        ensures { IfOk result (λ found. found ≡ is_wanted uri.now self.now) }
+    {
+        let found = self.kept.waiting.has(alloc, uri)?;
+        Ok(found)
+    }
+
     /// How it stands with the five roles of an entry, in their order. None comes exactly where there
     /// is no entry with this number.
     pub fn report(&self, n: u32) -> Option<[RoleState; 5]>
         ensures { result ≡ report n self.now }
     {
         match self.kept.bounds.get(n as usize) {
-            Some(bound) => Some(states_of(bound)),
+            Some(bound) => Some(roles_of(bound)),
             None => None,
         }
     }

@@ -6,7 +6,7 @@ use st_anchor::{Bound, RoleState};
 use st_datafiles::Role;
 
 // How it stands with the five roles of an entry, in their order.
-pub fn states_of(bound: &Bound) -> [RoleState; 5]
+pub fn roles_of(bound: &Bound) -> [RoleState; 5]
     ensures { result ≡ role_states bound.now }
 {
     [
@@ -19,7 +19,7 @@ pub fn states_of(bound: &Bound) -> [RoleState; 5]
 }
 
 // How it stands with them where there is no entry.
-pub fn no_states() -> [RoleState; 5]
+pub fn no_roles() -> [RoleState; 5]
     ensures { result ≡ no_needs }
 {
     [

@@ -7,9 +7,9 @@ ghost use Rattle.st_base.specs.Work.{AppliesAtMost};
 ghost use Rattle.st_hash.specs.Hash.{HashValue, hash_cmp, same_hash};
 ghost use Rattle.st_ops.specs.Operation.{plain_operation};
 ghost use Rattle.st_observer.specs.Observed.{given_for};
-ghost use Rattle.st_observer.specs.Work.{AreNamedAt, ReadsNothing};
+ghost use Rattle.st_observer.specs.Work.{ReadsNothing};
 ghost use Rattle.st_opindex.specs.Changed.{AreNamed};
-ghost use Rattle.st_observer.specs.States.{NamesFrom, anchored_item, before_place, kept_cost, operations_at, operations_in, plain_held, with_given};
+ghost use Rattle.st_observer.specs.States.{AreNamedAt, NamesFrom, anchored_item, before_place, kept_cost, operations_at, operations_in, plain_held, with_given};
 
 use crate::steps::Steps;
 use st_anchor::Given;
@@ -92,7 +92,6 @@ impl States {
         // By any list of names among which are those that lose one.
         ensures bound { (names : Items HashValue) → NamesFrom place self.items names
             → AppliesAtMost (7 * length names) work.old work.new }
-        ensures reads { ReadsNothing work.old work.new }
     {
         let States { index } = self;
         let index = index.cut(alloc, place, work)?;

@@ -1,4 +1,4 @@
-ghost use Rattle.std.specs.Prelude.{◌≡◌, ◌==◌, ℕ, ◌≤◌, ◌∷◌, [], false, true, length, if◌then◌else◌, IfOk, OnOk};
+ghost use Rattle.std.specs.Prelude.{◌≡◌, ◌↔◌, ◌==◌, ℕ, ◌≤◌, ◌∷◌, [], false, true, length, if◌then◌else◌, IfOk, OnOk};
 ghost use Rattle.std.specs.BTreeMap.{is_at};
 ghost use Rattle.std.specs.BTreeSet.{contains};
 ghost use Rattle.std.specs.List.{list_any};
@@ -6,7 +6,7 @@ ghost use Rattle.std.specs.List.Sorted.{IsStrictlySortedBy};
 ghost use Rattle.std.specs.Map.{keys_of};
 ghost use Rattle.std.specs.Ordering.{as_partial_cmp, nat_cmp};
 ghost use Rattle.st_hash.specs.Hash.{HashValue, hash_text, same_hash};
-ghost use Rattle.st_observer.specs.Waiting.{AreRows, IsRead, IsWaitedFor, SetsMissed, TurnsTo, WaitsBy, is_waiting, same_text, same_text-equivalence, same_text-ties, seen, text_cmp-partial, text_cmp-total};
+ghost use Rattle.st_observer.specs.Waiting.{AreRead, AreRows, IsRead, IsWaitedFor, SetsMissed, TurnsTo, WaitsBy, is_waiting, same_text, same_text-equivalence, same_text-ties, seen, text_cmp-partial, text_cmp-total};
 ghost use Rattle.st_observer.specs.Wanted.{text_cmp};
 
 use st_anchor::RoleState;
@@ -73,6 +73,15 @@ impl Waiting {
             Some(entries) => Ok(listed(alloc, entries)?),
             None => Ok(List::new(alloc)),
         }
+    }
+
+    /// Whether some entry waits for the file of this URI.
+    pub fn has(&self, alloc: Global, uri: &Hash) -> Result<bool, WantOfMemory>
+        ensures waited { IfOk result (λ found. (found ≡ true) ↔ IsWaitedFor uri.now self.now) }
+        ensures read { OnOk result (AreRead self.now) }
+    {
+        let key = ByText::new(alloc, uri)?;
+        Ok(self.files.contains_key(&key))
     }
 
     /// The URIs of the files that some entry waits for, ascending by the bytes of their texts.

@@ -1,5 +1,5 @@
 -- An item put at its place. For crates above: what a put leaves, and how many items its bound speaks of.
-use Rattle.std.proofs.Common.{◌≡◌, ◌∙◌, ℕ, ◌<◌, true, false, ltb, leb, List, [], ◌∷◌, ◌++◌, length, ap, refl, arith, inl, inr}
+use Rattle.std.proofs.Common.{◌≡◌, ◌∙◌, ℕ, ◌<◌, true, false, ltb, leb, List, [], ◌∷◌, ◌++◌, ap, arith, inl, inr}
 use Rattle.std.proofs.lemmas.Bool.{lt-ltb, le-ltb, le-leb, lt-leb, cases_lt, ltb-true}
 use Rattle.std.proofs.lemmas.List.Elements.{filter-append}
 use Rattle.std.specs.List.{AllByRecursion}
@@ -21,23 +21,6 @@ module _ {Item : Type 0} (place : ℕ) where
       (each-passes (λ held. ltb place held.0) items)) in
       filter-append (λ held. leb place held.0) (before place items) ((place, item) ∷ after place items)
       ∙ rw (front, le-leb place place (omega arith)) (ap (λ rest. (place, item) ∷ rest) back)
-
-  module _ (item : Item) (items : List (Held Item)) (all : AllByRecursion (λ held. held.0 < place) items) where
-    none_after : after place items ≡ []
-    none_after =
-        filter_none (λ held. ltb place held.0) items
-        (each-weaker (λ held. held.0 < place) (λ held. ltb place held.0 ≡ false) (λ held lt. le-ltb place held.0 (le_of_lt held.0 place lt)) items all)
-
-    -- behind all others it stands last
-    pub with_item-last : with_item place item items ≡ items ++ (place, item) ∷ []
-    with_item-last =
-        let front : before place items ≡ items =
-        filter_all (λ held. ltb held.0 place) items (each-weaker (λ held. held.0 < place) (λ held. ltb held.0 place ≡ true) (λ held lt. lt-ltb held.0 place lt) items all) in
-        rw (front, none_after) refl
-
-    -- and alone from its place on
-    pub with_item-alone : length (from place (with_item place item items)) ≡ 1
-    with_item-alone = rw (from-with_item item items, none_after) refl
 
   -- what holds of each item and of it holds of each
   pub each-with_item : (P : Held Item → Type 0) (item : Item) (items : List (Held Item)) → P (place, item) → AllByRecursion P items

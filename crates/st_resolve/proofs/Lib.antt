@@ -1,2 +1,3 @@
+mod ObjectTexts
 mod OpenedLemmas
 mod SpellingLemmas

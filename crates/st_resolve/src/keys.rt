@@ -1,74 +1,181 @@
-ghost use Rattle.std.specs.Prelude.{◌≡◌, IfOk, map};
-ghost use Rattle.st_canon.specs.Objects.{some_listed};
-ghost use Rattle.st_canon.specs.View.{plain, plain_members};
+ghost use Rattle.std.specs.Prelude.{◌≡◌, ◌++◌, ◌∷◌, [], OnOk, false, is_some, map, true};
+ghost use Rattle.st_canon.specs.Canonical.{canonical, canonical_items};
+ghost use Rattle.st_canon.specs.Objects.{some_list};
+ghost use Rattle.st_canon.specs.View.{items_of, plain};
+ghost use Rattle.st_canon.specs.Listed.{text_there};
 ghost use Rattle.st_doc.specs.Alike.{is_among};
 ghost use Rattle.st_doc.specs.Entries.{texts_of};
-ghost use Rattle.st_resolve.specs.Keys.{controller_of, has_purpose, method_members, method_of, references_for};
+ghost use Rattle.st_resolve.specs.Keys.{controller_of, has_purpose, method_of, references_for};
+ghost use Rattle.st_resolve.specs.Texts.{method_text, references_text, value_text};
 
-use crate::texts::{copy_there, reference_to, text_json};
-use st_base::{Copied, List, WantOfMemory};
-use st_canon::{Json, Object, entries_in};
+use crate::entries::append_reference;
+use st_base::{Bytes, WantOfMemory};
+use st_canon::{Json, append, append_comma, append_text, append_there, entries_in};
 use std::alloc::Global;
 
-/// The keys as verification methods of the identifier `did`.
-pub(crate) fn methods_of(
+/// Appends the list of the keys as verification methods behind this front, and nothing where there is none.
+#[tactic(auto, unfolding(st_canon::specs::Objects::some_list))]
+pub(crate) fn append_methods(
     alloc: Global,
+    out: &mut Bytes,
+    front: &[u8],
     did: &str,
     keys: &[Json],
-) -> Result<List<Json>, WantOfMemory>
-    ensures { IfOk result (λ list. map plain list ≡ map (method_of did.now) (map plain keys.now)) }
+) -> Result<(), WantOfMemory>
+    ensures { OnOk result (out.new ≡ out.old ++ text_there front.now (some_list (map (method_of did.now) (map plain keys.now))) []) }
 {
-    let mut list = List::new(alloc);
-    for key in keys {
-        list.push(alloc, method_of(alloc, did, key)?)?;
+    if keys.is_empty() {
+        return Ok(());
     }
-    Ok(list)
+    out.push_all(alloc, front)?;
+    out.push_all(alloc, b"[")?;
+    append_each_method(alloc, out, did, keys)?;
+    out.push_all(alloc, b"]")
 }
 
-fn method_of(alloc: Global, did: &str, key: &Json) -> Result<Json, WantOfMemory>
-    ensures { IfOk result (λ json. plain json ≡ method_of did.now (plain key.now)) }
+fn append_each_method(
+    alloc: Global,
+    out: &mut Bytes,
+    did: &str,
+    keys: &[Json],
+) -> Result<(), WantOfMemory>
+    ensures { OnOk result (out.new ≡ out.old ++ canonical_items false (items_of (map (method_of did.now) (map plain keys.now)))) }
 {
-    Ok(Json::Object(method_members(alloc, did, key)?))
+    let mut comma = false;
+    for key in keys {
+        append_comma(alloc, out, comma)?;
+        append_method(alloc, out, did, key)?;
+        comma = true;
+    }
+    Ok(())
 }
 
-#[tactic(auto, unfolding(st_canon::specs::Objects::put_some))]
-fn method_members(alloc: Global, did: &str, key: &Json) -> Result<Object, WantOfMemory>
-    ensures { IfOk result (λ members. plain_members members ≡ some_listed (method_members did.now (plain key.now))) }
+fn append_method(alloc: Global, out: &mut Bytes, did: &str, key: &Json) -> Result<(), WantOfMemory>
+    ensures { OnOk result (out.new ≡ out.old ++ canonical (method_of did.now (plain key.now))) }
 {
-    let mut members = Object::new(alloc);
-    members.set(alloc, "id", reference_to(alloc, key)?)?;
-    members.set_some(alloc, "type", copy_there(alloc, key.member("type"))?)?;
-    members.set(alloc, "controller", controller_of(alloc, did, key)?)?;
-    let jwk = copy_there(alloc, key.member("publicKeyJwk"))?;
-    members.set_some(alloc, "publicKeyJwk", jwk)?;
-    Ok(members)
+    append_method_parts(alloc, out, did, key)?;
+    Ok(())
+}
+
+#[tactic(auto, unfolding(crate::specs::Texts::method_text))]
+fn append_method_parts(
+    alloc: Global,
+    out: &mut Bytes,
+    did: &str,
+    key: &Json,
+) -> Result<(), WantOfMemory>
+    ensures { OnOk result (out.new ≡ out.old ++ method_text did.now (plain key.now)) }
+{
+    out.push_all(alloc, b"{\"controller\":")?;
+    append_controller(alloc, out, did, key)?;
+    out.push_all(alloc, b",\"id\":")?;
+    append_reference(alloc, out, key)?;
+    let jwk = key.member("publicKeyJwk");
+    append_there(alloc, out, b",\"publicKeyJwk\":", jwk, b"")?;
+    let kind = key.member("type");
+    append_there(alloc, out, b",\"type\":", kind, b"")?;
+    out.push_all(alloc, b"}")?;
+    Ok(())
 }
 
 // Who controls the key: whom it names, or else the identifier.
-fn controller_of(alloc: Global, did: &str, key: &Json) -> Result<Json, WantOfMemory>
-    ensures { IfOk result (λ json. plain json ≡ controller_of did.now (plain key.now)) }
+#[tactic(auto, unfolding(crate::specs::Texts::value_text))]
+fn append_controller(
+    alloc: Global,
+    out: &mut Bytes,
+    did: &str,
+    key: &Json,
+) -> Result<(), WantOfMemory>
+    ensures { OnOk result (out.new ≡ out.old ++ value_text (controller_of did.now (plain key.now))) }
 {
     match key.member("controller") {
-        Some(controller) => controller.copy(alloc),
-        None => text_json(alloc, did),
+        Some(controller) => append(alloc, out, controller),
+        None => append_text(alloc, out, did),
     }
 }
 
-/// References to the keys that serve this purpose.
-pub(crate) fn references_for(
+/// Appends the list of references to the keys that serve this purpose between these texts, and nothing where
+/// there is none.
+#[tactic(auto, using(crate::proofs::ObjectTexts::none_there))]
+pub(crate) fn append_references(
     alloc: Global,
+    out: &mut Bytes,
+    front: &[u8],
     purpose: &str,
     keys: &[Json],
-) -> Result<List<Json>, WantOfMemory>
-    ensures { IfOk result (λ list. map plain list ≡ references_for purpose.now (map plain keys.now)) }
+    back: &[u8],
+) -> Result<(), WantOfMemory>
+    ensures { OnOk result (out.new ≡ out.old ++ references_text front.now purpose.now (map plain keys.now) back.now) }
 {
-    let mut list = List::new(alloc);
+    if serves_any(purpose, keys) {
+        append_some_references(alloc, out, front, purpose, keys, back)
+    } else {
+        Ok(())
+    }
+}
+
+// Whether a key serves this purpose.
+#[tactic(auto, unfolding(st_canon::specs::Objects::some_list))]
+fn serves_any(purpose: &str, keys: &[Json]) -> bool
+    ensures { result ≡ is_some (some_list (references_for purpose.now (map plain keys.now))) }
+{
     for key in keys {
         if has_purpose(purpose, key) {
-            list.push(alloc, reference_to(alloc, key)?)?;
+            return true;
         }
     }
-    Ok(list)
+    false
+}
+
+fn append_some_references(
+    alloc: Global,
+    out: &mut Bytes,
+    front: &[u8],
+    purpose: &str,
+    keys: &[Json],
+    back: &[u8],
+) -> Result<(), WantOfMemory>
+    requires { is_some (some_list (references_for purpose.now (map plain keys.now))) ≡ true }
+    ensures { OnOk result (out.new ≡ out.old ++ references_text front.now purpose.now (map plain keys.now) back.now) }
+{
+    append_list(alloc, out, front, purpose, keys, back)?;
+    Ok(())
+}
+
+fn append_list(
+    alloc: Global,
+    out: &mut Bytes,
+    front: &[u8],
+    purpose: &str,
+    keys: &[Json],
+    back: &[u8],
+) -> Result<(), WantOfMemory>
+    ensures { OnOk result (out.new ≡ out.old ++ (front.now ++ (91 ∷ (canonical_items false (items_of (references_for purpose.now (map plain keys.now))) ++ 93 ∷ back.now)))) }
+{
+    out.push_all(alloc, front)?;
+    out.push_all(alloc, b"[")?;
+    append_each_reference(alloc, out, purpose, keys)?;
+    out.push_all(alloc, b"]")?;
+    out.push_all(alloc, back)
+}
+
+fn append_each_reference(
+    alloc: Global,
+    out: &mut Bytes,
+    purpose: &str,
+    keys: &[Json],
+) -> Result<(), WantOfMemory>
+    ensures { OnOk result (out.new ≡ out.old ++ canonical_items false (items_of (references_for purpose.now (map plain keys.now)))) }
+{
+    let mut comma = false;
+    for key in keys {
+        if has_purpose(purpose, key) {
+            append_comma(alloc, out, comma)?;
+            append_reference(alloc, out, key)?;
+            comma = true;
+        }
+    }
+    Ok(())
 }
 
 fn has_purpose(purpose: &str, key: &Json) -> bool

@@ -2,6 +2,7 @@
 #![tactic(auto)]
 
 mod described;
+mod entries;
 mod identifier;
 mod keys;
 mod metadata;
@@ -13,7 +14,6 @@ mod services;
 mod spelling;
 #[cfg(test)]
 mod tests;
-mod texts;
 
 pub use identifier::{Did, LongForm};
 pub use reading::read_did;

@@ -1,27 +1,29 @@
-ghost use Rattle.std.specs.Prelude.{◌≡◌, IfOk, IsSome, OnOk, None, true};
+ghost use Rattle.std.specs.Prelude.{◌≡◌, ◌++◌, [], IfOk, IsSome, OnOk, None, true};
 ghost use Rattle.st_apply.specs.Shown.{opened};
-ghost use Rattle.st_base.specs.Answers.{GivesAs};
+ghost use Rattle.st_base.specs.Answers.{Gives};
 ghost use Rattle.st_base.specs.Work.{one_apply, AppliesAtMost};
-ghost use Rattle.st_canon.specs.Plain.{object};
-ghost use Rattle.st_canon.specs.View.{plain, plain_members};
+ghost use Rattle.st_canon.specs.Canonical.{canonical};
 ghost use Rattle.st_resolve.specs.Identifier.{plain_did};
 ghost use Rattle.st_resolve.specs.LongForm.{plain_long};
 ghost use Rattle.st_resolve.specs.Result.{is_absent, is_deactivated, made_by, refusal_of, result_of, said_of};
+ghost use Rattle.st_resolve.specs.Texts.{said_text, text_of};
 
-use crate::described::did_document;
+use crate::described::append_did_document;
 use crate::identifier::{Did, LongForm};
-use crate::metadata::metadata_of;
+use crate::metadata::append_metadata;
 use crate::refused::RenderRefused;
 use st_apply::{DidState, StateParts, open_created};
-use st_base::{Copied, WantOfMemory, Work};
-use st_canon::{Json, Object};
+use st_base::{Bytes, Copied, WantOfMemory, Work};
 use st_params::Params;
 use std::alloc::Global;
 
-/// The result of resolving an identifier whose suffix has this state, by the limits of the newest
-/// version. The state is opened, which counts what `DidState::open` counts. An identifier that no entry
-/// made is rendered from the create in its long form, which counts as one applied operation; a short form
-/// counts nothing then.
+// Room that most texts do not outgrow, so that they are not moved while they are written.
+const USUAL: usize = 1_000;
+
+/// The canonical text of the result of resolving an identifier whose suffix has this state, by the limits
+/// of the newest version, written straight, with no tree of JSON. The state is opened, which counts what
+/// `DidState::open` counts. An identifier that no entry made is rendered from the create in its long form,
+/// which counts as one applied operation; a short form counts nothing then.
 ///
 /// `NotFound` comes exactly where the state is absent and the identifier is a short form.
 #[tactic(auto, unfolding(crate::specs::Result::result_of), using(crate::proofs::OpenedLemmas::absent_idle, crate::proofs::OpenedLemmas::deactivated_idle))]
@@ -31,8 +33,8 @@ pub fn render(
     state: &DidState,
     params: &Params,
     work: &mut Work,
-) -> Result<Json, RenderRefused>
-    ensures result { GivesAs plain refusal_of (result_of params.now (plain_did did.now) state.now) result }
+) -> Result<Bytes, RenderRefused>
+    ensures result { Gives refusal_of (text_of (result_of params.now (plain_did did.now) state.now)) result }
     ensures work { AppliesAtMost 1 work.old work.new }
 
     // Of an identifier that no entry made, one operation is counted for a long form, and none for a short one.
@@ -43,13 +45,13 @@ pub fn render(
 {
     let parts = state.open(alloc, work)?;
     if !is_absent(&parts) {
-        return Ok(said_of(alloc, true, did, &parts)?);
+        return Ok(written(alloc, true, did, &parts)?);
     }
     let Some(long) = &did.long else {
         return Err(RenderRefused::NotFound);
     };
     let made = made_by(alloc, long, params, work)?;
-    Ok(said_of(alloc, false, did, &made)?)
+    Ok(written(alloc, false, did, &made)?)
 }
 
 fn is_absent(state: &StateParts) -> bool
@@ -77,30 +79,47 @@ fn made_by(
     Ok(parts)
 }
 
-/// What a state says of an identifier, which is published or not.
-pub(crate) fn said_of(
+/// The canonical text of what a state says of an identifier, which is published or not.
+pub(crate) fn written(
     alloc: Global,
     published: bool,
     did: &Did,
     state: &StateParts,
-) -> Result<Json, WantOfMemory>
-    ensures { IfOk result (λ json. plain json ≡ said_of published (plain_did did.now) (opened state.now)) }
+) -> Result<Bytes, WantOfMemory>
+    ensures { IfOk result (λ text. text ≡ canonical (said_of published (plain_did did.now) (opened state.now))) }
 {
-    Ok(Json::Object(said_members(alloc, published, did, state)?))
+    let mut out = Bytes::with_room(alloc, USUAL)?;
+    append_said(alloc, &mut out, published, did, state)?;
+    Ok(out)
 }
 
-fn said_members(
+fn append_said(
     alloc: Global,
+    out: &mut Bytes,
     published: bool,
     did: &Did,
     state: &StateParts,
-) -> Result<Object, WantOfMemory>
-    ensures { IfOk result (λ members. object (plain_members members) ≡ said_of published (plain_did did.now) (opened state.now)) }
+) -> Result<(), WantOfMemory>
+    ensures { OnOk result (out.new ≡ out.old ++ canonical (said_of published (plain_did did.now) (opened state.now))) }
 {
-    let mut members = Object::new(alloc);
-    let document = did_document(alloc, did.text.as_str(), state)?;
-    members.set(alloc, "didDocument", document)?;
-    let metadata = metadata_of(alloc, published, did, state)?;
-    members.set(alloc, "didDocumentMetadata", metadata)?;
-    Ok(members)
+    append_said_parts(alloc, out, published, did, state)?;
+    Ok(())
+}
+
+#[tactic(auto, unfolding(crate::specs::Texts::said_text))]
+fn append_said_parts(
+    alloc: Global,
+    out: &mut Bytes,
+    published: bool,
+    did: &Did,
+    state: &StateParts,
+) -> Result<(), WantOfMemory>
+    ensures { OnOk result (out.new ≡ out.old ++ said_text published (plain_did did.now) (opened state.now)) }
+{
+    out.push_all(alloc, b"{\"didDocument\":")?;
+    append_did_document(alloc, out, did.text.as_str(), state)?;
+    out.push_all(alloc, b",\"didDocumentMetadata\":")?;
+    append_metadata(alloc, out, published, did, state)?;
+    out.push_all(alloc, b"}")?;
+    Ok(())
 }

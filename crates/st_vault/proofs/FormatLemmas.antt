@@ -157,10 +157,6 @@ formatted_bytes key old mid image same made =
 pub blank_or_fresh : (key : SecretKey) (old image : List ℕ) → IsOldOrBlank old image → IsOldOrFresh key old image
 blank_or_fresh key old image = ⊎_elim (λ same. inl same) (λ blank. inr (blank.0, inl blank.1))
 
--- on a blank disk that is fresh
-pub fresh_on_blank : (key : SecretKey) (old image : List ℕ) → kind_of old ≡ Blank → IsOldOrFresh key old image → IsFresh key image
-fresh_on_blank key old image blank = ⊎_elim (λ same. inl (ap kind_of same ∙ blank)) (λ fresh. fresh.1)
-
 -- and what was spent stays spent: on a blank disk nothing was, and another stays the same
 pub spent_on : (key : SecretKey) (old image : List ℕ) (q : ℕ) → IsSpent old q → IsOldOrFresh key old image → IsSpent image q
 spent_on key old image q there = ⊎_elim

@@ -2,7 +2,7 @@
 use Rattle.std.proofs.Common.{◌≡◌, ◌≢◌, ◌⊎◌, inl, inr, ⊎_elim, ◌∙◌, ℕ, ◌+◌, ◌-◌, ◌<◌, ◌≤◌, List, [], ◌∷◌, ◌++◌, length, get_or, take, drop, Ok, ap, sym, subst, arith}
 use Rattle.std.proofs.lemmas.Bool.{cases_eq}
 use Rattle.std.proofs.lemmas.List.{get_or-drop, take_more, take-append-drop}
-use Rattle.st_io.proofs.PastLemmas.{le_or_lt, stands}
+use Rattle.st_io.proofs.PastLemmas.{le_or_lt}
 use Rattle.st_io.specs.Past.{Past, Follow, GoesOn, Leaves}
 use Rattle.st_io.specs.Tears.{Torn}
 use Rattle.st_vault.proofs.HeaderLemmas.{same_key}
@@ -108,7 +108,3 @@ torn_moments vault place a b here left all goes follow = record {
       let from = follow x since in
       torn_opens vault from.0 (all from.0 from.1) left x (subst (λ n. Torn (64 + n) 1 from.0 x) here from.2);
 }
-
--- where no call is made
-pub standing : (vault : VaultValue) (p : Past) → AllOpenAs (Ok vault) p → Leaves (IsBeforeOrAfter vault) p p
-standing vault p all = record { goes = stands p; each = λ x left. inl (all x left) }

@@ -2,33 +2,21 @@
 -- opened as.
 use Rattle.std.proofs.Common.{◌≡◌, ◌∙◌, ◌<◌, ⊎_elim, ℕ, List, not, Result, Ok, Err, ap, refl, sym}
 use Rattle.st_base.specs.Answers.{◌>>=◌, ◌>>◌, holds_or}
-use Rattle.st_io.proofs.PastLemmas.{goes_on, now_too}
-use Rattle.st_io.specs.Past.{Past, Leaves}
+use Rattle.st_io.specs.Past.{Past}
 use Rattle.st_lms.specs.Keys.{SecretKey}
-use Rattle.st_vault.proofs.ImageLemmas.{blank-unformatted, kind-whole}
+use Rattle.st_vault.proofs.ImageLemmas.{blank-unformatted}
 use Rattle.st_vault.proofs.MapLemmas.{one_past-above}
 use Rattle.st_vault.proofs.OpeningLemmas.{opened-err, opened-parts, opens_as}
 use Rattle.st_vault.proofs.SpentLemmas.{marked}
 use Rattle.st_vault.specs.Formatting.{formatted}
-use Rattle.st_vault.specs.Image.{IsSpent, Kind, key_in, kind_of, map_in, next_counter, spent}
+use Rattle.st_vault.specs.Image.{IsSpent, Kind, key_in, kind_of, next_counter, spent}
 use Rattle.st_vault.specs.Image.Kind.{Blank, Damaged, Whole}
 use Rattle.st_vault.specs.Opening.{key_by_kind, key_of, opened}
 use Rattle.st_vault.specs.Spent.{KeepsSpent, SpentInAll}
-use Rattle.st_vault.specs.Values.{VaultValue, count_of, new_vault}
+use Rattle.st_vault.specs.Values.{VaultValue, new_vault}
 use Rattle.st_vault.specs.declared.refused.FormatRefused.TheVariants.{Formatted}
 use Rattle.st_vault.specs.declared.refused.OpenRefused.{OpenRefused}
 use Rattle.st_vault.specs.declared.refused.OpenRefused.TheVariants as refused
-
--- what stays spent over one run and over the next stays so over both
-pub keeps_on : (a b c : Past) → KeepsSpent a b → KeepsSpent b c → KeepsSpent a c
-keeps_on a b c first second = record {
-  goes = goes_on a b c first.goes second.goes;
-  stays = λ q all x left.
-      let so_far : Leaves (λ image. IsSpent image q) a b = record { goes = first.goes; each = first.stays q all } in
-      ⊎_elim (first.stays q all x)
-      (λ new. second.stays q (now_too (λ image. IsSpent image q) a b so_far) x new)
-      (second.goes.splits a.now x first.goes.later left);
-}
 
 -- what is spent in every image is spent in every image after a run that keeps it
 pub still_spent : (a b : Past) (q : ℕ) → KeepsSpent a b → SpentInAll a q → SpentInAll b q
@@ -77,26 +65,6 @@ opened-blank image is = by_kind (kind_of image) refl (sym (opened-by image) ∙ 
 pub blank-opened : (image : List ℕ) → kind_of image ≡ Blank → opened image ≡ Err refused.Blank
 unfolding key_of
 blank-opened image blank = opened-err image refused.Blank (ap key_by_kind blank)
-
--- opened as damaged, it is damaged
-pub opened-damaged : (image : List ℕ) → opened image ≡ Err refused.Damaged → kind_of image ≡ Damaged
-opened-damaged image is = by_kind (kind_of image) refl (sym (opened-by image) ∙ is)
-  where
-    by_kind : (kind : Kind) → kind_of image ≡ kind → opened_kind image kind ≡ Err refused.Damaged → kind_of image ≡ Damaged
-    by_kind Blank blank same = absurd (cc)
-    by_kind Damaged damaged same = damaged
-    by_kind (Whole key map) whole same = absurd (cc)
-
-pub damaged-opened : (image : List ℕ) → kind_of image ≡ Damaged → opened image ≡ Err refused.Damaged
-unfolding key_of
-damaged-opened image damaged = opened-err image refused.Damaged (ap key_by_kind damaged)
-
--- opened as a vault, it has the key of the vault, and its map
-pub opened-whole : (image : List ℕ) (vault : VaultValue) → opened image ≡ Ok vault
-    → kind_of image ≡ Whole vault.key (map_in (count_of vault.key) image)
-opened-whole image vault is =
-    let parts = opens_as image vault is in
-    kind-whole image parts.parts ∙ ap (λ key. Whole key (map_in (count_of key) image)) parts.key_is
 
 -- a disk that is opened as blank may be formatted
 pub formatted-blank : (key : SecretKey) (image : List ℕ) → opened image ≡ Err refused.Blank → formatted key image ≡ Ok (new_vault key)

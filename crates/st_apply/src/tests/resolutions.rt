@@ -2,6 +2,7 @@ use super::made::{committed, operation};
 use super::walking::walk;
 use crate::{DidState, StateParts, alike_law, anchored_law, apply, given_law, resolution_laws};
 use st_base::{Copied, List, Work};
+use st_canon::Json;
 use st_doc::Document;
 use st_hash::Hash;
 use st_ops::Operation;
@@ -55,50 +56,97 @@ deactivate r - - -
 recover r q v b
 = absent";
 
-const KEYS: &str = "p q r u v w y";
+// How many operations are counted where the state is opened that the operations behind the bar leave. What a
+// create began is looked at where it is opened; what an update left was looked at.
+const OPENED: &str = "0|
+1|create - r u a
+0|create - r u a;update u - v b";
 
-// The name of the key that is committed to.
-fn name_of(rt: &HostRuntime, commitment: &Hash) -> Result<&'static str, Fail> {
-    for name in KEYS.split(' ') {
-        if committed(rt, name)? == *commitment {
-            return Ok(name);
+// It is the commitment to the key of this name.
+fn is_of_key(rt: &HostRuntime, commitment: &Hash, name: &str) -> Result<bool, Fail> {
+    Ok(committed(rt, name)? == *commitment)
+}
+
+fn is_update(rt: &HostRuntime, update: &Option<Hash>, name: &str) -> Result<bool, Fail> {
+    match update {
+        Some(commitment) => is_of_key(rt, commitment, name),
+        None => Ok(name == "none"),
+    }
+}
+
+fn id_of(service: &Json) -> &str {
+    match service.member("id") {
+        Some(id) => match id.as_text() {
+            Some(text) => text,
+            None => "no text",
+        },
+        None => "no id",
+    }
+}
+
+// The ids of the services, one after the other, in parentheses.
+fn has_services(document: &Document, ids: &str) -> bool {
+    let Some(mut rest) = ids.strip_prefix("(") else {
+        return false;
+    };
+    for service in document.services() {
+        match rest.strip_prefix(id_of(service)) {
+            Some(more) => rest = more,
+            None => return false,
         }
     }
-    Err(Fail::from("no key"))
+    rest == ")"
 }
 
-// The ids of the services, one after the other.
-fn services(rt: &HostRuntime, document: &Document) -> Result<String, Fail> {
-    let mut ids = String::new(rt.alloc());
-    for service in document.services() {
-        let id = service.member("id").ok_or("no id")?;
-        ids.push_str(id.as_text().ok_or("no text")?)?;
-    }
-    Ok(ids)
+fn is_active(
+    rt: &HostRuntime,
+    recovery: &Hash,
+    update: &Option<Hash>,
+    document: &Document,
+    words: &str,
+) -> Result<bool, Fail> {
+    let (name, rest) = words.split_once(' ').ok_or("no recovery")?;
+    let (next, ids) = rest.split_once(' ').ok_or("no update")?;
+    Ok(
+        is_of_key(rt, recovery, name)?
+            && is_update(rt, update, next)?
+            && has_services(document, ids),
+    )
 }
 
-fn shown(rt: &HostRuntime, state: &DidState) -> Result<String, Fail> {
-    match state.open(rt.alloc(), &mut Work::new(rt))? {
-        StateParts::Absent => Ok(String::from_str(rt.alloc(), "absent")?),
-        StateParts::Deactivated => Ok(String::from_str(rt.alloc(), "deactivated")?),
+fn are_shown(rt: &HostRuntime, parts: &StateParts, expected: &str) -> Result<bool, Fail> {
+    match parts {
+        StateParts::Absent => Ok(expected == "absent"),
+        StateParts::Deactivated => Ok(expected == "deactivated"),
         StateParts::Active {
             recovery,
             update,
             document,
-        } => {
-            let recovery = name_of(rt, &recovery)?;
-            let update = match update {
-                Some(update) => name_of(rt, &update)?,
-                None => "none",
-            };
-            let services = services(rt, document.get())?;
-            Ok(format!(in rt.alloc(); "active {recovery} {update} ({services})")?)
-        }
+        } => match expected.strip_prefix("active ") {
+            Some(words) => is_active(rt, recovery, update, document.get(), words),
+            None => Ok(false),
+        },
     }
 }
 
-// By one step for each operation, and by following commitments over all of them.
-fn both_ways(
+// The state is the expected one.
+fn is_shown(rt: &HostRuntime, state: &DidState, expected: &str) -> Result<bool, Fail> {
+    let parts = state.open(rt.alloc(), &mut Work::new(rt))?;
+    are_shown(rt, &parts, expected)
+}
+
+fn is_copied(rt: &HostRuntime, state: &DidState, expected: &str) -> Result<bool, Fail> {
+    let copied = state.copy(rt.alloc())?;
+    is_shown(rt, &copied, expected)
+}
+
+fn is_packed(rt: &HostRuntime, state: &DidState, expected: &str) -> Result<bool, Fail> {
+    let packed = state.pack(rt.alloc())?;
+    is_shown(rt, &packed, expected)
+}
+
+// By one step for each operation.
+fn is_folded(
     rt: &HostRuntime,
     operations: &[Operation],
     expected: &str,
@@ -109,14 +157,58 @@ fn both_ways(
     for operation in operations {
         state = apply(rt.alloc(), &state, operation, &params, work)?;
     }
-    let copied = state.copy(rt.alloc())?;
-    let packed = state.pack(rt.alloc())?;
-    let walked = walk(rt.alloc(), operations, &params, &mut Work::new(rt))?;
-    Ok(
-        shown(rt, &copied)?.as_str() == expected
-            && shown(rt, &packed)?.as_str() == expected
-            && shown(rt, &walked)?.as_str() == expected,
-    )
+    Ok(is_copied(rt, &state, expected)? && is_packed(rt, &state, expected)?)
+}
+
+// By following commitments over all of them.
+fn is_walked(rt: &HostRuntime, operations: &[Operation], expected: &str) -> Result<bool, Fail> {
+    let params = Schedule::new().at(0);
+    let state = walk(rt.alloc(), operations, &params, &mut Work::new(rt))?;
+    is_shown(rt, &state, expected)
+}
+
+fn both_ways(
+    rt: &HostRuntime,
+    operations: &[Operation],
+    expected: &str,
+    work: &mut Work,
+) -> Result<bool, Fail> {
+    let folded = is_folded(rt, operations, expected, work)?;
+    Ok(folded && is_walked(rt, operations, expected)?)
+}
+
+// The first state that the operations do not resolve to.
+fn otherwise(rt: &HostRuntime, work: &mut Work) -> Result<Option<&'static str>, Fail> {
+    let mut operations = List::new(rt.alloc());
+    for line in CASES.lines() {
+        match line.strip_prefix("= ") {
+            Some(expected) => {
+                if !both_ways(rt, operations.as_slice(), expected, work)? {
+                    return Ok(Some(line));
+                }
+                operations = List::new(rt.alloc());
+            }
+            None => operations.push(rt.alloc(), operation(rt, line)?)?,
+        }
+    }
+    Ok(None)
+}
+
+#[test]
+fn operations_resolve_to_a_state(rt: HostRuntime) -> Result<(), Fail> {
+    resolution_laws::<Hash, u8, u64>();
+    alike_law::<Hash, u8, u64, u32>();
+    given_law::<u8, u64>();
+    anchored_law();
+    let mut work = Work::new(&rt);
+    match otherwise(&rt, &mut work)? {
+        None => if work.applies() == 34 {
+            Ok(())
+        } else {
+            Err(Fail::from("another count"))
+        },
+        Some(line) => Err(Fail::from(line)),
+    }
 }
 
 // The state that an operation leaves, which is written as a line.
@@ -127,47 +219,39 @@ fn stepped(rt: &HostRuntime, state: &DidState, line: &str) -> Result<DidState, F
     Ok(state)
 }
 
-// How many operations are counted where the state is opened that these operations leave, a line each.
-fn counted_by_opening(rt: &HostRuntime, lines: &str) -> Result<u64, Fail> {
-    let mut state = DidState::absent();
-    for line in lines.lines() {
-        state = stepped(rt, &state, line)?;
-    }
+// How many operations are counted where the state is opened, whose parts can be copied.
+fn counted(rt: &HostRuntime, state: &DidState) -> Result<u64, Fail> {
     let mut work = Work::new(rt);
     let parts = state.open(rt.alloc(), &mut work)?;
     let _same = parts.copy(rt.alloc())?;
     Ok(work.applies())
 }
 
-// What a create began is looked at where it is opened; what an update left was looked at.
-#[test]
-fn opening_counts_a_delta_that_was_not_looked_at(rt: HostRuntime) -> Result<(), Fail> {
-    assert_eq!(rt; counted_by_opening(&rt, "")?, 0);
-    assert_eq!(rt; counted_by_opening(&rt, "create - r u a")?, 1);
-    assert_eq!(rt;
-        counted_by_opening(&rt, "create - r u a\nupdate u - v b")?,
-        0
-    );
-    Ok(())
+fn is_counted(rt: &HostRuntime, line: &str) -> Result<bool, Fail> {
+    let (expected, steps) = line.split_once('|').ok_or("no bar")?;
+    let expected: u64 = expected.parse().map_err(|_| "no number")?;
+    let mut state = DidState::absent();
+    for step in steps.split(';') {
+        if !step.is_empty() {
+            state = stepped(rt, &state, step)?;
+        }
+    }
+    Ok(counted(rt, &state)? == expected)
+}
+
+fn counted_otherwise(rt: &HostRuntime) -> Result<Option<&'static str>, Fail> {
+    for line in OPENED.lines() {
+        if !is_counted(rt, line)? {
+            return Ok(Some(line));
+        }
+    }
+    Ok(None)
 }
 
 #[test]
-fn operations_resolve_to_a_state(rt: HostRuntime) -> Result<(), Fail> {
-    let mut work = Work::new(&rt);
-    let mut operations = List::new(rt.alloc());
-    for line in CASES.lines() {
-        match line.strip_prefix("= ") {
-            Some(expected) => {
-                assert!(rt; both_ways(&rt, operations.as_slice(), expected, &mut work)?);
-                operations = List::new(rt.alloc());
-            }
-            None => operations.push(rt.alloc(), operation(&rt, line)?)?,
-        }
+fn opening_counts_a_delta_that_was_not_looked_at(rt: HostRuntime) -> Result<(), Fail> {
+    match counted_otherwise(&rt)? {
+        None => Ok(()),
+        Some(line) => Err(Fail::from(line)),
     }
-    assert_eq!(rt; work.applies(), 34);
-    resolution_laws::<Hash, u8, u64>();
-    alike_law::<Hash, u8, u64, u32>();
-    given_law::<u8, u64>();
-    anchored_law();
-    Ok(())
 }

@@ -1,20 +1,25 @@
 //! Queues of many operations.
 
-use crate::tests::samples::SIGNED_UPDATE;
+use crate::tests::samples::{LONG_DELTA, SHORT_DELTA, SIGNED_UPDATE};
 use crate::{Queue, SubmitRefused};
 use st_base::{WantOfMemory, Work};
 use st_hash::{SHA_256, SHA_512, hash_text, hash_with, hash256};
 use st_params::Params;
 use std::alloc::Global;
 
+/// What is asked for: a create with a short delta or a long one, a create with a short delta and wide
+/// hashes, those of SHA-512, or an update.
+#[derive(Clone, Copy)]
+pub(crate) enum Kind {
+    Short,
+    Long,
+    Wide,
+    Update,
+}
+
 // The request for a create with this delta. The number tells its suffix from those of others.
-fn create(
-    alloc: Global,
-    delta: &str,
-    with_sha_512: bool,
-    number: u32,
-) -> Result<String, WantOfMemory> {
-    let code = if with_sha_512 { SHA_512 } else { SHA_256 };
+fn create(alloc: Global, delta: &str, wide: bool, number: u32) -> Result<String, WantOfMemory> {
+    let code = if wide { SHA_512 } else { SHA_256 };
     let delta_hash = hash_text(alloc, &hash_with(delta.as_bytes(), code))?;
     let delta_hash = delta_hash.as_str();
     let commitment = hash_text(alloc, &hash_with(&number.to_be_bytes(), code))?;
@@ -25,54 +30,44 @@ fn create(
     Ok(text)
 }
 
-/// A queue of so many creates with this delta; those that are refused are left out.
-pub(crate) fn creates(
-    rt: &HostRuntime,
-    params: &Params,
-    delta: &str,
-    with_sha_512: bool,
-    count: u32,
-) -> Result<Queue, WantOfMemory> {
-    let alloc = rt.alloc();
-    let mut work = Work::new(rt);
-    let mut queue = Queue::new(alloc);
-    for number in 0..count {
-        let request = create(alloc, delta, with_sha_512, number)?;
-        let _answer = queue.submit(alloc, request.as_bytes(), params, &mut work);
-    }
-    Ok(queue)
+// The request for an update, of one suffix for each number.
+fn update(alloc: Global, number: u32) -> Result<String, WantOfMemory> {
+    let suffix = hash_text(alloc, &hash256(&number.to_be_bytes()))?;
+    Ok(SIGNED_UPDATE.replace(alloc, "*", suffix.as_str())?)
 }
 
-/// The answer to one create more.
-pub(crate) fn one_more_create(
+fn request(alloc: Global, kind: Kind, number: u32) -> Result<String, WantOfMemory> {
+    match kind {
+        Kind::Short => create(alloc, SHORT_DELTA, false, number),
+        Kind::Long => create(alloc, LONG_DELTA, false, number),
+        Kind::Wide => create(alloc, SHORT_DELTA, true, number),
+        Kind::Update => update(alloc, number),
+    }
+}
+
+/// Submits the request of this number.
+pub(crate) fn submit_one(
     rt: &HostRuntime,
     queue: &mut Queue,
     params: &Params,
-    delta: &str,
+    kind: Kind,
     number: u32,
-) -> Result<Result<(), SubmitRefused>, WantOfMemory> {
-    let alloc = rt.alloc();
+) -> Result<(), SubmitRefused> {
     let mut work = Work::new(rt);
-    let request = create(alloc, delta, false, number)?;
-    match queue.submit(alloc, request.as_bytes(), params, &mut work) {
-        Ok(_) => Ok(Ok(())),
-        Err(refused) => Ok(Err(refused)),
+    match request(rt.alloc(), kind, number) {
+        Ok(request) => match queue.submit(rt.alloc(), request.as_bytes(), params, &mut work) {
+            Ok(_) => Ok(()),
+            Err(refused) => Err(refused),
+        },
+        Err(WantOfMemory) => Err(SubmitRefused::WantOfMemory),
     }
 }
 
-/// A queue of so many updates, of one suffix each.
-pub(crate) fn updates(
-    rt: &HostRuntime,
-    params: &Params,
-    count: u32,
-) -> Result<Queue, WantOfMemory> {
-    let alloc = rt.alloc();
-    let mut work = Work::new(rt);
-    let mut queue = Queue::new(alloc);
+/// A queue of so many; those that are refused are left out.
+pub(crate) fn many(rt: &HostRuntime, params: &Params, kind: Kind, count: u32) -> Queue {
+    let mut queue = Queue::new(rt.alloc());
     for number in 0..count {
-        let suffix = hash_text(alloc, &hash256(&number.to_be_bytes()))?;
-        let request = SIGNED_UPDATE.replace(alloc, "*", suffix.as_str())?;
-        let _answer = queue.submit(alloc, request.as_bytes(), params, &mut work);
+        let _answer = submit_one(rt, &mut queue, params, kind, number);
     }
-    Ok(queue)
+    queue
 }

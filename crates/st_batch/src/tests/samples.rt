@@ -1,14 +1,35 @@
 //! Requests in canonical spelling, which another program made and signed.
 
+/// The request that a word of a table names; what names none stands for itself.
+pub(crate) fn named(word: &str) -> &str {
+    if word == "create" {
+        CREATE
+    } else if word == "update" {
+        UPDATE
+    } else if word == "recover" {
+        RECOVER
+    } else if word == "deactivate" {
+        DEACTIVATE
+    } else if word == "no-hash" {
+        NO_HASH
+    } else if word == "other-delta" {
+        OTHER_DELTA
+    } else if word == "other-suffix" {
+        OTHER_SUFFIX
+    } else {
+        word
+    }
+}
+
 /// A create with hashes of SHA-256.
-pub(crate) const CREATE: &str =
+const CREATE: &str =
     "{\"delta\":{\"patches\":[],\"updateCommitment\":\"EiA-HpZ-m3k-kI-OroPHTbqbzMzmpVNbS0Yr2ZlF\
     N7_hXA\"},\"suffixData\":{\"deltaHash\":\"EiDa8pm8FqsFKrrBuQpGhHzi69njmHTlZ1HVJFYb15YnvQ\"\
     ,\"recoveryCommitment\":\"EiAGaYCxWYXEdilpWkdNySZwhTz7j1HKdtYnrmx54E-07Q\"},\"type\":\"cre\
     ate\"}";
 
 /// An update.
-pub(crate) const UPDATE: &str =
+const UPDATE: &str =
     "{\"delta\":{\"patches\":[],\"updateCommitment\":\"EiAjefvJLEWMbh7M8Ba6hweFUrpFp3oWozlb-Ha9\
     j_tyng\"},\"didSuffix\":\"EiAH6kMDyuj_41tkoBLAV1kt1vB9nEM1U6KBsUUCwuffRg\",\"revealValue\"\
     :\"EiB9sQsc2_aA_kOMUDsj8SSqrzasgJlJ-KD6_L6B4viiaw\",\"signedData\":\"ewoiYWxnIiA6IkxNUyIJf\
@@ -37,7 +58,7 @@ pub(crate) const UPDATE: &str =
     e\":\"update\"}";
 
 /// A recover.
-pub(crate) const RECOVER: &str =
+const RECOVER: &str =
     "{\"delta\":{\"patches\":[{\"action\":\"remove-services\",\"ids\":[\"k3\"]}],\"updateCommit\
     ment\":\"EiDUboB2oCvQNqdKvRvlInfFseQYpqjtKB04mBZrHcbayA\"},\"didSuffix\":\"EiAmxTT81V_zzET\
     xbIsACL_nND9i9vDvWf67C8ovvFd8RQ\",\"revealValue\":\"EiAujax_6Xm9Pxrf7zA6J9hvonn4Rj1vmLQGZf\
@@ -67,7 +88,7 @@ pub(crate) const RECOVER: &str =
     yYN6x0JStHX6eau1g_nhq25s7hzQthCtMZ3Zccf_QFs\",\"type\":\"recover\"}";
 
 /// A deactivate.
-pub(crate) const DEACTIVATE: &str =
+const DEACTIVATE: &str =
     "{\"didSuffix\":\"EiAF0rgxtvIcDJ8HJ_H_5NfzyhiztYSW8FxAi2K_Wtd9_g\",\"revealValue\":\"EiBqIT\
     JeLK6ZzYWolZ-PyLXxadxc2JbcDeILj9l7GhGiYA\",\"signedData\":\"eyJhbGciOiJMTVMifQ.eyJkaWRTdWZ\
     maXgiOiJFaUFGMHJneHR2SWNESjhISl9IXzVOZnp5aGl6dFlTVzhGeEFpMktfV3RkOV9nIiwicmVjb3ZlcnlLZXkiO\
@@ -95,20 +116,20 @@ pub(crate) const DEACTIVATE: &str =
     DguBeLEinJw6udHstz26NGrUA\",\"type\":\"deactivate\"}";
 
 /// A create whose delta hash is no hash text.
-pub(crate) const NO_HASH: &str =
+const NO_HASH: &str =
     "{\"delta\":{\"patches\":[],\"updateCommitment\":\"EiA-HpZ-m3k-kI-OroPHTbqbzMzmpVNbS0Yr2ZlF\
     N7_hXA\"},\"suffixData\":{\"deltaHash\":\"x\",\"recoveryCommitment\":\"EiAGaYCxWYXEdilpWkd\
     NySZwhTz7j1HKdtYnrmx54E-07Q\"},\"type\":\"create\"}";
 
 /// A create with the delta of another.
-pub(crate) const OTHER_DELTA: &str =
+const OTHER_DELTA: &str =
     "{\"delta\":{\"patches\":[],\"updateCommitment\":\"EiAGaYCxWYXEdilpWkdNySZwhTz7j1HKdtYnrmx5\
     4E-07Q\"},\"suffixData\":{\"deltaHash\":\"EiDa8pm8FqsFKrrBuQpGhHzi69njmHTlZ1HVJFYb15YnvQ\"\
     ,\"recoveryCommitment\":\"EiAGaYCxWYXEdilpWkdNySZwhTz7j1HKdtYnrmx54E-07Q\"},\"type\":\"cre\
     ate\"}";
 
 /// A deactivate of another suffix than it was signed for.
-pub(crate) const OTHER_SUFFIX: &str =
+const OTHER_SUFFIX: &str =
     "{\"didSuffix\":\"EiAGaYCxWYXEdilpWkdNySZwhTz7j1HKdtYnrmx54E-07Q\",\"revealValue\":\"EiBqIT\
     JeLK6ZzYWolZ-PyLXxadxc2JbcDeILj9l7GhGiYA\",\"signedData\":\"eyJhbGciOiJMTVMifQ.eyJkaWRTdWZ\
     maXgiOiJFaUFGMHJneHR2SWNESjhISl9IXzVOZnp5aGl6dFlTVzhGeEFpMktfV3RkOV9nIiwicmVjb3ZlcnlLZXkiO\

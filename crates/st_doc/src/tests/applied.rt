@@ -1,6 +1,8 @@
-use super::{after, delta, document, params, text, with_patches};
-use crate::{Document, PatchRefused, apply_all};
-use st_base::Copied;
+use super::{PATCHES, copies_make, framed, is_text, json, params, patches_make};
+use crate::{Delta, Document, check_delta};
+use st_canon::Json;
+use st_params::Params;
+use std::alloc::Global;
 use std::test::Fail;
 
 // Version, document, patches, and the document after them or the patch that fails.
@@ -23,49 +25,101 @@ const CASES: &str = r#"1  {}  []  {"publicKeys":[],"services":[]}
 2  {}  [{"action":"ietf-json-patch","patches":[{"op":"add","path":"/alsoKnownAs","value":["a"]}]}]  {"alsoKnownAs":["a"],"publicKeys":[],"services":[]}
 1  {}  [{"action":"ietf-json-patch","patches":[{"op":"add","path":"/alsoKnownAs","value":["a"]}]}]  failed 0"#;
 
+// A document, and patches of which the second fails on it.
+const SERVICE: &str = r#"{"services":[{"id":"s0","serviceEndpoint":"e","type":"T"}]}"#;
+
+const FAILING: &str =
+    r#"[{"action":"add-services","services":[{"id":"s1","serviceEndpoint":"e","type":"T"}]},{"action":"ietf-json-patch","patches":[{"op":"remove","path":"/services/9"}]}]"#;
+
+fn texts_make(alloc: Global, value: &str, patches: &str, version: &str, made: &str) -> bool {
+    match json(alloc, value) {
+        Some(value) => patches_make(alloc, &value, patches, &params(version), made),
+        None => false,
+    }
+}
+
+// Whether it comes out as the line says, whose parts stand two spaces apart.
+fn comes_out(alloc: Global, line: &str) -> bool {
+    let Some((version, rest)) = line.split_once("  ") else {
+        return false;
+    };
+    let Some((value, rest)) = rest.split_once("  ") else {
+        return false;
+    };
+    match rest.split_once("  ") {
+        Some((patches, made)) => texts_make(alloc, value, patches, version, made),
+        None => false,
+    }
+}
+
+// The first line at which something else is made.
+fn first_other(alloc: Global) -> Option<&'static str> {
+    for line in CASES.lines() {
+        if !comes_out(alloc, line) {
+            return Some(line);
+        }
+    }
+    None
+}
+
 #[test]
 fn each_patch_does_what_its_action_says(rt: HostRuntime) -> Result<(), Fail> {
-    for line in CASES.lines() {
-        let (version, rest) = line.split_once("  ").ok_or("no version")?;
-        let (document, rest) = rest.split_once("  ").ok_or("no document")?;
-        let (patches, expected) = rest.split_once("  ").ok_or("no patches")?;
-        let is = after(&rt, document, patches, &params(version))?;
-        assert_eq!(rt; is.as_str(), expected, "{line}");
+    match first_other(rt.alloc()) {
+        Some(line) => Err(Fail::from(line)),
+        None => Ok(()),
     }
-    Ok(())
+}
+
+// Whether the second of its two patches fails, and the document stays.
+fn second_fails(alloc: Global, document: &Document, delta: &Delta, params: &Params) -> bool {
+    delta.patches.len() == 2
+        && copies_make(alloc, document, delta, params, "failed 1")
+        && document.services().len() == 1
+}
+
+fn delta_fails(alloc: Global, document: &Document, params: &Params) -> bool {
+    match framed(alloc, PATCHES, FAILING) {
+        Some(delta) => match check_delta(alloc, delta, params) {
+            Ok(delta) => second_fails(alloc, document, &delta, params),
+            Err(_) => false,
+        },
+        None => false,
+    }
+}
+
+fn all_fail(alloc: Global, value: &Json, params: &Params) -> bool {
+    match Document::read(alloc, value, params) {
+        Ok(document) => delta_fails(alloc, &document, params),
+        Err(_) => false,
+    }
+}
+
+fn one_fails_them_all(alloc: Global) -> bool {
+    match json(alloc, SERVICE) {
+        Some(value) => all_fail(alloc, &value, &params("1")),
+        None => false,
+    }
 }
 
 #[test]
 fn a_failing_patch_fails_them_all(rt: HostRuntime) -> Result<(), Fail> {
-    let document = document(
-        &rt,
-        r#"{"services":[{"id":"s0","serviceEndpoint":"e","type":"T"}]}"#,
-        &params("1"),
-    )?
-    .ok_or("no document")?;
-    let patches =
-        r#"[{"action":"add-services","services":[{"id":"s1","serviceEndpoint":"e","type":"T"}]},{"action":"ietf-json-patch","patches":[{"op":"remove","path":"/services/9"}]}]"#;
-    let Ok(delta) = delta(&rt, with_patches(&rt, patches)?.as_str(), &params("1"))? else {
-        return Err(Fail::from("no delta"));
-    };
-    let delta = delta.copy(rt.alloc())?;
-    assert_eq!(rt; delta.patches.len(), 2);
-    match apply_all(rt.alloc(), document.copy(rt.alloc())?, delta, &params("1")) {
-        Ok(_) => return Err(Fail::from("it was applied")),
-        Err(e) => assert_eq!(rt; e, PatchRefused::PatchFailed(1)),
-    }
-    assert_eq!(rt; document.services().len(), 1);
+    assert!(rt; one_fails_them_all(rt.alloc()));
     Ok(())
+}
+
+fn is_empty(alloc: Global, document: &Document) -> bool {
+    document.keys().is_empty()
+        && document.names().is_empty()
+        && is_text(alloc, document, r#"{"publicKeys":[],"services":[]}"#)
+}
+
+fn the_empty_is(alloc: Global) -> bool {
+    let document = Document::empty(alloc);
+    is_empty(alloc, &document)
 }
 
 #[test]
 fn the_empty_document_has_two_empty_lists(rt: HostRuntime) -> Result<(), Fail> {
-    let document = Document::empty(rt.alloc());
-    assert_eq!(rt;
-        text(&rt, &document)?.as_str(),
-        r#"{"publicKeys":[],"services":[]}"#
-    );
-    assert_eq!(rt; document.keys().len(), 0);
-    assert_eq!(rt; document.names().len(), 0);
+    assert!(rt; the_empty_is(rt.alloc()));
     Ok(())
 }

@@ -1,5 +1,5 @@
 use super::{append_line, disk_of};
-use crate::{JournalRefused, open_journal};
+use crate::{JournalRefused, Opening, open_journal};
 use st_base::{Bytes, WantOfMemory};
 use st_io::Pick;
 use std::alloc::Global;
@@ -34,6 +34,17 @@ x@@@@  0 0
 @....  damaged
 @....@...  damaged
 @@@@@@  damaged";
+
+/// An image, and what comes of it first and then.
+const COMING: &str = "\
+@.../content YWJj.  record none
+@.../content YWJj@.../content YWJj.  record record
+@....@...  record damaged
+@.../content YWJj@....  record damaged
+@.  damaged damaged
+.@  none none
+  none none
+@  none none";
 
 /// An image, and what it is once the line is appended.
 const APPENDED: &str = "\
@@ -77,6 +88,29 @@ fn seen(alloc: Global, image: &[u8]) -> Result<String, WantOfMemory> {
     }
 }
 
+/// The table's word for what came.
+fn word_of(came: Result<Option<Bytes>, JournalRefused>) -> &'static str {
+    match came {
+        Ok(Some(_body)) => "record",
+        Ok(None) => "none",
+        Err(JournalRefused::Damaged) => "damaged",
+        Err(_refused) => "refused",
+    }
+}
+
+/// What comes of an image first and then, in the table's words.
+fn coming(alloc: Global, image: &[u8]) -> Result<String, WantOfMemory> {
+    let mut disk = disk_of(alloc, image, u64::MAX)?;
+    match Opening::begin(alloc, &mut disk) {
+        Ok(mut opening) => {
+            let first = word_of(opening.next(alloc, &mut disk));
+            let then = word_of(opening.next(alloc, &mut disk));
+            Ok(format!(in alloc; "{first} {then}")?)
+        }
+        Err(_refused) => Ok(format!(in alloc; "refused")?),
+    }
+}
+
 /// What an image is once the line is appended.
 fn appended(alloc: Global, image: &[u8]) -> Result<Bytes, WantOfMemory> {
     let mut disk = disk_of(alloc, image, u64::MAX)?;
@@ -90,6 +124,14 @@ fn is_opened_so(alloc: Global, line: &str) -> Result<bool, WantOfMemory> {
     };
     let image = image_of(alloc, image)?;
     Ok(seen(alloc, image.as_slice())?.as_str() == want)
+}
+
+fn comes_so(alloc: Global, line: &str) -> Result<bool, WantOfMemory> {
+    let Some((image, want)) = line.split_once("  ") else {
+        return Ok(false);
+    };
+    let image = image_of(alloc, image)?;
+    Ok(coming(alloc, image.as_slice())?.as_str() == want)
 }
 
 fn is_appended_so(alloc: Global, line: &str) -> Result<bool, WantOfMemory> {
@@ -111,6 +153,16 @@ fn first_opened_otherwise(alloc: Global) -> Result<Option<&'static str>, WantOfM
     Ok(None)
 }
 
+/// The first image of which something else comes.
+fn first_coming_otherwise(alloc: Global) -> Result<Option<&'static str>, WantOfMemory> {
+    'lines: for line in COMING.lines() {
+        if !comes_so(alloc, line)? {
+            return Ok(Some(line));
+        }
+    }
+    Ok(None)
+}
+
 /// The first image that is otherwise once the line is appended.
 fn first_appended_otherwise(alloc: Global) -> Result<Option<&'static str>, WantOfMemory> {
     'lines: for line in APPENDED.lines() {
@@ -124,6 +176,14 @@ fn first_appended_otherwise(alloc: Global) -> Result<Option<&'static str>, WantO
 #[test]
 fn an_image_is_opened_or_damaged(rt: HostRuntime) -> Result<(), Fail> {
     match first_opened_otherwise(rt.alloc())? {
+        Some(line) => Err(Fail::from(line)),
+        None => Ok(()),
+    }
+}
+
+#[test]
+fn records_come_before_the_damage(rt: HostRuntime) -> Result<(), Fail> {
+    match first_coming_otherwise(rt.alloc())? {
         Some(line) => Err(Fail::from(line)),
         None => Ok(()),
     }

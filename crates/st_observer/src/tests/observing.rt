@@ -20,7 +20,8 @@ fn an_anchor_string_is_judged_by_its_rules(rt: HostRuntime) -> Result<(), Fail> 
 // A cut drops what entries asked for, and keeps the content.
 const LIFE: &str =
     "new +created|absent a|operations a 0|wanted EiA10dvb-_d3kAW7ki4Rzo6ZaD84v2bZZ4O2fJ21bh1ChA
-new +created created|active a|operations a 1|wanted none
+|wants EiA10dvb-_d3kAW7ki4Rzo6ZaD84v2bZZ4O2fJ21bh1ChA|spares EiCsir62ZDH0aqKUHQ01Ma8lTAFhXsAV0ua-pqMudFd96Q
+new +created created|active a|operations a 1|wanted none|spares EiA10dvb-_d3kAW7ki4Rzo6ZaD84v2bZZ4O2fJ21bh1ChA
 new +created -0 created|absent a|operations a 0|wanted none
 new +created created -0 -0|absent a|operations a 0|wanted none
 new +created created created -0 +created -1|active a|operations a 1|wanted none";

@@ -109,9 +109,20 @@ fn is_only(uris: &[Hash], text: &str) -> bool {
 }
 
 // Whether the file of this URI alone is wanted, or none.
-fn wants(alloc: Global, observer: &Observer, uri: &str) -> bool {
+fn wants_only(alloc: Global, observer: &Observer, uri: &str) -> bool {
     match observer.wanted(alloc) {
         Ok(uris) => is_only(uris.as_slice(), uri),
+        Err(_) => false,
+    }
+}
+
+// Whether the file of this URI is wanted, as the word before it says.
+fn answers(alloc: Global, observer: &Observer, uri: &str, wanted: bool) -> bool {
+    match read_hash(uri.as_bytes()) {
+        Ok(uri) => match observer.wants(alloc, &uri) {
+            Ok(found) => found == wanted,
+            Err(_) => false,
+        },
         Err(_) => false,
     }
 }
@@ -163,7 +174,9 @@ fn is_seen(rt: &HostRuntime, observer: &Observer, applied: u64, look: &str) -> b
         "active" => has_active(rt, observer, rest),
         "absent" => has_absent(rt, observer, rest),
         "operations" => has_so_many(rt.alloc(), observer, rest),
-        "wanted" => wants(rt.alloc(), observer, rest),
+        "wanted" => wants_only(rt.alloc(), observer, rest),
+        "wants" => answers(rt.alloc(), observer, rest, true),
+        "spares" => answers(rt.alloc(), observer, rest, false),
         "services" => serves(rt, observer, rest),
         "applied" => is_within(applied, rest),
         _ => false,

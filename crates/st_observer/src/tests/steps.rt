@@ -4,6 +4,7 @@ use super::files::{ENTRIES, FILES};
 use super::signed_files::{SIGNED_ENTRIES, SIGNED_FILES};
 use crate::Observer;
 use st_base::{Bytes, Work, read_number};
+use st_ledger::Entry;
 use st_params::Schedule;
 use std::alloc::Global;
 
@@ -54,31 +55,24 @@ fn bytes_of(alloc: Global, text: Option<&'static str>) -> Option<Bytes> {
     Bytes::from_slice(alloc, text?.as_bytes()).ok()
 }
 
-// The height and the anchor string of an entry.
-fn entry_of(alloc: Global, name: &str) -> Option<(u32, Bytes)> {
+fn entry_of(alloc: Global, name: &str) -> Option<Entry> {
     let (height, text) = entry(name)?.split_once(' ')?;
     let height = read_number(height.as_bytes(), 1_000)?;
     let text = bytes_of(alloc, Some(text))?;
-    Some((height, text))
+    Some(Entry { height, text })
 }
 
-fn push(
-    alloc: Global,
-    observer: Observer,
-    height: u32,
-    text: Bytes,
-    work: &mut Work,
-) -> Option<Observer> {
-    if observer.ledger().admits(height).is_err() {
+fn push(alloc: Global, observer: Observer, entry: Entry, work: &mut Work) -> Option<Observer> {
+    if observer.ledger().admits(entry.height).is_err() {
         return Some(observer);
     }
-    let (observer, _) = observer.append(alloc, height, text, work).ok()?;
+    let (observer, _) = observer.append(alloc, entry, work).ok()?;
     Some(observer)
 }
 
 fn append(alloc: Global, observer: Observer, name: &str, work: &mut Work) -> Option<Observer> {
     match entry_of(alloc, name) {
-        Some((height, text)) => push(alloc, observer, height, text, work),
+        Some(entry) => push(alloc, observer, entry, work),
         None => Some(observer),
     }
 }

@@ -1,6 +1,5 @@
-use Rattle.std.proofs.Common.{◌∙◌, map, Some, sym, ap}
+use Rattle.std.proofs.Common.{◌∙◌, Some, sym, ap}
 use Rattle.st_canon.specs.Canonical.{canonical}
-use Rattle.st_canon.specs.View.{plain}
 use Rattle.st_datafiles.specs.Chunk.{chunk_json}
 use Rattle.st_datafiles.specs.declared.role.Role.TheVariants.{Chunk}
 use Rattle.st_batch.specs.BatchFiles.{chunk_text, filed}
@@ -12,6 +11,6 @@ pub returns : goal.returns
 unfolding chunk_text
 returns c =
     let some = are_some _ _ c.has_chunk.ensures c.if-not-has_chunk.false in
-    c.in_ok-filed.ensures ∙ ap (filed Chunk) (ap Some (c.in_ok-bytes.ensures.text
-    ∙ ap (λ deltas. canonical (chunk_json deltas)) (ap (map plain) c.as_slice.ensures ∙ c.in_ok-deltas.ensures))
+    c.in_ok-filed.ensures ∙ ap (filed Chunk) (ap Some (c.in_ok-bytes.ensures
+    ∙ ap (λ deltas. canonical (chunk_json deltas)) (c.as_slice.ensures ∙ c.in_ok-deltas.ensures))
     ∙ sym (chunk_some (plain_groups c.args.groups.now) some))

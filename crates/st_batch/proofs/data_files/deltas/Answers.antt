@@ -1,6 +1,5 @@
-use Rattle.std.proofs.Common.{◌∙◌, List, map, ap}
+use Rattle.std.proofs.Common.{◌∙◌, List, map}
 use Rattle.std.specs.List.{filter_map}
-use Rattle.st_canon.specs.View.{plain}
 use Rattle.st_ops.specs.Operation.{plain_operation}
 use Rattle.st_ops.specs.RequestText.{delta_there}
 use Rattle.st_ops.specs.declared.operation.Operation.{Operation}
@@ -14,5 +13,5 @@ returns c =
     let deltas = λ (operations : List Operation). filter_map delta_there (map plain_operation operations) in
     behind deltas c.in_ok-push_deltas-3.ensures c.as_slice-3.ensures
     (behind deltas c.in_ok-push_deltas-2.ensures c.as_slice-2.ensures
-    (behind deltas c.in_ok-push_deltas.ensures c.as_slice.ensures (ap (map plain) c.new-deltas.ensures)))
+    (behind deltas c.in_ok-push_deltas.ensures c.as_slice.ensures c.new-deltas.ensures))
     ∙ parts_of_three delta_there groups.creates groups.recovers groups.updates

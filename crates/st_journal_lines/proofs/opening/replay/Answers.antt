@@ -1,18 +1,59 @@
-use Rattle.std.proofs.Common.{◌∙◌, ◌∷◌, ap, sym}
-use Rattle.std.specs.Vec.Iter.{into_iter_items}
-use Rattle.st_journal_lines.proofs.ReplayLemmas.{gave_up_within, replayed_more}
+use Rattle.std.proofs.Common.{◌∙◌, [], ◌∷◌, Ok, refl, ap, sym, subst, arith}
+use Rattle.st_io.proofs.MomentLemmas.{no_image_on}
+use Rattle.st_io.proofs.PastLemmas.{stands}
+use Rattle.st_journal.specs.Coming.{Comes, coming, put_before}
+use Rattle.st_journal_lines.proofs.ReplayLemmas.{gave_within, ran_all, refused_as, replayed_all, replayed_more, replayed_none, stayed_within}
 use Rattle.st_journal_lines.proofs.opening.replay.Goals as goal
 
-pub lines-preserved : goal.lines-preserved
-lines-preserved g c =
-    let more = into_iter_items c.next.new.self in
-    replayed_more g.met.N.Replayable.laws.effect c.args.lines c.as_slice.result.now (into_iter_items c.lines.line-iterator) more
-    (c.in-Some.ensures.steps.0 ∙ ap (λ line. line ∷ more) (sym c.as_slice.ensures))
-    c.lines.invariant c.in-Ok.ensures.next c.in-Ok.ensures.ran
+pub records-init : goal.records-init
+records-init g c = record {
+  reading = c.requires;
+  replayed = λ image told. replayed_none g.met.N.Replayable.laws c.args.machine c.args.context.now (coming c.args.opening image);
+  reads = refl;
+  images = record { goes = stands _; none = λ x left. left };
+  later = omega arith;
+}
+
+pub records-preserved : goal.records-preserved
+records-preserved g c = record {
+  reading = c.next.ensures.reading;
+  replayed = λ image told.
+      let came = subst (λ next. Comes (coming c.records.opening image) (coming c.next.new.self image) (Ok next)) c.in-Ok-Some.field-0-is
+      (c.in-Ok-Some.ensures.comes image (c.records.invariant.reads ∙ told)) in
+      replayed_more g.met.N.Replayable.laws (c.records.invariant.replayed image told)
+      (came ∙ ap (λ l. put_before (l ∷ []) (coming c.next.new.self image)) (sym c.as_slice.ensures))
+      c.in-Ok.ensures.next c.in-Ok.ensures.ran;
+  reads = c.next.ensures.reads ∙ c.records.invariant.reads;
+  images = no_image_on _ _ _ c.records.invariant.images c.next.ensures.images;
+  later = omega (arith, c.records.invariant.later, c.next.ensures.later);
+}
+
+pub returns-in-Ok-None-clause-gives : goal.returns-in-Ok-None-clause-gives
+returns-in-Ok-None-clause-gives g c image told =
+    let came = subst (λ next. Comes (coming c.records.opening image) (coming c.next.new.self image) (Ok next)) c.in-Ok-None.field-0-is
+    (c.in-Ok-None.ensures.comes image (c.records.invariant.reads ∙ told)) in
+    replayed_all g.met.N.Replayable.laws (c.records.invariant.replayed image told) came ∙ ap (λ lines. Ok lines.0) (sym c.new.ensures)
+
+pub returns-in-Ok-None-clause-ran : goal.returns-in-Ok-None-clause-ran
+returns-in-Ok-None-clause-ran g c image told r is =
+    let came = subst (λ next. Comes (coming c.records.opening image) (coming c.next.new.self image) (Ok next)) c.in-Ok-None.field-0-is
+    (c.in-Ok-None.ensures.comes image (c.records.invariant.reads ∙ told)) in
+    subst (λ lines. g.N.Replayable.answering.effect.ran c.args.machine c.args.context.now r lines.0 c.records.context) (sym c.new.ensures)
+    (ran_all g.met.N.Replayable.laws (c.records.invariant.replayed image told) came r is)
+
+pub returns-in-Err-answer-clause-gave_up : goal.returns-in-Err-answer-clause-gave_up
+returns-in-Err-answer-clause-gave_up g c image told r is =
+    let came = subst (λ next. Comes (coming c.records.opening image) (coming c.next.new.self image) (Ok next)) c.in-Ok-Some.field-0-is
+    (c.in-Ok-Some.ensures.comes image (c.records.invariant.reads ∙ told)) in
+    gave_within g.met.N.Replayable.laws (c.records.invariant.replayed image told) (coming c.next.new.self image)
+    (came ∙ ap (λ l. put_before (l ∷ []) (coming c.next.new.self image)) (sym c.as_slice.ensures))
+    c.in-Err-answer.ensures.gave_up r is
+
+pub returns-in-Err-clause-gives : goal.returns-in-Err-clause-gives
+returns-in-Err-clause-gives g c image told =
+    refused_as g.met.N.Replayable.laws (c.records.invariant.replayed image told) (coming c.next.new.self image) c.in-Err.refused
+    (c.in-Err.ensures.comes image (c.records.invariant.reads ∙ told))
 
 pub returns-in-Err-clause-gave_up : goal.returns-in-Err-clause-gave_up
-returns-in-Err-clause-gave_up g c =
-    let more = into_iter_items c.next.new.self in
-    gave_up_within g.met.N.Replayable.laws.effect c.args.lines c.as_slice.result.now (into_iter_items c.lines.line-iterator) more
-    (c.in-Some.ensures.steps.0 ∙ ap (λ line. line ∷ more) (sym c.as_slice.ensures))
-    c.lines.invariant c.in-Err.ensures.gave_up
+returns-in-Err-clause-gave_up g c image told r is =
+    stayed_within g.met.N.Replayable.laws (c.records.invariant.replayed image told) r is

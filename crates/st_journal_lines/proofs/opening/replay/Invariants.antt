@@ -1,7 +1,20 @@
-use Rattle.std.specs.Vec.Iter.{into_iter_items}
+use Rattle.std.proofs.Common.{◌≡◌, ◌≤◌}
+use Rattle.st_io.specs.Past.{AddsNoImage}
+use Rattle.st_io.specs.Tears.{IfTold}
+use Rattle.st_journal.specs.Coming.{IsReading, coming, left_of}
 use Rattle.st_journal_lines.proofs.ReplayLemmas.{Replayed}
 use Rattle.st_journal_lines.proofs.opening.replay.Given as goal
 
--- the machine has gone over the lines so far
-abbrev pub invariant-lines : goal.invariant-lines
-invariant-lines g l = Replayed g.N.Replayable.answering l.fn.machine l.fn.context l.fn.lines (into_iter_items l.line-iterator) l.machine l.context
+-- the machine has gone over the records that came
+abbrev pub invariant-records : goal.invariant-records
+invariant-records g l = record {
+  reading : IsReading l.opening (g.D.Disk.reads l.disk) (g.D.Disk.past l.disk);
+  replayed : IfTold (g.D.Disk.reads l.fn.disk) (λ image.
+      Replayed g.N.Replayable.answering l.fn.machine l.fn.context (coming l.fn.opening image) (coming l.opening image) l.machine l.context);
+  reads : g.D.Disk.reads l.disk ≡ g.D.Disk.reads l.fn.disk;
+  images : AddsNoImage (g.D.Disk.past l.fn.disk) (g.D.Disk.past l.disk);
+  later : g.D.Disk.faults l.fn.disk ≤ g.D.Disk.faults l.disk;
+}
+
+abbrev pub decreases-records : goal.decreases-records
+decreases-records g l = left_of l.opening

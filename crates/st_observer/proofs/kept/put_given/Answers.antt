@@ -1,6 +1,6 @@
 use Rattle.std.proofs.Common.{subst, sym}
 use Rattle.st_anchor.specs.Gives.{suffixes_given}
-use Rattle.st_observer.specs.Work.{AreNamedAt}
+use Rattle.st_observer.specs.States.{AreNamedAt}
 use Rattle.st_observer.proofs.kept.put_given.Goals as goal
 
 pub returns-clause-changes : goal.returns-clause-changes

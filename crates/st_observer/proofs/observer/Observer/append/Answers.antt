@@ -11,7 +11,7 @@ use Rattle.st_observer.proofs.observer.Observer.append.Goals as goal
 pub invariant_of-observer : goal.invariant_of-observer
 invariant_of-observer c =
     subst (λ (ledger : List Entry). IsKept (over c.self.inside.schedule ledger c.self.inside.content) c.in_ok-kept.kept) (sym c.in_ok-number.ensures.ok)
-    (appended-kept (over c.self.inside.schedule c.self.inside.ledger c.self.inside.content) (record { height = c.args.height; text = c.args.text })
+    (appended-kept (over c.self.inside.schedule c.self.inside.ledger c.self.inside.content) c.args.entry
     c.as_slice.result.now c.at.result c.in_ok-anchored.anchored c.in_ok-bound.bound c.as_slice.ensures c.at.ensures c.in_ok-anchored.ensures
     c.in_ok-bound.ensures.value
     c.len.result c.self.inside.kept c.in_ok-kept.kept c.self.invariant c.len.ensures.value c.in_ok-kept.ensures.step)
@@ -19,11 +19,11 @@ invariant_of-observer c =
 pub returns-clause-bound : goal.returns-clause-bound
 returns-clause-bound c =
     subst (λ (s : Observed). GrewAtMost
-    (decided_roles (known_of s.schedule s.files (record { height = c.args.height; text = c.args.text })))
-    (opened_proofs (known_of s.schedule s.files (record { height = c.args.height; text = c.args.text })))
-    (entry_cost (length s.ledger) (record { height = c.args.height; text = c.args.text }) (appended (record { height = c.args.height; text = c.args.text }) s))
+    (decided_roles (known_of s.schedule s.files c.args.entry))
+    (opened_proofs (known_of s.schedule s.files c.args.entry))
+    (entry_cost (length s.ledger) c.args.entry (appended c.args.entry s))
     c.args.work.now c.push.new.work) c.self.view_is
-    (appended-few (over c.self.inside.schedule c.self.inside.ledger c.self.inside.content) (record { height = c.args.height; text = c.args.text })
+    (appended-few (over c.self.inside.schedule c.self.inside.ledger c.self.inside.content) c.args.entry
     c.as_slice.result.now c.at.result c.in_ok-anchored.anchored c.in_ok-bound.bound c.as_slice.ensures c.at.ensures c.in_ok-anchored.ensures
     c.in_ok-bound.ensures.value
     c.len.result c.self.inside.kept c.args.work.now c.settle.new.work c.push.new.work c.self.invariant c.len.ensures.value c.in_ok-bound.ensures.few
@@ -32,11 +32,11 @@ returns-clause-bound c =
 pub returns-in_err-kept-clause-bound : goal.returns-in_err-kept-clause-bound
 returns-in_err-kept-clause-bound c =
     subst (λ (s : Observed). GrewAtMost
-    (decided_roles (known_of s.schedule s.files (record { height = c.args.height; text = c.args.text })))
-    (opened_proofs (known_of s.schedule s.files (record { height = c.args.height; text = c.args.text })))
-    (entry_cost (length s.ledger) (record { height = c.args.height; text = c.args.text }) (appended (record { height = c.args.height; text = c.args.text }) s))
+    (decided_roles (known_of s.schedule s.files c.args.entry))
+    (opened_proofs (known_of s.schedule s.files c.args.entry))
+    (entry_cost (length s.ledger) c.args.entry (appended c.args.entry s))
     c.args.work.now c.push.new.work) c.self.view_is
-    (appended-few (over c.self.inside.schedule c.self.inside.ledger c.self.inside.content) (record { height = c.args.height; text = c.args.text })
+    (appended-few (over c.self.inside.schedule c.self.inside.ledger c.self.inside.content) c.args.entry
     c.as_slice.result.now c.at.result c.in_ok-anchored.anchored c.in_ok-bound.bound c.as_slice.ensures c.at.ensures c.in_ok-anchored.ensures
     c.in_ok-bound.ensures.value
     c.len.result c.self.inside.kept c.args.work.now c.settle.new.work c.push.new.work c.self.invariant c.len.ensures.value c.in_ok-bound.ensures.few
@@ -45,11 +45,11 @@ returns-in_err-kept-clause-bound c =
 pub returns-in_err-number-clause-bound : goal.returns-in_err-number-clause-bound
 returns-in_err-number-clause-bound c =
     subst (λ (s : Observed). GrewAtMost
-    (decided_roles (known_of s.schedule s.files (record { height = c.args.height; text = c.args.text })))
-    (opened_proofs (known_of s.schedule s.files (record { height = c.args.height; text = c.args.text })))
-    (entry_cost (length s.ledger) (record { height = c.args.height; text = c.args.text }) (appended (record { height = c.args.height; text = c.args.text }) s))
+    (decided_roles (known_of s.schedule s.files c.args.entry))
+    (opened_proofs (known_of s.schedule s.files c.args.entry))
+    (entry_cost (length s.ledger) c.args.entry (appended c.args.entry s))
     c.args.work.now c.push.new.work) c.self.view_is
-    (appended-few (over c.self.inside.schedule c.self.inside.ledger c.self.inside.content) (record { height = c.args.height; text = c.args.text })
+    (appended-few (over c.self.inside.schedule c.self.inside.ledger c.self.inside.content) c.args.entry
     c.as_slice.result.now c.at.result c.in_ok-anchored.anchored c.in_ok-bound.bound c.as_slice.ensures c.at.ensures c.in_ok-anchored.ensures
     c.in_ok-bound.ensures.value
     c.len.result c.self.inside.kept c.args.work.now c.settle.new.work c.push.new.work c.self.invariant c.len.ensures.value c.in_ok-bound.ensures.few
@@ -58,10 +58,10 @@ returns-in_err-number-clause-bound c =
 pub returns-in_err-bound-clause-bound : goal.returns-in_err-bound-clause-bound
 returns-in_err-bound-clause-bound c =
     subst (λ (s : Observed). GrewAtMost
-    (decided_roles (known_of s.schedule s.files (record { height = c.args.height; text = c.args.text })))
-    (opened_proofs (known_of s.schedule s.files (record { height = c.args.height; text = c.args.text })))
-    (entry_cost (length s.ledger) (record { height = c.args.height; text = c.args.text }) (appended (record { height = c.args.height; text = c.args.text }) s))
+    (decided_roles (known_of s.schedule s.files c.args.entry))
+    (opened_proofs (known_of s.schedule s.files c.args.entry))
+    (entry_cost (length s.ledger) c.args.entry (appended c.args.entry s))
     c.args.work.now c.settle.new.work) c.self.view_is
-    (appended-wanting (over c.self.inside.schedule c.self.inside.ledger c.self.inside.content) (record { height = c.args.height; text = c.args.text })
+    (appended-wanting (over c.self.inside.schedule c.self.inside.ledger c.self.inside.content) c.args.entry
     c.as_slice.result.now c.at.result c.in_ok-anchored.anchored c.as_slice.ensures c.at.ensures c.in_ok-anchored.ensures c.args.work.now c.settle.new.work
     c.in_err-bound.ensures.few)

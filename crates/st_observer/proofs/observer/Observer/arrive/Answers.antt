@@ -1,9 +1,8 @@
-use Rattle.std.proofs.Common.{ℕ, ◌+◌, ◌-◌, ◌≤◌, List, subst}
-use Rattle.st_hash.specs.Hash.{HashValue}
+use Rattle.std.proofs.Common.{◌-◌, subst}
 use Rattle.st_observer.specs.Observed.{Observed, arrived}
 use Rattle.st_observer.specs.Steps.{over}
-use Rattle.st_observer.specs.Work.{GrewAtMost, NamesLate, ReadExactly, arrival_cost, decided_in, named_cost, opened_in}
-use Rattle.st_observer.proofs.ArriveLemmas.{arrived-cost, arrived-exact, arrived-few, arrived-kept, arrived-start}
+use Rattle.st_observer.specs.Work.{GrewAtMost, ReadExactly, arrival_cost, decided_in, opened_in}
+use Rattle.st_observer.proofs.ArriveLemmas.{arrived-exact, arrived-few, arrived-kept, arrived-start}
 use Rattle.st_observer.proofs.observer.Observer.arrive.Goals as goal
 
 pub settle_waiting-requires : goal.settle_waiting-requires
@@ -28,32 +27,12 @@ pub returns-clause-bound : goal.returns-clause-bound
 returns-clause-bound c =
     subst (λ (s : Observed). GrewAtMost (decided_in (arrived c.args.bytes s) - decided_in s) (opened_in (arrived c.args.bytes s) - opened_in s)
     (arrival_cost c.args.bytes s) c.args.work.now c.settle_waiting.new.work) c.self.view_is
-    (arrived-cost c.args.bytes (over c.self.inside.schedule c.self.inside.ledger c.self.inside.content) _ _ c.args.work.now c.settle_waiting.new.work
     (arrived-few c.args.bytes (over c.self.inside.schedule c.self.inside.ledger c.self.inside.content) c.self.inside.kept c.in_ok-uri.uri c.put.new.self
-    c.self.invariant c.in_ok-uri.ensures.uri c.in_ok-uri.ensures.ok c.args.work.now c.settle_waiting.new.work c.settle_waiting.ensures.bound))
-
-pub returns-clause-once : goal.returns-clause-once
-returns-clause-once c =
-    subst (λ (s : Observed). (names : List (HashValue × ℕ)) → NamesLate c.args.bytes s names
-    → c.settle_waiting.new.work.applies ≤ c.args.work.now.applies + named_cost (arrived c.args.bytes s) names) c.self.view_is
-    (λ names late. ((arrived-few c.args.bytes (over c.self.inside.schedule c.self.inside.ledger c.self.inside.content) c.self.inside.kept
-    c.in_ok-uri.uri c.put.new.self
-    c.self.invariant c.in_ok-uri.ensures.uri c.in_ok-uri.ensures.ok c.args.work.now c.settle_waiting.new.work
-    c.settle_waiting.ensures.bound) names late).applied)
+    c.self.invariant c.in_ok-uri.ensures.uri c.in_ok-uri.ensures.ok c.args.work.now c.settle_waiting.new.work c.settle_waiting.ensures.bound)
 
 pub returns-in_err-kept-clause-bound : goal.returns-in_err-kept-clause-bound
 returns-in_err-kept-clause-bound c =
     subst (λ (s : Observed). GrewAtMost (decided_in (arrived c.args.bytes s) - decided_in s) (opened_in (arrived c.args.bytes s) - opened_in s)
     (arrival_cost c.args.bytes s) c.args.work.now c.settle_waiting.new.work) c.self.view_is
-    (arrived-cost c.args.bytes (over c.self.inside.schedule c.self.inside.ledger c.self.inside.content) _ _ c.args.work.now c.settle_waiting.new.work
     (arrived-few c.args.bytes (over c.self.inside.schedule c.self.inside.ledger c.self.inside.content) c.self.inside.kept c.in_ok-uri.uri c.put.new.self
-    c.self.invariant c.in_ok-uri.ensures.uri c.in_ok-uri.ensures.ok c.args.work.now c.settle_waiting.new.work c.settle_waiting.ensures.bound))
-
-pub returns-in_err-kept-clause-once : goal.returns-in_err-kept-clause-once
-returns-in_err-kept-clause-once c =
-    subst (λ (s : Observed). (names : List (HashValue × ℕ)) → NamesLate c.args.bytes s names
-    → c.settle_waiting.new.work.applies ≤ c.args.work.now.applies + named_cost (arrived c.args.bytes s) names) c.self.view_is
-    (λ names late. ((arrived-few c.args.bytes (over c.self.inside.schedule c.self.inside.ledger c.self.inside.content) c.self.inside.kept
-    c.in_ok-uri.uri c.put.new.self
-    c.self.invariant c.in_ok-uri.ensures.uri c.in_ok-uri.ensures.ok c.args.work.now c.settle_waiting.new.work
-    c.settle_waiting.ensures.bound) names late).applied)
+    c.self.invariant c.in_ok-uri.ensures.uri c.in_ok-uri.ensures.ok c.args.work.now c.settle_waiting.new.work c.settle_waiting.ensures.bound)

@@ -3,6 +3,7 @@ use Rattle.st_ledger.specs.declared.entry.Entry.{Entry}
 use Rattle.st_observer.specs.Kept.{IsKept}
 use Rattle.st_observer.specs.Observed.{Observed}
 use Rattle.st_observer.specs.Steps.{over}
+use Rattle.st_observer.specs.Work.{losing}
 use Rattle.st_observer.proofs.KeptLemmas.{kept-cut, losing-names}
 use Rattle.st_observer.proofs.observer.Observer.cut.Goals as goal
 
@@ -14,13 +15,13 @@ invariant_of-observer c =
     c.in_ok-kept.ensures.step)
 
 pub returns-clause-bound : goal.returns-clause-bound
-returns-clause-bound c names losing =
-    c.in_ok-kept.ensures.bound names
-    (losing-names c.args.n (over c.self.inside.schedule c.self.inside.ledger c.self.inside.content) c.args.self c.self.inside.kept names c.self.invariant
-    c.self.view_is losing)
+returns-clause-bound c =
+    c.in_ok-kept.ensures.bound (losing c.args.n c.args.self)
+    (losing-names c.args.n (over c.self.inside.schedule c.self.inside.ledger c.self.inside.content) c.args.self c.self.inside.kept c.self.invariant
+    c.self.view_is)
 
 pub returns-in_err-kept-clause-bound : goal.returns-in_err-kept-clause-bound
-returns-in_err-kept-clause-bound c names losing =
-    c.in_err-kept.ensures.bound names
-    (losing-names c.args.n (over c.self.inside.schedule c.self.inside.ledger c.self.inside.content) c.args.self c.self.inside.kept names c.self.invariant
-    c.self.view_is losing)
+returns-in_err-kept-clause-bound c =
+    c.in_err-kept.ensures.bound (losing c.args.n c.args.self)
+    (losing-names c.args.n (over c.self.inside.schedule c.self.inside.ledger c.self.inside.content) c.args.self c.self.inside.kept c.self.invariant
+    c.self.view_is)

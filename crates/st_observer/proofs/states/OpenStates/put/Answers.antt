@@ -3,8 +3,7 @@ use Rattle.st_anchor.specs.Gives.{plain_given, suffixes_given}
 use Rattle.st_apply.specs.Anchored.{place_of}
 use Rattle.st_apply.specs.Laws.{PlacesAscend}
 use Rattle.st_observer.specs.Observed.{given_for}
-use Rattle.st_observer.specs.States.{operations_at}
-use Rattle.st_observer.specs.Work.{AreNamedAt}
+use Rattle.st_observer.specs.States.{AreNamedAt, operations_at}
 use Rattle.st_observer.proofs.StatesLemmas.{ascend-with_given}
 use Rattle.st_observer.proofs.states.OpenStates.put.Goals as goal
 

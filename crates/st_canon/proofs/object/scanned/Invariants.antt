@@ -1,0 +1,12 @@
+use Rattle.std.proofs.Common.{◌≡◌, drop}
+use Rattle.std.specs.Map.{lookup}
+use Rattle.st_canon.specs.Find.{member_at}
+use Rattle.st_canon.specs.Names.{is_name}
+use Rattle.st_canon.specs.View.{plain_members}
+use Rattle.st_canon.proofs.object.scanned.Given as goal
+
+-- what is looked for in all is looked for in those that are left
+abbrev pub invariant-loop-other : goal.invariant-loop-other
+invariant-loop-other l =
+    (member_at l.name (plain_members l.pairs) ≡ member_at l.name (plain_members (drop l.other-index l.pairs)))
+    × (lookup (is_name l.name) l.pairs ≡ lookup (is_name l.name) (drop l.other-index l.pairs))

@@ -1,0 +1,37 @@
+use Rattle.std.proofs.Common.{◌≡◌, [], ◌∷◌}
+use Rattle.std.specs.Option.{ok_or}
+use Rattle.st_io.specs.Tears.{Holds}
+use Rattle.st_io.proofs.MomentLemmas.{turns_weaker}
+use Rattle.st_journal.proofs.ComingLemmas.{opened_short}
+use Rattle.st_journal.proofs.OpeningLemmas.{begin_closed_gate, begin_moments, begun-short, begun_same, closed_at}
+use Rattle.st_journal.specs.Coming.{records_from}
+use Rattle.st_journal.specs.Image.{records}
+use Rattle.st_journal.specs.Opening.{begun, opened}
+use Rattle.st_journal.specs.declared.refused.JournalRefused.TheVariants.{Damaged}
+use Rattle.st_journal.proofs.opening.begin_closed.Goals as goal
+
+pub returns-in_err-write_synced-clause-moments : goal.returns-in_err-write_synced-clause-moments
+returns-in_err-write_synced-clause-moments g c old told = begin_moments old _ _ (c.requires.short old told) (c.requires.only old told) c.write_synced.ensures.time c.write_synced.ensures.images
+
+pub returns-clause-moments : goal.returns-clause-moments
+returns-clause-moments g c old told = begin_moments old _ _ (c.requires.short old told) (c.requires.only old told) c.write_synced.ensures.time c.write_synced.ensures.images
+
+pub returns-clause-reading : goal.returns-clause-reading
+returns-clause-reading g c =
+    begin_closed_gate _ _ _ c.bare_window.ensures
+    (λ image told. let from = c.in_ok-write_synced.ensures.written.back image told in closed_at from.0 image from.2)
+    c.in_ok-write_synced.ensures.durable
+
+pub returns-clause-comes : goal.returns-clause-comes
+returns-clause-comes g c =
+    turns_weaker _ _ (Holds 0 (0 ∷ [])) (λ old new. opened old ≡ ok_or (records_from 0 new) Damaged)
+    (λ old new told holds. opened_short old new (c.requires.short old told) (closed_at old new holds))
+    c.in_ok-write_synced.ensures.written
+
+pub returns-clause-same : goal.returns-clause-same
+returns-clause-same g c =
+    turns_weaker _ _ (Holds 0 (0 ∷ [])) (λ old new. records new ≡ records old) (λ old new told holds. begun_same old new (c.requires.short old told) holds) c.in_ok-write_synced.ensures.written
+
+pub returns-clause-begun : goal.returns-clause-begun
+returns-clause-begun g c =
+    turns_weaker _ _ (Holds 0 (0 ∷ [])) (λ old new. new ≡ begun old) (λ old new told holds. begun-short old new (c.requires.short old told) holds) c.in_ok-write_synced.ensures.written

@@ -1,0 +1,109 @@
+ghost use Rattle.std.specs.Prelude.{◌≡◌, ◌≢◌, ◌≤◌, ◌<◌, ◌^◌, List, ℕ, Some, IfErr, IfOk, OnOk, IsErrOf};
+ghost use Rattle.std.specs.Option.{ok_or};
+ghost use Rattle.st_base.specs.Answers.{GivesAs};
+ghost use Rattle.st_io.specs.Causes.{Rose};
+ghost use Rattle.st_io.specs.Past.{AddsNoImage, Images, Leaves, LeftSinceSync, Only};
+ghost use Rattle.st_io.specs.Tears.{IfTold, Turns};
+ghost use Rattle.st_journal.specs.Coming.{IsReading, coming, left_of};
+ghost use Rattle.st_journal.specs.Image.{records};
+ghost use Rattle.st_journal.specs.Moments.{IsReady, IsOldOrHas, StaysAsItWas};
+ghost use Rattle.st_journal.specs.Opening.{begun, opened, refusal_of};
+ghost use Rattle.st_journal.specs.declared.refused.JournalRefused.TheVariants.{Damaged};
+
+use crate::journal::Journal;
+use crate::opening::{Opening, begin_synced};
+use crate::refused::JournalRefused;
+use st_base::{Bytes, List};
+use st_io::Disk;
+use std::alloc::Global;
+
+/// The journal that a disk reads as after a sync, and its records, the oldest first. Where it has fewer
+/// than 2 bytes, a closed gate is written in place of them, and synced; else nothing is written.
+///
+/// `TooLong` comes exactly where the disk has more than 2^40 bytes, and `Damaged` exactly where else
+/// too few bytes follow an open gate before any closed one. `DiskFault` comes only where the disk's
+/// count of faults rose. After `TooLong`, `Damaged` and `WantOfMemory` the disk is as it was. It takes
+/// memory for the records and 65,536 bytes at once; `Opening` takes it for one record.
+pub fn open_journal<D: Disk>(
+    alloc: Global,
+    disk: &mut D,
+) -> Result<(Journal, List<Bytes>), JournalRefused>
+    ensures gives { IfTold (D.reads disk.old) (λ old. GivesAs (λ given. given.1) refusal_of (opened old) result) }
+
+    // The disk then stands ready for the journal, and in every image the records are those that are given.
+    ensures ready { IfOk result (λ given. IsReady given.0 (D.reads disk.new) (D.past disk.new)) }
+    ensures begun { OnOk result (Turns (D.reads disk.old) (D.reads disk.new) (λ old new. new ≡ begun old)) }
+    ensures same { OnOk result (Turns (D.reads disk.old) (D.reads disk.new) (λ old new. records new ≡ records old)) }
+    ensures lasting { IfOk result (λ given. IfTold (D.reads disk.old) (λ old. (image : List ℕ)
+        → Images (D.past disk.new) image → records image ≡ Some given.1)) }
+    ensures small { IfOk result (λ given. given.0.end < 2 ^ 40) }
+
+    // What is refused is left as it was.
+    ensures refused { IfErr result (λ refused. refused ≢ JournalRefused.DiskFault
+        → StaysAsItWas (D.reads disk.old) (D.reads disk.new) (D.past disk.old) (D.past disk.new)) }
+
+    // A stop at any moment of the call leaves what it might have left before, or the same records; from
+    // the first good sync on, the same records.
+    ensures moments { IfTold (D.reads disk.old) (λ old. Leaves (IsOldOrHas (D.past disk.old) (records old)) (D.past disk.old) (D.past disk.new)) }
+    ensures synced { IfTold (D.reads disk.old) (λ old. (image : List ℕ)
+        → LeftSinceSync (D.past disk.new) (D.past disk.old).now image → records image ≡ records old) }
+    ensures fault { IsErrOf result JournalRefused.DiskFault → Rose (D.faults disk.old) (D.faults disk.new) }
+    ensures later { D.faults disk.old ≤ D.faults disk.new }
+{
+    disk.sync()?;
+    open_synced(alloc, disk)
+}
+
+/// Opens a disk of which a stop leaves just what it reads as.
+fn open_synced<D: Disk>(
+    alloc: Global,
+    disk: &mut D,
+) -> Result<(Journal, List<Bytes>), JournalRefused>
+    requires { IfTold (D.reads disk.old) (Only (D.past disk.old)) }
+    ensures gives { IfTold (D.reads disk.old) (λ old. GivesAs (λ given. given.1) refusal_of (opened old) result) }
+    ensures ready { IfOk result (λ given. IsReady given.0 (D.reads disk.new) (D.past disk.new)) }
+    ensures begun { OnOk result (Turns (D.reads disk.old) (D.reads disk.new) (λ old new. new ≡ begun old)) }
+    ensures same { OnOk result (Turns (D.reads disk.old) (D.reads disk.new) (λ old new. records new ≡ records old)) }
+    ensures small { IfOk result (λ given. given.0.end < 2 ^ 40) }
+    ensures refused { IfErr result (λ refused. refused ≢ JournalRefused.DiskFault
+        → StaysAsItWas (D.reads disk.old) (D.reads disk.new) (D.past disk.old) (D.past disk.new)) }
+    ensures moments { IfTold (D.reads disk.old) (λ old. Leaves (λ image. records image ≡ records old) (D.past disk.old) (D.past disk.new)) }
+    ensures fault { IsErrOf result JournalRefused.DiskFault → Rose (D.faults disk.old) (D.faults disk.new) }
+    ensures later { D.faults disk.old ≤ D.faults disk.new }
+{
+    match begin_synced(alloc, disk) {
+        Ok(opening) => read_on(alloc, disk, opening),
+        Err(refused) => Err(refused),
+    }
+}
+
+/// The records that are still to come, and the journal behind them.
+fn read_on<D: Disk>(
+    alloc: Global,
+    disk: &mut D,
+    opening: Opening,
+) -> Result<(Journal, List<Bytes>), JournalRefused>
+    requires { IsReading opening (D.reads disk.old) (D.past disk.old) }
+    ensures gives { IfTold (D.reads disk.old) (λ image. GivesAs (λ given. given.1) refusal_of (ok_or (coming opening image) Damaged) result) }
+    ensures ready { IfOk result (λ given. IsReady given.0 (D.reads disk.new) (D.past disk.new)) }
+    ensures small { IfOk result (λ given. given.0.end < 2 ^ 40) }
+    ensures refuses { IfErr result (λ refused. 0 < left_of opening) }
+    ensures reads { D.reads disk.new ≡ D.reads disk.old }
+    ensures images { AddsNoImage (D.past disk.old) (D.past disk.new) }
+    ensures fault { IsErrOf result JournalRefused.DiskFault → Rose (D.faults disk.old) (D.faults disk.new) }
+    ensures later { D.faults disk.old ≤ D.faults disk.new }
+{
+    let mut opening = opening;
+    let mut bodies = List::new(alloc);
+    'records: loop {
+        match opening.next(alloc, disk) {
+            Ok(Some(body)) => {
+                if bodies.push(alloc, body).is_err() {
+                    return Err(JournalRefused::WantOfMemory);
+                }
+            }
+            Ok(None) => return Ok((opening.finish(), bodies)),
+            Err(refused) => return Err(refused),
+        }
+    }
+}

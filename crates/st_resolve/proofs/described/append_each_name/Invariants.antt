@@ -1,0 +1,10 @@
+use Rattle.std.proofs.Common.{◌≡◌, ◌++◌, drop, false, map}
+use Rattle.st_canon.specs.Canonical.{canonical_items}
+use Rattle.st_canon.specs.View.{items_of}
+use Rattle.st_canon.specs.Plain.{text}
+use Rattle.st_resolve.proofs.described.append_each_name.Given as goal
+
+abbrev pub invariant-loop-name : goal.invariant-loop-name
+invariant-loop-name l =
+    l.initial.out ++ canonical_items false (items_of (map text l.names))
+    ≡ l.out ++ canonical_items l.comma (items_of (map text (drop l.name-index l.names)))

@@ -1,0 +1,10 @@
+use Rattle.std.proofs.Common.{◌≡◌, ◌++◌, drop, false, map}
+use Rattle.st_canon.specs.Canonical.{canonical_items}
+use Rattle.st_canon.specs.View.{items_of, plain}
+use Rattle.st_resolve.specs.Keys.{method_of}
+use Rattle.st_resolve.proofs.keys.append_each_method.Given as goal
+
+abbrev pub invariant-loop-key : goal.invariant-loop-key
+invariant-loop-key l =
+    l.initial.out ++ canonical_items false (items_of (map (method_of l.did) (map plain l.keys)))
+    ≡ l.out ++ canonical_items l.comma (items_of (map (method_of l.did) (map plain (drop l.key-index l.keys))))

@@ -1,0 +1,10 @@
+use Rattle.std.proofs.Common.{◌∙◌, ◌++◌, ap, sym}
+use Rattle.st_apply.specs.Shown.{opened}
+use Rattle.st_resolve.specs.Identifier.{plain_did}
+use Rattle.st_resolve.proofs.ObjectTexts.{canonical_metadata}
+use Rattle.st_resolve.specs.Texts.{value_text}
+use Rattle.st_resolve.proofs.metadata.append_metadata.Goals as goal
+
+pub returns : goal.returns
+unfolding value_text
+returns c = c.in_ok-append_metadata_parts.ensures ∙ ap (λ t. c.args.out.now ++ t) (sym (canonical_metadata c.args.published (plain_did c.args.did.now) (opened c.args.state.now)))

@@ -1,0 +1,83 @@
+-- The canonical texts of the objects of a result, put together of what differs.
+use Rattle.std.specs.Prelude.{ℕ, Bool, List, [], ◌++◌, codes, map, Option, Some, option_map, Result, Ok}
+use Rattle.st_base.specs.Answers.{◌>>=◌}
+use Rattle.st_apply.specs.Seen.{State}
+use Rattle.st_canon.specs.Canonical.{canonical, quoted}
+use Rattle.st_canon.specs.Objects.{some_list}
+use Rattle.st_canon.specs.Plain.{Plain, boolean, text}
+use Rattle.st_canon.specs.Shapes.{member_in}
+use Rattle.st_doc.specs.Document.{PlainDocument}
+use Rattle.st_hash.specs.Hash.{HashValue}
+use Rattle.st_indexfiles.specs.Hashes.{hash_json}
+use Rattle.st_canon.specs.Listed.{text_there}
+use Rattle.st_resolve.specs.Identifier.{PlainDid}
+use Rattle.st_resolve.specs.DidDocument.{did_document}
+use Rattle.st_resolve.specs.Keys.{controller_of, method_of, reference_to, references_for}
+use Rattle.st_resolve.specs.Result.{canonical_id, deactivated_mark, metadata_of, method_metadata, recovery_in, update_in}
+use Rattle.st_resolve.specs.Services.{service_of}
+
+-- the canonical text of a value
+unfoldable pub value_text : Plain → List ℕ
+value_text value = canonical value
+
+unfoldable pub service_text : Plain → List ℕ
+service_text service =
+    codes "{\"id\":" ++ (quoted (reference_to service)
+    ++ (text_there (codes ",\"serviceEndpoint\":") (member_in (codes "serviceEndpoint") (Some service)) []
+    ++ (text_there (codes ",\"type\":") (member_in (codes "type") (Some service)) [] ++ codes "}")))
+
+unfoldable pub method_text : List ℕ → Plain → List ℕ
+method_text did key =
+    codes "{\"controller\":" ++ (value_text (controller_of did key) ++ (codes ",\"id\":" ++ (quoted (reference_to key)
+    ++ (text_there (codes ",\"publicKeyJwk\":") (member_in (codes "publicKeyJwk") (Some key)) []
+    ++ (text_there (codes ",\"type\":") (member_in (codes "type") (Some key)) [] ++ codes "}")))))
+
+-- a list of references behind a front
+abbrev pub references_text : List ℕ → List ℕ → List Plain → List ℕ → List ℕ
+references_text front purpose keys back = text_there front (some_list (references_for purpose keys)) back
+
+-- what stands before the identifier
+unfoldable pub front_text : PlainDocument → List ℕ
+front_text document =
+    text_there (codes "\"alsoKnownAs\":") (some_list (map text document.names)) (codes ",")
+    ++ (references_text (codes "\"assertionMethod\":") (codes "assertionMethod") document.keys (codes ",")
+    ++ (references_text (codes "\"authentication\":") (codes "authentication") document.keys (codes ",")
+    ++ (references_text (codes "\"capabilityDelegation\":") (codes "capabilityDelegation") document.keys (codes ",")
+    ++ (references_text (codes "\"capabilityInvocation\":") (codes "capabilityInvocation") document.keys (codes ",")))))
+
+-- what stands behind the identifier
+unfoldable pub back_text : List ℕ → PlainDocument → List ℕ
+back_text did document =
+    references_text (codes ",\"keyAgreement\":") (codes "keyAgreement") document.keys []
+    ++ (text_there (codes ",\"service\":") (some_list (map service_of document.services)) []
+    ++ (text_there (codes ",\"verificationMethod\":") (some_list (map (method_of did) document.keys)) [] ++ codes "}"))
+
+unfoldable pub described_text : List ℕ → PlainDocument → List ℕ
+described_text did document =
+    codes "{" ++ (front_text document ++ (codes "\"id\":" ++ (quoted did ++ back_text did document)))
+
+unfoldable pub alone_text : List ℕ → List ℕ
+alone_text did = codes "{\"id\":" ++ (quoted did ++ codes "}")
+
+unfoldable pub method_metadata_text : Bool → State HashValue PlainDocument → List ℕ
+method_metadata_text published state =
+    codes "{\"published\":" ++ (value_text (boolean published)
+    ++ (text_there (codes ",\"recoveryCommitment\":") (option_map hash_json (recovery_in state)) []
+    ++ (text_there (codes ",\"updateCommitment\":") (option_map hash_json (update_in state)) [] ++ codes "}")))
+
+unfoldable pub metadata_text : Bool → PlainDid → State HashValue PlainDocument → List ℕ
+metadata_text published did state =
+    codes "{" ++ (text_there (codes "\"canonicalId\":") (canonical_id published did.suffix) (codes ",")
+    ++ (text_there (codes "\"deactivated\":") (deactivated_mark state) (codes ",")
+    ++ (codes "\"method\":" ++ (value_text (method_metadata published state) ++ codes "}"))))
+
+unfoldable pub said_text : Bool → PlainDid → State HashValue PlainDocument → List ℕ
+said_text published did state =
+    codes "{\"didDocument\":" ++ (value_text (did_document did.text state)
+    ++ (codes ",\"didDocumentMetadata\":" ++ (value_text (metadata_of published did state) ++ codes "}")))
+
+-- the same answer with the canonical text of the result
+abbrev pub text_of : {Refusal : Type 0} → Result Plain Refusal → Result (List ℕ) Refusal
+text_of says = do
+  result ← says
+  Ok (canonical result)
