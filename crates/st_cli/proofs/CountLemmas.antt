@@ -1,17 +1,17 @@
 -- What a run of a node has counted, by its table.
-use Rattle.std.proofs.Common.{◌≡◌, ◌∙◌, inl, inr, ℕ, Option, Some, None, List, [], ◌∷◌, ◌++◌, refl, ap, sym, subst, arith, append_assoc, length-append}
+use Rattle.std.proofs.Common.{◌≡◌, ◌∙◌, ⊎_elim, ℕ, ◌+◌, Option, Some, None, List, ◌++◌, take, drop, refl, sym, subst, arith, length-append, take-append-drop}
 use Rattle.std.proofs.lemmas.List.Sums.{sum_by-append}
 use Rattle.std.specs.Prelude.{IfSome}
 use Rattle.std.specs.Io.KnownBytes.{Consumes}
 use Rattle.st_base.proofs.Cuts.{same_cut}
 use Rattle.st_base.specs.Work.{Counts}
 use Rattle.st_drive.specs.Lines.{all_lines}
-use Rattle.st_drive.specs.Tables.{SoFar}
 use Rattle.st_node.proofs.RunLemmas.{entries-append, run_counts}
 use Rattle.st_node.specs.Machine.{Machine, after}
 use Rattle.st_node.specs.Work.{DueOver, RunCounts, declared_count, entries_of, submitted_by_line, submitted_in}
 use Rattle.st_cli.specs.declared.form.NodeOptions.{NodeOptions}
-use Rattle.st_cli.specs.Node.{NodeTable, InputCounts, LinesCount, new_node, node_course}
+use Rattle.st_cli.specs.Node.{InputCounts, LinesCount, new_node, node_command}
+use Rattle.st_status.specs.Answered.{HasAnsweredFirst, RunTable, Streams}
 
 -- what is bounded over some lines is bounded over more
 over_more : (schedule : Option ℕ) (machine : Machine) (lines more : List (List ℕ)) (old new : Counts)
@@ -40,19 +40,16 @@ module _ (options : NodeOptions) (work counted : Counts) where
   pub from_beginning : (lines : List (List ℕ)) → DueOver (new_node options) lines work counted → Within lines
   from_beginning lines due = run_counts options.schedule lines work counted due
 
-  -- however the run ended, the context went over the first lines of what was taken, or also over the next one
-  of_so_far : {written : List ℕ} {left : Option (List ℕ)} (taken : List ℕ) → SoFar (node_course options work counted) left taken written
-      → InputCounts options taken work counted
-  of_so_far taken so_far =
-      let first = so_far.of_taken in
-      elim first.context as (λ _. Within (all_lines taken)) [
-        | inl ran ↦ subst Within first.all (within_more first.answered first.later (from_beginning first.answered ran.1.due))
-        | inr gave ↦
-            let lines = first.answered ++ gave.0 ∷ [] in
-            let all : lines ++ gave.1 ≡ all_lines taken =
-            append_assoc first.answered (gave.0 ∷ []) gave.1 ∙ ap (λ later. first.answered ++ later) (sym gave.2) ∙ first.all in
-            subst Within all (within_more lines gave.1 (from_beginning lines gave.3))
-      ]
+  -- what was due over the first of these lines is within the bound over all
+  within_all : (count : ℕ) (lines : List (List ℕ)) → DueOver (new_node options) (take count lines) work counted → Within lines
+  within_all count lines due =
+      subst Within (take-append-drop count lines)
+      (within_more (take count lines) (drop count lines) (from_beginning (take count lines) due))
+
+  -- however the run ended, the counters went over the first lines of what was taken, or also over the next one
+  of_first : {written : List ℕ} (lines : List (List ℕ))
+      → HasAnsweredFirst (node_command options work counted) written lines → Within lines
+  of_first lines first = ⊎_elim (within_all first.count lines) (within_all (first.count + 1) lines) first.counted
 
 -- what was taken follows from what was there and what is left
 taken_is : (input : List ℕ) (left : Option (List ℕ)) (taken other : List ℕ) → Consumes (Some input) left taken
@@ -61,11 +58,18 @@ taken_is input None taken other takes takes_other = absurd takes
 taken_is input (Some rest) taken other takes takes_other =
     let cut = same_cut taken rest other rest (sym takes ∙ takes_other) refl in cut.front_is
 
+-- so what holds of it holds of whatever was taken
+of_any_taken : (P : List ℕ → Type 0) (had left : Option (List ℕ)) (taken : List ℕ) → Consumes had left taken → P taken
+    → IfSome had (λ input. (other : List ℕ) → Consumes (Some input) left other → P other)
+of_any_taken P None left taken takes holds = tt
+of_any_taken P (Some input) left taken takes holds =
+    λ other takes_other. subst P (taken_is input left taken other takes takes_other) holds
+
 -- what was counted is within the bound over what was taken, however the run ended
-pub counts_of_table : (options : NodeOptions) (work counted : Counts) (had left held holds : Option (List ℕ)) (status : ℕ)
-    → NodeTable options work counted had left held holds status
-    → IfSome had (λ input. (taken : List ℕ) → Consumes (Some input) left taken → InputCounts options taken work counted)
-counts_of_table options work counted None left held holds status table = tt
-counts_of_table options work counted (Some input) left held holds status table =
-    λ taken takes. subst (λ bytes. InputCounts options bytes work counted) (taken_is input left table.taken taken table.takes takes)
-    (of_so_far options work counted table.taken table.so_far)
+pub counts_of_table : (options : NodeOptions) (work counted : Counts) {limit : ℕ} {io : Streams} {status : ℕ}
+    → RunTable (node_command options work counted) limit io status
+    → IfSome io.had (λ input. (taken : List ℕ) → Consumes (Some input) io.left taken
+    → InputCounts options taken work counted)
+counts_of_table options work counted {io = io} table =
+    of_any_taken (λ taken. InputCounts options taken work counted) io.had io.left table.taken table.takes
+    (of_first options work counted (all_lines table.taken) table.of_taken)

@@ -1,7 +1,6 @@
--- A run of a node with a journal: the machine that its records bring back, the table of the run, and what it
+-- A run of a node with a journal: the machine that its records bring back, what it means as a command, and what it
 -- leaves of the disk.
 use Rattle.std.specs.Prelude.{ℕ, List, ◌++◌}
-use Rattle.std.specs.declared.option.Option.{Option}
 use Rattle.st_base.specs.Work.{Counts}
 use Rattle.st_drive.specs.Lines.{all_lines}
 use Rattle.st_io.specs.Past.{Past}
@@ -10,7 +9,7 @@ use Rattle.st_journal_lines.specs.Journalled.{KeepsLines}
 use Rattle.st_node.specs.Changing.{is_changing}
 use Rattle.st_node.specs.Machine.{Machine, after, answered, replies}
 use Rattle.st_node.specs.Work.{DueOver}
-use Rattle.st_status.specs.Status.{StatusTable, replying}
+use Rattle.st_status.specs.Answered.{Command}
 use Rattle.st_cli.specs.declared.form.NodeOptions.{NodeOptions}
 use Rattle.st_cli.specs.Node.{LinesCount, new_node}
 use Rattle.st_cli.specs.NodeLines.{RanLines}
@@ -31,12 +30,13 @@ node_answering = record {
 abbrev pub node_from : NodeOptions → (r : List (List ℕ)) → Machine
 node_from options r = after (new_node options) r
 
--- what the run of such a node has taken and written, and what became of the counters of work: the records count
--- as the lines do
-abbrev pub JournalTable : NodeOptions → (r : List (List ℕ)) → (work counted : Counts)
-    → (had left held holds : Option (List ℕ)) → ℕ → Type 0
-JournalTable options r work counted =
-    StatusTable (replying (replies (node_from options r)) (λ lines. LinesCount options (r ++ lines) work counted)) options.limit
+-- what such a node means, from these counters of work to those: its replies to lines, and a bound on the work, in
+-- which the records count as the lines do
+abbrev pub journal_command : NodeOptions → (r : List (List ℕ)) → (work counted : Counts) → Command
+journal_command options r work counted = record {
+  replies = replies (node_from options r);
+  counted = λ lines. LinesCount options (r ++ lines) work counted;
+}
 
 -- What the run leaves of its disk over an input: the records r, and then those of the input's lines that change
 -- the machine.
