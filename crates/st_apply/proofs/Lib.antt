@@ -11,7 +11,7 @@ mod WalkLemmas
 pub mod LawLemmas
 -- one more item is one more step, on any items
 pub mod OneMoreLemmas
--- what anchored operations resolve to: one more, a fold of steps, the items of an index
+-- what anchored operations resolve to: one more, a fold of steps
 pub mod ResolvedLemmas
 -- what a step does; an operation that does not act leaves the state
 pub mod StepLemmas

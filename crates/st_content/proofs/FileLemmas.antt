@@ -134,6 +134,12 @@ pub record IsPut (digest file : List ℕ) (entries : List (List ℕ × List ℕ)
   pub named : digest ≡ sha256 file
   pub seen : files_of entries ≡ files
 
+pub is_put : (uri : HashValue) (digest file : List ℕ) (entries : List (List ℕ × List ℕ)) (files : Files)
+    → uri ≡ uri_of file → sha256_digest uri ≡ Some digest → files_of entries ≡ files → IsPut digest file entries files
+is_put uri digest file entries files own is seen =
+    let both : Some digest ≡ Some (sha256 file) = sym is ∙ ap sha256_digest own in
+    record { named = cc; seen = seen }
+
 pub before : (digest file : List ℕ) (entries : List (List ℕ × List ℕ)) (files : Files) → IsPut digest file entries files
     → lookup (is_at (slice_cmp nat_cmp digest)) entries ≡ file_at (uri_of file) files
 before digest file entries files is =

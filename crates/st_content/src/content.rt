@@ -7,7 +7,7 @@ ghost use Rattle.st_hash.specs.Hash.{HashValue, uri_of};
 ghost use Rattle.st_content.specs.Files.{AreNamed, file_at, with_entry, with_file};
 
 use st_base::{Bytes, Shared, WantOfMemory};
-use st_hash::{Hash, sha256};
+use st_hash::{Hash, uri_of};
 use std::alloc::Global;
 use std::collections::BTreeMap;
 use std::collections::btree_map::Entry;
@@ -62,11 +62,24 @@ impl Content {
             ((uri : HashValue) → uri ≢ uri_of bytes → file_at uri self.new ≡ file_at uri self.old) }
         ensures err { OnErr result (self.new ≡ self.old) }
     {
-        let digest = sha256(bytes.as_slice());
-        let uri = Hash::of_sha256(digest);
+        let uri = uri_of(bytes.as_slice());
+        let put = self.put_under(alloc, uri, bytes)?;
+        Ok((uri, put))
+    }
+
+    /// The same of a file whose URI is known, which isn't hashed again.
+    pub fn put_under(&mut self, alloc: Global, uri: Hash, bytes: Bytes) -> Result<Put, WantOfMemory>
+        requires { uri ≡ uri_of bytes }
+        ensures had { IfOk result (λ put. (put ≡ Put.Had) ↔ IsSome (file_at uri self.old)) }
+        ensures ok { OnOk result (self.new ≡ with_file bytes self.old) }
+        ensures err { OnErr result (self.new ≡ self.old) }
+    {
+        let Some(digest) = uri.sha256_digest() else {
+            unreachable!()
+        };
         let file = Shared::new(alloc, bytes)?;
         let put = put_first(&mut self.files, digest, file)?;
-        Ok((uri, put))
+        Ok(put)
     }
 
     /// The file of this URI, which those that keep parts of it share. None comes exactly where there is

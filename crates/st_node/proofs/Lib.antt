@@ -8,6 +8,7 @@ mod EntryLemmas
 mod FlushLemmas
 mod FormLemmas
 mod IsolationLemmas
+mod KeptLemmas
 mod ResolvedLemmas
 mod SumLemmas
 mod TellingLemmas

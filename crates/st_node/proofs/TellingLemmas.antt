@@ -1,5 +1,5 @@
 -- Words that are put behind a text one by one, each after a space.
-use Rattle.std.proofs.Common.{◌≡◌, ◌∙◌, ℕ, ◌+◌, ◌<◌, List, ◌∷◌, ◌++◌, drop, map}
+use Rattle.std.proofs.Common.{ℕ, List, ◌++◌, drop, map}
 use Rattle.st_base.specs.Replies.{spaced}
 
 module _ {Item : Type 0} (word_of : Item → List ℕ) (items : List Item) where

@@ -1,4 +1,5 @@
 ghost use Rattle.std.specs.Prelude.{◌≡◌, ◌++◌, IfOk, OnOk, flat_map};
+ghost use Rattle.st_batch.specs.ReadBack.{AreNamed};
 ghost use Rattle.st_node.specs.Machine.{all_arrived, batch_line, batch_reply, file_line, role_word};
 ghost use Rattle.st_node.specs.Work.{ArrivalsCounts};
 
@@ -68,19 +69,21 @@ fn role_word(role: Role) -> &'static str
     }
 }
 
-// Hands the files to the observer, in the order in which they are listed, without a copy.
+// Hands the files to the observer, in the order in which they are listed. None is copied or hashed again.
 pub fn take_files(
     alloc: Global,
     observer: Observer,
     files: List<BatchFile>,
     work: &mut Work,
 ) -> Result<Observer, WantOfMemory>
+    requires { AreNamed files }
     ensures state { IfOk result (λ taken. taken ≡ all_arrived files observer) }
     ensures counts { ArrivalsCounts observer files work.old work.new }
 {
     let mut taken = observer;
     for file in files.into_vec() {
-        let (next, _uri, _put) = taken.arrive(alloc, file.bytes, work)?;
+        let BatchFile { uri, bytes, .. } = file;
+        let (next, _put) = taken.arrive_under(alloc, uri, bytes, work)?;
         taken = next;
     }
     Ok(taken)

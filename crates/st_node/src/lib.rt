@@ -3,6 +3,7 @@
 //! requests that are submitted to it.
 #![tactic(auto)]
 
+mod answers;
 mod causes;
 mod changes;
 mod command;

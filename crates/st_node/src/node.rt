@@ -1,16 +1,17 @@
 ghost use Rattle.std.specs.Prelude.{◌≡◌, ◌≤◌, IfOk, OnOk, length};
-ghost use Rattle.st_base.specs.Work.{ProofsAtMost};
+ghost use Rattle.st_base.specs.Work.{AppliesAtMost, ProofsAtMost};
 ghost use Rattle.st_node.specs.Changed.{IsCountable, Serves, TakesSome, TellsChange};
 ghost use Rattle.st_node.specs.Command.{command_of};
-ghost use Rattle.st_node.specs.Machine.{AnswersWith, answered, answered_anchor, answered_command, answered_content, answered_flush, answered_report, answered_rollback, answered_submit, answered_wanted, new_machine};
+ghost use Rattle.st_node.specs.Machine.{AnswersWith, answered, answered_anchor, answered_command, answered_content, answered_flush, answered_report, answered_resolve, answered_rollback, answered_submit, answered_wanted, new_machine};
 ghost use Rattle.st_node.specs.Work.{AdmittedCounts, ArrivalCounts, CommandCounts, FlushCounts, LineCounts, RollbackCounts, StaysDue, entry_of_command, entry_of_line, submitted_by, submitted_by_line};
 ghost use Rattle.st_ledger.specs.Ledger.{admitted};
 
+use crate::answers::Answers;
 use crate::causes::{cause_word, ledger_word};
 use crate::command::{Command, LineRefused, read_command};
 use crate::explaining::explain;
 use crate::flushing::{take_files, tell_batch};
-use crate::resolving::resolve;
+use crate::resolving::resolve_kept;
 use crate::submitting::{limits_now, submit};
 use crate::telling::{tell_states, tell_wanted};
 use itoa::Buffer;
@@ -30,9 +31,12 @@ use std::marker::Model;
 pub struct Node {
     observer: Observer,
     queue: Queue,
+    // Replies since the observer last changed. A command that changes it goes on with none.
+    answers: Answers,
 }
 
 impl Model for Node {
+    ghost use Rattle.st_node.specs.Answers.{AreAnswers};
     ghost use Rattle.st_node.specs.Codes.{coded_machine};
     ghost use Rattle.st_node.specs.Machine.{Machine};
 
@@ -41,6 +45,8 @@ impl Model for Node {
     ghost coded = { coded_machine };
 
     ghost view = { λ n. record { observed = n.observer; queue = n.queue } };
+
+    ghost invariant = { λ n. AreAnswers n.observer n.answers };
 }
 
 impl Node {
@@ -52,6 +58,7 @@ impl Node {
         Ok(Node {
             observer,
             queue: Queue::new(alloc),
+            answers: Answers::new(alloc),
         })
     }
 
@@ -140,10 +147,7 @@ impl Node {
             Command::Content(bytes) => self.take(alloc, bytes, work),
             Command::Anchor { height, text } => self.append(alloc, Entry { height, text }, work),
             Command::Rollback(n) => self.cut(alloc, n, work),
-            Command::Resolve(did) => {
-                let text = resolve(alloc, &self.observer, did.as_slice(), work)?;
-                Ok((self, text))
-            }
+            Command::Resolve(did) => self.resolve(alloc, did, work),
             Command::Explain(did) => {
                 let text = explain(alloc, &self.observer, did.as_slice(), work)?;
                 Ok((self, text))
@@ -165,7 +169,12 @@ impl Node {
         ensures answer { IfOk result (AnswersWith (answered_content self bytes)) }
         ensures counts { ArrivalCounts self.observed bytes work.old work.new }
     {
-        let Node { observer, queue } = self;
+        let Node {
+            observer,
+            queue,
+            ..
+        } = self;
+        let answers = Answers::new(alloc);
         let (observer, uri, put) = observer.arrive(alloc, bytes, work)?;
         let uri = hash_text(alloc, &uri)?;
         let word = match put {
@@ -173,7 +182,12 @@ impl Node {
             Put::Had => "had ",
         };
         let text = reply(alloc, word, uri.as_str().as_bytes())?;
-        Ok((Node { observer, queue }, text))
+        let node = Node {
+            observer,
+            queue,
+            answers,
+        };
+        Ok((node, text))
     }
 
     // `anchor`
@@ -190,10 +204,20 @@ impl Node {
             let text = reply(alloc, "refused ", ledger_word(refused).as_bytes())?;
             return Ok((self, text));
         }
-        let Node { observer, queue } = self;
+        let Node {
+            observer,
+            queue,
+            ..
+        } = self;
+        let answers = Answers::new(alloc);
         let (observer, number) = observer.append(alloc, entry, work)?;
         let text = reply(alloc, "anchored ", Buffer::new().format(number).as_bytes())?;
-        Ok((Node { observer, queue }, text))
+        let node = Node {
+            observer,
+            queue,
+            answers,
+        };
+        Ok((node, text))
     }
 
     // `rollback`
@@ -206,10 +230,44 @@ impl Node {
             let text = reply(alloc, "refused ", b"range")?;
             return Ok((self, text));
         }
-        let Node { observer, queue } = self;
+        let Node {
+            observer,
+            queue,
+            ..
+        } = self;
+        let answers = Answers::new(alloc);
         let (observer, removed) = observer.cut(alloc, n, work)?;
         let text = reply(alloc, "cut ", Buffer::new().format(removed).as_bytes())?;
-        Ok((Node { observer, queue }, text))
+        let node = Node {
+            observer,
+            queue,
+            answers,
+        };
+        Ok((node, text))
+    }
+
+    // `resolve`
+    fn resolve(
+        self,
+        alloc: Global,
+        did: Bytes,
+        work: &mut Work,
+    ) -> Result<(Node, Bytes), WantOfMemory>
+        ensures answer { IfOk result (AnswersWith (answered_resolve self did)) }
+        ensures counts { AppliesAtMost 1 work.old work.new }
+    {
+        let Node {
+            observer,
+            queue,
+            answers,
+        } = self;
+        let (answers, text) = resolve_kept(alloc, &observer, answers, did, work)?;
+        let node = Node {
+            observer,
+            queue,
+            answers,
+        };
+        Ok((node, text))
     }
 
     // `wanted`
@@ -245,10 +303,16 @@ impl Node {
         let Node {
             observer,
             mut queue,
+            answers,
         } = self;
         let params = limits_now(&observer);
         let text = submit(alloc, &mut queue, request.as_slice(), &params, work)?;
-        Ok((Node { observer, queue }, text))
+        let node = Node {
+            observer,
+            queue,
+            answers,
+        };
+        Ok((node, text))
     }
 
     // `flush`
@@ -257,18 +321,33 @@ impl Node {
         ensures takes { OnOk result (TakesSome self) }
         ensures counts { FlushCounts self work.old work.new }
     {
-        let Node { observer, queue } = self;
+        let Node {
+            observer,
+            queue,
+            ..
+        } = self;
+        let answers = Answers::new(alloc);
         let params = limits_now(&observer);
         match queue.flush(alloc, &params) {
             Ok((queue, batch)) => {
                 let text = tell_batch(alloc, &batch)?;
                 let Batch { files, .. } = batch;
                 let observer = take_files(alloc, observer, files, work)?;
-                Ok((Node { observer, queue }, text))
+                let node = Node {
+                    observer,
+                    queue,
+                    answers,
+                };
+                Ok((node, text))
             }
             Err(FlushRefused::Nothing(queue)) => {
                 let text = reply(alloc, "refused ", b"nothing")?;
-                Ok((Node { observer, queue }, text))
+                let node = Node {
+                    observer,
+                    queue,
+                    answers,
+                };
+                Ok((node, text))
             }
             Err(FlushRefused::WantOfMemory) => Err(WantOfMemory),
         }

@@ -1,16 +1,41 @@
 ghost use Rattle.std.specs.Prelude.{◌≡◌, ◌≤◌, IfOk};
 ghost use Rattle.st_base.specs.Work.{AppliesAtMost};
+ghost use Rattle.st_node.specs.Answers.{AreAnswers};
 ghost use Rattle.st_node.specs.Machine.{resolution, resolve_reply, result_for};
 ghost use Rattle.st_resolve.specs.Identifier.{plain_did};
 
-use st_base::{Bytes, WantOfMemory, Work, reply};
+use crate::answers::Answers;
+use st_base::{Bytes, Copied, WantOfMemory, Work, reply};
 use st_observer::Observer;
 use st_resolve::{Did, DidRefused, RenderRefused, read_did, render};
 use std::alloc::Global;
 
-// The reply to a text that is to be resolved. No file and no signed text is counted, and at most one operation:
-// the create of a long form that no entry gave, or a delta that is looked at where the state is opened.
-pub fn resolve(
+// The reply to a text that is to be resolved, and what is kept then. A reply that is kept is copied, and nothing
+// is counted of it; else the reply is made.
+pub fn resolve_kept(
+    alloc: Global,
+    observer: &Observer,
+    answers: Answers,
+    text: Bytes,
+    work: &mut Work,
+) -> Result<(Answers, Bytes), WantOfMemory>
+    requires { AreAnswers observer.now answers }
+    ensures answers { IfOk result (λ done. AreAnswers observer.now done.0) }
+    ensures reply { IfOk result (λ done. done.1 ≡ resolve_reply (resolution observer.now text)) }
+    ensures work { AppliesAtMost 1 work.old work.new }
+{
+    if let Some(kept) = answers.get(text.as_slice()) {
+        let reply = kept.copy(alloc)?;
+        return Ok((answers, reply));
+    }
+    let reply = resolve(alloc, observer, text.as_slice(), work)?;
+    let answers = answers.keep(alloc, text, &reply)?;
+    Ok((answers, reply))
+}
+
+// The same, where no reply is kept. No file and no signed text is counted, and at most one operation: the
+// create of a long form that no entry gave, or a delta that is looked at where the state is opened.
+fn resolve(
     alloc: Global,
     observer: &Observer,
     text: &[u8],

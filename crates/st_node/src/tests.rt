@@ -113,6 +113,32 @@ fn first_other(alloc: Global, work: &mut Work) -> Result<Option<&'static str>, W
     Ok(Some("the queue"))
 }
 
+// Lines of the session by their places in it, in another order; each has the reply that it has there. A
+// long form is asked twice before its entry has its file and twice behind that, once when the entry is gone,
+// and once when it is there again.
+const AGAIN: &[usize] = &[0, 2, 16, 16, 18, 26, 26, 34, 16, 2, 26];
+
+// The place of the first of these lines to which a new node gives another reply, or for which it counts
+// an applied operation though it was the line before too.
+fn first_other_again(alloc: Global, work: &mut Work) -> Result<Option<usize>, WantOfMemory> {
+    let mut node = Node::new(alloc, Schedule::with_second(10))?;
+    let mut last = usize::MAX;
+    for place in AGAIN {
+        let mut lines = SESSION.lines();
+        let line = lines.nth(*place).unwrap_or("");
+        let expected = lines.next().unwrap_or("");
+        let before = work.applies();
+        let (next, reply) = node.answer(alloc, line.as_bytes(), work)?;
+        let counts_again = *place == last && before < work.applies();
+        if counts_again || !is_reply(reply.as_slice(), expected) {
+            return Ok(Some(*place));
+        }
+        node = next;
+        last = *place;
+    }
+    Ok(None)
+}
+
 fn is_reply(reply: &[u8], expected: &str) -> bool {
     let expected = if expected == "BATCH" { BATCH } else { expected };
     reply.strip_suffix(b"\n") == Some(expected.as_bytes())
@@ -133,6 +159,15 @@ fn counted(files: u64, proofs: u64) -> Result<(), Fail> {
         return Ok(());
     }
     Err(Fail::from("the counters"))
+}
+
+#[test]
+fn what_is_asked_again_follows_the_entries_and_files(rt: HostRuntime) -> Result<(), Fail> {
+    let mut work = Work::new(&rt);
+    match first_other_again(rt.alloc(), &mut work)? {
+        Some(_) => Err(Fail::from("another reply")),
+        None => Ok(()),
+    }
 }
 
 fn reads_an_anchor(alloc: Global) -> bool {

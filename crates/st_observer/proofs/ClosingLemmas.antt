@@ -96,6 +96,24 @@ waited-few ledger files waits among kept start going names old mid new is same s
     closed-few (over kept.states.schedule ledger files) kept start going names old mid new is
     (subst (λ (o : Observed). IsGoing o (λ n. false) (kept_of going)) same_start state) grew (applied first there)
 
+-- so where what is kept was taken out of its box first
+pub taken-few : (ledger : List Entry) (files : Files) (waits among : ℕ → Bool) (kept taken : Kept)
+    (names : List (HashValue × ℕ)) (old new : Counts) → taken ≡ kept → ((n : ℕ) → among n ≡ waits n)
+    → (NamesWhere among (over taken.states.schedule ledger files) names
+    → GrewAtMost (decided_of (map (known_from files) taken.bounds.items) - decided_of taken.bounds.items)
+    (opened_of (map (known_from files) taken.bounds.items) - opened_of taken.bounds.items)
+    (named_cost (over taken.states.schedule ledger files) names) old new)
+    → NamesWhere waits (over kept.states.schedule ledger files) names
+    → GrewAtMost (decided_of (map (known_from files) kept.bounds.items) - decided_of kept.bounds.items)
+    (opened_of (map (known_from files) kept.bounds.items) - opened_of kept.bounds.items)
+    (named_cost (over kept.states.schedule ledger files) names) old new
+taken-few ledger files waits among kept taken names old new is same grew where_given =
+    subst (λ (k : Kept). GrewAtMost (decided_of (map (known_from files) k.bounds.items) - decided_of k.bounds.items)
+    (opened_of (map (known_from files) k.bounds.items) - opened_of k.bounds.items)
+    (named_cost (over k.states.schedule ledger files) names) old new) is
+    (grew (subst (λ (k : Kept). NamesWhere among (over k.states.schedule ledger files) names) (sym is)
+    (λ n entry found one. where_given n entry found (sym (same n) ∙ one))))
+
 -- memory ran out before anything was applied
 pub opened-few : (observed : Observed) (start : Kept) (opening : Going) (names : List (HashValue × ℕ)) (old new : Counts) → opening ≡ opened start
     → GrewAtMost (decided_of (map (known_from observed.files) opening.bounds.items) - decided_of opening.bounds.items)

@@ -10,7 +10,7 @@ ghost use Rattle.st_opindex.specs.Changed.{AreNamed};
 
 use crate::going::Going;
 use crate::kept::Kept;
-use st_base::{WantOfMemory, Work};
+use st_base::{Boxed, WantOfMemory, Work};
 use st_content::Content;
 use st_hash::Hash;
 use st_ledger::Ledger;
@@ -20,12 +20,12 @@ use std::alloc::Global;
 // give is applied once all of them have been looked at.
 pub fn settle_waiting(
     alloc: Global,
-    kept: Kept,
+    kept: Boxed<Kept>,
     uri: &Hash,
     ledger: &Ledger,
     content: &Content,
     work: &mut Work,
-) -> Result<Kept, WantOfMemory>
+) -> Result<Boxed<Kept>, WantOfMemory>
     requires { IsGoing (over kept.states.schedule ledger.now content.now) (λ n. is_waiting uri.now n kept.waiting) kept }
     ensures state { IfOk result (IsGoing (over kept.states.schedule ledger.now content.now) (λ n. false)) }
     ensures exact { IfOk result (λ later. ReadExactly
@@ -40,9 +40,48 @@ pub fn settle_waiting(
         (named_cost (over kept.states.schedule ledger.now content.now) names)
         work.old work.new }
 {
-    let entries = kept.waiting.entries(alloc, uri)?;
+    let entries = kept.get().waiting.entries(alloc, uri)?;
+    // Many files come before an entry names them.
+    if entries.len() == 0 {
+        return Ok(kept);
+    }
+    let later = settle_those(
+        alloc,
+        kept.take(),
+        entries.as_slice(),
+        ledger,
+        content,
+        work,
+    )?;
+    Ok(Boxed::new(alloc, later)?)
+}
+
+// The entries with these numbers are looked at again, and what they give is applied then.
+fn settle_those(
+    alloc: Global,
+    kept: Kept,
+    entries: &[u32],
+    ledger: &Ledger,
+    content: &Content,
+    work: &mut Work,
+) -> Result<Kept, WantOfMemory>
+    requires going { IsGoing (over kept.states.schedule ledger.now content.now) (is_among entries.now) kept }
+    requires once { IsStrictlySortedBy nat_cmp entries.now }
+    ensures state { IfOk result (IsGoing (over kept.states.schedule ledger.now content.now) (λ n. false)) }
+    ensures exact { IfOk result (λ later. ReadExactly
+        (decided_of later.bounds.items - decided_of kept.bounds.items)
+        (opened_of later.bounds.items - opened_of kept.bounds.items)
+        work.old work.new) }
+    ensures bound { (names : List (HashValue × ℕ))
+        → NamesWhere (is_among entries.now) (over kept.states.schedule ledger.now content.now) names
+        → GrewAtMost
+        (decided_of (map (known_from content.now) kept.bounds.items) - decided_of kept.bounds.items)
+        (opened_of (map (known_from content.now) kept.bounds.items) - opened_of kept.bounds.items)
+        (named_cost (over kept.states.schedule ledger.now content.now) names)
+        work.old work.new }
+{
     let start = kept.open(alloc);
-    let going = settle_entries(alloc, start, entries.as_slice(), ledger, content, work)?;
+    let going = settle_entries(alloc, start, entries, ledger, content, work)?;
     let later = going.close(alloc, work)?;
     Ok(later)
 }

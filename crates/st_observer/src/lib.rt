@@ -5,6 +5,7 @@
 #![tactic(auto)]
 
 mod arriving;
+mod boxing;
 mod cutting;
 mod going;
 mod kept;

@@ -17,14 +17,15 @@ ghost use Rattle.st_observer.specs.Wanted.{IsMissed, is_wanted, text_cmp, wanted
 ghost use Rattle.st_observer.specs.Work.{GrewAtMost, ReadExactly, arrival_cost, decided_in, entry_cost, losing, opened_in};
 
 use crate::arriving::settle_waiting;
+use crate::boxing::{cut, push};
 use crate::kept::Kept;
 use crate::stands::roles_of;
 use crate::states::Held;
 use st_anchor::{Bound, RoleState};
 use st_apply::DidState;
-use st_base::{Bytes, List, WantOfMemory, Work};
+use st_base::{Boxed, Bytes, List, WantOfMemory, Work};
 use st_content::{Content, Put};
-use st_hash::Hash;
+use st_hash::{Hash, uri_of};
 use st_ledger::{Entry, Ledger};
 use st_params::Schedule;
 use std::alloc::Global;
@@ -38,7 +39,7 @@ pub struct Observer {
     schedule: Schedule,
     ledger: Ledger,
     content: Content,
-    kept: Kept,
+    kept: Boxed<Kept>,
 }
 
 impl Model for Observer {
@@ -62,7 +63,7 @@ impl Observer {
             schedule,
             ledger: Ledger::new(alloc),
             content: Content::new(alloc),
-            kept,
+            kept: Boxed::new(alloc, kept)?,
         })
     }
 
@@ -122,7 +123,7 @@ impl Observer {
         } = self;
         let anchored = Bound::new(alloc, text.as_slice(), &schedule.at(height))?;
         let bound = anchored.settle(alloc, &content, work)?;
-        let kept = kept.push(alloc, ledger.len(), height, bound, work)?;
+        let kept = push(alloc, kept, ledger.len(), height, bound, work)?;
         let number = ledger.append(alloc, height, text)?;
         let observer = Observer {
             schedule,
@@ -152,7 +153,7 @@ impl Observer {
             content,
             kept,
         } = self;
-        let kept = kept.cut(alloc, n, ledger.len(), work)?;
+        let kept = cut(alloc, kept, n, ledger.len(), work)?;
         let removed = ledger.cut(n);
         let observer = Observer {
             schedule,
@@ -190,13 +191,39 @@ impl Observer {
             (arrival_cost bytes self)
             work.old work.new }
     {
+        let uri = uri_of(bytes.as_slice());
+        let (observer, put) = self.arrive_under(alloc, uri, bytes, work)?;
+        Ok((observer, uri, put))
+    }
+
+    /// The same of a file whose URI is known, which isn't hashed again.
+    pub fn arrive_under(
+        self,
+        alloc: Global,
+        uri: Hash,
+        bytes: Bytes,
+        work: &mut Work,
+    ) -> Result<(Observer, Put), WantOfMemory>
+        requires { uri ≡ uri_of bytes }
+        ensures state { IfOk result (λ done. done.0 ≡ arrived bytes self) }
+        ensures had { IfOk result (λ done. (done.1 ≡ Put.Had) ↔ IsSome (file_at (uri_of bytes) self.files)) }
+        ensures exact { OnOk result (ReadExactly
+            (decided_in (arrived bytes self) - decided_in self)
+            (opened_in (arrived bytes self) - opened_in self)
+            work.old work.new) }
+        ensures bound { GrewAtMost
+            (decided_in (arrived bytes self) - decided_in self)
+            (opened_in (arrived bytes self) - opened_in self)
+            (arrival_cost bytes self)
+            work.old work.new }
+    {
         let Observer {
             schedule,
             ledger,
             mut content,
             kept,
         } = self;
-        let (uri, put) = content.put(alloc, bytes)?;
+        let put = content.put_under(alloc, uri, bytes)?;
         // No entry waits for a file that was there.
         let kept = settle_waiting(alloc, kept, &uri, &ledger, &content, work)?;
         let observer = Observer {
@@ -205,7 +232,7 @@ impl Observer {
             content,
             kept,
         };
-        Ok((observer, uri, put))
+        Ok((observer, put))
     }
 
     /// The state of an identifier, by its suffix: its operations, resolved from nothing. It stands
@@ -213,7 +240,7 @@ impl Observer {
     pub fn state(&self, suffix: &Hash) -> &DidState
         ensures { result.now ≡ state_of suffix.now self.now }
     {
-        self.kept.states.state(suffix)
+        self.kept.get().states.state(suffix)
     }
 
     /// The operations of an identifier, by its suffix, in the order of the ledger. They share proofs
@@ -222,7 +249,7 @@ impl Observer {
         ensures items { IfOk result (λ items. map plain_held items ≡ operations suffix.now self.now) }
         ensures ascend { PlacesAscend place_of (operations suffix.now self.now) }
     {
-        let items = self.kept.states.items(alloc, suffix)?;
+        let items = self.kept.get().states.items(alloc, suffix)?;
         Ok(items)
     }
 
@@ -233,7 +260,7 @@ impl Observer {
         // A URI is among them exactly where some role of some entry misses its file.
         ensures missed { IfOk result (λ uris. (uri : HashValue) → IsTrue (list_any (same_hash uri) uris) ↔ IsMissed uri self.now) }
     {
-        let uris = self.kept.waiting.uris(alloc)?;
+        let uris = self.kept.get().waiting.uris(alloc)?;
         Ok(uris)
     }
 
@@ -241,7 +268,7 @@ impl Observer {
     pub fn wants(&self, alloc: Global, uri: &Hash) -> Result<bool, WantOfMemory>
         ensures { IfOk result (λ found. found ≡ is_wanted uri.now self.now) }
     {
-        let found = self.kept.waiting.has(alloc, uri)?;
+        let found = self.kept.get().waiting.has(alloc, uri)?;
         Ok(found)
     }
 
@@ -250,7 +277,7 @@ impl Observer {
     pub fn report(&self, n: u32) -> Option<[RoleState; 5]>
         ensures { result ≡ report n self.now }
     {
-        match self.kept.bounds.get(n as usize) {
+        match self.kept.get().bounds.get(n as usize) {
             Some(bound) => Some(roles_of(bound)),
             None => None,
         }

@@ -1,13 +1,15 @@
 use Rattle.std.proofs.Common.{◌≡◌}
 use Rattle.std.specs.Vec.Iter.{into_iter_items}
 use Rattle.st_base.specs.Work.{Counts}
+use Rattle.st_batch.specs.ReadBack.{AreNamed}
 use Rattle.st_node.specs.Machine.{all_arrived}
 use Rattle.st_node.specs.Work.{ArrivalsCounts}
 use Rattle.st_node.proofs.flushing.take_files.Given as goal
 
--- once what is left has come too, all has; and what it may then have counted is within the bound of all
+-- what is left is named; once it has come too, all has; and what it may then have counted is within the bound of all
 abbrev pub invariant-loop-file : goal.invariant-loop-file
 invariant-loop-file l = record {
+  named : AreNamed (into_iter_items l.file-iterator);
   state : all_arrived (into_iter_items l.file-iterator) l.taken ≡ all_arrived l.fn.files l.fn.observer;
   counts : (new : Counts) → ArrivalsCounts l.taken (into_iter_items l.file-iterator) l.work new → ArrivalsCounts l.fn.observer l.fn.files l.fn.work new;
 }

@@ -1,45 +1,30 @@
-use Rattle.std.proofs.Common.{◌∙◌, false, ap, subst}
-use Rattle.st_observer.specs.Observed.{Observed}
-use Rattle.st_observer.specs.Steps.{IsGoing, is_among, kept_of, over}
+use Rattle.std.proofs.Common.{◌∙◌, ap}
+use Rattle.st_observer.specs.Steps.{is_among}
 use Rattle.st_observer.specs.Waiting.{is_waiting}
-use Rattle.st_observer.specs.declared.going.Going.{Going}
-use Rattle.st_observer.proofs.ClosingLemmas.{closed-exact, closed-going, opened-few, opened-going, waited-few}
+use Rattle.st_observer.specs.declared.kept.Kept.{Kept}
+use Rattle.st_observer.proofs.ClosingLemmas.{taken-few}
 use Rattle.st_observer.proofs.arriving.settle_waiting.Goals as goal
-
-pub settle_entries-requires-clause-going : goal.settle_entries-requires-clause-going
-settle_entries-requires-clause-going c =
-    opened-going c.args.ledger.now c.args.content.now (λ n. is_waiting c.args.uri.now n c.args.kept.waiting) (is_among c.as_slice.result.now)
-    c.args.kept c.open-start.result c.open-start.ensures (λ n. ap (λ xs. is_among xs n) c.as_slice.ensures ∙ c.in_ok-entries.ensures.those n) c.requires
-
-pub returns-clause-state : goal.returns-clause-state
-returns-clause-state c =
-    let same_start = ap (λ (g : Going). over g.states.states.schedule c.args.ledger.now c.args.content.now) c.open-start.ensures in
-    closed-going (over c.args.kept.states.schedule c.args.ledger.now c.args.content.now) c.in_ok-going.going c.in_ok-later.later
-    (subst (λ (o : Observed). IsGoing o (λ n. false) (kept_of c.in_ok-going.going)) same_start c.in_ok-going.ensures.state)
-    c.in_ok-later.ensures.bounds c.in_ok-later.ensures.waiting c.in_ok-later.ensures.schedule c.in_ok-later.ensures.operations
-
-pub returns-clause-exact : goal.returns-clause-exact
-returns-clause-exact c =
-    closed-exact c.args.kept c.in_ok-later.later c.open-start.result c.in_ok-going.going c.args.work.now c.settle_entries.new.work c.close.new.work
-    c.open-start.ensures c.in_ok-later.ensures.bounds c.in_ok-going.ensures.exact c.close.ensures.reads
-
-pub returns-clause-bound : goal.returns-clause-bound
-returns-clause-bound c = λ names.
-    waited-few c.args.ledger.now c.args.content.now (λ n. is_waiting c.args.uri.now n c.args.kept.waiting) (is_among c.as_slice.result.now)
-    c.args.kept c.open-start.result c.in_ok-going.going names c.args.work.now c.settle_entries.new.work c.close.new.work
-    c.open-start.ensures (λ n. ap (λ xs. is_among xs n) c.as_slice.ensures ∙ c.in_ok-entries.ensures.those n)
-    c.in_ok-going.ensures.state c.in_ok-going.ensures.bound
-    (λ first there. c.close.ensures.bound names (c.in_ok-going.ensures.changes names first there))
 
 pub returns-in_err-later-clause-bound : goal.returns-in_err-later-clause-bound
 returns-in_err-later-clause-bound c = λ names.
-    waited-few c.args.ledger.now c.args.content.now (λ n. is_waiting c.args.uri.now n c.args.kept.waiting) (is_among c.as_slice.result.now)
-    c.args.kept c.open-start.result c.in_ok-going.going names c.args.work.now c.settle_entries.new.work c.close.new.work
-    c.open-start.ensures (λ n. ap (λ xs. is_among xs n) c.as_slice.ensures ∙ c.in_ok-entries.ensures.those n)
-    c.in_ok-going.ensures.state c.in_ok-going.ensures.bound
-    (λ first there. c.close.ensures.bound names (c.in_ok-going.ensures.changes names first there))
+    taken-few c.args.ledger.now c.args.content.now (λ n. is_waiting c.args.uri.now n c.args.kept.waiting) (is_among c.as_slice.result.now)
+    c.args.kept c.take.result names c.args.work.now c.settle_those.new.work c.take.ensures
+    (λ n. ap (λ xs. is_among xs n) c.as_slice.ensures ∙ c.in_ok-entries.ensures.those n
+    ∙ ap (λ (k : Kept). is_waiting c.args.uri.now n k.waiting) c.get.ensures)
+    (c.settle_those.ensures.bound names)
 
-pub returns-in_err-going-clause-bound : goal.returns-in_err-going-clause-bound
-returns-in_err-going-clause-bound c = λ names where_given.
-    opened-few (over c.args.kept.states.schedule c.args.ledger.now c.args.content.now) c.args.kept c.open-start.result names
-    c.args.work.now c.settle_entries.new.work c.open-start.ensures c.in_err-going.ensures.bound
+pub returns-in_err-new-clause-bound : goal.returns-in_err-new-clause-bound
+returns-in_err-new-clause-bound c = λ names.
+    taken-few c.args.ledger.now c.args.content.now (λ n. is_waiting c.args.uri.now n c.args.kept.waiting) (is_among c.as_slice.result.now)
+    c.args.kept c.take.result names c.args.work.now c.settle_those.new.work c.take.ensures
+    (λ n. ap (λ xs. is_among xs n) c.as_slice.ensures ∙ c.in_ok-entries.ensures.those n
+    ∙ ap (λ (k : Kept). is_waiting c.args.uri.now n k.waiting) c.get.ensures)
+    (c.settle_those.ensures.bound names)
+
+pub returns-clause-bound : goal.returns-clause-bound
+returns-clause-bound c = λ names.
+    taken-few c.args.ledger.now c.args.content.now (λ n. is_waiting c.args.uri.now n c.args.kept.waiting) (is_among c.as_slice.result.now)
+    c.args.kept c.take.result names c.args.work.now c.settle_those.new.work c.take.ensures
+    (λ n. ap (λ xs. is_among xs n) c.as_slice.ensures ∙ c.in_ok-entries.ensures.those n
+    ∙ ap (λ (k : Kept). is_waiting c.args.uri.now n k.waiting) c.get.ensures)
+    (c.settle_those.ensures.bound names)

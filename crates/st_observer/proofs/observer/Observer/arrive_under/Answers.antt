@@ -3,36 +3,36 @@ use Rattle.st_observer.specs.Observed.{Observed, arrived}
 use Rattle.st_observer.specs.Steps.{over}
 use Rattle.st_observer.specs.Work.{GrewAtMost, ReadExactly, arrival_cost, decided_in, opened_in}
 use Rattle.st_observer.proofs.ArriveLemmas.{arrived-exact, arrived-few, arrived-kept, arrived-start}
-use Rattle.st_observer.proofs.observer.Observer.arrive.Goals as goal
+use Rattle.st_observer.proofs.observer.Observer.arrive_under.Goals as goal
 
 pub settle_waiting-requires : goal.settle_waiting-requires
 settle_waiting-requires c =
-    arrived-start c.args.bytes (over c.self.inside.schedule c.self.inside.ledger c.self.inside.content) c.self.inside.kept c.in_ok-uri.uri c.put.new.self
-    c.self.invariant c.in_ok-uri.ensures.uri c.in_ok-uri.ensures.ok
+    arrived-start c.args.bytes (over c.self.inside.schedule c.self.inside.ledger c.self.inside.content) c.self.inside.kept c.args.uri c.put_under.new.self
+    c.self.invariant c.requires c.in_ok-put.ensures.ok
 
 pub invariant_of-observer : goal.invariant_of-observer
 invariant_of-observer c =
-    arrived-kept c.args.bytes (over c.self.inside.schedule c.self.inside.ledger c.self.inside.content) c.self.inside.kept c.in_ok-uri.uri c.put.new.self
-    c.self.invariant c.in_ok-uri.ensures.uri c.in_ok-uri.ensures.ok c.in_ok-kept.kept c.in_ok-kept.ensures.state
+    arrived-kept c.args.bytes (over c.self.inside.schedule c.self.inside.ledger c.self.inside.content) c.self.inside.kept c.args.uri c.put_under.new.self
+    c.self.invariant c.requires c.in_ok-put.ensures.ok c.in_ok-kept.kept c.in_ok-kept.ensures.state
 
 pub returns-clause-exact : goal.returns-clause-exact
 returns-clause-exact c =
     subst (λ (s : Observed). ReadExactly (decided_in (arrived c.args.bytes s) - decided_in s)
     (opened_in (arrived c.args.bytes s) - opened_in s) c.args.work.now c.settle_waiting.new.work) c.self.view_is
-    (arrived-exact c.args.bytes (over c.self.inside.schedule c.self.inside.ledger c.self.inside.content) c.self.inside.kept c.in_ok-uri.uri c.put.new.self
-    c.self.invariant c.in_ok-uri.ensures.uri c.in_ok-uri.ensures.ok c.in_ok-kept.kept c.args.work.now c.settle_waiting.new.work c.in_ok-kept.ensures.state
+    (arrived-exact c.args.bytes (over c.self.inside.schedule c.self.inside.ledger c.self.inside.content) c.self.inside.kept c.args.uri c.put_under.new.self
+    c.self.invariant c.requires c.in_ok-put.ensures.ok c.in_ok-kept.kept c.args.work.now c.settle_waiting.new.work c.in_ok-kept.ensures.state
     c.in_ok-kept.ensures.exact)
 
 pub returns-clause-bound : goal.returns-clause-bound
 returns-clause-bound c =
     subst (λ (s : Observed). GrewAtMost (decided_in (arrived c.args.bytes s) - decided_in s) (opened_in (arrived c.args.bytes s) - opened_in s)
     (arrival_cost c.args.bytes s) c.args.work.now c.settle_waiting.new.work) c.self.view_is
-    (arrived-few c.args.bytes (over c.self.inside.schedule c.self.inside.ledger c.self.inside.content) c.self.inside.kept c.in_ok-uri.uri c.put.new.self
-    c.self.invariant c.in_ok-uri.ensures.uri c.in_ok-uri.ensures.ok c.args.work.now c.settle_waiting.new.work c.settle_waiting.ensures.bound)
+    (arrived-few c.args.bytes (over c.self.inside.schedule c.self.inside.ledger c.self.inside.content) c.self.inside.kept c.args.uri c.put_under.new.self
+    c.self.invariant c.requires c.in_ok-put.ensures.ok c.args.work.now c.settle_waiting.new.work c.settle_waiting.ensures.bound)
 
 pub returns-in_err-kept-clause-bound : goal.returns-in_err-kept-clause-bound
 returns-in_err-kept-clause-bound c =
     subst (λ (s : Observed). GrewAtMost (decided_in (arrived c.args.bytes s) - decided_in s) (opened_in (arrived c.args.bytes s) - opened_in s)
     (arrival_cost c.args.bytes s) c.args.work.now c.settle_waiting.new.work) c.self.view_is
-    (arrived-few c.args.bytes (over c.self.inside.schedule c.self.inside.ledger c.self.inside.content) c.self.inside.kept c.in_ok-uri.uri c.put.new.self
-    c.self.invariant c.in_ok-uri.ensures.uri c.in_ok-uri.ensures.ok c.args.work.now c.settle_waiting.new.work c.settle_waiting.ensures.bound)
+    (arrived-few c.args.bytes (over c.self.inside.schedule c.self.inside.ledger c.self.inside.content) c.self.inside.kept c.args.uri c.put_under.new.self
+    c.self.invariant c.requires c.in_ok-put.ensures.ok c.args.work.now c.settle_waiting.new.work c.settle_waiting.ensures.bound)
