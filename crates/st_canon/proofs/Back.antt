@@ -97,11 +97,13 @@ read-canonical : (p : Plain) → IsProper p → depth (outline (data_of p)) ≤ 
 read-canonical p h shallow =
     ap (λ o. option_and_then of_json (option_and_then (λ q. if_last q.0 q.1) o)) (parsed p 127 h shallow)
 
-pub reads_back : (p : Plain) → IsProper p → depth_of p ≤ 127 → json_of (canonical p) ≡ Ok p
-reads_back p h shallow =
+pub back_within_outline : (p : Plain) → IsProper p → depth (outline (data_of p)) ≤ 127 → json_of (canonical p) ≡ Ok p
+back_within_outline p h shallow =
     let b = back p h in
-    let brackets : depth (outline (data_of p)) ≤ 127 = omega (arith, depth-outline p) in
-    json_of-utf8 (canonical p) (IsUtf8-canonical p h) ∙ ap json_of_data (read-canonical p h brackets ∙ b.1) ∙ ap (λ o. ok_or o NotWhole) b.2
+    json_of-utf8 (canonical p) (IsUtf8-canonical p h) ∙ ap json_of_data (read-canonical p h shallow ∙ b.1) ∙ ap (λ o. ok_or o NotWhole) b.2
+
+pub reads_back : (p : Plain) → IsProper p → depth_of p ≤ 127 → json_of (canonical p) ≡ Ok p
+reads_back p h shallow = back_within_outline p h (omega (arith, depth-outline p))
 
 -- whatever the text is read as, however deep it nests, is the value
 from_tokens : (p : Plain) (found : Option (Json × List Token)) → IsProper p

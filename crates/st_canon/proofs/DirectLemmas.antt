@@ -28,7 +28,7 @@ Tokens = List Token
 
 -- ---- what was read, under a function
 
-with_rest : {A B : Type 0} (f : A → B) (r : Tokens) (x : Option A)
+pub with_rest : {A B : Type 0} (f : A → B) (r : Tokens) (x : Option A)
     → option_map (λ b. (b, r)) (option_map f x) ≡ parse_map f (option_map (λ a. (a, r)) x)
 with_rest f r None = refl
 with_rest f r (Some a) = refl

@@ -1,17 +1,31 @@
 -- Private: what the answers of this crate cite.
 mod AsciiNames
+mod BareLemmas
 mod Compact
 mod Compared
+mod ContentLemmas
 mod Data
 mod Depths
+mod EntryLemmas
+mod FrontLemmas
+mod GatheredLemmas
 mod Kept
+mod KindLemmas
+mod ListsLemmas
+mod MarkLemmas
+mod MemberLemmas
 mod Outcomes
 mod Puts
+mod QuotedLemmas
+mod ReadLemmas
+mod RespellingLemmas
 mod RewritingLemmas
 mod RunLemmas
+mod ScalarLemmas
 mod Searching
 mod Sorting
 mod Units
+mod WalkLemmas
 -- For the crates above.
 -- a canonical text is read again, and no two values have one text
 pub mod Back
@@ -28,6 +42,8 @@ pub mod Named
 pub mod ObjectLemmas
 -- names that are literals
 pub mod OnLiterals
+-- how deep what was read nests, and that its text is read again
+pub mod NestsLemmas
 -- the order of names, and the test of a name
 pub mod Order
 -- the plain members, where a pair was put among the pairs or is looked up

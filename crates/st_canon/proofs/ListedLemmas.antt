@@ -1,14 +1,13 @@
 -- The canonical text of an object whose members were listed.
-use Rattle.std.specs.Prelude.{◌&&◌}
-use Rattle.std.proofs.Common.{◌≡◌, ◌∙◌, ℕ, Bool, true, false, List, [], ◌∷◌, ◌++◌, Option, Some, None, Ordering, Less, Equal, Greater, refl, sym, ap, append_assoc}
+use Rattle.std.proofs.Common.{◌≡◌, ◌∙◌, ℕ, Bool, true, false, List, [], ◌∷◌, ◌++◌, Option, Some, None, Ordering, Less, Equal, Greater, refl, ap, append_assoc}
 use Rattle.std.proofs.lemmas.Bool.{and_parts}
 use Rattle.std.specs.Ordering.{match_ordering}
-use Rattle.st_canon.specs.Canonical.{canonical, canonical_members, comma, quoted}
+use Rattle.st_canon.specs.Canonical.{canonical, canonical_members, comma}
 use Rattle.st_canon.specs.Find.{put}
 use Rattle.st_canon.specs.Names.{name_cmp}
-use Rattle.st_canon.specs.Objects.{object_of_some, put_some, some_listed, with_some}
-use Rattle.st_canon.specs.Plain.{Plain, Members, no_members, member, object}
-use Rattle.st_canon.specs.Listed.{all_fit, fits, inserted, is_below, listed_text, members_some, name_text, some_first, sorted_among, text_there, texts_before, texts_behind}
+use Rattle.st_canon.specs.Objects.{object_of_some, put_some, with_some}
+use Rattle.st_canon.specs.Plain.{Plain, Members, member}
+use Rattle.st_canon.specs.Listed.{all_fit, fits, inserted, is_below, listed_text, members_some, name_text, some_first, sorted_among, texts_before, texts_behind}
 
 -- what is below all is below the first and below the rest
 below_parts : (o : Ordering) (rest : Bool) → match_ordering o rest false false ≡ true → (o ≡ Less) × (rest ≡ true)

@@ -23,7 +23,7 @@ abbrev pub after : {X : Type 0} → Bool → List X → Bool
 after b [] = b
 after b (x ∷ xs) = true
 
-after_true : {X : Type 0} (xs : List X) → after true xs ≡ true
+pub after_true : {X : Type 0} (xs : List X) → after true xs ≡ true
 after_true [] = refl
 after_true (x ∷ xs) = refl
 

@@ -18,3 +18,21 @@ abbrev mutual
   pub members_depth : Members → ℕ
   members_depth no_members = 0
   members_depth (member k p ms) = max (depth_of p) (members_depth ms)
+
+-- How many lists and objects stand in one another in a plain value: none in a scalar.
+abbrev mutual
+  pub nests : Plain → ℕ
+  nests null = 0
+  nests (boolean b) = 0
+  nests (whole z) = 0
+  nests (text t) = 0
+  nests (list ps) = items_nest ps + 1
+  nests (object ms) = members_nest ms + 1
+
+  pub items_nest : Items → ℕ
+  items_nest no_items = 0
+  items_nest (item p ps) = max (nests p) (items_nest ps)
+
+  pub members_nest : Members → ℕ
+  members_nest no_members = 0
+  members_nest (member k p ms) = max (nests p) (members_nest ms)

@@ -7,6 +7,7 @@ pub mod InOrder
 pub mod Lends
 pub mod LendsValue
 pub mod Listed
+pub mod Lists
 pub mod Measure
 pub mod Names
 pub mod Objects
@@ -17,7 +18,11 @@ pub mod Plain
 pub mod PlainCodes
 pub mod Proper
 pub mod Reading
+pub mod Respelled
 pub mod Rewritten
 pub mod Shapes
+pub mod Standing
+pub mod Texts
 pub mod View
+pub mod Walk
 pub mod formers

@@ -155,7 +155,7 @@ pub(crate) fn whole_of(text: &str) -> Option<Whole>
     }
 }
 
-fn has_minus(bytes: &[u8]) -> bool
+pub(crate) fn has_minus(bytes: &[u8]) -> bool
     ensures value { result ≡ (slice_index bytes.now 0 == 45) }
     ensures some { IsTrue result → 0 < length bytes.now }
 {

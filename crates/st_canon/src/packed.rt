@@ -96,6 +96,17 @@ impl PackedJson {
         })
     }
 
+    /// The value whose canonical text this is, kept by itself.
+    pub fn keep(alloc: Global, text: &[u8]) -> Result<PackedJson, WantOfMemory>
+        requires { IsReadAgain text.now }
+        ensures { IfOk result (λ packed. packed ≡ value_read (json_of text.now)) }
+    {
+        let form = form_of_text(alloc, text, None)?;
+        Ok(PackedJson {
+            form: Shared::new(alloc, form)?,
+        })
+    }
+
     /// The value in its parts.
     pub fn unpack(&self, alloc: Global) -> Result<Json, WantOfMemory>
         ensures { IfOk result (λ value. plain value ≡ self.now) }

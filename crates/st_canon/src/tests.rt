@@ -7,6 +7,8 @@ ghost use Rattle.st_canon.specs.View.{plain, plain_members};
 mod measures;
 mod members;
 mod packed;
+mod respelled;
+mod scanned;
 mod shapes;
 mod spelling;
 mod tokens;

@@ -1,29 +1,13 @@
--- The signed texts of a proof file: as they are taken out of it, and as they were written.
+-- The signed texts of a proof file, as they were written.
 use Rattle.std.proofs.Common.{◌≡◌, ◌∙◌, ℕ, List, [], ◌∷◌, Option, Some, None, option_and_then, map, codes, refl, ap}
-use Rattle.std.specs.Prelude.{unwrap_or}
 use Rattle.std.specs.List.{filter_map}
 use Rattle.st_canon.proofs.ObjectLemmas.{entries_in-some_list, member_at-some_listed, member_in-some_object}
 use Rattle.st_canon.specs.Find.{member_at}
 use Rattle.st_canon.specs.Objects.{some_list, some_object}
-use Rattle.st_canon.specs.Plain.{Plain, Members, no_members}
-use Rattle.st_canon.specs.Shapes.{entries_in, member_in, object_at}
-use Rattle.st_datafiles.specs.ProofFiles.{core_proof_json, core_proofs_of, operation_members, proof_json, provisional_proof_json, signed_in, signed_json, signed_of}
+use Rattle.st_canon.specs.Plain.{Plain, Members}
+use Rattle.st_canon.specs.Shapes.{entries_in, member_in}
+use Rattle.st_datafiles.specs.ProofFiles.{core_proof_json, core_proofs_of, proof_json, provisional_proof_json, signed_in, signed_json, signed_of}
 use Rattle.st_datafiles.specs.declared.core_proofs.CoreProofs.{CoreProofs}
-
--- ---- taken out
-
-kind_there : (kind : List ℕ) (operations : Option Members) → member_at kind (unwrap_or operations no_members) ≡ option_and_then (member_at kind) operations
-kind_there kind None = refl
-kind_there kind (Some found) = refl
-
--- the texts under a kind of `operations` are those of that kind
-pub signed_of-operation_members : (kind : List ℕ) (file : Option Plain)
-    → filter_map signed_in (entries_in (member_at kind (operation_members file))) ≡ signed_of kind file
-unfolding signed_of
-signed_of-operation_members kind file =
-    ap (λ there. filter_map signed_in (entries_in there)) (kind_there kind (object_at (codes "operations") file))
-
--- ---- written
 
 signed_again : (texts : List (List ℕ)) → filter_map signed_in (map signed_json texts) ≡ texts
 signed_again [] = refl

@@ -1,11 +1,11 @@
 -- Proof files, which hold the signed texts of operations: what their JSON says, and the JSON that is
 -- written (DIF Sidetree v1.0.0, "Core Proof File" and "Provisional Proof File").
-use Rattle.std.specs.Prelude.{ℕ, List, [], ◌∷◌, codes, map, Option, Some, option_and_then, unwrap_or}
+use Rattle.std.specs.Prelude.{ℕ, List, [], ◌∷◌, codes, map, Option, Some, option_and_then}
 use Rattle.std.specs.List.{filter_map}
 use Rattle.st_canon.specs.Entries.{text_in}
 use Rattle.st_canon.specs.Objects.{object_of, object_of_some, some_list, some_listed, some_object}
-use Rattle.st_canon.specs.Plain.{Plain, text, Members, no_members}
-use Rattle.st_canon.specs.Shapes.{entries_in, member_in, object_at, only_member}
+use Rattle.st_canon.specs.Plain.{Plain, text, Members}
+use Rattle.st_canon.specs.Shapes.{entries_in, member_in, only_member}
 use Rattle.st_datafiles.specs.declared.core_proofs.CoreProofs.{CoreProofs}
 
 -- ---- read
@@ -28,10 +28,6 @@ core_proofs_of file = record {
   recovers = signed_of (codes "recover") file;
   deactivates = signed_of (codes "deactivate") file;
 }
-
--- the members of `operations`; where it isn't there, or is no object, there are none
-abbrev pub operation_members : Option Plain → Members
-operation_members file = unwrap_or (object_at (codes "operations") file) no_members
 
 -- ---- written
 

@@ -1,16 +1,15 @@
-ghost use Rattle.std.specs.Prelude.{◌≡◌, ◌==◌, IfOk, codes, length, map, Some};
+ghost use Rattle.std.specs.Prelude.{◌≡◌, ◌==◌, IfOk, codes, length, Some};
 ghost use Rattle.st_base.specs.Rules.{Answers};
 ghost use Rattle.st_base.specs.Work.{one_file};
 ghost use Rattle.st_canon.specs.Shapes.{json_in};
-ghost use Rattle.st_canon.specs.View.{plain};
 ghost use Rattle.st_datafiles.specs.Chunk.{chunk_json_rules, chunk_rules, deltas_of, has_chunk_form};
 ghost use Rattle.st_datafiles.specs.OnlyList.{object_of_list};
 
 use crate::chunk_rule::{ChunkRefused, ChunkRule};
 use crate::entries::read_entries;
-use crate::taking::{take_entries, take_member};
 use st_base::{Bytes, FileRefused, List, Shared, WantOfMemory, Work};
-use st_canon::{Json, PackedJson, entries_in, read_json};
+use st_canon::PackedJson;
+use st_canon::scan::{CanonicalText, Entries, Scanned, entries_in};
 use st_params::Params;
 use std::alloc::Global;
 
@@ -34,11 +33,11 @@ pub fn read_chunk(
         return Err(FileRefused::Rejected(ChunkRule::K1));
     }
     // Nearly all chunk files are read so, a delta at a time.
-    if let Some(found) = read_entries(alloc, file, "deltas")? {
+    if let Some(found) = read_entries(alloc, file, "deltas", deltas)? {
         return if_wanted(found, deltas);
     }
-    match read_json(alloc, bytes)? {
-        Some(chunk) => take_wanted(alloc, chunk, deltas),
+    match CanonicalText::read_json(alloc, bytes)? {
+        Some(chunk) => wanted_in(alloc, &chunk.root(), deltas),
         None => Err(FileRefused::Rejected(ChunkRule::K2)),
     }
 }
@@ -55,50 +54,46 @@ fn if_wanted(found: List<PackedJson>, wanted: usize) -> Result<List<PackedJson>,
     }
 }
 
-fn take_wanted(alloc: Global, chunk: Json, wanted: usize) -> Result<List<PackedJson>, ChunkRefused>
-    ensures { Answers (chunk_json_rules wanted (Some (plain chunk))) (Some (deltas_of (Some (plain chunk)))) result }
+fn wanted_in(
+    alloc: Global,
+    chunk: &Scanned<'_>,
+    wanted: usize,
+) -> Result<List<PackedJson>, ChunkRefused>
+    ensures { Answers (chunk_json_rules wanted (Some chunk.now)) (Some (deltas_of (Some chunk.now))) result }
 {
-    if !has_chunk_form(&chunk) {
+    if !has_chunk_form(chunk) {
         return Err(FileRefused::Rejected(ChunkRule::K3));
     }
-    if !has_deltas(&chunk, wanted) {
+    if deltas_of(chunk).count() != wanted {
         return Err(FileRefused::Rejected(ChunkRule::K4));
     }
-    let packed = pack_all(alloc, take_deltas(alloc, chunk))?;
+    Ok(pack_all(alloc, deltas_of(chunk))?)
+}
+
+fn pack_all(alloc: Global, deltas: Entries<'_>) -> Result<List<PackedJson>, WantOfMemory>
+    ensures { IfOk result (λ packed. packed ≡ deltas.entry) }
+{
+    let mut packed = List::new(alloc);
+    let mut left = deltas;
+    'deltas: while let Some(delta) = left.next() {
+        packed.push(alloc, delta.pack(alloc)?)?;
+    }
     Ok(packed)
 }
 
-// Each is let go as soon as it is packed.
-fn pack_all(alloc: Global, deltas: List<Json>) -> Result<List<PackedJson>, WantOfMemory>
-    ensures { IfOk result (λ items. items ≡ map plain deltas) }
-{
-    let mut items = Vec::with_capacity(alloc, deltas.len())?;
-    'deltas: for delta in deltas.into_vec() {
-        items.push(PackedJson::pack(alloc, &delta)?)?;
-    }
-    Ok(List::from_vec(items))
-}
-
 #[tactic(auto, unfolding(crate::specs::Chunk::has_chunk_form))]
-fn has_chunk_form(chunk: &Json) -> bool
-    ensures { result ≡ has_chunk_form (Some (plain chunk.now)) }
+fn has_chunk_form(chunk: &Scanned<'_>) -> bool
+    ensures { result ≡ has_chunk_form (Some chunk.now) }
 {
     match chunk.only_member("deltas") {
-        Some(Json::List(_)) => true,
-        _ => false,
+        Some(deltas) => deltas.is_list(),
+        None => false,
     }
 }
 
 #[tactic(auto, unfolding(crate::specs::Chunk::deltas_of))]
-fn has_deltas(chunk: &Json, wanted: usize) -> bool
-    ensures { result ≡ (length (deltas_of (Some (plain chunk.now))) == wanted) }
+fn deltas_of<'a>(chunk: &Scanned<'a>) -> Entries<'a>
+    ensures { result ≡ deltas_of (Some chunk.now) }
 {
-    entries_in(chunk.member("deltas")).len() == wanted
-}
-
-#[tactic(auto, unfolding(crate::specs::Chunk::deltas_of))]
-fn take_deltas(alloc: Global, chunk: Json) -> List<Json>
-    ensures { map plain result ≡ deltas_of (Some (plain chunk)) }
-{
-    take_entries(alloc, take_member(chunk, "deltas"))
+    entries_in(chunk.member("deltas"))
 }

@@ -8,7 +8,7 @@ ghost use Rattle.st_datafiles.specs.OnlyList.{ends, object_of_list, opens_list};
 
 use json::{Reader, Scratch, Token};
 use st_base::{Bytes, List, Shared, WantOfMemory};
-use st_canon::{MAX_DEPTH, PackedJson, ReadStopped, read_value, rewrite};
+use st_canon::{MAX_DEPTH, PackedJson, ReadStopped, rewrite};
 use std::alloc::Global;
 
 // How deep the entries may nest, which stand in a list in an object.
@@ -17,36 +17,15 @@ const INSIDE: usize = MAX_DEPTH - 2;
 // Room that most entries do not outgrow.
 const USUAL: usize = 1_000;
 
-// How an entry is packed: straight from its tokens, where its names are in order, or by way of a tree.
-#[derive(Clone, Copy)]
-enum Way {
-    Tokens,
-    Tree,
-}
-
-/// The entries of the list that is the only member, of this name, of the object that the file is. Each
-/// is packed as soon as it was read, and shares its text with the file where that is canonical. A file in
-/// which some names do not ascend is read a second time.
-/// `None` says nothing of the file: it is to be read by `read`.
+/// The entries of the list that is the only member, of this name, of the object that the file is, at most so
+/// many. Each is packed as soon as it was read, and shares its text with the file where that is canonical.
+/// `None` says nothing of the file: it is to be read whole. It comes where some names do not ascend, and
+/// where there are more entries.
 pub(crate) fn read_entries(
     alloc: Global,
     file: &Shared<Bytes>,
     name: &str,
-) -> Result<Option<List<PackedJson>>, WantOfMemory>
-    ensures { IfOk result (λ found. IfSome found (λ entries. json_in file.now ≡ Some (object_of_list name.now entries))) }
-{
-    match entries_by(alloc, file, name, Way::Tokens)? {
-        Some(entries) => Ok(Some(entries)),
-        None => entries_by(alloc, file, name, Way::Tree),
-    }
-}
-
-// The same in one of the two ways.
-fn entries_by(
-    alloc: Global,
-    file: &Shared<Bytes>,
-    name: &str,
-    way: Way,
+    most: usize,
 ) -> Result<Option<List<PackedJson>>, WantOfMemory>
     ensures { IfOk result (λ found. IfSome found (λ entries. json_in file.now ≡ Some (object_of_list name.now entries))) }
 {
@@ -60,7 +39,7 @@ fn entries_by(
     if !skip_opening(&mut reader, name) {
         return Ok(None);
     }
-    let entries = match pack_items(alloc, &mut reader, file, way) {
+    let entries = match pack_items(alloc, &mut reader, file, most) {
         Ok(entries) => entries,
         Err(ReadStopped::Left) => return Ok(None),
         Err(ReadStopped::WantOfMemory) => return Err(WantOfMemory),
@@ -88,49 +67,32 @@ fn pack_items(
     alloc: Global,
     reader: &mut Reader<'_>,
     file: &Shared<Bytes>,
-    way: Way,
+    most: usize,
 ) -> Result<List<PackedJson>, ReadStopped>
     ensures { IfOk result (λ found. converted whole_json_items (items (value 125) (length reader.old) reader.old) ≡ Some (items_of found, reader.new)) }
 {
     let mut found = List::new(alloc);
     'items: while !reader.take_end_array() {
-        let packed = pack_next(alloc, reader, file, way)?;
+        if found.len() == most {
+            return Err(ReadStopped::Left);
+        }
+        let packed = pack_next(alloc, reader, file)?;
         found.push(alloc, packed)?;
     }
     Ok(found)
 }
 
-// The next value.
+// The next value, straight from its tokens.
 fn pack_next(
     alloc: Global,
     reader: &mut Reader<'_>,
     file: &Shared<Bytes>,
-    way: Way,
 ) -> Result<PackedJson, ReadStopped>
     ensures value { IfOk result (λ packed. converted whole_json (value 125 reader.old) ≡ Some (packed, reader.new)) }
     ensures shorter { OnOk result (length reader.new < length reader.old) }
 {
     // Its text is looked for in the file where the reader stands.
     let at = reader.offset();
-    match way {
-        Way::Tokens => pack_tokens(alloc, reader, file, at),
-        Way::Tree => {
-            let json = read_value(alloc, reader, INSIDE)?;
-            Ok(PackedJson::pack_within(alloc, &json, file, at)?)
-        }
-    }
-}
-
-// The next value, straight from its tokens.
-fn pack_tokens(
-    alloc: Global,
-    reader: &mut Reader<'_>,
-    file: &Shared<Bytes>,
-    at: usize,
-) -> Result<PackedJson, ReadStopped>
-    ensures value { IfOk result (λ packed. converted whole_json (value 125 reader.old) ≡ Some (packed, reader.new)) }
-    ensures shorter { OnOk result (length reader.new < length reader.old) }
-{
     let mut text = Bytes::with_room(alloc, USUAL)?;
     rewrite(alloc, &mut text, reader, INSIDE)?;
     Ok(PackedJson::keep_within(alloc, text.as_slice(), file, at)?)

@@ -12,7 +12,6 @@ mod proof_reading;
 mod proof_rule;
 mod proof_writing;
 mod role;
-mod taking;
 #[cfg(test)]
 mod tests;
 

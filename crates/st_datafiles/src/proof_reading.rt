@@ -3,17 +3,14 @@ ghost use Rattle.std.specs.List.{filter_map, list_all};
 ghost use Rattle.st_base.specs.Each.{each_is};
 ghost use Rattle.st_base.specs.Rules.{Answers};
 ghost use Rattle.st_base.specs.Work.{one_file};
-ghost use Rattle.st_canon.specs.Find.{member_at, without};
-ghost use Rattle.st_canon.specs.Shapes.{entries_in, json_in};
-ghost use Rattle.st_canon.specs.View.{plain, plain_members};
-ghost use Rattle.st_datafiles.specs.ProofFiles.{core_proofs_of, operation_members, proofs_of, signed_in, signed_of};
+ghost use Rattle.st_canon.specs.Shapes.{json_in};
+ghost use Rattle.st_datafiles.specs.ProofFiles.{core_proofs_of, proofs_of, signed_in, signed_of};
 ghost use Rattle.st_datafiles.specs.ProofRules.{core_proof_json_rules, core_proof_rules, has_proof_form, has_proofs, provisional_proof_json_rules, provisional_proof_rules};
 
 use crate::core_proofs::CoreProofs;
 use crate::proof_rule::{ProofRefused, ProofRule};
-use crate::taking::{take_entries, take_member, take_object, take_only_member};
 use st_base::{FileRefused, List, Text, WantOfMemory, Work};
-use st_canon::{Json, Object, entries_in, read_json};
+use st_canon::scan::{CanonicalText, Entries, Scanned, entries_in};
 use st_params::Params;
 use std::alloc::Global;
 
@@ -36,8 +33,8 @@ pub fn read_core_proof(
     if bytes.len() > params.max_proofs() {
         return Err(FileRefused::Rejected(ProofRule::Q1));
     }
-    match read_json(alloc, bytes)? {
-        Some(file) => take_core_proofs(alloc, file, recovers, deactivates),
+    match CanonicalText::read_json(alloc, bytes)? {
+        Some(file) => core_proofs_in(alloc, &file.root(), recovers, deactivates),
         None => Err(FileRefused::Rejected(ProofRule::Q2)),
     }
 }
@@ -60,46 +57,49 @@ pub fn read_provisional_proof(
     if bytes.len() > params.max_proofs() {
         return Err(FileRefused::Rejected(ProofRule::Q1));
     }
-    match read_json(alloc, bytes)? {
-        Some(file) => take_updates(alloc, file, updates),
+    match CanonicalText::read_json(alloc, bytes)? {
+        Some(file) => updates_in(alloc, &file.root(), updates),
         None => Err(FileRefused::Rejected(ProofRule::Q2)),
     }
 }
 
-fn take_core_proofs(
+fn core_proofs_in(
     alloc: Global,
-    file: Json,
+    file: &Scanned<'_>,
     recovers: usize,
     deactivates: usize,
 ) -> Result<CoreProofs, ProofRefused>
-    ensures { Answers (core_proof_json_rules recovers deactivates (Some (plain file))) (Some (core_proofs_of (Some (plain file)))) result }
+    ensures { Answers (core_proof_json_rules recovers deactivates (Some file.now)) (Some (core_proofs_of (Some file.now))) result }
 {
-    if !has_proof_form(&file, &["recover", "deactivate"]) {
+    if !has_proof_form(file, &["recover", "deactivate"]) {
         return Err(FileRefused::Rejected(ProofRule::Q3));
     }
-    if !(has_proofs(&file, "recover", recovers) && has_proofs(&file, "deactivate", deactivates)) {
+    if !(has_proofs(file, "recover", recovers) && has_proofs(file, "deactivate", deactivates)) {
         return Err(FileRefused::Rejected(ProofRule::Q4));
     }
-    Ok(take_core_texts(alloc, file)?)
+    Ok(CoreProofs {
+        recovers: signed_of(alloc, file, "recover")?,
+        deactivates: signed_of(alloc, file, "deactivate")?,
+    })
 }
 
-fn take_updates(alloc: Global, file: Json, updates: usize) -> Result<List<Text>, ProofRefused>
-    ensures { Answers (provisional_proof_json_rules updates (Some (plain file))) (Some (signed_of (codes "update") (Some (plain file)))) result }
+fn updates_in(alloc: Global, file: &Scanned<'_>, updates: usize) -> Result<List<Text>, ProofRefused>
+    ensures { Answers (provisional_proof_json_rules updates (Some file.now)) (Some (signed_of (codes "update") (Some file.now))) result }
 {
-    if !has_proof_form(&file, &["update"]) {
+    if !has_proof_form(file, &["update"]) {
         return Err(FileRefused::Rejected(ProofRule::Q3));
     }
-    if !has_proofs(&file, "update", updates) {
+    if !has_proofs(file, "update", updates) {
         return Err(FileRefused::Rejected(ProofRule::Q4));
     }
-    Ok(take_update_texts(alloc, file)?)
+    Ok(signed_of(alloc, file, "update")?)
 }
 
 // ---- the form
 
 #[tactic(auto, unfolding(crate::specs::ProofRules::has_proof_form))]
-fn has_proof_form(file: &Json, kinds: &[&str]) -> bool
-    ensures { result ≡ has_proof_form (map (λ n. n.now) kinds.now) (Some (plain file.now)) }
+fn has_proof_form(file: &Scanned<'_>, kinds: &[&str]) -> bool
+    ensures { result ≡ has_proof_form (map (λ n. n.now) kinds.now) (Some file.now) }
 {
     match file.only_member("operations") {
         Some(operations) => operations.is_object_of_lists(kinds) && are_signed(file, kinds),
@@ -108,8 +108,8 @@ fn has_proof_form(file: &Json, kinds: &[&str]) -> bool
 }
 
 // Whether each entry of each kind has its form.
-fn are_signed(file: &Json, kinds: &[&str]) -> bool
-    ensures { result ≡ list_all (λ kind. each_is signed_in (proofs_of kind (Some (plain file.now)))) (map (λ n. n.now) kinds.now) }
+fn are_signed(file: &Scanned<'_>, kinds: &[&str]) -> bool
+    ensures { result ≡ list_all (λ kind. each_is signed_in (proofs_of kind (Some file.now))) (map (λ n. n.now) kinds.now) }
 {
     'kinds: for kind in kinds {
         if !is_each_signed(proofs_of(file, kind)) {
@@ -119,105 +119,72 @@ fn are_signed(file: &Json, kinds: &[&str]) -> bool
     true
 }
 
-fn is_each_signed(entries: &[Json]) -> bool
-    ensures { result ≡ each_is signed_in (map plain entries.now) }
+fn is_each_signed(entries: Entries<'_>) -> bool
+    ensures { result ≡ each_is signed_in entries.entry }
 {
-    'entries: for entry in entries {
-        if !is_signed(entry) {
+    let mut left = entries;
+    'entries: while let Some(entry) = left.next() {
+        if !is_signed(&entry) {
             return false;
         }
     }
     true
 }
 
-fn is_signed(entry: &Json) -> bool
-    ensures { result ≡ is_some (signed_in (plain entry.now)) }
+fn is_signed(entry: &Scanned<'_>) -> bool
+    ensures { result ≡ is_some (signed_in entry.now) }
 {
     match entry.only_member("signedData") {
-        Some(Json::Text(_)) => true,
-        _ => false,
+        Some(signed) => signed.is_text(),
+        None => false,
     }
 }
 
 // The entries of one kind.
-fn proofs_of<'a>(file: &'a Json, kind: &str) -> &'a [Json]
-    ensures { map plain result.now ≡ proofs_of kind.now (Some (plain file.now)) }
+fn proofs_of<'a>(file: &Scanned<'a>, kind: &str) -> Entries<'a>
+    ensures { result ≡ proofs_of kind.now (Some file.now) }
 {
     match file.member("operations") {
         Some(operations) => entries_in(operations.member(kind)),
-        None => &[],
+        None => entries_in(None),
     }
 }
 
 #[tactic(auto, unfolding(crate::specs::ProofRules::has_proofs))]
-fn has_proofs(file: &Json, kind: &str, wanted: usize) -> bool
-    ensures { result ≡ has_proofs kind.now wanted (Some (plain file.now)) }
+fn has_proofs(file: &Scanned<'_>, kind: &str, wanted: usize) -> bool
+    ensures { result ≡ has_proofs kind.now wanted (Some file.now) }
 {
-    proofs_of(file, kind).len() == wanted
+    proofs_of(file, kind).count() == wanted
 }
 
 // ---- the texts
 
-fn take_core_texts(alloc: Global, file: Json) -> Result<CoreProofs, WantOfMemory>
-    ensures { IfOk result (λ proofs. proofs ≡ core_proofs_of (Some (plain file))) }
+#[tactic(auto, unfolding(crate::specs::ProofFiles::signed_of))]
+fn signed_of(alloc: Global, file: &Scanned<'_>, kind: &str) -> Result<List<Text>, WantOfMemory>
+    ensures { IfOk result (λ texts. texts ≡ signed_of kind.now (Some file.now)) }
 {
-    let mut operations = take_operations(alloc, file);
-    let recovers = take_signed(alloc, &mut operations, "recover")?;
-    let deactivates = take_signed(alloc, &mut operations, "deactivate")?;
-    Ok(CoreProofs {
-        recovers,
-        deactivates,
-    })
+    texts_of(alloc, proofs_of(file, kind))
 }
 
-fn take_update_texts(alloc: Global, file: Json) -> Result<List<Text>, WantOfMemory>
-    ensures { IfOk result (λ texts. texts ≡ signed_of (codes "update") (Some (plain file))) }
-{
-    let mut operations = take_operations(alloc, file);
-    let texts = take_signed(alloc, &mut operations, "update")?;
-    Ok(texts)
-}
-
-// The members of `operations`, or none.
-fn take_operations(alloc: Global, file: Json) -> Object
-    ensures { plain_members result ≡ operation_members (Some (plain file)) }
-{
-    match take_object(take_member(file, "operations")) {
-        Some(operations) => operations,
-        None => Object::new(alloc),
-    }
-}
-
-// The signed texts of one kind, taken out of the file.
-fn take_signed(
-    alloc: Global,
-    operations: &mut Object,
-    kind: &str,
-) -> Result<List<Text>, WantOfMemory>
-    ensures texts { IfOk result (λ texts. texts ≡ filter_map signed_in (entries_in (member_at kind.now (plain_members operations.old)))) }
-    ensures rest { plain_members operations.new ≡ without kind.now (plain_members operations.old) }
-{
-    let entries = take_entries(alloc, operations.remove(kind));
-    take_texts(alloc, entries)
-}
-
-fn take_texts(alloc: Global, entries: List<Json>) -> Result<List<Text>, WantOfMemory>
-    ensures { IfOk result (λ texts. texts ≡ filter_map signed_in (map plain entries)) }
+// The signed texts of these entries.
+fn texts_of(alloc: Global, entries: Entries<'_>) -> Result<List<Text>, WantOfMemory>
+    ensures { IfOk result (λ texts. texts ≡ filter_map signed_in entries.entry) }
 {
     let mut texts = List::new(alloc);
-    'entries: for entry in entries.into_vec() {
-        if let Some(text) = take_text(entry) {
+    let mut left = entries;
+    'entries: while let Some(entry) = left.next() {
+        if let Some(text) = signed_in(alloc, &entry)? {
             texts.push(alloc, text)?;
         }
     }
     Ok(texts)
 }
 
-fn take_text(entry: Json) -> Option<Text>
-    ensures { result ≡ signed_in (plain entry) }
+fn signed_in(alloc: Global, entry: &Scanned<'_>) -> Result<Option<Text>, WantOfMemory>
+    ensures { IfOk result (λ signed. signed ≡ signed_in entry.now) }
 {
-    match take_only_member(entry, "signedData") {
-        Some(Json::Text(text)) => Some(text),
-        _ => None,
+    match entry.only_member("signedData") {
+        Some(signed) => signed.text(alloc),
+        None => Ok(None),
     }
 }

@@ -25,7 +25,7 @@ abbrev pub IsBare : List ℕ → Type 0
 IsBare bytes = flat_map escape bytes ≡ bytes
 
 -- one more byte that is not escaped
-bare_more : (byte : ℕ) (bytes : List ℕ) → escape byte ≡ byte ∷ [] → IsBare bytes → IsBare (byte ∷ bytes)
+pub bare_more : (byte : ℕ) (bytes : List ℕ) → escape byte ≡ byte ∷ [] → IsBare bytes → IsBare (byte ∷ bytes)
 bare_more byte bytes first rest = rw (first, rest) refl
 
 -- ---- the alphabet

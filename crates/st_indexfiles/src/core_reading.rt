@@ -1,11 +1,8 @@
-ghost use Rattle.std.specs.Prelude.{◌≡◌, ◌≤◌, IfOk, Some, None, codes, map, nat_lt, option_map, if◌then◌else◌};
-ghost use Rattle.std.specs.Option.{option_copied};
-ghost use Rattle.std.specs.Prelude.{is_some};
+ghost use Rattle.std.specs.Prelude.{◌≡◌, ◌≤◌, IfOk, Some, None, codes, is_some, length, nat_lt, if◌then◌else◌};
 ghost use Rattle.st_base.specs.Rules.{Answers};
 ghost use Rattle.st_base.specs.Twice.{has_twice};
 ghost use Rattle.st_base.specs.Work.{one_file};
 ghost use Rattle.st_canon.specs.Shapes.{json_in, member_in};
-ghost use Rattle.st_canon.specs.View.{plain};
 ghost use Rattle.st_hash.specs.Hash.{same_hash};
 ghost use Rattle.st_indexfiles.specs.CoreIndex.{core_index_of, operations_of, suffixes_of};
 ghost use Rattle.st_indexfiles.specs.CoreRules.{has_core_form, has_core_members, has_core_entries, has_signed, is_lock_id_if_there, one_alone, operation_count};
@@ -17,7 +14,7 @@ use crate::entries::read_entries;
 use crate::hashes::{is_uri_if_there, uri_in};
 use crate::twice::has_twice;
 use st_base::{FileRefused, WantOfMemory, Work};
-use st_canon::{Json, entries_in, is_object_of_lists_if_there, read_json};
+use st_canon::scan::{CanonicalText, Entries, Scanned, entries_in, is_object_of_lists_if_there};
 use st_params::Params;
 use std::alloc::Global;
 
@@ -39,24 +36,24 @@ pub fn read_core(
     if bytes.len() > params.max_index() {
         return Err(FileRefused::Rejected(CoreRule::C1));
     }
-    match read_json(alloc, bytes)? {
-        Some(index) => read_index(alloc, &index, count, params),
+    match CanonicalText::read_json(alloc, bytes)? {
+        Some(text) => read_index(alloc, &text.root(), count, params),
         None => Err(FileRefused::Rejected(CoreRule::C2)),
     }
 }
 
 fn read_index(
     alloc: Global,
-    index: &Json,
+    index: &Scanned<'_>,
     count: u32,
     params: &Params,
 ) -> Result<CoreIndex, CoreRefused>
-    ensures { Answers (core_json_rules params.now count (Some (plain index.now))) (Some (core_index_of params.now.version (Some (plain index.now)))) result }
+    ensures { Answers (core_json_rules params.now count (Some index.now)) (Some (core_index_of params.now.version (Some index.now))) result }
 {
     if !has_core_form(index) {
         return Err(FileRefused::Rejected(CoreRule::C3));
     }
-    if !has_core_members(index, params.max_lock_id()) {
+    if !has_core_members(alloc, index, params.max_lock_id())? {
         return Err(FileRefused::Rejected(CoreRule::C4));
     }
     let Some(found) = read_operations(alloc, index, params.version())? else {
@@ -75,18 +72,26 @@ fn read_index(
 }
 
 /// The entries of the operations of one kind.
-pub(crate) fn operations_of<'a>(index: &'a Json, kind: &str) -> &'a [Json]
-    ensures { map plain result.now ≡ operations_of kind.now (Some (plain index.now)) }
+pub(crate) fn operations_of<'a>(index: &Scanned<'a>, kind: &str) -> Entries<'a>
+    ensures { result ≡ operations_of kind.now (Some index.now) }
 {
     match index.member("operations") {
         Some(operations) => entries_in(operations.member(kind)),
-        None => &[],
+        None => entries_in(None),
     }
 }
 
+/// Whether there is an entry. The others are not looked at.
+pub(crate) fn has_one(entries: Entries<'_>) -> bool
+    ensures { result ≡ nat_lt 0 (length entries.entry) }
+{
+    let mut left = entries;
+    left.next().is_some()
+}
+
 #[tactic(auto, unfolding(crate::specs::CoreRules::has_core_form))]
-fn has_core_form(index: &Json) -> bool
-    ensures { result ≡ has_core_form (Some (plain index.now)) }
+fn has_core_form(index: &Scanned<'_>) -> bool
+    ensures { result ≡ has_core_form (Some index.now) }
 {
     index.is_object_of(&[
         "coreProofFileUri",
@@ -100,21 +105,45 @@ fn has_core_form(index: &Json) -> bool
 }
 
 #[tactic(auto, unfolding(crate::specs::CoreRules::has_core_members))]
-fn has_core_members(index: &Json, max_lock_id: usize) -> bool
-    ensures { result ≡ has_core_members max_lock_id (Some (plain index.now)) }
+fn has_core_members(
+    alloc: Global,
+    index: &Scanned<'_>,
+    max_lock_id: usize,
+) -> Result<bool, WantOfMemory>
+    ensures { IfOk result (λ has. has ≡ has_core_members max_lock_id (Some index.now)) }
 {
-    is_uri_if_there(index.member("coreProofFileUri"))
-        && is_uri_if_there(index.member("provisionalIndexFileUri"))
-        && is_lock_id_if_there(index.member("writerLockId"), max_lock_id)
+    if !is_uri_if_there(index.member("coreProofFileUri")) {
+        return Ok(false);
+    }
+    if !is_uri_if_there(index.member("provisionalIndexFileUri")) {
+        return Ok(false);
+    }
+    Ok(is_lock_id_if_there(alloc, index.member("writerLockId"), max_lock_id)?)
 }
 
-fn is_lock_id_if_there(there: Option<&Json>, most: usize) -> bool
-    ensures { result ≡ is_lock_id_if_there most (option_map plain (option_copied there.entry)) }
+fn is_lock_id_if_there(
+    alloc: Global,
+    there: Option<Scanned<'_>>,
+    most: usize,
+) -> Result<bool, WantOfMemory>
+    ensures { IfOk result (λ is. is ≡ is_lock_id_if_there most there.entry) }
 {
     match there {
-        None => true,
-        Some(Json::Text(lock_id)) => lock_id.as_str().len() <= most,
-        Some(_) => false,
+        Some(value) => Ok(is_lock_id(alloc, &value, most)?),
+        None => Ok(true),
+    }
+}
+
+// A lock id of which JSON escapes a byte is made, since it is not as long as it stands in the file.
+fn is_lock_id(alloc: Global, value: &Scanned<'_>, most: usize) -> Result<bool, WantOfMemory>
+    ensures { IfOk result (λ is. is ≡ is_lock_id_if_there most (Some value.now)) }
+{
+    if let Some(lock_id) = value.bare_text() {
+        return Ok(lock_id.len() <= most);
+    }
+    match value.text(alloc)? {
+        Some(lock_id) => Ok(lock_id.as_str().len() <= most),
+        None => Ok(false),
     }
 }
 
@@ -122,12 +151,12 @@ fn is_lock_id_if_there(there: Option<&Json>, most: usize) -> bool
 #[tactic(auto, unfolding(crate::specs::CoreRules::has_core_entries, crate::specs::CoreIndex::core_index_of))]
 fn read_operations(
     alloc: Global,
-    index: &Json,
+    index: &Scanned<'_>,
     version: u8,
 ) -> Result<Option<CoreIndex>, WantOfMemory>
     requires first { 1 ≤ version }
     requires last { version ≤ 2 }
-    ensures { IfOk result (λ found. found ≡ (if has_core_entries version (Some (plain index.now)) then Some (core_index_of version (Some (plain index.now))) else None)) }
+    ensures { IfOk result (λ found. found ≡ (if has_core_entries version (Some index.now) then Some (core_index_of version (Some index.now)) else None)) }
 {
     let Some(creates) = read_entries(alloc, operations_of(index, "create"), version)? else {
         return Ok(None);
@@ -148,12 +177,12 @@ fn read_operations(
 }
 
 #[tactic(auto, unfolding(crate::specs::CoreRules::operation_count))]
-fn has_more_than(index: &Json, count: u32) -> bool
-    ensures { result ≡ nat_lt count (operation_count (Some (plain index.now))) }
+fn has_more_than(index: &Scanned<'_>, count: u32) -> bool
+    ensures { result ≡ nat_lt count (operation_count (Some index.now)) }
 {
-    let creates = operations_of(index, "create").len();
-    let recovers = operations_of(index, "recover").len();
-    let deactivates = operations_of(index, "deactivate").len();
+    let creates = operations_of(index, "create").count();
+    let recovers = operations_of(index, "recover").count();
+    let deactivates = operations_of(index, "deactivate").count();
     // The sum of three lengths is not known to fit, and at the limit it is above every count.
     creates.saturating_add(recovers).saturating_add(deactivates) > count as usize
 }
@@ -165,8 +194,8 @@ fn has_suffix_twice(alloc: Global, index: &CoreIndex) -> Result<bool, WantOfMemo
     has_twice(alloc, suffixes.as_slice())
 }
 
-fn has_stray_proof(index: &Json) -> bool
-    ensures { result ≡ one_alone (is_some (member_in (codes "coreProofFileUri") (Some (plain index.now)))) (has_signed (Some (plain index.now))) }
+fn has_stray_proof(index: &Scanned<'_>) -> bool
+    ensures { result ≡ one_alone (is_some (member_in (codes "coreProofFileUri") (Some index.now))) (has_signed (Some index.now)) }
 {
     is_one_alone(
         index.member("coreProofFileUri").is_some(),
@@ -175,10 +204,10 @@ fn has_stray_proof(index: &Json) -> bool
 }
 
 #[tactic(auto, unfolding(crate::specs::CoreRules::has_signed))]
-fn has_signed(index: &Json) -> bool
-    ensures { result ≡ has_signed (Some (plain index.now)) }
+fn has_signed(index: &Scanned<'_>) -> bool
+    ensures { result ≡ has_signed (Some index.now) }
 {
-    !operations_of(index, "recover").is_empty() || !operations_of(index, "deactivate").is_empty()
+    has_one(operations_of(index, "recover")) || has_one(operations_of(index, "deactivate"))
 }
 
 /// Whether one of the two holds without the other.

@@ -6,6 +6,7 @@ ghost use Rattle.st_indexfiles.specs.Written.{AreReadAgain, ReadsAs};
 
 use st_base::{List, WantOfMemory};
 use st_canon::Json;
+use st_canon::scan::{Entries, Scanned};
 use std::alloc::Global;
 
 /// What an entry of a list of operations says.
@@ -15,10 +16,10 @@ pub(crate) trait Entry: Drop {
     ghost json: { Self → Plain };
 
     /// What the entry says, by the hash texts of the version.
-    fn read(entry: &Json, version: u8) -> Option<Self>
+    fn read(entry: &Scanned<'_>, version: u8) -> Option<Self>
         requires first { 1 ≤ version }
         requires last { version ≤ 2 }
-        ensures { result ≡ of version (plain entry.now) };
+        ensures { result ≡ of version entry.now };
 
     /// The entry that says this. In whatever version it is read, it is read as this.
     fn write(&self, alloc: Global) -> Result<Json, WantOfMemory>
@@ -29,16 +30,17 @@ pub(crate) trait Entry: Drop {
 /// What all entries say, where each says something.
 pub(crate) fn read_entries<T: Entry>(
     alloc: Global,
-    entries: &[Json],
+    entries: Entries<'_>,
     version: u8,
 ) -> Result<Option<List<T>>, WantOfMemory>
     requires first { 1 ≤ version }
     requires last { version ≤ 2 }
-    ensures { IfOk result (λ said. said ≡ each_of (T.of version) (map plain entries.now)) }
+    ensures { IfOk result (λ said. said ≡ each_of (T.of version) entries.entry) }
 {
+    let mut left = entries;
     let mut said = List::new(alloc);
-    for entry in entries {
-        let Some(one) = T::read(entry, version) else {
+    'entries: while let Some(entry) = left.next() {
+        let Some(one) = T::read(&entry, version) else {
             return Ok(None);
         };
         said.push(alloc, one)?;

@@ -1,16 +1,33 @@
-ghost use Rattle.std.specs.Prelude.{◌≡◌, ◌≤◌, IfOk, OnOk, option_map};
+ghost use Rattle.std.specs.Prelude.{◌≡◌, ◌≤◌, ℕ, IfOk, OnOk, option_and_then, option_map};
 ghost use Rattle.std.specs.Option.{option_copied};
 ghost use Rattle.st_canon.specs.View.{plain};
+ghost use Rattle.st_hash.specs.Hash.{hash_of_text, hash_of_text_at};
 ghost use Rattle.st_indexfiles.specs.Hashes.{hash_in, hash_json, is_uri_if_there, uri_in};
 ghost use Rattle.st_indexfiles.specs.Written.{IsHashReadAgain, IsUriReadAgain};
 
 use st_base::WantOfMemory;
 use st_canon::Json;
+use st_canon::scan::Scanned;
 use st_hash::{Hash, hash_text, read_hash, read_hash_at};
 use std::alloc::Global;
 
-/// The hash whose hash text of the version stands there.
-pub fn hash_in(there: Option<&Json>, version: u8) -> Option<Hash>
+/// The hash whose hash text of the version stands there. It takes no memory.
+pub fn hash_in(there: Option<Scanned<'_>>, version: u8) -> Option<Hash>
+    requires first { 1 ≤ version }
+    requires last { version ≤ 2 }
+    ensures { result ≡ hash_in version there.entry }
+{
+    match hash_text_in(there) {
+        Some(text) => match read_hash_at(text, version) {
+            Ok(hash) => Some(hash),
+            Err(_) => None,
+        },
+        None => None,
+    }
+}
+
+/// The same, of a value that was read into its parts.
+pub fn hash_in_json(there: Option<&Json>, version: u8) -> Option<Hash>
     requires first { 1 ≤ version }
     requires last { version ≤ 2 }
     ensures { result ≡ hash_in version (option_map plain (option_copied there.entry)) }
@@ -25,23 +42,42 @@ pub fn hash_in(there: Option<&Json>, version: u8) -> Option<Hash>
 }
 
 /// The file whose URI stands there.
-pub(crate) fn uri_in(there: Option<&Json>) -> Option<Hash>
-    ensures { result ≡ uri_in (option_map plain (option_copied there.entry)) }
+pub(crate) fn uri_in(there: Option<Scanned<'_>>) -> Option<Hash>
+    ensures { result ≡ uri_in there.entry }
 {
-    match there {
-        Some(Json::Text(text)) => match read_hash(text.as_str().as_bytes()) {
+    match hash_text_in(there) {
+        Some(text) => match read_hash(text) {
             Ok(uri) => Some(uri),
             Err(_) => None,
         },
-        _ => None,
+        None => None,
+    }
+}
+
+// The text that stands there, where it may be a hash text. JSON escapes no byte of a hash text, so one of
+// which it escapes a byte is none.
+#[tactic(auto, using(crate::proofs::EscapedLemmas::no_hash_in, crate::proofs::EscapedLemmas::no_uri_in))]
+fn hash_text_in<'a>(there: Option<Scanned<'a>>) -> Option<&'a [u8]>
+    ensures hash { (version : ℕ) → option_and_then (hash_of_text_at version) (option_copied result) ≡ hash_in version there.entry }
+    ensures uri { option_and_then hash_of_text (option_copied result) ≡ uri_in there.entry }
+{
+    match there {
+        Some(value) => match value.bare_text() {
+            Some(text) => Some(text),
+            None => None,
+        },
+        None => None,
     }
 }
 
 /// Whether a URI stands there, or nothing.
-pub(crate) fn is_uri_if_there(there: Option<&Json>) -> bool
-    ensures { result ≡ is_uri_if_there (option_map plain (option_copied there.entry)) }
+pub(crate) fn is_uri_if_there(there: Option<Scanned<'_>>) -> bool
+    ensures { result ≡ is_uri_if_there there.entry }
 {
-    there.is_none() || uri_in(there).is_some()
+    match there {
+        Some(value) => uri_in(Some(value)).is_some(),
+        None => true,
+    }
 }
 
 /// The hash text of a hash as JSON. In whatever version it is read, it is read as this hash.

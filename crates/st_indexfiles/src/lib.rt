@@ -1,6 +1,7 @@
 //! The two index files of a batch (DIF Sidetree v1.0.0, "Core Index File" and "Provisional Index
 //! File"): what their JSON says, the rules by which they are accepted, and their canonical texts.
-//! Suffix data, the suffixes of identifiers, and hash texts in JSON stand here too.
+//! Suffix data, the suffixes of identifiers, and hash texts in JSON stand here too. A file is read from its
+//! canonical text, and no tree is made of it.
 #![tactic(auto)]
 
 mod core_index;
@@ -24,7 +25,7 @@ pub use core_index::CoreIndex;
 pub use core_reading::read_core;
 pub use core_rule::{CoreRefused, CoreRule};
 pub use core_writing::write_core;
-pub use hashes::{hash_in, hash_json};
+pub use hashes::{hash_in, hash_in_json, hash_json};
 pub use provisional_index::ProvisionalIndex;
 pub use provisional_reading::read_provisional;
 pub use provisional_rule::{ProvisionalRefused, ProvisionalRule};

@@ -2,13 +2,12 @@ ghost use Rattle.std.specs.Prelude.{◌≡◌, ◌≤◌, ◌+◌, ◌==◌, IfO
 ghost use Rattle.st_base.specs.Rules.{Answers};
 ghost use Rattle.st_base.specs.Work.{one_file};
 ghost use Rattle.st_canon.specs.Shapes.{json_in, member_in};
-ghost use Rattle.st_canon.specs.View.{plain};
 ghost use Rattle.st_indexfiles.specs.CoreRules.{one_alone};
 ghost use Rattle.st_indexfiles.specs.ProvisionalIndex.{chunk_in, provisional_index_of, provisional_with, suffixes_in};
 ghost use Rattle.st_indexfiles.specs.ProvisionalRules.{core_count, has_provisional_entries, has_provisional_form, provisional_json_rules, provisional_rules, repeats_suffix, update_count};
 
 use crate::core_index::CoreIndex;
-use crate::core_reading::{is_one_alone, operations_of};
+use crate::core_reading::{has_one, is_one_alone, operations_of};
 use crate::entries::read_entries;
 use crate::hashes::{is_uri_if_there, uri_in};
 use crate::provisional_index::ProvisionalIndex;
@@ -16,7 +15,7 @@ use crate::provisional_rule::{ProvisionalRefused, ProvisionalRule};
 use crate::suffixes::push_targets;
 use crate::twice::{has_twice, shares_one};
 use st_base::{FileRefused, List, WantOfMemory, Work};
-use st_canon::{Json, entries_in, is_object_of_lists_if_there, only_of, read_json};
+use st_canon::scan::{CanonicalText, Scanned, entries_in, is_object_of_lists_if_there, only_of};
 use st_hash::Hash;
 use st_params::Params;
 use std::alloc::Global;
@@ -40,8 +39,8 @@ pub fn read_provisional(
     if bytes.len() > params.max_index() {
         return Err(FileRefused::Rejected(ProvisionalRule::P1));
     }
-    match read_json(alloc, bytes)? {
-        Some(index) => read_index(alloc, &index, core, count, params),
+    match CanonicalText::read_json(alloc, bytes)? {
+        Some(text) => read_index(alloc, &text.root(), core, count, params),
         None => Err(FileRefused::Rejected(ProvisionalRule::P2)),
     }
 }
@@ -49,12 +48,12 @@ pub fn read_provisional(
 #[tactic(auto, unfolding(crate::specs::ProvisionalIndex::provisional_with))]
 fn read_index(
     alloc: Global,
-    index: &Json,
+    index: &Scanned<'_>,
     core: &CoreIndex,
     count: u32,
     params: &Params,
 ) -> Result<ProvisionalIndex, ProvisionalRefused>
-    ensures { Answers (provisional_json_rules params.now count core.now (Some (plain index.now))) (provisional_index_of params.now.version (Some (plain index.now))) result }
+    ensures { Answers (provisional_json_rules params.now count core.now (Some index.now)) (provisional_index_of params.now.version (Some index.now)) result }
 {
     if !has_provisional_form(index) {
         return Err(FileRefused::Rejected(ProvisionalRule::P3));
@@ -81,8 +80,8 @@ fn read_index(
 }
 
 #[tactic(auto, unfolding(crate::specs::ProvisionalRules::has_provisional_form))]
-fn has_provisional_form(index: &Json) -> bool
-    ensures { result ≡ has_provisional_form (Some (plain index.now)) }
+fn has_provisional_form(index: &Scanned<'_>) -> bool
+    ensures { result ≡ has_provisional_form (Some index.now) }
 {
     index.is_object_of(&["provisionalProofFileUri", "chunks", "operations"])
         && is_object_of_lists_if_there(index.member("operations"), &["update"])
@@ -90,8 +89,8 @@ fn has_provisional_form(index: &Json) -> bool
 
 // The URI of the chunk file.
 #[tactic(auto, unfolding(crate::specs::ProvisionalIndex::chunk_in))]
-fn chunk_in(index: &Json) -> Option<Hash>
-    ensures { result ≡ chunk_in (Some (plain index.now)) }
+fn chunk_in(index: &Scanned<'_>) -> Option<Hash>
+    ensures { result ≡ chunk_in (Some index.now) }
 {
     match only_of(entries_in(index.member("chunks"))) {
         Some(entry) => uri_in(entry.only_member("chunkFileUri")),
@@ -103,23 +102,22 @@ fn chunk_in(index: &Json) -> Option<Hash>
 #[tactic(auto, unfolding(crate::specs::ProvisionalRules::has_provisional_entries, crate::specs::ProvisionalIndex::provisional_with, crate::specs::ProvisionalIndex::updates_in))]
 fn read_entries_beside(
     alloc: Global,
-    index: &Json,
+    index: &Scanned<'_>,
     chunk: &Hash,
     version: u8,
 ) -> Result<Option<ProvisionalIndex>, WantOfMemory>
     requires first { 1 ≤ version }
     requires last { version ≤ 2 }
-    ensures { IfOk result (λ found. found ≡ (if has_provisional_entries version (Some (plain index.now)) then Some (provisional_with version (Some (plain index.now)) chunk.now) else None)) }
+    ensures { IfOk result (λ found. found ≡ (if has_provisional_entries version (Some index.now) then Some (provisional_with version (Some index.now) chunk.now) else None)) }
 {
-    let proof = index.member("provisionalProofFileUri");
-    if !is_uri_if_there(proof) {
+    if !is_uri_if_there(index.member("provisionalProofFileUri")) {
         return Ok(None);
     }
     let Some(updates) = read_entries(alloc, operations_of(index, "update"), version)? else {
         return Ok(None);
     };
     Ok(Some(ProvisionalIndex {
-        proof: uri_in(proof),
+        proof: uri_in(index.member("provisionalProofFileUri")),
         chunk: *chunk,
         updates,
     }))
@@ -147,34 +145,33 @@ fn repeats_suffix(
 }
 
 #[tactic(auto, unfolding(crate::specs::ProvisionalRules::update_count))]
-fn has_more_than(index: &Json, core: &CoreIndex, count: u32) -> bool
-    ensures { result ≡ nat_lt count (core_count core.now + update_count (Some (plain index.now))) }
+fn has_more_than(index: &Scanned<'_>, core: &CoreIndex, count: u32) -> bool
+    ensures { result ≡ nat_lt count (core_count core.now + update_count (Some index.now)) }
 {
     let creates = core.creates.len();
     let recovers = core.recovers.len();
     let deactivates = core.deactivates.len();
-    let updates = operations_of(index, "update").len();
+    let updates = operations_of(index, "update").count();
     // The sum of the lengths is not known to fit, and at the limit it is above every count.
     let in_core = creates.saturating_add(recovers).saturating_add(deactivates);
     in_core.saturating_add(updates) > count as usize
 }
 
 #[tactic(auto, unfolding(crate::specs::ProvisionalRules::update_count))]
-fn has_stray_proof(index: &Json) -> bool
-    ensures { result ≡ one_alone (is_some (member_in (codes "provisionalProofFileUri") (Some (plain index.now)))) (nat_lt 0 (update_count (Some (plain index.now)))) }
+fn has_stray_proof(index: &Scanned<'_>) -> bool
+    ensures { result ≡ one_alone (is_some (member_in (codes "provisionalProofFileUri") (Some index.now))) (nat_lt 0 (update_count (Some index.now))) }
 {
-    let has_updates = !operations_of(index, "update").is_empty();
     is_one_alone(
         index.member("provisionalProofFileUri").is_some(),
-        has_updates,
+        has_one(operations_of(index, "update")),
     )
 }
 
 #[tactic(auto, unfolding(crate::specs::ProvisionalRules::update_count))]
-fn needs_no_chunk(index: &Json, core: &CoreIndex) -> bool
-    ensures { result ≡ (length core.now.creates + length core.now.recovers + update_count (Some (plain index.now)) == 0) }
+fn needs_no_chunk(index: &Scanned<'_>, core: &CoreIndex) -> bool
+    ensures { result ≡ (length core.now.creates + length core.now.recovers + update_count (Some index.now) == 0) }
 {
     core.creates.as_slice().is_empty()
         && core.recovers.as_slice().is_empty()
-        && operations_of(index, "update").is_empty()
+        && !has_one(operations_of(index, "update"))
 }

@@ -8,6 +8,7 @@ ghost use Rattle.st_indexfiles.specs.Written.{IsHashReadAgain};
 use crate::entries::Entry;
 use crate::hashes::{hash_in, hash_json};
 use st_base::{Bytes, Copied, WantOfMemory};
+use st_canon::scan::Scanned;
 use st_canon::{Json, Object};
 use st_hash::{Hash, hash_text, hash_with};
 use std::alloc::Global;
@@ -31,10 +32,10 @@ impl SuffixData {
 
     /// The suffix data that the value is: an object with exactly the two hash texts of the version.
     /// It takes no memory.
-    pub fn read(value: &Json, version: u8) -> Option<SuffixData>
+    pub fn read(value: &Scanned<'_>, version: u8) -> Option<SuffixData>
         requires first { 1 ≤ version }
         requires last { version ≤ 2 }
-        ensures { result ≡ suffix_data_of version (Some (plain value.now)) }
+        ensures { result ≡ suffix_data_of version (Some value.now) }
     {
         if !value.is_object_of(&["deltaHash", "recoveryCommitment"]) {
             return None;
@@ -126,9 +127,9 @@ impl Entry for SuffixData {
 
     ghost json = { create_json };
 
-    fn read(entry: &Json, version: u8) -> Option<SuffixData> {
+    fn read(entry: &Scanned<'_>, version: u8) -> Option<SuffixData> {
         let suffix_data = entry.only_member("suffixData")?;
-        SuffixData::read(suffix_data, version)
+        SuffixData::read(&suffix_data, version)
     }
 
     fn write(&self, alloc: Global) -> Result<Json, WantOfMemory> {

@@ -1,6 +1,7 @@
 use crate::entries::Entry;
 use crate::hashes::{hash_in, hash_json};
 use st_base::{Copied, WantOfMemory};
+use st_canon::scan::Scanned;
 use st_canon::{Json, Object};
 use st_hash::Hash;
 use std::alloc::Global;
@@ -26,7 +27,7 @@ impl Entry for Target {
 
     ghost json = { target_json };
 
-    fn read(entry: &Json, version: u8) -> Option<Target> {
+    fn read(entry: &Scanned<'_>, version: u8) -> Option<Target> {
         if !entry.is_object_of(&["didSuffix", "revealValue"]) {
             return None;
         }

@@ -4,6 +4,8 @@ mod provisional_files;
 
 use crate::Target;
 use st_base::{List, read_number};
+use st_canon::scan::CanonicalText;
+use st_canon::{Json, write};
 use std::alloc::Global;
 
 // The hash texts of `abc` by SHA-256 and by SHA-512 (FIPS 180-4).
@@ -47,6 +49,12 @@ fn case_of(line: &str) -> Option<(u32, u32, &str, &str)> {
     let version = read_number(version.as_bytes(), 2)?;
     let count = read_number(count.as_bytes(), 10_000)?;
     Some((version, count, answer, file))
+}
+
+// The canonical text of the value.
+fn text_of(alloc: Global, value: &Json) -> Option<CanonicalText> {
+    let written = write(alloc, value).ok()?;
+    CanonicalText::read_json(alloc, written.as_slice()).ok()?
 }
 
 // A list of one target.

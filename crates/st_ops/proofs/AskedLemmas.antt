@@ -1,10 +1,15 @@
 -- What is known of an operation that a request asks for, and of the request.
-use Rattle.std.proofs.Common.{◌≡◌, ◌∙◌, ℕ, true, Option, Some, None, List, codes, Ok, Err, inl, inr, refl, sym, ap, subst, option_and_then}
+use Rattle.std.proofs.Common.{◌≡◌, ◌≢◌, ◌∙◌, ℕ, Bool, true, false, Option, Some, None, List, codes, Ok, Err, inl, inr, refl, sym, ap, subst, option_and_then}
 use Rattle.std.specs.Prelude.{IsSome, is_some}
+use Rattle.std.specs.List.{flat_map}
+use Rattle.std.specs.Option.{ok_or}
 use Rattle.std.proofs.lemmas.Bool.{and_parts}
+use Rattle.st_base.specs.Answers.{◌>>=◌}
+use Rattle.st_canon.specs.Canonical.{escape}
 use Rattle.st_canon.specs.Entries.{members_in}
 use Rattle.st_canon.specs.Names.{is_name}
-use Rattle.st_canon.specs.Plain.{Plain, null, boolean, whole, text, list, object}
+use Rattle.st_canon.specs.Plain.{Plain}
+use Rattle.st_canon.proofs.Order.{same_from_is_name}
 use Rattle.st_canon.specs.Reading.{json_of}
 use Rattle.st_canon.specs.Shapes.{member_in, object_at, text_at}
 use Rattle.st_indexfiles.specs.SuffixData.{suffix_data_of}
@@ -144,14 +149,26 @@ request_is limits bytes operation e =
     let read = went_on _ (asked limits) operation e in
     (read.0, was_given unread (json_of bytes) read.0 read.1, read.2)
 
--- ---- what is no object
+-- ---- a type in which something is escaped
 
--- only an object asks for an operation
-pub no_object : (limits : Limits) (value : Plain) → members_in value ≡ None → asked limits value ≡ Err BadForm
+-- it is no word in which nothing is
+unnamed : (kind word : List ℕ) → flat_map escape word ≡ word → (flat_map escape kind ≢ kind) → (b : Bool) → is_name kind word ≡ b → is_name kind word ≡ false
+unnamed kind word bare escaped true is =
+    absurd (escaped (subst (λ t. flat_map escape t ≡ t) (sym (same_from_is_name kind word is)) bare))
+unnamed kind word bare escaped false is = is
+
+escaped_kind : (limits : Limits) (request : Option Plain) (kind : List ℕ) → (flat_map escape kind ≢ kind) → asked_by_type kind limits request ≡ Err BadForm
+unfolding escape
+escaped_kind limits request kind escaped =
+    rw (unnamed kind (codes "create") refl escaped _ refl, unnamed kind (codes "update") refl escaped _ refl, unnamed kind (codes "recover") refl escaped _ refl, unnamed kind (codes "deactivate") refl escaped _ refl) refl
+
+by_kind : (limits : Limits) (request : Option Plain) (there : Option (List ℕ)) → ((kind : List ℕ) → there ≡ Some kind → flat_map escape kind ≢ kind)
+    → (ok_or there BadForm >>= (λ kind. asked_by_type kind limits request)) ≡ Err BadForm
+by_kind limits request None escaped = refl
+by_kind limits request (Some kind) escaped = escaped_kind limits request kind (escaped kind refl)
+
+-- with such a type, or none, nothing is asked for
+pub no_kind : (limits : Limits) (request : Plain)
+    → ((kind : List ℕ) → text_at (codes "type") (Some request) ≡ Some kind → flat_map escape kind ≢ kind) → asked limits request ≡ Err BadForm
 unfolding asked
-no_object limits null none = refl
-no_object limits (boolean b) none = refl
-no_object limits (whole z) none = refl
-no_object limits (text t) none = refl
-no_object limits (list items) none = refl
-no_object limits (object pairs) none = absurd cc
+no_kind limits request escaped = by_kind limits (Some request) (text_at (codes "type") (Some request)) escaped

@@ -8,7 +8,7 @@ use crate::operation::Operation;
 use st_base::{Shared, WantOfMemory};
 use st_canon::Json;
 use st_hash::Hash;
-use st_indexfiles::hash_in;
+use st_indexfiles::hash_in_json;
 use st_jws::{Jwk, Signed, reveal_with};
 use st_params::Params;
 use std::alloc::Global;
@@ -82,7 +82,7 @@ fn update_claim(payload: &Json, version: u8) -> Option<Claim>
         return None;
     }
     payload.member("updateKey")?;
-    let delta_hash = hash_in(payload.member("deltaHash"), version)?;
+    let delta_hash = hash_in_json(payload.member("deltaHash"), version)?;
     Some(Claim::Update { delta_hash })
 }
 
@@ -95,8 +95,8 @@ fn recover_claim(payload: &Json, version: u8) -> Option<Claim>
         return None;
     }
     payload.member("recoveryKey")?;
-    let recovery_commitment = hash_in(payload.member("recoveryCommitment"), version)?;
-    let delta_hash = hash_in(payload.member("deltaHash"), version)?;
+    let recovery_commitment = hash_in_json(payload.member("recoveryCommitment"), version)?;
+    let delta_hash = hash_in_json(payload.member("deltaHash"), version)?;
     Some(Claim::Recover {
         recovery_commitment,
         delta_hash,
@@ -112,7 +112,7 @@ fn deactivate_claim(payload: &Json, suffix: &Hash, version: u8) -> Option<Claim>
         return None;
     }
     payload.member("recoveryKey")?;
-    let named = hash_in(payload.member("didSuffix"), version)?;
+    let named = hash_in_json(payload.member("didSuffix"), version)?;
     if named == *suffix {
         Some(Claim::Deactivate)
     } else {

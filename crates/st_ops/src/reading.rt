@@ -1,10 +1,9 @@
-ghost use Rattle.std.specs.Prelude.{◌≡◌, ◌≤◌, codes, if◌then◌else◌, IfNone, IfOk, IfSome, None, Some, Ok, Err};
+ghost use Rattle.std.specs.Prelude.{◌≡◌, ◌≢◌, ◌≤◌, ℕ, List, codes, if◌then◌else◌, IfNone, IfOk, IfSome, Some, Ok, Err};
+ghost use Rattle.std.specs.List.{flat_map};
 ghost use Rattle.st_base.specs.Answers.{GivesAs};
 ghost use Rattle.st_base.specs.Work.{Counts, ProofsAtMost};
-ghost use Rattle.st_canon.specs.Entries.{members_in};
-ghost use Rattle.st_canon.specs.Plain.{object};
-ghost use Rattle.st_canon.specs.Shapes.{member_in};
-ghost use Rattle.st_canon.specs.View.{plain, plain_members};
+ghost use Rattle.st_canon.specs.Canonical.{escape};
+ghost use Rattle.st_canon.specs.Shapes.{member_in, text_at};
 ghost use Rattle.st_indexfiles.specs.SuffixData.{suffix_data_of};
 ghost use Rattle.st_ops.specs.Counting.{CountsOpening};
 ghost use Rattle.st_ops.specs.Operation.{plain_operation};
@@ -18,10 +17,19 @@ use crate::operation::Operation;
 use crate::refused::RequestRefused;
 use crate::signed::{proof_in, target_in};
 use st_base::{WantOfMemory, Work};
-use st_canon::{Json, Object, PackedJson, ReadRefused, read};
+use st_canon::scan::{CanonicalText, Scanned};
+use st_canon::{PackedJson, ReadRefused};
 use st_indexfiles::SuffixData;
 use st_params::Params;
 use std::alloc::Global;
+
+const CREATE: &[u8] = b"create";
+
+const UPDATE: &[u8] = b"update";
+
+const RECOVER: &[u8] = b"recover";
+
+const DEACTIVATE: &[u8] = b"deactivate";
 
 /// The operation that the bytes ask for at these limits. Where its signed text is opened, that counts
 /// as one proof.
@@ -44,25 +52,11 @@ pub fn read_request(
     ensures again { IfOk result (λ operation. IsDeltaWithin 125 (plain_operation operation)
         → IsReadAgain params.now (plain_operation operation)) }
 {
-    match read(alloc, bytes) {
-        Ok(json) => match members_in(json) {
-            Some(request) => asked(alloc, request, params, work),
-            None => Err(RequestRefused::BadForm),
-        },
+    match CanonicalText::read(alloc, bytes) {
+        Ok(text) => asked(alloc, &text.root(), params, work),
         Err(ReadRefused::NotJson) => Err(RequestRefused::NotJson),
         Err(ReadRefused::NotWhole) => Err(RequestRefused::NotWhole),
         Err(ReadRefused::WantOfMemory) => Err(RequestRefused::WantOfMemory),
-    }
-}
-
-// The members of an object.
-fn members_in(json: Json) -> Option<Object>
-    ensures some { IfSome result (λ members. plain json ≡ object (plain_members members)) }
-    ensures none { IfNone result (members_in (plain json) ≡ None) }
-{
-    match json {
-        Json::Object(members) => Some(members),
-        _ => None,
     }
 }
 
@@ -70,73 +64,84 @@ fn members_in(json: Json) -> Option<Object>
 #[tactic(auto, unfolding(crate::specs::Request::asked))]
 fn asked(
     alloc: Global,
-    request: Object,
+    request: &Scanned<'_>,
     params: &Params,
     work: &mut Work,
 ) -> Result<Operation, RequestRefused>
-    ensures value { GivesAs plain_operation refusal_of (asked params.now (object (plain_members request))) result }
+    ensures value { GivesAs plain_operation refusal_of (asked params.now request.now) result }
     ensures counted { ProofsAtMost 1 work.old work.new }
     ensures exact { CountsOpening result work.old work.new }
 {
-    let Some(kind) = request.text("type") else {
+    let Some(kind) = kind_in(request) else {
         return Err(RequestRefused::BadForm);
     };
-    if kind == "create" {
+    if kind == CREATE {
         create_asked(alloc, request, params)
-    } else if kind == "update" {
+    } else if kind == UPDATE {
         update_asked(alloc, request, params, work)
-    } else if kind == "recover" {
+    } else if kind == RECOVER {
         recover_asked(alloc, request, params, work)
-    } else if kind == "deactivate" {
+    } else if kind == DEACTIVATE {
         deactivate_asked(alloc, request, params, work)
     } else {
         Err(RequestRefused::BadForm)
     }
 }
 
+// The text of the type, where nothing in it is escaped, as nothing is in a type that there is.
+fn kind_in<'a>(request: &Scanned<'a>) -> Option<&'a [u8]>
+    ensures some { IfSome result (λ kind. text_at (codes "type") (Some request.now) ≡ Some kind.now) }
+    ensures none { IfNone result ((kind : List ℕ) → text_at (codes "type") (Some request.now) ≡ Some kind → flat_map escape kind ≢ kind) }
+{
+    match request.member("type") {
+        Some(kind) => kind.bare_text(),
+        None => None,
+    }
+}
+
 fn create_asked(
     alloc: Global,
-    request: Object,
+    request: &Scanned<'_>,
     params: &Params,
 ) -> Result<Operation, RequestRefused>
-    ensures value { GivesAs plain_operation refusal_of (create_asked params.now (Some (object (plain_members request)))) result }
+    ensures value { GivesAs plain_operation refusal_of (create_asked params.now (Some request.now)) result }
     ensures exact { (work : Counts) → CountsOpening result work work }
 {
-    if !is_create_form(&request) {
+    if !is_create_form(request) {
         return Err(RequestRefused::BadForm);
     }
-    let Some(suffix_data) = suffix_data_in(&request, params.version()) else {
+    let Some(suffix_data) = suffix_data_in(request, params.version()) else {
         return Err(RequestRefused::BadHash);
     };
-    let delta = delta_in(alloc, &request)?;
+    let delta = delta_in(alloc, request)?;
     Ok(Operation::Create { suffix_data, delta })
 }
 
 #[tactic(auto, using(crate::proofs::FormLemmas::change_signed))]
 fn update_asked(
     alloc: Global,
-    request: Object,
+    request: &Scanned<'_>,
     params: &Params,
     work: &mut Work,
 ) -> Result<Operation, RequestRefused>
-    ensures value { GivesAs plain_operation refusal_of (update_asked params.now (Some (object (plain_members request)))) result }
+    ensures value { GivesAs plain_operation refusal_of (update_asked params.now (Some request.now)) result }
     ensures counted { ProofsAtMost 1 work.old work.new }
     ensures exact { CountsOpening result work.old work.new }
 {
-    if !is_change_form(&request) {
+    if !is_change_form(request) {
         return Err(RequestRefused::BadForm);
     }
-    let Some(target) = target_in(&request, params.version()) else {
+    let Some(target) = target_in(request, params.version()) else {
         return Err(RequestRefused::BadHash);
     };
-    let Some(proof) = proof_in(alloc, &request, params.max_signed(), work)? else {
+    let Some(proof) = proof_in(alloc, request, params.max_signed(), work)? else {
         return Err(RequestRefused::BadProof);
     };
     let operation = Operation::Update {
         suffix: target.suffix,
         reveal: target.reveal,
         proof: Some(proof),
-        delta: delta_in(alloc, &request)?,
+        delta: delta_in(alloc, request)?,
     };
     if has_claim(alloc, &operation, params)? {
         Ok(operation)
@@ -148,28 +153,28 @@ fn update_asked(
 #[tactic(auto, using(crate::proofs::FormLemmas::change_signed))]
 fn recover_asked(
     alloc: Global,
-    request: Object,
+    request: &Scanned<'_>,
     params: &Params,
     work: &mut Work,
 ) -> Result<Operation, RequestRefused>
-    ensures value { GivesAs plain_operation refusal_of (recover_asked params.now (Some (object (plain_members request)))) result }
+    ensures value { GivesAs plain_operation refusal_of (recover_asked params.now (Some request.now)) result }
     ensures counted { ProofsAtMost 1 work.old work.new }
     ensures exact { CountsOpening result work.old work.new }
 {
-    if !is_change_form(&request) {
+    if !is_change_form(request) {
         return Err(RequestRefused::BadForm);
     }
-    let Some(target) = target_in(&request, params.version()) else {
+    let Some(target) = target_in(request, params.version()) else {
         return Err(RequestRefused::BadHash);
     };
-    let Some(proof) = proof_in(alloc, &request, params.max_signed(), work)? else {
+    let Some(proof) = proof_in(alloc, request, params.max_signed(), work)? else {
         return Err(RequestRefused::BadProof);
     };
     let operation = Operation::Recover {
         suffix: target.suffix,
         reveal: target.reveal,
         proof: Some(proof),
-        delta: delta_in(alloc, &request)?,
+        delta: delta_in(alloc, request)?,
     };
     if has_claim(alloc, &operation, params)? {
         Ok(operation)
@@ -181,21 +186,21 @@ fn recover_asked(
 #[tactic(auto, using(crate::proofs::FormLemmas::deactivate_signed))]
 fn deactivate_asked(
     alloc: Global,
-    request: Object,
+    request: &Scanned<'_>,
     params: &Params,
     work: &mut Work,
 ) -> Result<Operation, RequestRefused>
-    ensures value { GivesAs plain_operation refusal_of (deactivate_asked params.now (Some (object (plain_members request)))) result }
+    ensures value { GivesAs plain_operation refusal_of (deactivate_asked params.now (Some request.now)) result }
     ensures counted { ProofsAtMost 1 work.old work.new }
     ensures exact { CountsOpening result work.old work.new }
 {
-    if !is_deactivate_form(&request) {
+    if !is_deactivate_form(request) {
         return Err(RequestRefused::BadForm);
     }
-    let Some(target) = target_in(&request, params.version()) else {
+    let Some(target) = target_in(request, params.version()) else {
         return Err(RequestRefused::BadHash);
     };
-    let Some(proof) = proof_in(alloc, &request, params.max_signed(), work)? else {
+    let Some(proof) = proof_in(alloc, request, params.max_signed(), work)? else {
         return Err(RequestRefused::BadProof);
     };
     let operation = Operation::Deactivate {
@@ -210,20 +215,20 @@ fn deactivate_asked(
     }
 }
 
-fn suffix_data_in(request: &Object, version: u8) -> Option<SuffixData>
+fn suffix_data_in(request: &Scanned<'_>, version: u8) -> Option<SuffixData>
     requires first { 1 ≤ version }
     requires last { version ≤ 2 }
-    ensures { result ≡ suffix_data_of version (member_in (codes "suffixData") (Some (object (plain_members request.now)))) }
+    ensures { result ≡ suffix_data_of version (member_in (codes "suffixData") (Some request.now)) }
 {
-    SuffixData::read(request.get("suffixData")?, version)
+    SuffixData::read(&request.member("suffixData")?, version)
 }
 
 // The delta of a request.
-fn delta_in(alloc: Global, request: &Object) -> Result<Option<PackedJson>, WantOfMemory>
-    ensures { IfOk result (λ delta. delta ≡ member_in (codes "delta") (Some (object (plain_members request.now)))) }
+fn delta_in(alloc: Global, request: &Scanned<'_>) -> Result<Option<PackedJson>, WantOfMemory>
+    ensures { IfOk result (λ delta. delta ≡ member_in (codes "delta") (Some request.now)) }
 {
-    match request.get("delta") {
-        Some(delta) => Ok(Some(PackedJson::pack(alloc, delta)?)),
+    match request.member("delta") {
+        Some(delta) => Ok(Some(delta.pack(alloc)?)),
         None => Ok(None),
     }
 }

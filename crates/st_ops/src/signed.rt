@@ -1,26 +1,24 @@
 ghost use Rattle.std.specs.Prelude.{◌≡◌, ◌≤◌, codes, option_map, IfOk, IsSome, Some};
 ghost use Rattle.st_base.specs.Work.{one_proof};
-ghost use Rattle.st_canon.specs.Plain.{object};
 ghost use Rattle.st_canon.specs.Shapes.{text_at};
-ghost use Rattle.st_canon.specs.View.{plain_members};
 ghost use Rattle.st_ops.specs.Operation.{plain_proof};
 ghost use Rattle.st_ops.specs.SignedPart.{proof_in, proof_of, target_in};
 
 use st_base::{Shared, Text, WantOfMemory, Work};
-use st_canon::{Json, Object};
+use st_canon::scan::Scanned;
 use st_indexfiles::{Target, hash_in};
 use st_jws::{Signed, SignedRefused, open_signed};
 use std::alloc::Global;
 
 /// What a request names: the suffix and the reveal value whose hash texts of the version stand in it.
 #[tactic(auto, unfolding(crate::specs::SignedPart::target_in))]
-pub(crate) fn target_in(request: &Object, version: u8) -> Option<Target>
+pub(crate) fn target_in(request: &Scanned<'_>, version: u8) -> Option<Target>
     requires first { 1 ≤ version }
     requires last { version ≤ 2 }
-    ensures { result ≡ target_in version (Some (object (plain_members request.now))) }
+    ensures { result ≡ target_in version (Some request.now) }
 {
-    let suffix = hash_in(request.get("didSuffix"), version)?;
-    let reveal = hash_in(request.get("revealValue"), version)?;
+    let suffix = hash_in(request.member("didSuffix"), version)?;
+    let reveal = hash_in(request.member("revealValue"), version)?;
     Some(Target { suffix, reveal })
 }
 
@@ -30,24 +28,29 @@ pub(crate) fn target_in(request: &Object, version: u8) -> Option<Target>
 #[tactic(auto, unfolding(crate::specs::SignedPart::proof_in))]
 pub(crate) fn proof_in(
     alloc: Global,
-    request: &Object,
+    request: &Scanned<'_>,
     limit: usize,
     work: &mut Work,
 ) -> Result<Option<Shared<Signed>>, WantOfMemory>
-    requires { IsSome (text_at (codes "signedData") (Some (object (plain_members request.now)))) }
-    ensures value { IfOk result (λ proof. option_map plain_proof proof ≡ proof_in limit (Some (object (plain_members request.now)))) }
+    requires { IsSome (text_at (codes "signedData") (Some request.now)) }
+    ensures value { IfOk result (λ proof. option_map plain_proof proof ≡ proof_in limit (Some request.now)) }
     ensures counted { work.new ≡ one_proof work.old }
 {
-    let text = signed_text(request).unwrap();
-    opened(alloc, text, limit, work)
+    match signed_text(alloc, request) {
+        Ok(text) => opened(alloc, &text.unwrap(), limit, work),
+        Err(want) => {
+            work.tick_proofs();
+            Err(want)
+        }
+    }
 }
 
-fn signed_text(request: &Object) -> Option<&Text>
-    ensures { option_map (λ text. text.now) result ≡ text_at (codes "signedData") (Some (object (plain_members request.now))) }
+fn signed_text(alloc: Global, request: &Scanned<'_>) -> Result<Option<Text>, WantOfMemory>
+    ensures { IfOk result (λ text. text ≡ text_at (codes "signedData") (Some request.now)) }
 {
-    match request.get("signedData") {
-        Some(Json::Text(text)) => Some(text),
-        _ => None,
+    match request.member("signedData") {
+        Some(signed) => signed.text(alloc),
+        None => Ok(None),
     }
 }
 

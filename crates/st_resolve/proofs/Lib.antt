@@ -1,3 +1,4 @@
+mod LongLemmas
 mod ObjectTexts
 mod OpenedLemmas
 mod SpellingLemmas

@@ -7,7 +7,7 @@ use std::test::Fail;
 // left.
 fn entries(rt: &HostRuntime, file: &str) -> Result<String, Fail> {
     let file = Shared::new(rt.alloc(), Bytes::from_slice(rt.alloc(), file.as_bytes())?)?;
-    match read_entries(rt.alloc(), &file, "deltas")? {
+    match read_entries(rt.alloc(), &file, "deltas", 3)? {
         Some(entries) => told(rt, &entries),
         None => Ok(String::from_str(rt.alloc(), "left")?),
     }
@@ -27,12 +27,14 @@ fn told(rt: &HostRuntime, entries: &List<PackedJson>) -> Result<String, Fail> {
     Ok(all)
 }
 
-// A file and its entries, two spaces apart. The first is canonical, the second has spaces and an escape, the
-// third has names out of order as well, the fourth is empty; the last seven are left.
+// A file and its entries, two spaces apart, of which three at most are wanted. The first is canonical, the second
+// has spaces and an escape, the third is empty; all others are left, the first of them for names out of order,
+// the next for a fourth entry.
 const FILES: &str = r#"{"deltas":[{"a":1,"b":"x"},null,[]]}  {"a":1,"b":"x"},null,[],
 {"deltas": [ {"a":1, "b":"\u0078"},[ 2 ] ] }  {"a":1,"b":"x"},[2],
-{"deltas": [ {"b":"\u0078" , "a":1},[ 2 ] ] }  {"a":1,"b":"x"},[2],
 {"deltas":[]}  
+{"deltas": [ {"b":"\u0078" , "a":1},[ 2 ] ] }  left
+{"deltas":[1,2,3,4]}  left
 {"deltas":[1.5]}  left
 {"deltas":[1],"more":[]}  left
 {"other":[1]}  left

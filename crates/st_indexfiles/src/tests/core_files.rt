@@ -1,4 +1,4 @@
-use super::{case_of, only, spelled};
+use super::{case_of, only, spelled, text_of};
 use crate::{CoreIndex, CoreRule, SuffixData, Target, read_core, suffix_of, write_core};
 use st_base::{Copied, FileRefused, List, Work};
 use st_hash::{Hash, SHA_512, hash_text, hash_with, hash256};
@@ -20,7 +20,10 @@ const CASES: &str = r##"1 1 C2
 1 1 C3 {"operations":{"create":{}}}
 1 1 C4 {"writerLockId":7}
 1 1 C4 {"coreProofFileUri":null}
+1 1 C4 {"writerLockId":[]}
 1 1 C4 {"provisionalIndexFileUri":"x"}
+1 1 C4 {"provisionalIndexFileUri":"*\n"}
+1 1 read {"provisionalIndexFileUri":"\u0045iC6eBa_jwHP6kFBQN5driIjsANho5YXepy0EP9h8gAVrQ"}
 2 1 C4 {"coreProofFileUri":"#"}
 1 1 C5 {"operations":{"create":[{}]}}
 1 1 C5 {"operations":{"create":[{"suffixData":{"deltaHash":"*","recoveryCommitment":"^","type":"x"}}]}}
@@ -100,16 +103,16 @@ fn spaces_are(rt: &HostRuntime, size: usize, answer: &str) -> bool {
     }
 }
 
-// A file whose lock id has so many bytes.
-fn locked(alloc: Global, size: usize) -> Option<String> {
-    let id = "x".repeat(alloc, size).ok()?;
+// A file whose lock id has so many bytes, each spelled so.
+fn locked(alloc: Global, byte: &str, size: usize) -> Option<String> {
+    let id = byte.repeat(alloc, size).ok()?;
     r#"{"writerLockId":"%"}"#
         .replace(alloc, "%", id.as_str())
         .ok()
 }
 
-fn lock_is(rt: &HostRuntime, size: usize, answer: &str) -> bool {
-    match locked(rt.alloc(), size) {
+fn lock_is(rt: &HostRuntime, byte: &str, size: usize, answer: &str) -> bool {
+    match locked(rt.alloc(), byte, size) {
         Some(file) => is_answered(rt, file.as_bytes(), 1, 1, answer),
         None => false,
     }
@@ -118,8 +121,10 @@ fn lock_is(rt: &HostRuntime, size: usize, answer: &str) -> bool {
 fn are_bounded(rt: &HostRuntime) -> bool {
     spaces_are(rt, 1_000_000, "C2")
         && spaces_are(rt, 1_000_001, "C1")
-        && lock_is(rt, 200, "read")
-        && lock_is(rt, 201, "C4")
+        && lock_is(rt, "x", 200, "read")
+        && lock_is(rt, "x", 201, "C4")
+        && lock_is(rt, "\\n", 200, "read")
+        && lock_is(rt, "\\n", 201, "C4")
         && is_answered(rt, &[0x1f, 0x8b, 0x08], 1, 1, "C2")
 }
 
@@ -278,8 +283,8 @@ fn is_suffix(alloc: Global, suffix_data: &SuffixData, text: &str) -> bool {
 
 fn is_read_again(alloc: Global, suffix_data: &SuffixData) -> bool {
     match suffix_data.json(alloc) {
-        Ok(json) => match SuffixData::read(&json, 2) {
-            Some(read) => &read == suffix_data,
+        Ok(json) => match text_of(alloc, &json) {
+            Some(text) => SuffixData::read(&text.root(), 2) == Some(*suffix_data),
             None => false,
         },
         Err(_) => false,

@@ -1,9 +1,11 @@
-use Rattle.std.proofs.Common.{◌≡◌, drop, map}
+use Rattle.std.proofs.Common.{◌≡◌, length}
 use Rattle.st_base.specs.Each.{each_of}
 use Rattle.st_base.proofs.EachLemmas.{after}
-use Rattle.st_canon.specs.View.{plain}
 use Rattle.st_indexfiles.proofs.entries.read_entries.Given as goal
 
-abbrev pub invariant-loop-entry : goal.invariant-loop-entry
-invariant-loop-entry g l =
-    each_of (g.T.Entry.of l.version) (map plain l.entries) ≡ after (g.T.Entry.of l.version) l.said (map plain (drop l.entry-index l.entries))
+abbrev pub invariant-entries : goal.invariant-entries
+invariant-entries g l =
+    each_of (g.T.Entry.of l.version) l.fn.entries ≡ after (g.T.Entry.of l.version) l.said l.left
+
+abbrev pub decreases-entries : goal.decreases-entries
+decreases-entries g l = length l.left

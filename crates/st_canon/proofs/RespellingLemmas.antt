@@ -1,0 +1,359 @@
+-- Data that is read over its tokens, and its canonical text, which goes out an item at a time.
+use Rattle.std.proofs.Common.{◌≡◌, ℕ, ℤ, zero, suc, ◌-◌, ◌<◌, ◌≤◌, List, [], ◌∷◌, ◌++◌, length, Bool, true, false, Option, Some, None, option_map, option_and_then, IfSome, IfErr, Result, Ok, Err, refl, sym, ap, ◌∙◌, subst, append_assoc}
+use Rattle.std.specs.Prelude.{◌&&◌, codes, is_some, ok_or}
+use Rattle.std.specs.Str.{IsUtf8}
+use Rattle.std.proofs.lemmas.List.{append-nil}
+use Rattle.json.specs.Json as json
+use Rattle.json.specs.Json.{Parse, parse_map, after_end_array, read_key, items_step, items, members, value}
+use Rattle.json.specs.Lex.{tokens}
+use Rattle.json.specs.Token.{Token}
+use Rattle.json.proofs.Grammar.{value_is, value-begin_array, value-begin_object, items_end, items_more, members_end, members_more, members_no_key}
+use Rattle.serde_json.specs.Data as data'
+use Rattle.serde_json.specs.Data.{Data, Num}
+use Rattle.serde_json.specs.Read.{converted, number_of, of_json, of_items, of_members, read}
+use mathlib.Core.Bool.{true≢false}
+use Rattle.st_base.specs.Answers.{GivesAs}
+use Rattle.st_canon.specs.Canonical.{canonical, canonical_items, canonical_members, comma}
+use Rattle.st_canon.specs.Packed.{IsReadAgain, value_read}
+use Rattle.st_canon.specs.Plain.{Plain, IsWhole, whole, list, object, Items, no_items, item, Members}
+use Rattle.st_canon.specs.Proper.{IsProper, ItemsAreProper, MembersAreProper}
+use Rattle.st_canon.specs.Reading.{json_of, refusal_of, whole_value, whole_items}
+use Rattle.st_canon.specs.Respelled.{IsNoJson, IsWritten}
+use Rattle.st_canon.specs.View.{items_of}
+use Rattle.st_canon.specs.declared.refused.ReadRefused.{ReadRefused}
+use Rattle.st_canon.specs.declared.refused.ReadRefused.TheVariants.{NotJson, NotWhole, WantOfMemory}
+use Rattle.st_canon.proofs.DirectLemmas.{Tokens, with_rest, was_read}
+use Rattle.st_canon.proofs.NestsLemmas.{read_again}
+use Rattle.st_canon.proofs.Outcomes.{json_of-utf8, json_of_data}
+use Rattle.st_canon.proofs.RewritingLemmas.{after, after_more, after_true, in_brackets}
+
+-- ---- a value
+
+-- what was read, or nothing, as it is converted
+array_read : (read : Option (json.Items × Tokens)) → converted of_json (parse_map json.array read) ≡ parse_map data'.array (converted of_items read)
+array_read None = refl
+array_read (Some p) = with_rest data'.array p.1 (of_items p.0)
+
+object_read : (read : Option (json.Members × Tokens))
+    → converted of_json (parse_map json.object read) ≡ parse_map data'.object (converted (λ ms. of_members ms data'.no_members) read)
+object_read None = refl
+object_read (Some p) = with_rest data'.object p.1 (of_members p.0 data'.no_members)
+
+module _ (depth : ℕ) (old ts : Tokens) where
+  pub null_data : old ≡ Token.null ∷ ts → converted of_json (value depth old) ≡ Some (data'.null, ts)
+  null_data is = ap (converted of_json) (ap (value depth) is ∙ value_is depth _)
+
+  pub boolean_data : (b : Bool) → old ≡ Token.boolean b ∷ ts → converted of_json (value depth old) ≡ Some (data'.boolean b, ts)
+  boolean_data b is = ap (converted of_json) (ap (value depth) is ∙ value_is depth _)
+
+  pub string_data : (s : List ℕ) → old ≡ Token.string s ∷ ts → converted of_json (value depth old) ≡ Some (data'.string s, ts)
+  string_data s is = ap (converted of_json) (ap (value depth) is ∙ value_is depth _)
+
+  pub number_data : (s : List ℕ) (there : Option Num) → old ≡ Token.number s ∷ ts → number_of s ≡ there
+      → converted of_json (value depth old) ≡ option_map {U = Data × Tokens} (λ n. (data'.number n, ts)) there
+  number_data s there is e =
+      ap (converted of_json) (ap (value depth) is ∙ value_is depth _) ∙ ap (λ o. option_map {U = Data × Tokens} (λ d. (d, ts)) (option_map data'.number o)) e ∙ given there
+    where
+      given : (o : Option Num) → option_map {U = Data × Tokens} (λ d. (d, ts)) (option_map data'.number o) ≡ option_map (λ n. (data'.number n, ts)) o
+      given None = refl
+      given (Some n) = refl
+
+  pub array_data : (there : Option (data'.Items × Tokens)) → old ≡ Token.begin_array ∷ ts → 0 < depth
+      → converted of_items (items (value (depth - 1)) (length ts) ts) ≡ there
+      → converted of_json (value depth old) ≡ parse_map data'.array there
+  array_data there is deep e =
+      ap (λ o. converted of_json (value depth o)) is ∙ ap (converted of_json) (value-begin_array depth ts deep)
+      ∙ array_read (items (value (depth - 1)) (length ts) ts) ∙ ap (parse_map data'.array) e
+
+  pub object_data : (there : Option (data'.Members × Tokens)) → old ≡ Token.begin_object ∷ ts → 0 < depth
+      → converted (λ ms. of_members ms data'.no_members) (members (value (depth - 1)) (length ts) ts) ≡ there
+      → converted of_json (value depth old) ≡ parse_map data'.object there
+  object_data there is deep e =
+      ap (λ o. converted of_json (value depth o)) is ∙ ap (converted of_json) (value-begin_object depth ts deep)
+      ∙ object_read (members (value (depth - 1)) (length ts) ts) ∙ ap (parse_map data'.object) e
+
+  pub too_deep_array : old ≡ Token.begin_array ∷ ts → depth ≡ 0 → converted of_json (value depth old) ≡ None
+  unfolding value
+  too_deep_array is none = ap (λ o. converted of_json (value depth o)) is ∙ ap (λ d. converted of_json (value d (Token.begin_array ∷ ts))) none
+
+  pub too_deep_object : old ≡ Token.begin_object ∷ ts → depth ≡ 0 → converted of_json (value depth old) ≡ None
+  unfolding value
+  too_deep_object is none = ap (λ o. converted of_json (value depth o)) is ∙ ap (λ d. converted of_json (value d (Token.begin_object ∷ ts))) none
+
+pub no_tokens : (depth : ℕ) (old : Tokens) → old ≡ [] → converted of_json (value depth old) ≡ None
+no_tokens depth old is = ap (converted of_json) (ap (value depth) is ∙ value_is depth [])
+
+-- ---- the text of a value
+
+pub number_written : (there : Option ℤ) (told : Bool) (before after : List ℕ) → IsWritten IsWhole (λ z. canonical (whole z)) there told before after
+    → IsWritten IsProper canonical (option_map whole there) told before after
+number_written None told before after h = h
+number_written (Some z) told before after h = h
+
+pub list_written : (there : Option Items) (told : Bool) (before one two three : List ℕ) → one ≡ before ++ 91 ∷ []
+    → IsWritten ItemsAreProper (canonical_items false) there told one two → three ≡ two ++ 93 ∷ []
+    → IsWritten IsProper canonical (option_map list there) told before three
+list_written None told before one two three first h third = (h.0, tt)
+list_written (Some ps) told before one two three first h third =
+    (h.0, (h.1.0, in_brackets before (canonical_items false ps) one two three 91 93 first h.1.1 third))
+
+pub object_written : (there : Option Members) (told : Bool) (before one two three : List ℕ) → one ≡ before ++ 123 ∷ []
+    → IsWritten MembersAreProper (canonical_members false) there told one two → three ≡ two ++ 125 ∷ []
+    → IsWritten IsProper canonical (option_map object there) told before three
+object_written None told before one two three first h third = (h.0, tt)
+object_written (Some ms) told before one two three first h third =
+    (h.0, (h.1.0, in_brackets before (canonical_members false ms) one two three 123 125 first h.1.1 third))
+
+-- ---- items
+
+none_converted : {B : Type 0} (r : Tokens) (x : Option B) → option_map {U = B × Tokens} (λ y. (y, r)) x ≡ None → x ≡ None
+none_converted r None e = refl
+none_converted r (Some y) e = absurd (cc)
+
+with_item : (j : json.Json) (d : Data) → of_json j ≡ Some d → (o : Option (json.Items × Tokens)) → converted of_items (parse_map (json.item j) o) ≡ parse_map (data'.item d) (converted of_items o)
+with_item j d e None = refl
+with_item j d e (Some p) = rw e (with_rest (data'.item d) p.1 (of_items p.0))
+
+without_item : (j : json.Json) → of_json j ≡ None → (o : Option (json.Items × Tokens)) → converted of_items (parse_map (json.item j) o) ≡ None
+without_item j e None = refl
+without_item j e (Some p) = rw e
+
+-- the items before the others
+abbrev pub items_before : List Data → data'.Items → data'.Items
+items_before [] rest = rest
+items_before (d ∷ ds) rest = data'.item d (items_before ds rest)
+
+pub items_before-nil : (ds : List Data) (d : Data) (rest : data'.Items) → items_before (ds ++ d ∷ []) rest ≡ items_before ds (data'.item d rest)
+items_before-nil [] d rest = refl
+items_before-nil (e ∷ ds) d rest = ap (data'.item e) (items_before-nil ds d rest)
+
+one_more_item : (ds : List Data) (d : Data) (o : Option (data'.Items × Tokens))
+    → parse_map (items_before ds) (parse_map (data'.item d) o) ≡ parse_map (items_before (ds ++ d ∷ [])) o
+one_more_item ds d None = refl
+one_more_item ds d (Some p) = ap (λ is. Some (is, p.1)) (sym (items_before-nil ds d p.0))
+
+pub none_before : (o : Option (data'.Items × Tokens)) → o ≡ parse_map (items_before []) o
+none_before None = refl
+none_before (Some p) = refl
+
+module _ (p : Parse json.Json) (n : ℕ) (ts : Tokens) where
+  pub next_item_data : (ds : List Data) (d : Data) (r : Tokens) → 0 < n → after_end_array ts ≡ None → converted of_json (p ts) ≡ Some (d, r)
+      → parse_map (items_before ds) (converted of_items (items p n ts)) ≡ parse_map (items_before (ds ++ d ∷ [])) (converted of_items (items p (n - 1) r))
+  next_item_data ds d r some going e =
+      let first = was_read of_json (p ts) d r e in
+      let step = ap (converted of_items) (items_more p n ts r first.spelled some going first.is) ∙ with_item first.spelled d first.gives _ in
+      ap (parse_map (items_before ds)) step ∙ one_more_item ds d _
+
+  no_item : (more : Parse json.Items) (o : Option (json.Json × Tokens)) → converted of_json o ≡ None
+      → converted of_items (option_and_then (λ q. parse_map (json.item q.0) (more q.1)) o) ≡ None
+  no_item more None e = refl
+  no_item more (Some q) e = without_item q.0 (none_converted q.1 (of_json q.0) e) (more q.1)
+
+  pub items_data_over : (ds : List Data) (r : Tokens) → length ts ≤ n → after_end_array ts ≡ Some r
+      → parse_map (items_before ds) (converted of_items (items p n ts)) ≡ Some (items_before ds data'.no_items, r)
+  items_data_over ds r enough e = ap (λ o. parse_map (items_before ds) (converted of_items o)) (items_end p n ts r enough e)
+
+pub item_refused : (p : Parse json.Json) (n : ℕ) (ts : Tokens) (ds : List Data) → after_end_array ts ≡ None → converted of_json (p ts) ≡ None
+    → parse_map (items_before ds) (converted of_items (items p n ts)) ≡ None
+unfolding items
+item_refused p zero ts ds going e = refl
+item_refused p (suc n) ts ds going e =
+    ap (parse_map (items_before ds)) (ap (λ o. converted of_items (items_step p (items p n) ts o)) going ∙ no_item p n ts (items p n) (p ts) e)
+
+-- ---- the text of items
+
+-- the plain values, where all are whole
+abbrev pub wholes : List Data → Option (List Plain)
+wholes [] = Some []
+wholes (d ∷ ds) = option_and_then (λ p. option_map (λ ps. p ∷ ps) (wholes ds)) (whole_value d)
+
+put_before : (p : Plain) (there : Option (List Plain)) → option_map (item p) (option_map items_of there) ≡ option_map items_of (option_map (λ ps. p ∷ ps) there)
+put_before p None = refl
+put_before p (Some ps) = refl
+
+first_whole : (there : Option Plain) (rest : Option (List Plain))
+    → option_and_then (λ p. option_map (item p) (option_map items_of rest)) there ≡ option_map items_of (option_and_then (λ p. option_map (λ ps. p ∷ ps) rest) there)
+first_whole None rest = refl
+first_whole (Some p) rest = put_before p rest
+
+pub whole_items_are : (ds : List Data) → whole_items (items_before ds data'.no_items) ≡ option_map items_of (wholes ds)
+whole_items_are [] = refl
+whole_items_are (d ∷ ds) =
+    ap (λ rest. option_and_then (λ p. option_map (item p) rest) (whole_value d)) (whole_items_are ds) ∙ first_whole (whole_value d) (wholes ds)
+
+-- one more behind the others
+abbrev with_last : Option Plain → Option (List Plain) → Option (List Plain)
+with_last there rest = option_and_then (λ ps. option_map (λ p. ps ++ p ∷ []) there) rest
+
+moved : (first there : Option Plain) (rest : Option (List Plain))
+    → option_and_then (λ p. option_map (λ ps. p ∷ ps) (with_last there rest)) first ≡ with_last there (option_and_then (λ p. option_map (λ ps. p ∷ ps) rest) first)
+moved None there rest = refl
+moved (Some p) there None = refl
+moved (Some p) None (Some ps) = refl
+moved (Some p) (Some q) (Some ps) = refl
+
+alone : (there : Option Plain) → option_and_then (λ p. option_map (λ ps. p ∷ ps) (Some [])) there ≡ with_last there (Some [])
+alone None = refl
+alone (Some p) = refl
+
+wholes_more : (ds : List Data) (d : Data) → wholes (ds ++ d ∷ []) ≡ with_last (whole_value d) (wholes ds)
+wholes_more [] d = alone (whole_value d)
+wholes_more (e ∷ ds) d =
+    ap (λ rest. option_and_then (λ p. option_map (λ ps. p ∷ ps) rest) (whole_value e)) (wholes_more ds d) ∙ moved (whole_value e) (whole_value d) (wholes ds)
+
+proper_more : (ps : List Plain) (p : Plain) → ItemsAreProper (items_of ps) → IsProper p → ItemsAreProper (items_of (ps ++ p ∷ []))
+proper_more [] p h one = (one, tt)
+proper_more (q ∷ ps) p h one = (h.0, proper_more ps p h.1 one)
+
+text_more : (b : Bool) (ps : List Plain) (p : Plain)
+    → canonical_items b (items_of (ps ++ p ∷ [])) ≡ canonical_items b (items_of ps) ++ (comma (after b ps) ++ canonical p)
+text_more b [] p = ap (λ text. comma b ++ text) (append-nil (canonical p))
+text_more b (q ∷ ps) p =
+    let rest = text_more true ps p ∙ ap (λ c. canonical_items true (items_of ps) ++ (comma c ++ canonical p)) (after_true ps) in
+    ap (λ text. comma b ++ (canonical q ++ text)) rest
+    ∙ sym (ap (λ text. comma b ++ text) (append_assoc (canonical q) (canonical_items true (items_of ps)) (comma true ++ canonical p)))
+    ∙ sym (append_assoc (comma b) (canonical q ++ canonical_items true (items_of ps)) (comma true ++ canonical p))
+
+-- These items are proper, and whether a comma stands before what comes next.
+abbrev pub ItemsStand : Bool → List Plain → Type 0
+ItemsStand c ps = ItemsAreProper (items_of ps) × (c ≡ after false ps)
+
+abbrev pub items_text : List Plain → List ℕ
+items_text ps = canonical_items false (items_of ps)
+
+module _ (before out first last : List ℕ) (c told next : Bool) (one : first ≡ out ++ comma c) where
+  more_at : (rest : Option (List Plain)) (there : Option Plain) → IsWritten (ItemsStand c) items_text rest told before out
+      → IsWritten IsProper canonical there next first last → IsWritten (ItemsStand true) items_text (with_last there rest) (told && next) before last
+  more_at None there h g = (rw h.0 refl, tt)
+  more_at (Some ps) None h g = (rw (h.0, g.0) refl, tt)
+  more_at (Some ps) (Some p) h g = (
+    rw (h.0, g.0) refl,
+    (
+      (proper_more ps p h.1.0.0 g.1.0, after_more ps p),
+      g.1.1 ∙ ap (λ text. text ++ canonical p) (one ∙ ap (λ text. text ++ comma c) h.1.1)
+          ∙ append_assoc (before ++ items_text ps) (comma c) (canonical p) ∙ append_assoc before (items_text ps) (comma c ++ canonical p)
+          ∙ ap (λ d. before ++ (items_text ps ++ (comma d ++ canonical p))) h.1.0.1 ∙ ap (λ text. before ++ text) (sym (text_more false ps p)),
+    ),
+  )
+
+  -- where a comma and the next item went out
+  pub items_written_more : (ds : List Data) (d : Data) → IsWritten (ItemsStand c) items_text (wholes ds) told before out
+      → IsWritten IsProper canonical (whole_value d) next first last
+      → IsWritten (ItemsStand true) items_text (wholes (ds ++ d ∷ [])) (told && next) before last
+  items_written_more ds d h g =
+      subst (λ there. IsWritten (ItemsStand true) items_text there (told && next) before last) (sym (wholes_more ds d)) (more_at (wholes ds) (whole_value d) h g)
+
+all_at : (there : Option (List Plain)) (c told : Bool) (before out : List ℕ) → IsWritten (ItemsStand c) items_text there told before out
+    → IsWritten ItemsAreProper (canonical_items false) (option_map items_of there) told before out
+all_at None c told before out h = (h.0, tt)
+all_at (Some ps) c told before out h = (h.0, (h.1.0.0, h.1.1))
+
+pub items_written : (ds : List Data) (c told : Bool) (before out : List ℕ) → IsWritten (ItemsStand c) items_text (wholes ds) told before out
+    → IsWritten ItemsAreProper (canonical_items false) (whole_items (items_before ds data'.no_items)) told before out
+items_written ds c told before out h =
+    subst (λ there. IsWritten ItemsAreProper (canonical_items false) there told before out) (sym (whole_items_are ds)) (all_at (wholes ds) c told before out h)
+
+-- ---- members
+
+with_member : (k : List ℕ) (j : json.Json) (d : Data) (old : data'.Members) → of_json j ≡ Some d → (o : Option (json.Members × Tokens))
+    → converted (λ ms. of_members ms old) (parse_map (json.member k j) o) ≡ converted (λ ms. of_members ms (data'.put k d old)) o
+with_member k j d old e None = refl
+with_member k j d old e (Some p) = rw e refl
+
+without_member : (k : List ℕ) (j : json.Json) (old : data'.Members) → of_json j ≡ None → (o : Option (json.Members × Tokens))
+    → converted (λ ms. of_members ms old) (parse_map (json.member k j) o) ≡ None
+without_member k j old e None = refl
+without_member k j old e (Some p) = rw e
+
+no_member : (k : List ℕ) (old : data'.Members) (more : Parse json.Members) (o : Option (json.Json × Tokens)) → converted of_json o ≡ None
+    → converted (λ ms. of_members ms old) (option_and_then (λ q. parse_map (json.member k q.0) (more q.1)) o) ≡ None
+no_member k old more None e = refl
+no_member k old more (Some q) e = without_member k q.0 old (none_converted q.1 (of_json q.0) e) (more q.1)
+
+module _ (old : data'.Members) (p : Parse json.Json) where
+  pub next_member_data : (n : ℕ) (ts s r : Tokens) (k : List ℕ) (d : Data) → 0 < n → read_key ts ≡ Some (Some k, s) → converted of_json (p s) ≡ Some (d, r)
+      → converted (λ ms. of_members ms old) (members p n ts) ≡ converted (λ ms. of_members ms (data'.put k d old)) (members p (n - 1) r)
+  next_member_data n ts s r k d some named e =
+      let first = was_read of_json (p s) d r e in
+      ap (converted (λ ms. of_members ms old)) (members_more p n k ts s r first.spelled some named first.is) ∙ with_member k first.spelled d old first.gives _
+
+  pub member_refused : (n : ℕ) (ts s : Tokens) (k : List ℕ) → read_key ts ≡ Some (Some k, s) → converted of_json (p s) ≡ None
+      → converted (λ ms. of_members ms old) (members p n ts) ≡ None
+  unfolding members
+  member_refused zero ts s k named e = refl
+  member_refused (suc n) ts s k named e = rw named (no_member k old (members p n) (p s) e)
+
+  pub key_refused : (n : ℕ) (ts : Tokens) → read_key ts ≡ None → converted (λ ms. of_members ms old) (members p n ts) ≡ None
+  key_refused n ts e = ap (converted (λ ms. of_members ms old)) (members_no_key p n ts e)
+
+  pub members_data_over : (n : ℕ) (ts r : Tokens) → length ts ≤ n → read_key ts ≡ Some (None, r)
+      → converted (λ ms. of_members ms old) (members p n ts) ≡ Some (old, r)
+  members_data_over n ts r enough e = ap (converted (λ ms. of_members ms old)) (members_end p n ts r enough e)
+
+-- ---- a refusal that is handed on
+
+said_further : (X Y : Type 0) (refused : ReadRefused) → IsNoJson X refused → (X → Y) → IsNoJson Y refused
+said_further X Y NotJson h further = further h
+said_further X Y NotWhole h further = h
+said_further X Y WantOfMemory h further = tt
+
+pub handed_on : {A : Type 0} (X Y : Type 0) (result : Result A ReadRefused) (refused : ReadRefused) → result ≡ Err refused
+    → IsNoJson X refused → (X → Y) → IfErr result (IsNoJson Y)
+handed_on {A} X Y result refused is h further = subst (λ (r : Result A ReadRefused). IfErr r (IsNoJson Y)) (sym is) (said_further X Y refused h further)
+
+given_further : (says : Result Plain ReadRefused) (refused : ReadRefused) → IsNoJson (says ≡ Err NotJson) refused
+    → IfSome (refusal_of refused) (λ refusal. says ≡ Err refusal)
+given_further says NotJson h = h
+given_further says NotWhole h = absurd h
+given_further says WantOfMemory h = tt
+
+-- ---- the whole text
+
+-- what the value of a text and the tokens behind it are as data
+abbrev data_at_end : Option (json.Json × Tokens) → Option Data
+data_at_end there = option_and_then of_json (option_and_then (λ p. json.if_last p.0 p.1) there)
+
+pub text_is_data : (bytes : List ℕ) (d : Data) → IsUtf8 bytes → converted of_json (value 127 (tokens bytes)) ≡ Some (d, []) → json_of bytes ≡ ok_or (whole_value d) NotWhole
+text_is_data bytes d utf8 e =
+    let all = was_read of_json (value 127 (tokens bytes)) d [] e in
+    json_of-utf8 bytes utf8 ∙ ap json_of_data (ap data_at_end all.is ∙ all.gives)
+
+refused_at : (there : Option (json.Json × Tokens)) → converted of_json there ≡ None → data_at_end there ≡ None
+refused_at None e = refl
+refused_at (Some (j, [])) e = none_converted [] (of_json j) e
+refused_at (Some (j, t ∷ ts)) e = refl
+
+pub text_refused : (bytes : List ℕ) → IsUtf8 bytes → converted of_json (value 127 (tokens bytes)) ≡ None → json_of bytes ≡ Err NotJson
+text_refused bytes utf8 e = json_of-utf8 bytes utf8 ∙ ap json_of_data (refused_at (value 127 (tokens bytes)) e)
+
+-- something stands behind the value
+pub text_goes_on : (bytes : List ℕ) (d : Data) (t : Token) (ts : Tokens) → IsUtf8 bytes → converted of_json (value 127 (tokens bytes)) ≡ Some (d, t ∷ ts)
+    → json_of bytes ≡ Err NotJson
+text_goes_on bytes d t ts utf8 e =
+    let all = was_read of_json (value 127 (tokens bytes)) d (t ∷ ts) e in
+    json_of-utf8 bytes utf8 ∙ ap json_of_data (ap data_at_end all.is)
+
+-- nothing could be read
+pub text_given : (bytes : List ℕ) (result : Result (List ℕ) ReadRefused) (refused : ReadRefused) → IsUtf8 bytes → result ≡ Err refused
+    → IsNoJson (converted of_json (value 127 (tokens bytes)) ≡ None) refused → GivesAs (λ text. value_read (json_of text)) refusal_of (json_of bytes) result
+text_given bytes result refused utf8 is h =
+    subst (λ (r : Result (List ℕ) ReadRefused). GivesAs (λ text. value_read (json_of text)) refusal_of (json_of bytes) r) (sym is)
+    (given_further (json_of bytes) refused (said_further _ _ refused h (text_refused bytes utf8)))
+
+whole_at : (bytes out : List ℕ) (there : Option Plain) (told : Bool) → told ≡ true → json_of bytes ≡ ok_or there NotWhole
+    → IsWritten IsProper canonical there told [] out → IsReadAgain out × (json_of bytes ≡ Ok (value_read (json_of out)))
+whole_at bytes out None told is read h = let not = sym is ∙ h.0 in absurd (true≢false not)
+whole_at bytes out (Some p) told is read h = read_again bytes out p h.1.0 read h.1.1
+
+pub text_written : (bytes out : List ℕ) (d : Data) (told : Bool) → IsUtf8 bytes → told ≡ true → converted of_json (value 127 (tokens bytes)) ≡ Some (d, [])
+    → IsWritten IsProper canonical (whole_value d) told [] out → IsReadAgain out × (json_of bytes ≡ Ok (value_read (json_of out)))
+text_written bytes out d told utf8 is e h = whole_at bytes out (whole_value d) told is (text_is_data bytes d utf8 e) h
+
+not_whole_at : (out : List ℕ) (there : Option Plain) (told : Bool) → told ≡ false → IsWritten IsProper canonical there told [] out
+    → ok_or there NotWhole ≡ Err NotWhole
+not_whole_at out None told is h = refl
+not_whole_at out (Some p) told is h = let not = sym h.0 ∙ is in absurd (true≢false not)
+
+pub text_not_whole : (bytes out : List ℕ) (d : Data) (told : Bool) → IsUtf8 bytes → told ≡ false → converted of_json (value 127 (tokens bytes)) ≡ Some (d, [])
+    → IsWritten IsProper canonical (whole_value d) told [] out → json_of bytes ≡ Err NotWhole
+text_not_whole bytes out d told utf8 is e h = text_is_data bytes d utf8 e ∙ not_whole_at out (whole_value d) told is h

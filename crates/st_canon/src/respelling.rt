@@ -1,0 +1,197 @@
+ghost use Rattle.std.specs.Prelude.{◌≡◌, ◌<◌, if◌then◌else◌, length, Ok, Some, None, IfErr, IfOk, OnOk};
+ghost use Rattle.std.specs.Option.{option_copied};
+ghost use Rattle.json.specs.Json.{items, members, value};
+ghost use Rattle.serde_json.specs.Data.{no_members};
+ghost use Rattle.serde_json.specs.Read.{converted, number_of, of_items, of_json, of_members};
+ghost use Rattle.st_base.specs.Answers.{GivesAs};
+ghost use Rattle.st_canon.specs.Packed.{IsReadAgain, value_read};
+ghost use Rattle.st_canon.specs.Reading.{json_of, refusal_of};
+ghost use Rattle.st_canon.specs.Respelled.{IsNoJson, IsNumberWritten, IsRespelled, ItemsAreRespelled, MembersAreRespelled};
+
+use crate::direct::{MAX_DEPTH, ReadStopped};
+use crate::escape::append_text;
+use crate::gathered::Gathered;
+use crate::numbers::number_in;
+use crate::refused::ReadRefused;
+use crate::rewriting::rewrite;
+use crate::writing::{append_bool, append_comma, append_whole};
+use json::{Reader, Scratch, Token};
+use st_base::{Bytes, WantOfMemory};
+use std::alloc::Global;
+
+/// The canonical text (RFC 8785) of the JSON that bytes of any spelling are. A member whose name stands twice
+/// has its last value.
+///
+/// `NotJson` comes exactly where `serde_json` refuses the bytes, `NotWhole` exactly where they are JSON with a
+/// number that no `Whole` holds or that is written as a float.
+pub fn canonical_text(alloc: Global, bytes: &[u8]) -> Result<Bytes, ReadRefused>
+    ensures value { GivesAs (λ text. value_read (json_of text)) refusal_of (json_of bytes.now) result }
+    ensures again { IfOk result IsReadAgain }
+{
+    let Ok(text) = simdutf8::compat::from_utf8(bytes) else {
+        return Err(ReadRefused::NotJson);
+    };
+    match rewrite_text(alloc, text) {
+        Ok(written) => Ok(written),
+        Err(ReadStopped::Left) => respell_text(alloc, text),
+        Err(ReadStopped::WantOfMemory) => Err(ReadRefused::WantOfMemory),
+    }
+}
+
+// The canonical text, straight from the tokens, where they come in its order.
+fn rewrite_text(alloc: Global, text: &str) -> Result<Bytes, ReadStopped>
+    ensures value { IfOk result (λ written. json_of text.now ≡ Ok (value_read (json_of written))) }
+    ensures again { IfOk result IsReadAgain }
+{
+    let mut scratch = Scratch::new(alloc);
+    let Ok(mut reader) = Reader::new(text, &mut scratch) else {
+        return Err(ReadStopped::WantOfMemory);
+    };
+    let mut written = Bytes::with_room(alloc, text.len())?;
+    rewrite(alloc, &mut written, &mut reader, MAX_DEPTH)?;
+    if reader.next().is_some() {
+        return Err(ReadStopped::Left);
+    }
+    Ok(written)
+}
+
+// The same of whatever tokens. It gathers the members of each object first.
+fn respell_text(alloc: Global, text: &str) -> Result<Bytes, ReadRefused>
+    ensures value { GivesAs (λ text. value_read (json_of text)) refusal_of (json_of text.now) result }
+    ensures again { IfOk result IsReadAgain }
+{
+    let mut scratch = Scratch::new(alloc);
+    let Ok(mut reader) = Reader::new(text, &mut scratch) else {
+        return Err(ReadRefused::WantOfMemory);
+    };
+    let mut written = Bytes::with_room(alloc, text.len())?;
+    let whole = respell(alloc, &mut written, &mut reader, MAX_DEPTH)?;
+    if reader.next().is_some() {
+        return Err(ReadRefused::NotJson);
+    }
+    if whole {
+        Ok(written)
+    } else {
+        Err(ReadRefused::NotWhole)
+    }
+}
+
+// Appends the canonical text of the next value of a reader of tokens, and gives whether all numbers in it
+// are whole, else `out` is of no use. Lists and objects may nest `depth` deep.
+#[cycle(respell)]
+fn respell(
+    alloc: Global,
+    out: &mut Bytes,
+    reader: &mut Reader<'_>,
+    depth: usize,
+) -> Result<bool, ReadRefused>
+    ensures next { IfOk result (λ whole. IsRespelled depth reader.old reader.new whole out.old out.new) }
+    ensures none { IfErr result (IsNoJson (converted of_json (value depth reader.old) ≡ None)) }
+    ensures shorter { OnOk result (length reader.new < length reader.old) }
+{
+    let Some(token) = reader.next() else {
+        return Err(ReadRefused::NotJson);
+    };
+    match token {
+        Token::Null => {
+            out.push_all(alloc, b"null")?;
+            Ok(true)
+        }
+        Token::Bool(b) => {
+            append_bool(alloc, out, b)?;
+            Ok(true)
+        }
+        Token::Number(text) => Ok(respell_number(alloc, out, text)?),
+        Token::String(text) => {
+            append_text(alloc, out, text)?;
+            Ok(true)
+        }
+        Token::BeginArray => if depth == 0 {
+            Err(ReadRefused::NotJson)
+        } else {
+            out.push_all(alloc, b"[")?;
+            let whole = respell_items(alloc, out, reader, depth - 1)?;
+            out.push_all(alloc, b"]")?;
+            Ok(whole)
+        },
+        Token::BeginObject => if depth == 0 {
+            Err(ReadRefused::NotJson)
+        } else {
+            out.push_all(alloc, b"{")?;
+            let whole = respell_members(alloc, out, reader, depth - 1)?;
+            out.push_all(alloc, b"}")?;
+            Ok(whole)
+        },
+        Token::EndObject | Token::EndArray | Token::Key(_) | Token::Bad => Err(
+            ReadRefused::NotJson,
+        ),
+    }
+}
+
+// The same of a number's text.
+fn respell_number(alloc: Global, out: &mut Bytes, text: &str) -> Result<bool, ReadRefused>
+    ensures number { IfOk result (λ whole. IsNumberWritten text.now whole out.old out.new) }
+    ensures none { IfErr result (IsNoJson (number_of text.now ≡ None)) }
+{
+    match number_in(text) {
+        Some(Some(whole)) => {
+            append_whole(alloc, out, whole)?;
+            Ok(true)
+        }
+        Some(None) => Ok(false),
+        None => Err(ReadRefused::NotJson),
+    }
+}
+
+#[cycle(respell)]
+fn respell_items(
+    alloc: Global,
+    out: &mut Bytes,
+    reader: &mut Reader<'_>,
+    depth: usize,
+) -> Result<bool, ReadRefused>
+    ensures items { IfOk result (λ whole. ItemsAreRespelled depth reader.old reader.new whole out.old out.new) }
+    ensures none { IfErr result (IsNoJson (converted of_items (items (value depth) (length reader.old) reader.old) ≡ None)) }
+    ensures shorter { OnOk result (length reader.new < length reader.old) }
+{
+    let mut comma = false;
+    let mut whole = true;
+    'items: while !reader.take_end_array() {
+        append_comma(alloc, out, comma)?;
+        let next = respell(alloc, out, reader, depth)?;
+        whole = whole & next;
+        comma = true;
+    }
+    Ok(whole)
+}
+
+#[cycle(respell)]
+fn respell_members(
+    alloc: Global,
+    out: &mut Bytes,
+    reader: &mut Reader<'_>,
+    depth: usize,
+) -> Result<bool, ReadRefused>
+    ensures members { IfOk result (λ whole. MembersAreRespelled depth reader.old reader.new whole out.old out.new) }
+    ensures none { IfErr result (IsNoJson (converted (λ ms. of_members ms no_members) (members (value depth) (length reader.old) reader.old) ≡ None)) }
+    ensures shorter { OnOk result (length reader.new < length reader.old) }
+{
+    let mut gathered = Gathered::new(alloc);
+    'members: loop {
+        let Ok(key) = reader.next_key() else {
+            return Err(ReadRefused::NotJson);
+        };
+        let Some(key) = key else {
+            return Ok(gathered.append(alloc, out)?);
+        };
+        let mut text = Bytes::new(alloc);
+        let whole = respell(alloc, &mut text, reader, depth)?;
+        gathered.put(alloc, key, if_whole(whole, &text))?;
+    }
+}
+
+fn if_whole(whole: bool, text: &Bytes) -> Option<&[u8]>
+    ensures { option_copied result ≡ (if whole then Some text.now else None) }
+{
+    if whole { Some(text.as_slice()) } else { None }
+}

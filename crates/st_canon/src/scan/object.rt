@@ -1,0 +1,57 @@
+ghost use Rattle.std.specs.Prelude.{◌≡◌, IfSome, Some, map, option_map};
+ghost use Rattle.st_canon.specs.ObjectsOfLists.{is_object_of_lists};
+ghost use Rattle.st_canon.specs.Shapes.{is_object_of, member_in, only_member};
+ghost use Rattle.st_canon.specs.Standing.{IsText, value_of};
+
+use crate::scan::cursor::opened;
+use crate::scan::members::{find, find_only, have_only, have_only_lists};
+
+// The text of the value of the member of this name, where the text is that of an object that has one.
+pub(crate) fn member<'a>(text: &'a [u8], name: &str) -> Option<&'a [u8]>
+    requires { IsText text.now }
+    ensures value { option_map (λ found. value_of found.now) result ≡ member_in name.now (Some (value_of text.now)) }
+    ensures text { IfSome result (λ found. IsText found.now) }
+{
+    let Some(left) = opened(text, b'{') else {
+        return None;
+    };
+    match find(left, name) {
+        Some(value) => Some(value),
+        None => None,
+    }
+}
+
+// The same, where there is no other member.
+pub(crate) fn only_member<'a>(text: &'a [u8], name: &str) -> Option<&'a [u8]>
+    requires { IsText text.now }
+    ensures value { option_map (λ found. value_of found.now) result ≡ only_member name.now (Some (value_of text.now)) }
+    ensures text { IfSome result (λ found. IsText found.now) }
+{
+    let Some(left) = opened(text, b'{') else {
+        return None;
+    };
+    match find_only(left, name) {
+        Some(value) => Some(value),
+        None => None,
+    }
+}
+
+pub(crate) fn is_object_of(text: &[u8], names: &[&str]) -> bool
+    requires { IsText text.now }
+    ensures { result ≡ is_object_of (map (λ n. n.now) names.now) (Some (value_of text.now)) }
+{
+    match opened(text, b'{') {
+        Some(left) => have_only(left, names),
+        None => false,
+    }
+}
+
+pub(crate) fn is_object_of_lists(text: &[u8], names: &[&str]) -> bool
+    requires { IsText text.now }
+    ensures { result ≡ is_object_of_lists (map (λ n. n.now) names.now) (Some (value_of text.now)) }
+{
+    match opened(text, b'{') {
+        Some(left) => have_only_lists(left, names),
+        None => false,
+    }
+}

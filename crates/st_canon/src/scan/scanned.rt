@@ -1,0 +1,123 @@
+ghost use Rattle.std.specs.Prelude.{◌≡◌, ◌≢◌, ℕ, List, IfOk, IfSome, IfNone, Some, is_some, map};
+ghost use Rattle.std.specs.List.{flat_map};
+ghost use Rattle.st_canon.specs.Canonical.{escape};
+ghost use Rattle.st_canon.specs.Entries.{items_in, members_in, text_in};
+ghost use Rattle.st_canon.specs.ObjectsOfLists.{is_object_of_lists};
+ghost use Rattle.st_canon.specs.Plain.{text};
+ghost use Rattle.st_canon.specs.Shapes.{is_object_of, member_in, only_member};
+ghost use Rattle.st_canon.specs.Texts.{is_text_of};
+
+use crate::packed::PackedJson;
+use crate::scan::{content, kind, object};
+use st_base::{Text, WantOfMemory};
+use std::alloc::Global;
+use std::marker::Model;
+
+/// A JSON value, as it stands in its canonical text (RFC 8785). Contracts see the plain value.
+#[derive(Drop)]
+pub struct Scanned<'a> {
+    pub(crate) text: &'a [u8],
+}
+
+impl<'a> Model for Scanned<'a> {
+    ghost use Rattle.st_canon.specs.Plain.{Plain};
+    ghost use Rattle.st_canon.specs.PlainCodes.{coded_plain};
+    ghost use Rattle.st_canon.specs.Standing.{IsText, value_of};
+
+    ghost Value = { Plain };
+
+    ghost coded = { coded_plain };
+
+    ghost view = { λ scanned. value_of scanned.text.now };
+
+    ghost invariant = { λ scanned. IsText scanned.text.now };
+}
+
+impl<'a> Scanned<'a> {
+    /// Whether it is a text.
+    pub fn is_text(&self) -> bool
+        ensures { result ≡ is_some (text_in self.now) }
+    {
+        kind::is_text(self.text)
+    }
+
+    /// Whether it is a list.
+    pub fn is_list(&self) -> bool
+        ensures { result ≡ is_some (items_in self.now) }
+    {
+        kind::is_list(self.text)
+    }
+
+    /// Whether it is an object.
+    pub fn is_object(&self) -> bool
+        ensures { result ≡ is_some (members_in self.now) }
+    {
+        kind::is_object(self.text)
+    }
+
+    /// The text that it is.
+    pub fn text(&self, alloc: Global) -> Result<Option<Text>, WantOfMemory>
+        ensures { IfOk result (λ found. found ≡ text_in self.now) }
+    {
+        Ok(content::text_of(alloc, self.text)?)
+    }
+
+    /// The bytes of the text that it is, where JSON escapes none of them.
+    pub fn bare_text(&self) -> Option<&'a [u8]>
+        ensures some { IfSome result (λ bytes. self.now ≡ text bytes.now) }
+        ensures none { IfNone result ((bytes : List ℕ) → self.now ≡ text bytes → flat_map escape bytes ≢ bytes) }
+    {
+        match content::bare_text(self.text) {
+            Some(bytes) => Some(bytes),
+            None => None,
+        }
+    }
+
+    /// Whether it is this text.
+    pub fn is_text_of(&self, word: &str) -> bool
+        ensures { result ≡ is_text_of word.now self.now }
+    {
+        content::is_text_of(self.text, word)
+    }
+
+    /// The value of the member of this name, where it is an object that has one.
+    pub fn member(&self, name: &str) -> Option<Scanned<'a>>
+        ensures { result ≡ member_in name.now (Some self.now) }
+    {
+        match object::member(self.text, name) {
+            Some(text) => Some(Scanned { text }),
+            None => None,
+        }
+    }
+
+    /// The value of the member of this name, where it is an object that has it and no other.
+    pub fn only_member(&self, name: &str) -> Option<Scanned<'a>>
+        ensures { result ≡ only_member name.now (Some self.now) }
+    {
+        match object::only_member(self.text, name) {
+            Some(text) => Some(Scanned { text }),
+            None => None,
+        }
+    }
+
+    /// Whether it is an object whose members all have one of these names.
+    pub fn is_object_of(&self, names: &[&str]) -> bool
+        ensures { result ≡ is_object_of (map (λ n. n.now) names.now) (Some self.now) }
+    {
+        object::is_object_of(self.text, names)
+    }
+
+    /// Whether it is an object whose members all have one of these names and are lists.
+    pub fn is_object_of_lists(&self, names: &[&str]) -> bool
+        ensures { result ≡ is_object_of_lists (map (λ n. n.now) names.now) (Some self.now) }
+    {
+        object::is_object_of_lists(self.text, names)
+    }
+
+    /// The same value, kept in little memory.
+    pub fn pack(&self, alloc: Global) -> Result<PackedJson, WantOfMemory>
+        ensures { IfOk result (λ packed. packed ≡ self.now) }
+    {
+        Ok(content::keep(alloc, self.text)?)
+    }
+}

@@ -1,0 +1,39 @@
+-- What a long form holds.
+use Rattle.std.proofs.Common.{◌≡◌, ℕ, List, Bool, not, true, false, Some, Ok, Err, refl}
+use Rattle.std.specs.Prelude.{bytes_eq, is_some}
+use Rattle.st_canon.specs.Canonical.{canonical}
+use Rattle.st_canon.specs.Entries.{members_in}
+use Rattle.st_canon.specs.Plain.{Plain, null, boolean, whole, text, list, object}
+use Rattle.st_canon.specs.Shapes.{json_in}
+use Rattle.st_doc.specs.Entries.{is_object}
+use Rattle.st_hash.specs.Hash.{HashValue, same_hash}
+use Rattle.st_indexfiles.specs.SuffixData.{suffix_of}
+use Rattle.st_resolve.specs.Identifier.{long_of}
+use Rattle.st_resolve.specs.LongForm.{PlainLong, long_in}
+use Rattle.st_resolve.specs.declared.refused.DidRefused.TheVariants.{SuffixDiffers}
+
+-- an object is what has members
+pub object_is : (value : Plain) → is_some (members_in value) ≡ is_object (Some value)
+object_is null = refl
+object_is (boolean b) = refl
+object_is (whole z) = refl
+object_is (text t) = refl
+object_is (list ps) = refl
+object_is (object ms) = refl
+
+pub other : (same : Bool) → not same ≡ true → same ≡ false
+other true e = cc
+other false e = refl
+
+pub no_other : (same : Bool) → not same ≡ false → same ≡ true
+no_other true e = refl
+no_other false e = cc
+
+-- what canonical bytes hold, by whether it makes the suffix
+module _ (version : ℕ) (suffix : HashValue) (held : List ℕ) (value : Plain) (long : PlainLong) (read : json_in held ≡ Some value)
+    (said : long_in version value ≡ Some long) (spelled : bytes_eq held (canonical value) ≡ true) where
+  pub long_differs : same_hash (suffix_of long.suffix_data) suffix ≡ false → long_of version suffix held ≡ Err SuffixDiffers
+  long_differs differs = rw (read, said, spelled, differs) refl
+
+  pub long_holds : same_hash (suffix_of long.suffix_data) suffix ≡ true → long_of version suffix held ≡ Ok long
+  long_holds same = rw (read, said, spelled, same) refl
