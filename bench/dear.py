@@ -3,8 +3,8 @@
 
 usage: bench/dear.py
 
-Prints for each the length of the line, the most memory that the node had, what it has afterwards, the processor time
-of the line, and the reply or the rule that `report` names. Where the environment has SIDETREE, that program runs in
+Prints for each the length of the line, the most memory that the node had and how many times the line's length that is
+more than before it, what the node has afterwards, the processor time of the line, and the reply or the rule that `report` names. Where the environment has SIDETREE, that program runs in
 place of the launcher.
 """
 import os
@@ -24,6 +24,8 @@ def nested(opening, closing):
     return opening * 120 + b"1" + closing * 120 + b","
 
 
+SUFFIX_DATA = canonical({"deltaHash": ABC, "recoveryCommitment": NOTHING})
+CREATE = b'{"type":"create","suffixData":%s,"delta":{"a":[' % SUFFIX_DATA
 LISTS, OBJECTS = nested(b"[", b"]"), nested(b'{"":', b"}")
 
 
@@ -32,13 +34,19 @@ def many(front, item, end, size):
     return front + item * ((size - len(front) - len(end)) // len(item)) + end
 
 
-def submit(item, size=LINE):
-    return ["submit " + many(b"[", item, b"1]", size - 7).decode()]
+def submit(item, size=LINE, front=b"[", end=b"1]"):
+    return ["submit " + many(front, item, end, size - 7).decode()]
 
 
-def resolve(item):
-    front = "resolve did:sidetree:%s:" % ABC
-    return [front + base64url(many(b"[", item, b"1]", (LINE - len(front)) // 4 * 3))]
+def resolve(item, front=b"[", end=b"1]"):
+    words = "resolve did:sidetree:%s:" % ABC
+    return [words + base64url(many(front, item, end, (LINE - len(words)) // 4 * 3))]
+
+
+def names(size):
+    """Members whose names differ, the last name first, which are as many as fit a size."""
+    members = [b'"%x":1,' % number for number in range(size // 10)]
+    return b"".join(reversed(members))[:-1]
 
 
 def core_proof(item):
@@ -68,7 +76,14 @@ LINES = {
     "submit, objects in objects": submit(OBJECTS),
     "submit, 12,000,000 numbers": submit(b"1,"),
     "submit, lists in lists, 65,536 bytes": submit(LISTS, 65_536),
+    "submit, the same under names out of order": submit(LISTS, LINE, b'{"b":1,"a":[', b"1]}"),
+    "submit, the same under a name that stands twice": submit(LISTS, LINE, b'{"a":1.5,"a":[', b"1]}"),
+    "submit, the same and a number that isn't whole": submit(LISTS, LINE, b"[", b"1.5]"),
+    "submit, the same and no end": submit(LISTS, LINE, b"[", b"1"),
+    "submit, names out of order alone": ["submit {" + names(LINE - 9).decode() + "}"],
+    "submit, a delta of lists in lists": submit(LISTS, LINE, CREATE, b"1]}}"),
     "resolve, lists in lists": resolve(LISTS),
+    "resolve, a delta of lists in lists": resolve(LISTS, b'{"delta":{"a":[', b'1]},"suffixData":%s}' % SUFFIX_DATA),
     "core proof file, lists in lists": core_proof(LISTS),
     "core proof file, empty proofs": core_proof(b'{"signedData":""},'),
     "chunk file, 5,000,000 deltas": chunk(b"", b"1,", b""),
@@ -92,13 +107,15 @@ def main():
         with Node() as node:
             for line in lines[:-1]:
                 node.ask(line)
-            began = of_process(node, "time")
+            began, before = of_process(node, "time"), of_process(node, "VmRSS")
             reply = node.ask(lines[-1])[0]
             took = of_process(node, "time") - began
-            figures = len(lines[-1]), of_process(node, "VmHWM"), of_process(node, "VmRSS"), took
+            most = of_process(node, "VmHWM")
+            times = (most - before) * 2 ** 20 / len(lines[-1])
+            figures = len(lines[-1]), most, times, of_process(node, "VmRSS"), took
             if reply.startswith("have"):
                 reply = node.ask("report 0")[0]
-        print("%-40s %10d bytes %6.0f MiB %6.0f MiB stay %5.1f s  %s" % (name, *figures, reply[:60]), flush=True)
+        print("%-50s %10d bytes %6.0f MiB %5.1f times %6.0f MiB stay %5.1f s  %s" % (name, *figures, reply[:60]), flush=True)
 
 
 if __name__ == "__main__":
