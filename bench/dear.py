@@ -45,7 +45,7 @@ def resolve(item, front=b"[", end=b"1]"):
 
 def names(size):
     """Members whose names differ, the last name first, which are as many as fit a size."""
-    members = [b'"%x":1,' % number for number in range(size // 10)]
+    members = [b'"%x":1,' % number for number in range(size // 11)]
     return b"".join(reversed(members))[:-1]
 
 
