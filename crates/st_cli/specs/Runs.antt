@@ -66,6 +66,7 @@ pub record Tells (io : Streams) (input written : List ℕ) : Type 0 where
 
 -- ---- `node`: the lines of the source are answered as the reference machine answers them
 
+-- what is promised of a run of `node` with these options
 pub record NodeRun (options : NodeOptions) (run : Outcome) : Type 0 where
   -- what was taken and written, and over which lines the counters of work went, by the status
   pub table : RunTable (node_command options run.work run.counted) options.limit run.io run.status
@@ -102,6 +103,7 @@ Refuses cause image number status =
     (status ≡ number → opened image ≡ Err cause)
     × (opened image ≡ Err cause → (status ≡ number) ⊎ (status ≡ 4) ⊎ (status ≡ 6))
 
+-- what is promised of a run of `node --journal` with these options
 pub record JournalRun (options : NodeOptions) (run : Outcome) : Type 0 where
   -- where the disk tells what it reads as, and has records: what follows from them
   pub from : IfTold run.disk.reads (λ image. (r : List (List ℕ)) → opened image ≡ Ok r → JournalFrom options r run)
@@ -141,6 +143,7 @@ pub record WalletFrom (image : List ℕ) (run : Outcome) : Type 0 where
   pub runs : (input written : List ℕ) → Tells run.io input written → Only run.disk.before image
       → (left : List ℕ) → Images run.disk.behind left → KeepsNumbers IsSpent (wallet_run image input written left)
 
+-- what is promised of a run of `wallet`
 pub record WalletRun (run : Outcome) : Type 0 where
   -- where the disk tells what it reads as: what follows from that
   pub from : IfTold run.disk.reads (λ image. WalletFrom image run)
@@ -157,6 +160,7 @@ pub record WalletRun (run : Outcome) : Type 0 where
 abbrev pub exchange_command : Command
 exchange_command = record { replies = replies new_network; counted = λ lines. ⊤ }
 
+-- what is promised of a run of `exchange`
 pub record ExchangeRun (run : Outcome) : Type 0 where
   -- what was taken and written, by the status
   pub table : RunTable exchange_command max_input run.io run.status
@@ -171,6 +175,7 @@ pub record ExchangeRun (run : Outcome) : Type 0 where
 
 -- ---- `generate`: the summary of a workload is written
 
+-- what is promised of a run of `generate` by this plan
 pub record GenerateRun (plan : Plan) (run : Outcome) : Type 0 where
   -- at status 0 the whole of it is written
   pub done : run.status ≡ 0 → Appends run.io.held run.io.holds (summary plan)
