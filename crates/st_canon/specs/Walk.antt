@@ -5,9 +5,11 @@ use Rattle.st_canon.specs.Canonical.{canonical}
 use Rattle.st_canon.specs.Plain.{Plain}
 use Rattle.st_canon.specs.Proper.{IsProper}
 
+-- a bracket or a brace that opens
 abbrev pub opens : ℕ → Bool
 opens b = b == 91 || b == 123
 
+-- a bracket or a brace that closes
 abbrev pub closes : ℕ → Bool
 closes b = b == 93 || b == 125
 
@@ -27,6 +29,7 @@ pub record IsNextMark (bytes : List ℕ) (mark : ℕ) (behind : List ℕ) : Type
   pub is : (mark == 34 || mark == 92) ≡ true
   pub shorter : length behind < length bytes
 
+-- Where a byte stands: outside of all texts, or in one, and there behind a backslash that escapes it or not.
 pub data Place : Type 0 where
   outside : Place
   in_text : Bool → Place
