@@ -4,6 +4,7 @@ pub mod CoreLemmas
 -- a text of which JSON escapes a byte is no hash text
 pub mod EscapedLemmas
 pub mod ProvisionalLemmas
+pub mod ReadLemmas
 -- what base64 takes
 pub mod TakenLemmas
 pub mod TwiceLemmas

@@ -1,4 +1,5 @@
 pub mod CoreIndex
+pub mod CoreParts
 pub mod CoreRules
 pub mod Hashes
 pub mod ProvisionalIndex

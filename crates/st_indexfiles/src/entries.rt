@@ -1,12 +1,14 @@
 ghost use Rattle.std.specs.Prelude.{◌≡◌, ◌≤◌, ℕ, Option, Some, IfOk, OnOk, map};
+ghost use Rattle.std.specs.Option.{option_copied};
 ghost use Rattle.st_base.specs.Each.{each_of};
 ghost use Rattle.st_canon.specs.Plain.{Plain};
+ghost use Rattle.st_canon.specs.Shapes.{entries_in, member_in};
 ghost use Rattle.st_canon.specs.View.{plain};
 ghost use Rattle.st_indexfiles.specs.Written.{AreReadAgain, ReadsAs};
 
 use st_base::{List, WantOfMemory};
 use st_canon::Json;
-use st_canon::scan::{Entries, Scanned};
+use st_canon::scan::{Entries, Scanned, entries_in};
 use std::alloc::Global;
 
 /// What an entry of a list of operations says.
@@ -25,6 +27,16 @@ pub(crate) trait Entry: Drop {
     fn write(&self, alloc: Global) -> Result<Json, WantOfMemory>
         ensures value { IfOk result (λ entry. plain entry ≡ json self.now) }
         ensures read { OnOk result ((version : ℕ) → ReadsAs (of version (json self.now)) self.now) };
+}
+
+/// The entries of the operations of one kind.
+pub(crate) fn entries_of<'a>(operations: Option<&Scanned<'a>>, kind: &str) -> Entries<'a>
+    ensures { result ≡ entries_in (member_in kind.now (option_copied operations.entry)) }
+{
+    match operations {
+        Some(operations) => entries_in(operations.member(kind)),
+        None => entries_in(None),
+    }
 }
 
 /// What all entries say, where each says something.

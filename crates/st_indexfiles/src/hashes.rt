@@ -17,7 +17,7 @@ pub fn hash_in(there: Option<Scanned<'_>>, version: u8) -> Option<Hash>
     requires last { version ≤ 2 }
     ensures { result ≡ hash_in version there.entry }
 {
-    match hash_text_in(there) {
+    match hash_text_in(there.as_ref()) {
         Some(text) => match read_hash_at(text, version) {
             Ok(hash) => Some(hash),
             Err(_) => None,
@@ -42,8 +42,8 @@ pub fn hash_in_json(there: Option<&Json>, version: u8) -> Option<Hash>
 }
 
 /// The file whose URI stands there.
-pub(crate) fn uri_in(there: Option<Scanned<'_>>) -> Option<Hash>
-    ensures { result ≡ uri_in there.entry }
+pub(crate) fn uri_in(there: Option<&Scanned<'_>>) -> Option<Hash>
+    ensures { result ≡ uri_in (option_copied there.entry) }
 {
     match hash_text_in(there) {
         Some(text) => match read_hash(text) {
@@ -57,9 +57,9 @@ pub(crate) fn uri_in(there: Option<Scanned<'_>>) -> Option<Hash>
 // The text that stands there, where it may be a hash text. JSON escapes no byte of a hash text, so one of
 // which it escapes a byte is none.
 #[tactic(auto, using(crate::proofs::EscapedLemmas::no_hash_in, crate::proofs::EscapedLemmas::no_uri_in))]
-fn hash_text_in<'a>(there: Option<Scanned<'a>>) -> Option<&'a [u8]>
-    ensures hash { (version : ℕ) → option_and_then (hash_of_text_at version) (option_copied result) ≡ hash_in version there.entry }
-    ensures uri { option_and_then hash_of_text (option_copied result) ≡ uri_in there.entry }
+fn hash_text_in<'a>(there: Option<&Scanned<'a>>) -> Option<&'a [u8]>
+    ensures hash { (version : ℕ) → option_and_then (hash_of_text_at version) (option_copied result) ≡ hash_in version (option_copied there.entry) }
+    ensures uri { option_and_then hash_of_text (option_copied result) ≡ uri_in (option_copied there.entry) }
 {
     match there {
         Some(value) => match value.bare_text() {
@@ -71,8 +71,8 @@ fn hash_text_in<'a>(there: Option<Scanned<'a>>) -> Option<&'a [u8]>
 }
 
 /// Whether a URI stands there, or nothing.
-pub(crate) fn is_uri_if_there(there: Option<Scanned<'_>>) -> bool
-    ensures { result ≡ is_uri_if_there there.entry }
+pub(crate) fn is_uri_if_there(there: Option<&Scanned<'_>>) -> bool
+    ensures { result ≡ is_uri_if_there (option_copied there.entry) }
 {
     match there {
         Some(value) => uri_in(Some(value)).is_some(),

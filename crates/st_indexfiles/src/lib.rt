@@ -5,6 +5,7 @@
 #![tactic(auto)]
 
 mod core_index;
+mod core_parts;
 mod core_reading;
 mod core_rule;
 mod core_writing;

@@ -2,20 +2,23 @@ ghost use Rattle.std.specs.Prelude.{◌≡◌, ◌≤◌, ◌+◌, ◌==◌, IfO
 ghost use Rattle.st_base.specs.Rules.{Answers};
 ghost use Rattle.st_base.specs.Work.{one_file};
 ghost use Rattle.st_canon.specs.Shapes.{json_in, member_in};
+ghost use Rattle.st_indexfiles.specs.CoreIndex.{operations_of};
 ghost use Rattle.st_indexfiles.specs.CoreRules.{one_alone};
 ghost use Rattle.st_indexfiles.specs.ProvisionalIndex.{chunk_in, provisional_index_of, provisional_with, suffixes_in};
-ghost use Rattle.st_indexfiles.specs.ProvisionalRules.{core_count, has_provisional_entries, has_provisional_form, provisional_json_rules, provisional_rules, repeats_suffix, update_count};
+ghost use Rattle.st_indexfiles.specs.ProvisionalRules.{core_count, has_provisional_entries, has_provisional_form, provisional_json_rules, provisional_rules, repeats_suffix};
 
 use crate::core_index::CoreIndex;
-use crate::core_reading::{has_one, is_one_alone, operations_of};
-use crate::entries::read_entries;
+use crate::core_reading::is_one_alone;
+use crate::entries::{entries_of, read_entries};
 use crate::hashes::{is_uri_if_there, uri_in};
 use crate::provisional_index::ProvisionalIndex;
 use crate::provisional_rule::{ProvisionalRefused, ProvisionalRule};
 use crate::suffixes::push_targets;
 use crate::twice::{has_twice, shares_one};
 use st_base::{FileRefused, List, WantOfMemory, Work};
-use st_canon::scan::{CanonicalText, Scanned, entries_in, is_object_of_lists_if_there, only_of};
+use st_canon::scan::{
+    CanonicalText, Entries, Scanned, entries_in, is_object_of_lists_if_there, only_of,
+};
 use st_hash::Hash;
 use st_params::Params;
 use std::alloc::Global;
@@ -45,7 +48,7 @@ pub fn read_provisional(
     }
 }
 
-#[tactic(auto, unfolding(crate::specs::ProvisionalIndex::provisional_with))]
+#[tactic(auto, using(crate::proofs::ReadLemmas::counted_updates, crate::proofs::ReadLemmas::stray_provisional), unfolding(crate::specs::ProvisionalIndex::provisional_with))]
 fn read_index(
     alloc: Global,
     index: &Scanned<'_>,
@@ -55,36 +58,44 @@ fn read_index(
 ) -> Result<ProvisionalIndex, ProvisionalRefused>
     ensures { Answers (provisional_json_rules params.now count core.now (Some index.now)) (provisional_index_of params.now.version (Some index.now)) result }
 {
-    if !has_provisional_form(index) {
+    let Some(updates) = find_updates(index) else {
         return Err(FileRefused::Rejected(ProvisionalRule::P3));
-    }
+    };
     let Some(chunk) = chunk_in(index) else {
         return Err(FileRefused::Rejected(ProvisionalRule::P4));
     };
-    let Some(found) = read_entries_beside(alloc, index, &chunk, params.version())? else {
+    let Some(found) = read_entries_beside(alloc, index, updates, &chunk, params.version())? else {
         return Err(FileRefused::Rejected(ProvisionalRule::P5));
     };
     if repeats_suffix(alloc, &found, core)? {
         return Err(FileRefused::Rejected(ProvisionalRule::P6));
     }
-    if has_more_than(index, core, count) {
+    if has_more_than(&found, core, count) {
         return Err(FileRefused::Rejected(ProvisionalRule::P7));
     }
-    if has_stray_proof(index) {
+    if has_stray_proof(&found) {
         return Err(FileRefused::Rejected(ProvisionalRule::P8));
     }
-    if needs_no_chunk(index, core) {
+    if needs_no_chunk(&found, core) {
         return Err(FileRefused::Rejected(ProvisionalRule::P9));
     }
     Ok(found)
 }
 
+// The updates, where the file has its form.
 #[tactic(auto, unfolding(crate::specs::ProvisionalRules::has_provisional_form))]
-fn has_provisional_form(index: &Scanned<'_>) -> bool
-    ensures { result ≡ has_provisional_form (Some index.now) }
+fn find_updates<'a>(index: &Scanned<'a>) -> Option<Entries<'a>>
+    ensures { result ≡ (if has_provisional_form (Some index.now) then Some (operations_of (codes "update") (Some index.now)) else None) }
 {
-    index.is_object_of(&["provisionalProofFileUri", "chunks", "operations"])
-        && is_object_of_lists_if_there(index.member("operations"), &["update"])
+    if !index.is_object_of(&["provisionalProofFileUri", "chunks", "operations"]) {
+        return None;
+    }
+    let operations = index.member("operations");
+    let updates = entries_of(operations.as_ref(), "update");
+    if !is_object_of_lists_if_there(operations, &["update"]) {
+        return None;
+    }
+    Some(updates)
 }
 
 // The URI of the chunk file.
@@ -93,7 +104,7 @@ fn chunk_in(index: &Scanned<'_>) -> Option<Hash>
     ensures { result ≡ chunk_in (Some index.now) }
 {
     match only_of(entries_in(index.member("chunks"))) {
-        Some(entry) => uri_in(entry.only_member("chunkFileUri")),
+        Some(entry) => uri_in(entry.only_member("chunkFileUri").as_ref()),
         None => None,
     }
 }
@@ -103,21 +114,24 @@ fn chunk_in(index: &Scanned<'_>) -> Option<Hash>
 fn read_entries_beside(
     alloc: Global,
     index: &Scanned<'_>,
+    updates: Entries<'_>,
     chunk: &Hash,
     version: u8,
 ) -> Result<Option<ProvisionalIndex>, WantOfMemory>
+    requires updates { updates ≡ operations_of (codes "update") (Some index.now) }
     requires first { 1 ≤ version }
     requires last { version ≤ 2 }
     ensures { IfOk result (λ found. found ≡ (if has_provisional_entries version (Some index.now) then Some (provisional_with version (Some index.now) chunk.now) else None)) }
 {
-    if !is_uri_if_there(index.member("provisionalProofFileUri")) {
+    let proof = index.member("provisionalProofFileUri");
+    if !is_uri_if_there(proof.as_ref()) {
         return Ok(None);
     }
-    let Some(updates) = read_entries(alloc, operations_of(index, "update"), version)? else {
+    let Some(updates) = read_entries(alloc, updates, version)? else {
         return Ok(None);
     };
     Ok(Some(ProvisionalIndex {
-        proof: uri_in(index.member("provisionalProofFileUri")),
+        proof: uri_in(proof.as_ref()),
         chunk: *chunk,
         updates,
     }))
@@ -144,34 +158,28 @@ fn repeats_suffix(
     shares_one(alloc, updated.as_slice(), others.as_slice())
 }
 
-#[tactic(auto, unfolding(crate::specs::ProvisionalRules::update_count))]
-fn has_more_than(index: &Scanned<'_>, core: &CoreIndex, count: u32) -> bool
-    ensures { result ≡ nat_lt count (core_count core.now + update_count (Some index.now)) }
+fn has_more_than(index: &ProvisionalIndex, core: &CoreIndex, count: u32) -> bool
+    ensures { result ≡ nat_lt count (core_count core.now + length index.now.updates) }
 {
     let creates = core.creates.len();
     let recovers = core.recovers.len();
     let deactivates = core.deactivates.len();
-    let updates = operations_of(index, "update").count();
+    let updates = index.updates.len();
     // The sum of the lengths is not known to fit, and at the limit it is above every count.
     let in_core = creates.saturating_add(recovers).saturating_add(deactivates);
     in_core.saturating_add(updates) > count as usize
 }
 
-#[tactic(auto, unfolding(crate::specs::ProvisionalRules::update_count))]
-fn has_stray_proof(index: &Scanned<'_>) -> bool
-    ensures { result ≡ one_alone (is_some (member_in (codes "provisionalProofFileUri") (Some index.now))) (nat_lt 0 (update_count (Some index.now))) }
+fn has_stray_proof(index: &ProvisionalIndex) -> bool
+    ensures { result ≡ one_alone (is_some index.now.proof) (nat_lt 0 (length index.now.updates)) }
 {
-    is_one_alone(
-        index.member("provisionalProofFileUri").is_some(),
-        has_one(operations_of(index, "update")),
-    )
+    is_one_alone(index.proof.is_some(), !index.updates.as_slice().is_empty())
 }
 
-#[tactic(auto, unfolding(crate::specs::ProvisionalRules::update_count))]
-fn needs_no_chunk(index: &Scanned<'_>, core: &CoreIndex) -> bool
-    ensures { result ≡ (length core.now.creates + length core.now.recovers + update_count (Some index.now) == 0) }
+fn needs_no_chunk(index: &ProvisionalIndex, core: &CoreIndex) -> bool
+    ensures { result ≡ (length core.now.creates + length core.now.recovers + length index.now.updates == 0) }
 {
     core.creates.as_slice().is_empty()
         && core.recovers.as_slice().is_empty()
-        && !has_one(operations_of(index, "update"))
+        && index.updates.as_slice().is_empty()
 }
