@@ -1,32 +1,45 @@
-ghost use Rattle.std.specs.Prelude.{◌≡◌, Some, is_some};
-ghost use Rattle.st_canon.specs.Shapes.{object_at, text_at};
+ghost use Rattle.std.specs.Prelude.{◌≡◌, IfSome, Some, codes, is_some};
+ghost use Rattle.st_canon.specs.Shapes.{member_in, object_at, text_at};
 ghost use Rattle.st_ops.specs.RequestForm.{has_signed_texts, is_change_form, is_create_form, is_deactivate_form, is_suffix_data_form};
 
 use st_canon::scan::Scanned;
 
-/// Whether these are the members of a create: its `type`, suffix data of two texts, and a delta, which
-/// is an object.
-#[tactic(auto, unfolding(crate::specs::RequestForm::is_create_form))]
-pub(crate) fn is_create_form(request: &Scanned<'_>) -> bool
-    ensures { result ≡ is_create_form (Some request.now) }
+/// What stands in a create.
+#[derive(Drop)]
+pub(crate) struct CreateParts<'a> {
+    pub(crate) suffix_data: Scanned<'a>,
+    pub(crate) delta: Scanned<'a>,
+}
+
+/// The parts of a create, where these are its members: its `type`, suffix data of two texts, and a
+/// delta, which is an object.
+#[tactic(auto, unfolding(crate::specs::RequestForm::is_create_form, crate::specs::RequestForm::is_suffix_data_form))]
+pub(crate) fn create_parts<'a>(request: &Scanned<'a>) -> Option<CreateParts<'a>>
+    ensures form { is_some result ≡ is_create_form (Some request.now) }
+    ensures suffix_data { IfSome result (λ parts. member_in (codes "suffixData") (Some request.now) ≡ Some parts.suffix_data) }
+    ensures delta { IfSome result (λ parts. member_in (codes "delta") (Some request.now) ≡ Some parts.delta) }
 {
-    request.is_object_of(&["type", "suffixData", "delta"])
-        && is_suffix_data_form(request.member("suffixData"))
-        && has_object(request, "delta")
+    if !request.is_object_of(&["type", "suffixData", "delta"]) {
+        return None;
+    }
+    let suffix_data = request.member("suffixData")?;
+    if !is_suffix_data_form(&suffix_data) {
+        return None;
+    }
+    let delta = request.member("delta")?;
+    if !delta.is_object() {
+        return None;
+    }
+    Some(CreateParts { suffix_data, delta })
 }
 
 #[tactic(auto, unfolding(crate::specs::RequestForm::is_suffix_data_form))]
-fn is_suffix_data_form(there: Option<Scanned<'_>>) -> bool
-    ensures { result ≡ is_suffix_data_form there.entry }
+fn is_suffix_data_form(value: &Scanned<'_>) -> bool
+    ensures { result ≡ is_suffix_data_form (Some value.now) }
 {
-    match there {
-        Some(value) => {
-            value.is_object_of(&["deltaHash", "recoveryCommitment"])
-                && has_text(&value, "deltaHash")
-                && has_text(&value, "recoveryCommitment")
-        }
-        None => false,
-    }
+    value.is_object_of(&["deltaHash", "recoveryCommitment"])
+        && has_text(value, "deltaHash")
+        && has_text(value, "recoveryCommitment")
 }
 
 /// Whether these are the members of an update or of a recover: its `type`, the texts of what is

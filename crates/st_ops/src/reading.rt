@@ -4,7 +4,6 @@ ghost use Rattle.st_base.specs.Answers.{GivesAs};
 ghost use Rattle.st_base.specs.Work.{Counts, ProofsAtMost};
 ghost use Rattle.st_canon.specs.Canonical.{escape};
 ghost use Rattle.st_canon.specs.Shapes.{member_in, text_at};
-ghost use Rattle.st_indexfiles.specs.SuffixData.{suffix_data_of};
 ghost use Rattle.st_ops.specs.Counting.{CountsOpening};
 ghost use Rattle.st_ops.specs.Operation.{plain_operation};
 ghost use Rattle.st_ops.specs.Request.{asked, create_asked, deactivate_asked, recover_asked, refusal_of, request_of, update_asked, with_claim, IsComplete};
@@ -12,7 +11,7 @@ ghost use Rattle.st_ops.specs.RequestText.{IsDeltaWithin, IsReadAgain};
 ghost use Rattle.st_ops.specs.declared.refused.RequestRefused.TheVariants.{BadProof};
 
 use crate::claiming::claim_of;
-use crate::form::{is_change_form, is_create_form, is_deactivate_form};
+use crate::form::{create_parts, is_change_form, is_deactivate_form};
 use crate::operation::Operation;
 use crate::refused::RequestRefused;
 use crate::signed::{proof_in, target_in};
@@ -107,13 +106,13 @@ fn create_asked(
     ensures value { GivesAs plain_operation refusal_of (create_asked params.now (Some request.now)) result }
     ensures exact { (work : Counts) → CountsOpening result work work }
 {
-    if !is_create_form(request) {
+    let Some(parts) = create_parts(request) else {
         return Err(RequestRefused::BadForm);
-    }
-    let Some(suffix_data) = suffix_data_in(request, params.version()) else {
+    };
+    let Some(suffix_data) = SuffixData::read(&parts.suffix_data, params.version()) else {
         return Err(RequestRefused::BadHash);
     };
-    let delta = delta_in(alloc, request)?;
+    let delta = Some(parts.delta.pack(alloc)?);
     Ok(Operation::Create { suffix_data, delta })
 }
 
@@ -213,14 +212,6 @@ fn deactivate_asked(
     } else {
         Err(RequestRefused::BadProof)
     }
-}
-
-fn suffix_data_in(request: &Scanned<'_>, version: u8) -> Option<SuffixData>
-    requires first { 1 ≤ version }
-    requires last { version ≤ 2 }
-    ensures { result ≡ suffix_data_of version (member_in (codes "suffixData") (Some request.now)) }
-{
-    SuffixData::read(&request.member("suffixData")?, version)
 }
 
 // The delta of a request.
