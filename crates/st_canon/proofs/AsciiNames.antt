@@ -1,5 +1,6 @@
 -- Names compared byte by byte, as long as both are ASCII.
-use Rattle.std.proofs.Common.{◌≡◌, ◌∙◌, ℕ, ◌+◌, ◌<◌, ◌≤◌, true, List, ◌∷◌, ◌++◌, length, drop, get_or, sym, ap, subst, refl, Less, Equal, Greater, add-one, drop-cons, arith, encode_utf8}
+use Rattle.std.proofs.Common.{◌≡◌, ◌∙◌, ℕ, ◌+◌, ◌<◌, ◌≤◌, true, List, ◌∷◌, ◌++◌, length, drop, get_or, sym, ap, subst, refl, Less, Equal, Greater}
+use Rattle.std.proofs.Common.{add-one, drop-cons, arith, encode_utf8}
 use Rattle.std.specs.Prelude.{nat_lt}
 use Rattle.std.specs.Cmp.{ranked}
 use Rattle.std.specs.Cmp.Lexicographic.{slice_cmp}

@@ -1,5 +1,6 @@
 -- What was written is read again, and no two values have one text.
-use Rattle.std.proofs.Common.{◌≡◌, ℕ, ◌≤◌, List, [], Option, Some, None, option_map, option_and_then, if◌then◌else◌, Result, Ok, refl, sym, ap, ◌∙◌, append-nil, arith}
+use Rattle.std.proofs.Common.{◌≡◌, ℕ, ◌≤◌, List, [], Option, Some, None, option_map, option_and_then, if◌then◌else◌, Result, Ok, refl, sym, ap, ◌∙◌}
+use Rattle.std.proofs.Common.{append-nil, arith}
 use Rattle.std.specs.Prelude.{ℤ, pos, negsuc, nat_le, max, ok_or}
 use Rattle.std.proofs.lemmas.Bool.Decides.{nat_tests}
 use Rattle.std.proofs.lemmas.Int.{ints}
@@ -37,11 +38,19 @@ IsBack o p = (d : data'.Data) × (o ≡ Some d) × (whole_value d ≡ Some p)
 number_back : (z : ℤ) → IsWhole z
     → IsBack (option_map data'.number (number_of (number_text (of_integer z)))) (whole z)
 number_back (pos n) h =
-    let small : n ≤ 9007199254740991 = omega (arith, ints, h.1) in
-    (data'.number (data'.unsigned n), ap (option_map data'.number) (number_of-decimal n (omega arith)), ap (option_map whole) (within n 9007199254740991 (pos n) small))
+    let small : n ≤ 9007199254740991 = omega (arith, ints, h.1) in (
+      data'.number (data'.unsigned n),
+      ap (option_map data'.number) (number_of-decimal n (omega arith)),
+      ap (option_map whole)
+          (within n 9007199254740991 (pos n) small),
+    )
 number_back (negsuc n) h =
-    let small : n ≤ 9007199254740990 = omega (arith, ints, h.0) in
-    (data'.number (data'.negative (negsuc n)), ap (option_map data'.number) (number_of-negative n (omega arith)), ap (option_map whole) (within n 9007199254740990 (negsuc n) small))
+    let small : n ≤ 9007199254740990 = omega (arith, ints, h.0) in (
+      data'.number (data'.negative (negsuc n)),
+      ap (option_map data'.number) (number_of-negative n (omega arith)),
+      ap (option_map whole)
+          (within n 9007199254740990 (negsuc n) small),
+    )
 
 abbrev ItemsAreBack : Items → Type 0
 ItemsAreBack ps =
@@ -90,7 +99,9 @@ mutual
 -- the tokens of the text are read as the JSON of the value, at any depth that suffices
 parsed : (p : Plain) (n : ℕ) → IsProper p → depth (outline (data_of p)) ≤ n
     → json_value n (tokens (canonical p)) ≡ Some (outline (data_of p), [])
-parsed p n h enough = let j = outline (data_of p) in ap (json_value n) (tokens-canonical p h ∙ sym (append-nil (json_tokens j))) ∙ value-json_tokens j n [] enough
+parsed p n h enough =
+    let j = outline (data_of p) in
+    ap (json_value n) (tokens-canonical p h ∙ sym (append-nil (json_tokens j))) ∙ value-json_tokens j n [] enough
 
 read-canonical : (p : Plain) → IsProper p → depth (outline (data_of p)) ≤ 127
     → read (canonical p) ≡ of_json (outline (data_of p))
@@ -112,7 +123,8 @@ from_tokens : (p : Plain) (found : Option (Json × List Token)) → IsProper p
 from_tokens p None h one q e = cc
 from_tokens p (Some x) h one q e =
     let b = back p h in
-    let whole = ap (λ o. json_of_data (option_and_then of_json (option_and_then (λ r. if_last r.0 r.1) o))) (one x refl) ∙ ap json_of_data b.1 ∙ ap (λ o. ok_or o NotWhole) b.2 in
+    let whole = ap (λ o. json_of_data (option_and_then of_json (option_and_then (λ r. if_last r.0 r.1) o))) (one x refl) ∙ ap json_of_data b.1
+    ∙ ap (λ o. ok_or o NotWhole) b.2 in
     let same : ◌≡◌ {A = Result Plain ReadRefused} (Ok q) (Ok p) = sym e ∙ whole in
     cc
 
@@ -120,7 +132,8 @@ pub reads_as : (p q : Plain) → IsProper p → json_of (canonical p) ≡ Ok q �
 reads_as p q h e =
     let n = depth (outline (data_of p)) in
     let text = json_of-utf8 (canonical p) (IsUtf8-canonical p h) in
-    from_tokens p (json_value 127 (tokens (canonical p))) h (λ x here. one_reading 127 n (tokens (canonical p)) x (outline (data_of p), []) here (parsed p n h (omega arith))) q (sym text ∙ e)
+    from_tokens p (json_value 127 (tokens (canonical p))) h
+    (λ x here. one_reading 127 n (tokens (canonical p)) x (outline (data_of p), []) here (parsed p n h (omega arith))) q (sym text ∙ e)
 
 first_same : {A B : Type 0} {a b : A} {x y : B} → ◌≡◌ {A = Option (A × B)} (Some (a, x)) (Some (b, y)) → a ≡ b
 first_same {A} {B} {a} {b} {x} {y} e = let pairs : ◌≡◌ {A = A × B} (a, x) (b, y) = cc in ap (λ r. r.0) pairs

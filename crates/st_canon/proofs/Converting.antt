@@ -1,5 +1,6 @@
 -- Items and members that are converted one after another.
-use Rattle.std.proofs.Common.{◌≡◌, ℕ, List, [], ◌∷◌, ◌++◌, map, String, Global, string_bytes, Option, Some, None, option_map, Ok, Less, Equal, refl, sym, ap, ◌∙◌, subst, append-nil, append_assoc, is_eq, true, false}
+use Rattle.std.proofs.Common.{◌≡◌, ℕ, List, [], ◌∷◌, ◌++◌, map, String, Global, string_bytes, Option, Some, None, option_map, Ok, Less, Equal, refl}
+use Rattle.std.proofs.Common.{sym, ap, ◌∙◌, subst, append-nil, append_assoc, is_eq, true, false}
 use mathlib.Core.Bool.{true≢false}
 use Rattle.std.specs.List.{AllByRecursion}
 use Rattle.std.specs.List.Sorted.{IsStrictlySortedBy}
@@ -144,7 +145,8 @@ pub one_more_name : (entries left next : List Entry) (es : Pairs) (name : String
     → left ≡ (name, v) ∷ next → k ≡ string_bytes name
     → names_in entries ≡ keys_of es ++ names_in left → names_in entries ≡ keys_of (es ++ (k, j) ∷ []) ++ names_in next
 one_more_name entries left next es name v k j step named names =
-    names ∙ ap (λ l. keys_of es ++ names_in l) step ∙ ap (λ n. keys_of es ++ n ∷ names_in next) (sym named) ∙ sym (append_assoc (keys_of es) (k ∷ []) (names_in next)) ∙ ap (λ l. l ++ names_in next) (sym (keys_pushed es))
+    names ∙ ap (λ l. keys_of es ++ names_in l) step ∙ ap (λ n. keys_of es ++ n ∷ names_in next) (sym named)
+    ∙ sym (append_assoc (keys_of es) (k ∷ []) (names_in next)) ∙ ap (λ l. l ++ names_in next) (sym (keys_pushed es))
   where
     keys_pushed : (fs : Pairs) → keys_of (fs ++ (k, j) ∷ []) ≡ keys_of fs ++ k ∷ []
     keys_pushed [] = refl

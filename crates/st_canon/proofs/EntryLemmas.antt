@@ -1,5 +1,6 @@
 -- The first of the entries that are left of a list.
-use Rattle.std.proofs.Common.{◌≡◌, ◌∙◌, ℕ, true, false, List, [], ◌∷◌, ◌++◌, length, Option, Some, None, option_map, refl, ap, sym, subst, arith, append_assoc, length-append}
+use Rattle.std.proofs.Common.{◌≡◌, ◌∙◌, ℕ, true, false, List, [], ◌∷◌, ◌++◌, length, Option, Some, None, option_map, refl, ap, sym, subst, arith}
+use Rattle.std.proofs.Common.{append_assoc, length-append}
 use Rattle.std.specs.Prelude.{is_some, unwrap_or}
 use Rattle.st_canon.specs.Canonical.{canonical, canonical_items}
 use Rattle.st_canon.specs.Entries.{entries, items_in}

@@ -1,5 +1,7 @@
 -- Members that are gathered by name as they come, in whatever order and more than once.
-use Rattle.std.proofs.Common.{◌≡◌, ℕ, ◌+◌, ◌≤◌, List, [], ◌∷◌, ◌++◌, drop, length, length-drop, map, take, Bool, true, false, Option, Some, None, option_map, option_and_then, Ordering, Less, Equal, Greater, nat_cmp, is_eq, if◌then◌else◌, IfSome, refl, sym, ap, ap₂, ◌∙◌, subst, arith, append_assoc}
+use Rattle.std.proofs.Common.{◌≡◌, ℕ, ◌+◌, ◌≤◌, List, [], ◌∷◌, ◌++◌, drop, length, length-drop, map, take, Bool, true, false, Option, Some, None}
+use Rattle.std.proofs.Common.{option_map, option_and_then, Ordering, Less, Equal, Greater, nat_cmp, is_eq, if◌then◌else◌, IfSome, refl, sym, ap, ap₂}
+use Rattle.std.proofs.Common.{◌∙◌, subst, arith, append_assoc}
 use Rattle.std.specs.Prelude.{⊤, is_some}
 use Rattle.std.specs.BTreeMap.{insert_entry}
 use Rattle.std.specs.Cmp.Lexicographic.{slice_cmp, nat_list_cmp_total}
@@ -20,7 +22,7 @@ use Rattle.st_canon.specs.Plain.{Plain, Members, no_members, member}
 use Rattle.st_canon.specs.Proper.{AllAbove, IsProper, MembersAreProper}
 use Rattle.st_canon.specs.Reading.{whole_value, whole_members}
 use Rattle.st_canon.specs.Respelled.{AreWithin, IsWithin, IsWritten, Texts, members_text, text_at, texts_at}
-use Rattle.st_canon.proofs.Order.{name_total, greater_from_less, less_from_greater, same_from_tied}
+use Rattle.st_canon.proofs.Order.{by_order, name_total, greater_from_less, less_from_greater, same_from_tied}
 
 -- ---- a name that goes in among others
 
@@ -64,32 +66,32 @@ module _ {X : Type 0} where
   swapped_by k l x y es Equal is apart = absurd (apart refl)
   swapped_by k l x y es Greater is apart = sym (lower_first l k y x es (less_from_greater k l is))
 
-  all_names : (P : List ℕ → Type 0) (k : List ℕ) (x : X) (es : List (List ℕ × X)) → P k → AllByRecursion P (keys_of es) → AllByRecursion P (keys_of (with_name k x es))
+  all_names : (P : List ℕ → Type 0) (k : List ℕ) (x : X) (es : List (List ℕ × X)) → P k → AllByRecursion P (keys_of es)
+      → AllByRecursion P (keys_of (with_name k x es))
   all_names P k x [] p h = (p, tt)
-  all_names P k x (e ∷ es) p h = elim (name_cmp k e.0) as (λ o. AllByRecursion P (keys_of (match_ordering o ((k, x) ∷ e ∷ es) ((e.0, x) ∷ es) (e ∷ with_name k x es)))) [
-    | Less ↦ (p, h)
-    | Equal ↦ h
-    | Greater ↦ (h.0, all_names P k x es p h.1)
-  ]
+  all_names P k x (e ∷ es) p h =
+      by_order (λ fs. AllByRecursion P (keys_of fs)) (name_cmp k e.0) ((k, x) ∷ e ∷ es) ((e.0, x) ∷ es) (e ∷ with_name k x es)
+      (λ is. (p, h)) (λ is. h) (λ is. (h.0, all_names P k x es p h.1))
 
   all_values : (P : List ℕ → Type 0) (Q : X → Type 0) (k : List ℕ) (x : X) (es : List (List ℕ × X)) → P k → Q x
       → AllByRecursion (λ e. P e.0 × Q e.1) es → AllByRecursion (λ e. P e.0 × Q e.1) (with_name k x es)
   all_values P Q k x [] p q h = ((p, q), tt)
-  all_values P Q k x (e ∷ es) p q h = elim (name_cmp k e.0) as (λ o. AllByRecursion (λ e. P e.0 × Q e.1) (match_ordering o ((k, x) ∷ e ∷ es) ((e.0, x) ∷ es) (e ∷ with_name k x es))) [
-    | Less ↦ ((p, q), h)
-    | Equal ↦ ((h.0.0, q), h.1)
-    | Greater ↦ (h.0, all_values P Q k x es p q h.1)
-  ]
+  all_values P Q k x (e ∷ es) p q h =
+      by_order (AllByRecursion (λ e. P e.0 × Q e.1)) (name_cmp k e.0) ((k, x) ∷ e ∷ es) ((e.0, x) ∷ es) (e ∷ with_name k x es)
+      (λ is. ((p, q), h)) (λ is. ((h.0.0, q), h.1)) (λ is. (h.0, all_values P Q k x es p q h.1))
 
 -- values under a function
 values_with : {X Y : Type 0} (f : X → Y) (k : List ℕ) (x : X) (es : List (List ℕ × X))
     → map (λ e. (e.0, f e.1)) (with_name k x es) ≡ with_name k (f x) (map (λ e. (e.0, f e.1)) es)
 values_with f k x [] = refl
-values_with f k x (e ∷ es) = elim (name_cmp k e.0) as (λ o. map (λ e. (e.0, f e.1)) (match_ordering o ((k, x) ∷ e ∷ es) ((e.0, x) ∷ es) (e ∷ with_name k x es)) ≡ match_ordering o ((k, f x) ∷ map (λ e. (e.0, f e.1)) (e ∷ es)) ((e.0, f x) ∷ map (λ e. (e.0, f e.1)) es) ((e.0, f e.1) ∷ with_name k (f x) (map (λ e. (e.0, f e.1)) es))) [
-  | Less ↦ refl
-  | Equal ↦ refl
-  | Greater ↦ ap (λ l. (e.0, f e.1) ∷ l) (values_with f k x es)
-]
+values_with {X = X} {Y = Y} f k x (e ∷ es) = at (name_cmp k e.0) _ _ (values_with f k x es)
+  where
+    at : (o : Ordering) (fs : List (List ℕ × X)) (gs : List (List ℕ × Y)) → map (λ e. (e.0, f e.1)) fs ≡ gs
+        → map (λ e. (e.0, f e.1)) (match_ordering o ((k, x) ∷ e ∷ es) ((e.0, x) ∷ es) (e ∷ fs))
+        ≡ match_ordering o ((k, f x) ∷ map (λ e. (e.0, f e.1)) (e ∷ es)) ((e.0, f x) ∷ map (λ e. (e.0, f e.1)) es) ((e.0, f e.1) ∷ gs)
+    at Less fs gs ih = refl
+    at Equal fs gs ih = refl
+    at Greater fs gs ih = ap (λ l. (e.0, f e.1) ∷ l) ih
 
 pub names_stay : {X Y : Type 0} (f : X → Y) (es : List (List ℕ × X)) → keys_of (map (λ e. (e.0, f e.1)) es) ≡ keys_of es
 names_stay f [] = refl
@@ -126,19 +128,15 @@ same_bytes k l is = (bytes_eq-Decides k l).0 (sym (is_eq-slice_cmp k l) ∙ ap i
 module _ (k : List ℕ) (d : data'.Data) where
   utf8_put : (ds : data'.Members) → IsUtf8 k → AreUtf8 ds → AreUtf8 (data'.put k d ds)
   utf8_put data'.no_members u h = (u, tt)
-  utf8_put (data'.member l e ds) u h = elim (slice_cmp nat_cmp k l) as (λ o. AreUtf8 (match_ordering o (data'.member k d (data'.member l e ds)) (data'.member l d ds) (data'.member l e (data'.put k d ds)))) [
-    | Less ↦ (u, h)
-    | Equal ↦ h
-    | Greater ↦ (h.0, utf8_put ds u h.1)
-  ]
+  utf8_put (data'.member l e ds) u h =
+      by_order AreUtf8 (slice_cmp nat_cmp k l) (data'.member k d (data'.member l e ds)) (data'.member l d ds) (data'.member l e (data'.put k d ds))
+      (λ is. (u, h)) (λ is. h) (λ is. (h.0, utf8_put ds u h.1))
 
   above_put : (m : List ℕ) (ds : data'.Members) → slice_cmp nat_cmp m k ≡ Less → AreAbove m ds → AreAbove m (data'.put k d ds)
   above_put m data'.no_members lt h = (lt, tt)
-  above_put m (data'.member l e ds) lt h = elim (slice_cmp nat_cmp k l) as (λ o. AreAbove m (match_ordering o (data'.member k d (data'.member l e ds)) (data'.member l d ds) (data'.member l e (data'.put k d ds)))) [
-    | Less ↦ (lt, h)
-    | Equal ↦ h
-    | Greater ↦ (h.0, above_put m ds lt h.1)
-  ]
+  above_put m (data'.member l e ds) lt h =
+      by_order (AreAbove m) (slice_cmp nat_cmp k l) (data'.member k d (data'.member l e ds)) (data'.member l d ds) (data'.member l e (data'.put k d ds))
+      (λ is. (lt, h)) (λ is. h) (λ is. (h.0, above_put m ds lt h.1))
 
   further : (l : List ℕ) (ds : data'.Members) → slice_cmp nat_cmp k l ≡ Less → AreAbove l ds → AreAbove k ds
   further l data'.no_members lt h = tt
@@ -146,11 +144,11 @@ module _ (k : List ℕ) (d : data'.Data) where
 
   ascend_put : (ds : data'.Members) → BytesAscend ds → BytesAscend (data'.put k d ds)
   ascend_put data'.no_members h = (tt, tt)
-  ascend_put (data'.member l e ds) h = elim (slice_cmp nat_cmp k l) as (λ o. slice_cmp nat_cmp k l ≡ o → BytesAscend (match_ordering o (data'.member k d (data'.member l e ds)) (data'.member l d ds) (data'.member l e (data'.put k d ds)))) [
-    | Less ↦ λ is. ((is, further l ds is h.0), h)
-    | Equal ↦ λ is. h
-    | Greater ↦ λ is. (above_put l ds (nat_list_cmp_total.antisymm l k ∙ ap ordering_reverse is) h.0, ascend_put ds h.1)
-  ] refl
+  ascend_put (data'.member l e ds) h =
+      by_order BytesAscend (slice_cmp nat_cmp k l) (data'.member k d (data'.member l e ds)) (data'.member l d ds) (data'.member l e (data'.put k d ds))
+      (λ is. ((is, further l ds is h.0), h))
+      (λ is. h)
+      (λ is. (above_put l ds (nat_list_cmp_total.antisymm l k ∙ ap ordering_reverse is) h.0, ascend_put ds h.1))
 
 -- ---- data as what is gathered of them
 
@@ -165,15 +163,16 @@ outcomes (data'.member k d ds) = with_name k (whole_value d) (outcomes ds)
 outcomes_put : (k : List ℕ) (d : data'.Data) (ds : data'.Members) → IsUtf8 k → AreUtf8 ds
     → outcomes (data'.put k d ds) ≡ with_name k (whole_value d) (outcomes ds)
 outcomes_put k d data'.no_members u h = refl
-outcomes_put k d (data'.member l e ds) u h = elim (slice_cmp nat_cmp k l) as (λ o. slice_cmp nat_cmp k l ≡ o → outcomes (match_ordering o (data'.member k d (data'.member l e ds)) (data'.member l d ds) (data'.member l e (data'.put k d ds))) ≡ with_name k (whole_value d) (with_name l (whole_value e) (outcomes ds))) [
-  | Less ↦ λ is. refl
-  | Equal ↦ λ is.
-      sym (again l (whole_value e) (whole_value d) (outcomes ds))
-      ∙ ap (λ m. with_name m (whole_value d) (with_name l (whole_value e) (outcomes ds))) (sym (same_bytes k l is))
-  | Greater ↦ λ is.
-      ap (with_name l (whole_value e)) (outcomes_put k d ds u h.1)
-      ∙ sym (swapped_by k l (whole_value d) (whole_value e) (outcomes ds) (name_cmp k l) refl (never_tied k l Greater u h.0 is greater_apart))
-] refl
+outcomes_put k d (data'.member l e ds) u h =
+    let x = whole_value d in
+    let y = whole_value e in
+    by_order (λ more. outcomes more ≡ with_name k x (with_name l y (outcomes ds))) (slice_cmp nat_cmp k l)
+    (data'.member k d (data'.member l e ds)) (data'.member l d ds) (data'.member l e (data'.put k d ds))
+    (λ is. refl)
+    (λ is. sym (again l y x (outcomes ds)) ∙ ap (λ m. with_name m x (with_name l y (outcomes ds))) (sym (same_bytes k l is)))
+    (λ is.
+    let apart = never_tied k l Greater u h.0 is greater_apart in
+    ap (with_name l y) (outcomes_put k d ds u h.1) ∙ sym (swapped_by k l x y (outcomes ds) (name_cmp k l) refl apart))
 
 -- ---- all members, where all are whole
 
@@ -210,19 +209,21 @@ all_first k (Some p) e es is = first_whole k e.0 p e.1 (all_whole es) is
 all_whole_with : (k : List ℕ) (there : Option Plain) (es : Outcomes) → AllByRecursion (λ n. name_cmp k n ≡ Equal → ⊥) (keys_of es)
     → all_whole (with_name k there es) ≡ option_and_then (λ p. option_map (put k p) (all_whole es)) there
 all_whole_with k there [] apart = one_whole k there
-all_whole_with k there (e ∷ es) apart = elim (name_cmp k e.0) as (λ o. name_cmp k e.0 ≡ o → all_whole (match_ordering o ((k, there) ∷ e ∷ es) ((e.0, there) ∷ es) (e ∷ with_name k there es)) ≡ option_and_then (λ p. option_map (put k p) (all_whole (e ∷ es))) there) [
-  | Less ↦ λ is. all_first k there e es is
-  | Equal ↦ λ is. absurd (apart.0 is)
-  | Greater ↦ λ is.
-      ap (λ rest. option_and_then (λ q. option_map (member e.0 q) rest) e.1) (all_whole_with k there es apart.1)
-      ∙ later_whole k e.0 there e.1 (all_whole es) is
-] refl
+all_whole_with k there (e ∷ es) apart =
+    by_order (λ fs. all_whole fs ≡ option_and_then (λ p. option_map (put k p) (all_whole (e ∷ es))) there) (name_cmp k e.0)
+    ((k, there) ∷ e ∷ es) ((e.0, there) ∷ es) (e ∷ with_name k there es)
+    (λ is. all_first k there e es is)
+    (λ is. absurd (apart.0 is))
+    (λ is.
+    ap (λ rest. option_and_then (λ q. option_map (member e.0 q) rest) e.1) (all_whole_with k there es apart.1)
+    ∙ later_whole k e.0 there e.1 (all_whole es) is)
 
 apart_from_above : (k : List ℕ) (ds : data'.Members) → IsUtf8 k → AreUtf8 ds → AreAbove k ds
     → AllByRecursion (λ n. name_cmp k n ≡ Equal → ⊥) (keys_of (outcomes ds))
 apart_from_above k data'.no_members u h above = tt
 apart_from_above k (data'.member l d ds) u h above =
-    all_names (λ n. name_cmp k n ≡ Equal → ⊥) l (whole_value d) (outcomes ds) (never_tied k l Less u h.0 above.0 less_apart) (apart_from_above k ds u h.1 above.1)
+    all_names (λ n. name_cmp k n ≡ Equal → ⊥) l (whole_value d) (outcomes ds) (never_tied k l Less u h.0 above.0 less_apart)
+    (apart_from_above k ds u h.1 above.1)
 
 whole_members_are : (ds : data'.Members) → AreUtf8 ds → BytesAscend ds → whole_members ds ≡ all_whole (outcomes ds)
 whole_members_are data'.no_members u h = refl
@@ -263,7 +264,8 @@ all_above : (k : List ℕ) (es : Outcomes) → AllByRecursion (λ n. name_cmp k 
 all_above k [] h = tt
 all_above k (e ∷ es) h = above_with k e.0 e.1 (all_whole es) h.0 (all_above k es h.1)
 
-proper_with : (k : List ℕ) (there : Option Plain) (rest : Option Members) → IsUtf8 k → IfSome there IsProper → IfSome rest (AllAbove k) → IfSome rest MembersAreProper
+proper_with : (k : List ℕ) (there : Option Plain) (rest : Option Members) → IsUtf8 k → IfSome there IsProper → IfSome rest (AllAbove k)
+    → IfSome rest MembersAreProper
     → IfSome (option_and_then (λ p. option_map (member k p) rest) there) MembersAreProper
 proper_with k None rest u p above h = tt
 proper_with k (Some q) None u p above h = tt
@@ -300,7 +302,8 @@ pub one_more_gathered : (ds : data'.Members) (texts new : Texts) (k : List ℕ) 
 one_more_gathered ds texts new k d told text are u written is =
     let more = outcomes_put k d ds u are.utf8 in record {
       are = is ∙ ap (λ given. with_name k given texts) (text_given (whole_value d) told text written)
-          ∙ ap (with_name k (option_map canonical (whole_value d))) are.are ∙ sym (values_with (option_map canonical) k (whole_value d) (outcomes ds)) ∙ ap texts_of (sym more);
+          ∙ ap (with_name k (option_map canonical (whole_value d))) are.are ∙ sym (values_with (option_map canonical) k (whole_value d) (outcomes ds))
+          ∙ ap texts_of (sym more);
       ascend = ascend_put k d ds are.ascend;
       utf8 = utf8_put k d ds u are.utf8;
       proper = subst AreProper (sym more)
@@ -355,11 +358,9 @@ module _ (old new added : List ℕ) (grown : new ≡ old ++ added) where
       where
         all_within : (es : Spans) → IfSome span (IsWithin new) → AreWithin new es → AreWithin new (insert_entry name_cmp es k span)
         all_within [] one h = (one, tt)
-        all_within (e ∷ es) one h = elim (name_cmp k e.0) as (λ o. AreWithin new (match_ordering o ((k, span) ∷ e ∷ es) ((e.0, span) ∷ es) (e ∷ insert_entry name_cmp es k span))) [
-          | Less ↦ (one, h)
-          | Equal ↦ (one, h.1)
-          | Greater ↦ (h.0, all_within es one h.1)
-        ]
+        all_within (e ∷ es) one h =
+            by_order (AreWithin new) (name_cmp k e.0) ((k, span) ∷ e ∷ es) ((e.0, span) ∷ es) (e ∷ insert_entry name_cmp es k span)
+            (λ is. (one, h)) (λ is. (one, h.1)) (λ is. (h.0, all_within es one h.1))
 
     pub texts_grown : (text : Option (List ℕ)) → text_at new span ≡ text → texts_at new more ≡ insert_entry name_cmp (texts_at old spans) k text
     texts_grown text e =

@@ -24,11 +24,13 @@ plain_items-set values i v = ap items_of (map-set plain values i v ∙ ap (λ l.
 pub plain_items-insert : (values : List Json) (i : ℕ) (v : Json)
     → plain_items (insert values i v) ≡ items_of (insert (entries (plain_items values)) i (plain v))
 plain_items-insert values i v = ap items_of
-    (map-append plain (take i values) (v ∷ drop i values) ∙ rw (← take-map plain i values, ← drop-map plain i values) refl ∙ ap (λ l. insert l i (plain v)) (sym (entries-plain_items values)))
+    (map-append plain (take i values) (v ∷ drop i values) ∙ rw (← take-map plain i values, ← drop-map plain i values) refl
+    ∙ ap (λ l. insert l i (plain v)) (sym (entries-plain_items values)))
 
 pub plain_items-remove : (values : List Json) (i : ℕ)
     → plain_items (remove values i) ≡ items_of (remove (entries (plain_items values)) i)
 plain_items-remove values i = ap items_of
-    (map-append plain (take i values) (drop (suc i) values) ∙ rw (← take-map plain i values, ← drop-map plain (suc i) values) refl ∙ ap (λ l. remove l i) (sym (entries-plain_items values)))
+    (map-append plain (take i values) (drop (suc i) values) ∙ rw (← take-map plain i values, ← drop-map plain (suc i) values) refl
+    ∙ ap (λ l. remove l i) (sym (entries-plain_items values)))
 
 pub ruleset entries_listed = (entries-plain_items)

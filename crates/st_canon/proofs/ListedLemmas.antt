@@ -53,7 +53,8 @@ put_some-fits name None [] fit = refl
 put_some-fits name (Some p) [] fit = refl
 put_some-fits name o (pair ∷ pairs) fit =
     elim (name_cmp name pair.0) as (λ w. name_cmp name pair.0 ≡ w → match_ordering w (is_below name pairs) false (fits name pairs) ≡ true
-    → put_some name o (some_first pair.0 pair.1 (members_some pairs)) ≡ members_some (match_ordering w ((name, o) ∷ pair ∷ pairs) ((name, o) ∷ pairs) (pair ∷ inserted name o pairs))) [
+    → put_some name o (some_first pair.0 pair.1 (members_some pairs))
+    ≡ members_some (match_ordering w ((name, o) ∷ pair ∷ pairs) ((name, o) ∷ pairs) (pair ∷ inserted name o pairs))) [
       | Less ↦ λ is fit. put_some-first name pair.0 o pair.1 pairs is fit
       | Equal ↦ λ is fit. absurd (cc)
       | Greater ↦ λ is fit. put_some-past name pair.0 o pair.1 (members_some pairs) is
@@ -96,5 +97,6 @@ pub canonical-listed : (pairs before : List (List ℕ × Option Plain)) (name : 
     → sorted_among pairs [] ≡ before ++ (name, Some value) ∷ behind
     → canonical (object_of_some pairs) ≡ listed_text before name value behind
 canonical-listed pairs before name value behind fit sorted =
+    let last = name_text name ++ (canonical value ++ texts_behind behind (125 ∷ [])) in
     ap (λ ms. 123 ∷ (canonical_members false ms ++ 125 ∷ [])) (with_some-fits pairs [] fit ∙ ap members_some sorted)
-    ∙ ap (λ text. 123 ∷ text) (text-before before false name value behind (125 ∷ []) (name_text name ++ (canonical value ++ texts_behind behind (125 ∷ []))) (text-always name value behind (125 ∷ [])))
+    ∙ ap (λ text. 123 ∷ text) (text-before before false name value behind (125 ∷ []) last (text-always name value behind (125 ∷ [])))

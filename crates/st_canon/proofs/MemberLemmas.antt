@@ -1,5 +1,6 @@
 -- The first of the members that are left of an object.
-use Rattle.std.proofs.Common.{◌≡◌, ◌∙◌, ℕ, ◌<◌, Bool, true, false, List, [], ◌∷◌, ◌++◌, length, Option, Some, None, Less, refl, ap, sym, subst, arith, append_assoc, length-append}
+use Rattle.std.proofs.Common.{◌≡◌, ◌∙◌, ℕ, ◌<◌, Bool, true, false, List, [], ◌∷◌, ◌++◌, length, Option, Some, None, Less, refl, ap, sym, subst, arith}
+use Rattle.std.proofs.Common.{append_assoc, length-append}
 use Rattle.std.specs.Prelude.{is_some, unwrap_or}
 use Rattle.st_canon.specs.Canonical.{canonical, canonical_members, quoted}
 use Rattle.st_canon.specs.Entries.{members_in}
@@ -128,7 +129,8 @@ alone name word p same = rw (name_turned word name ∙ same, same) refl
 not_alone : (name word other : List ℕ) (p q : Plain) (ms : Members) → is_name name word ≡ true → name_cmp word other ≡ Less
     → only_member name (Some (object (member word p (member other q ms)))) ≡ None
 not_alone name word other p q ms same below =
-    let apart : is_name other name ≡ false = name_turned other name ∙ ap (λ n. is_name n other) (same_from_is_name name word same) ∙ not_name_from_less word other below in
+    let apart : is_name other name ≡ false = name_turned other name ∙ ap (λ n. is_name n other) (same_from_is_name name word same)
+    ∙ not_name_from_less word other below in
     rw (name_turned word name ∙ same, apart) refl
 
 another : (name word : List ℕ) (p : Plain) (ms : Members) → is_name name word ≡ false → only_member name (Some (object (member word p ms))) ≡ None

@@ -9,16 +9,16 @@ use Rattle.json.proofs.Printed.Utf8.{are_ascii, IsUtf8-are_ascii}
 use Rattle.st_canon.specs.Find.{OthersStay, member_at, put, without}
 use Rattle.st_canon.specs.Names.{name_cmp, is_name}
 use Rattle.st_canon.specs.Plain.{Plain, Members, no_members, member}
-use Rattle.st_canon.proofs.Order.{same_from_tied, same_from_is_name, is_name_from_same, not_name_from_apart, not_name_from_greater}
+use Rattle.st_canon.proofs.Order.{by_order, same_from_tied, same_from_is_name, is_name_from_same, not_name_from_apart, not_name_from_greater}
 
 -- the member that was put is found
 pub member_at-put_same : (name : List ℕ) (p : Plain) (ms : Members) → member_at name (put name p ms) ≡ Some p
 member_at-put_same name p no_members = rw (is_name_from_same name name refl) refl
-member_at-put_same name p (member n q ms) = elim (name_cmp name n) as (λ o. name_cmp name n ≡ o → member_at name (match_ordering o (member name p (member n q ms)) (member name p ms) (member n q (put name p ms))) ≡ Some p) [
-  | Less ↦ λ is. rw (is_name_from_same name name refl) refl
-  | Equal ↦ λ is. rw (is_name_from_same name name refl) refl
-  | Greater ↦ λ is. rw (not_name_from_greater name n is) (member_at-put_same name p ms)
-] refl
+member_at-put_same name p (member n q ms) =
+    by_order (λ found. member_at name found ≡ Some p) (name_cmp name n) (member name p (member n q ms)) (member name p ms) (member n q (put name p ms))
+    (λ is. rw (is_name_from_same name name refl) refl)
+    (λ is. rw (is_name_from_same name name refl) refl)
+    (λ is. rw (not_name_from_greater name n is) (member_at-put_same name p ms))
 
 -- a name that ties with the one put is the one put
 other_name : (other name n : List ℕ) → IsUtf8 other → IsUtf8 name → is_name other name ≡ false
@@ -33,11 +33,11 @@ pub member_at-put_other : (other name : List ℕ) (p : Plain) (ms : Members) →
     → is_name other name ≡ false → member_at other (put name p ms) ≡ member_at other ms
 member_at-put_other other name p no_members u v differ = rw differ refl
 member_at-put_other other name p (member n q ms) u v differ =
-    elim (name_cmp name n) as (λ o. name_cmp name n ≡ o → member_at other (match_ordering o (member name p (member n q ms)) (member name p ms) (member n q (put name p ms))) ≡ member_at other (member n q ms)) [
-      | Less ↦ λ is. rw differ refl
-      | Equal ↦ λ is. rw (differ, other_name other name n u v differ is) refl
-      | Greater ↦ λ is. ap (cond (is_name other n) (Some q)) (member_at-put_other other name p ms u v differ)
-    ] refl
+    by_order (λ found. member_at other found ≡ member_at other (member n q ms)) (name_cmp name n)
+    (member name p (member n q ms)) (member name p ms) (member n q (put name p ms))
+    (λ is. rw differ refl)
+    (λ is. rw (differ, other_name other name n u v differ is) refl)
+    (λ is. ap (cond (is_name other n) (Some q)) (member_at-put_other other name p ms u v differ))
 
 -- the same at two names of ASCII, which computes where they are literals
 pub member_at-put_literal : (other name : List ℕ) (p : Plain) (ms : Members)
@@ -52,19 +52,24 @@ member_at-put_literal other name p ms apart =
 -- the member that was removed is gone
 pub member_at-without_same : (name : List ℕ) (ms : Members) → member_at name (without name ms) ≡ None
 member_at-without_same name no_members = refl
-member_at-without_same name (member n q ms) = elim (is_name name n) as (λ t. is_name name n ≡ t → member_at name (cond t (without name ms) (member n q (without name ms))) ≡ None) [
-  | true ↦ λ is. member_at-without_same name ms
-  | false ↦ λ is. rw is (member_at-without_same name ms)
-] refl
+member_at-without_same name (member n q ms) =
+    elim (is_name name n) as (λ t. is_name name n ≡ t → member_at name (cond t (without name ms) (member n q (without name ms))) ≡ None) [
+      | true ↦ λ is. member_at-without_same name ms
+      | false ↦ λ is. rw is (member_at-without_same name ms)
+    ] refl
 
 -- other members stay
 pub member_at-without_other : (other name : List ℕ) (ms : Members) → is_name other name ≡ false
     → member_at other (without name ms) ≡ member_at other ms
 member_at-without_other other name no_members differ = refl
-member_at-without_other other name (member n q ms) differ = elim (is_name name n) as (λ t. is_name name n ≡ t → member_at other (cond t (without name ms) (member n q (without name ms))) ≡ member_at other (member n q ms)) [
-  | true ↦ λ is. let not : is_name other n ≡ false = ap (is_name other) (sym (same_from_is_name name n is)) ∙ differ in rw not (member_at-without_other other name ms differ)
-  | false ↦ λ is. ap (cond (is_name other n) (Some q)) (member_at-without_other other name ms differ)
-] refl
+member_at-without_other other name (member n q ms) differ =
+    elim (is_name name n) as (λ t. is_name name n ≡ t → member_at other (cond t (without name ms) (member n q (without name ms)))
+    ≡ member_at other (member n q ms)) [
+      | true ↦ λ is.
+          let not : is_name other n ≡ false = ap (is_name other) (sym (same_from_is_name name n is)) ∙ differ in
+          rw not (member_at-without_other other name ms differ)
+      | false ↦ λ is. ap (cond (is_name other n) (Some q)) (member_at-without_other other name ms differ)
+    ] refl
 
 -- ---- all names but one
 

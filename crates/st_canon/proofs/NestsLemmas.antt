@@ -1,7 +1,7 @@
 -- What was read nests no deeper than a reader goes, so its canonical text is read again, and so is each part's.
-use Rattle.std.proofs.Common.{◌≡◌, ℕ, ◌≤◌, max, List, Option, Some, None, option_map, option_and_then, Ok, Ordering, Less, Equal, Greater, IfSome, refl, sym, ap, ◌∙◌, subst, arith, if◌then◌else◌}
+use Rattle.std.proofs.Common.{◌≡◌, ℕ, ◌≤◌, max, List, Option, Some, None, option_map, option_and_then, Ok, IfSome, refl, sym, ap, ◌∙◌, subst, arith}
+use Rattle.std.proofs.Common.{if◌then◌else◌}
 use Rattle.std.specs.Prelude.{suc, pos, negsuc, Bool, true, false}
-use Rattle.std.specs.Ordering.{match_ordering}
 use Rattle.std.specs.Str.{is_utf8}
 use Rattle.json.specs.Tree as tree
 use Rattle.serde_json.specs.Data as data'
@@ -21,6 +21,7 @@ use Rattle.st_canon.proofs.Back.{back_within_outline}
 use Rattle.st_canon.proofs.Data.{data_of, items_data, members_data}
 use Rattle.st_canon.proofs.Outcomes.{json_of_data}
 use Rattle.st_canon.proofs.Converting.{whole_from}
+use Rattle.st_canon.proofs.Order.{by_order}
 
 -- ---- the brackets of the text nest as deep as the value does
 mutual
@@ -55,17 +56,12 @@ any_mapped : {A B : Type 0} (Q : B → Type 0) (f : A → B) (there : Option A) 
 any_mapped Q f None all = tt
 any_mapped Q f (Some a) all = all a
 
-one_of_three : (o : Ordering) (a b c : Members) (n : ℕ) → members_nest a ≤ n → members_nest b ≤ n → members_nest c ≤ n
-    → members_nest (match_ordering o a b c) ≤ n
-one_of_three Less a b c n first second third = first
-one_of_three Equal a b c n first second third = second
-one_of_three Greater a b c n first second third = third
-
 put_within : (k : List ℕ) (p : Plain) (ms : Members) (n : ℕ) → nests p ≤ n → members_nest ms ≤ n → members_nest (put k p ms) ≤ n
 put_within k p no_members n one all = omega (arith, one, all)
 put_within k p (member l q ms) n one all =
-    one_of_three (name_cmp k l) (member k p (member l q ms)) (member k p ms) (member l q (put k p ms)) n (omega (arith, one, all)) (omega (arith, one, all))
-    (let rest = put_within k p ms n one (omega (arith, all)) in omega (arith, all, rest))
+    by_order (λ qs. members_nest qs ≤ n) (name_cmp k l) (member k p (member l q ms)) (member k p ms) (member l q (put k p ms))
+    (λ is. omega (arith, one, all)) (λ is. omega (arith, one, all))
+    (λ is. let rest = put_within k p ms n one (omega (arith, all)) in omega (arith, all, rest))
 
 mutual
   whole_within : (d : Data) → IfSome (whole_value d) (λ p. nests p ≤ data'.depth d)
@@ -77,21 +73,26 @@ mutual
       chained (λ ps. items_nest ps ≤ data'.items_depth ds) (λ p. nests p ≤ suc (data'.items_depth ds)) (λ ps. Some (list ps)) (whole_items ds) (items_within ds)
       (λ ps within. omega (arith, within))
   whole_within (data'.object ms) =
-      chained (λ qs. members_nest qs ≤ data'.members_depth ms) (λ p. nests p ≤ suc (data'.members_depth ms)) (λ qs. Some (object qs)) (whole_members ms) (members_within ms)
+      chained (λ qs. members_nest qs ≤ data'.members_depth ms) (λ p. nests p ≤ suc (data'.members_depth ms)) (λ qs. Some (object qs)) (whole_members ms)
+      (members_within ms)
       (λ qs within. omega (arith, within))
 
   items_within : (ds : data'.Items) → IfSome (whole_items ds) (λ ps. items_nest ps ≤ data'.items_depth ds)
   items_within data'.no_items = omega arith
   items_within (data'.item d ds) =
-      chained (λ p. nests p ≤ data'.depth d) (λ ps. items_nest ps ≤ max (data'.depth d) (data'.items_depth ds)) (λ p. option_map (item p) (whole_items ds)) (whole_value d) (whole_within d)
-      (λ p one. chained (λ ps. items_nest ps ≤ data'.items_depth ds) (λ ps. items_nest ps ≤ max (data'.depth d) (data'.items_depth ds)) (λ ps. Some (item p ps)) (whole_items ds) (items_within ds)
+      chained (λ p. nests p ≤ data'.depth d) (λ ps. items_nest ps ≤ max (data'.depth d) (data'.items_depth ds)) (λ p. option_map (item p) (whole_items ds))
+      (whole_value d) (whole_within d)
+      (λ p one. chained (λ ps. items_nest ps ≤ data'.items_depth ds) (λ ps. items_nest ps ≤ max (data'.depth d) (data'.items_depth ds))
+      (λ ps. Some (item p ps)) (whole_items ds) (items_within ds)
       (λ ps all. omega (arith, one, all)))
 
   members_within : (ms : data'.Members) → IfSome (whole_members ms) (λ qs. members_nest qs ≤ data'.members_depth ms)
   members_within data'.no_members = omega arith
   members_within (data'.member k d ms) =
-      chained (λ p. nests p ≤ data'.depth d) (λ qs. members_nest qs ≤ max (data'.depth d) (data'.members_depth ms)) (λ p. option_map (put k p) (whole_members ms)) (whole_value d) (whole_within d)
-      (λ p one. chained (λ qs. members_nest qs ≤ data'.members_depth ms) (λ qs. members_nest qs ≤ max (data'.depth d) (data'.members_depth ms)) (λ qs. Some (put k p qs)) (whole_members ms) (members_within ms)
+      chained (λ p. nests p ≤ data'.depth d) (λ qs. members_nest qs ≤ max (data'.depth d) (data'.members_depth ms))
+      (λ p. option_map (put k p) (whole_members ms)) (whole_value d) (whole_within d)
+      (λ p one. chained (λ qs. members_nest qs ≤ data'.members_depth ms) (λ qs. members_nest qs ≤ max (data'.depth d) (data'.members_depth ms))
+      (λ qs. Some (put k p qs)) (whole_members ms) (members_within ms)
       (λ qs all. put_within k p qs (max (data'.depth d) (data'.members_depth ms)) (omega (arith, one)) (omega (arith, all))))
 
 -- ---- what was read

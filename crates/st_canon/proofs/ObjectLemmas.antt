@@ -1,6 +1,7 @@
 -- What is read back of an object whose members were listed.
 use Rattle.std.specs.Prelude.{◌&&◌, is_some, nat_eq}
-use Rattle.std.proofs.Common.{◌≡◌, ◌∙◌, ℕ, suc, Bool, true, false, cond, not, List, [], ◌∷◌, length, Option, Some, None, Result, Ok, Err, Less, Equal, Greater, option_and_then, refl, sym, ap, subst, arith}
+use Rattle.std.proofs.Common.{◌≡◌, ◌∙◌, ℕ, suc, Bool, true, false, cond, not, List, [], ◌∷◌, length, Option, Some, None, Result, Ok, Err, Less, Equal}
+use Rattle.std.proofs.Common.{Greater, option_and_then, refl, sym, ap, subst, arith}
 use Rattle.std.proofs.lemmas.Bool.{and_parts}
 use Rattle.std.specs.Result.{result_ok}
 use Rattle.std.proofs.lemmas.Bool.Decides.{nat_tests}
@@ -104,7 +105,8 @@ listed_at name [] ms ascii apart none = none
 listed_at name (pair ∷ pairs) ms ascii apart none =
     let first = and_parts (are_ascii pair.0) (list_all (is_apart pair.0) (keys_of pairs) && are_apart (keys_of pairs)) apart in
     let later = and_parts (list_all (is_apart pair.0) (keys_of pairs)) (are_apart (keys_of pairs)) first.1 in
-    elim (is_name name pair.0) as (λ t. is_name name pair.0 ≡ t → member_at name (with_some pairs (put_some pair.0 pair.1 ms)) ≡ option_and_then (λ value. value) (cond t (Some pair.1) (lookup (is_name name) pairs))) [
+    elim (is_name name pair.0) as (λ t. is_name name pair.0 ≡ t → member_at name (with_some pairs (put_some pair.0 pair.1 ms))
+    ≡ option_and_then (λ value. value) (cond t (Some pair.1) (lookup (is_name name) pairs))) [
       | true ↦ λ is. let same : pair.0 ≡ name = sym (same_from_is_name name pair.0 is) in
           listed_beside name pairs (put_some pair.0 pair.1 ms) (subst (λ n. list_all (is_apart n) (keys_of pairs) ≡ true) same later.0)
           ∙ ap (λ n. member_at name (put_some n pair.1 ms)) same ∙ member_at-put_some_same name pair.1 ms none

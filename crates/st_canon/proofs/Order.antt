@@ -1,11 +1,12 @@
 -- The order of names is total, and tells different names of UTF-8 apart.
-use Rattle.std.proofs.Common.{◌≡◌, ℕ, ◌+◌, ◌-◌, ◌/◌, ◌%◌, ◌≤◌, ◌<◌, Bool, true, false, cond, List, [], ◌∷◌, ◌++◌, Less, Equal, Greater, is_eq, refl, sym, ap, ◌∙◌, arith, inl, inr}
+use Rattle.std.proofs.Common.{◌≡◌, ℕ, ◌+◌, ◌-◌, ◌/◌, ◌%◌, ◌≤◌, ◌<◌, Bool, true, false, cond, List, [], ◌∷◌, ◌++◌, Ordering, Less, Equal, Greater}
+use Rattle.std.proofs.Common.{is_eq, refl, sym, ap, ◌∙◌, arith, inl, inr}
 use Rattle.std.specs.Prelude.{nat_lt, ◌⊎◌}
 use Rattle.std.specs.Char.Escape.{encode_utf16}
 use Rattle.std.specs.Cmp.{IsTotalOrder, first_so, second_so}
 use Rattle.std.specs.Cmp.Lexicographic.{on_texts}
 use Rattle.std.specs.List.{flat_map}
-use Rattle.std.specs.Ordering.{ordering_reverse}
+use Rattle.std.specs.Ordering.{match_ordering, ordering_reverse}
 use Rattle.std.specs.Str.{IsUtf8, chars}
 use Rattle.std.proofs.Math.Utf8.{scalar, scalars, scalar_cases, encodes}
 use Rattle.std.proofs.lemmas.Bool.Decides.{nat_tests}
@@ -23,6 +24,13 @@ greater_from_less a b lt = name_total.antisymm b a ∙ ap ordering_reverse lt
 
 pub less_from_greater : (a b : List ℕ) → name_cmp a b ≡ Greater → name_cmp b a ≡ Less
 less_from_greater a b gt = name_total.antisymm b a ∙ ap ordering_reverse gt
+
+-- what holds of each of three ways that an order tells, holds of the one that it takes
+pub by_order : {A : Type 0} (P : A → Type 0) (o : Ordering) (a b c : A) → (o ≡ Less → P a) → (o ≡ Equal → P b) → (o ≡ Greater → P c)
+    → P (match_ordering o a b c)
+by_order P Less a b c less equal greater = less refl
+by_order P Equal a b c less equal greater = equal refl
+by_order P Greater a b c less equal greater = greater refl
 
 pub tied_from_same : (a b : List ℕ) → a ≡ b → name_cmp a b ≡ Equal
 tied_from_same a b same = ap (name_cmp a) (sym same) ∙ tied_itself name_total a
@@ -75,14 +83,18 @@ units_tell [] [] u v e = refl
 units_tell [] (d ∷ ds) u v e = absurd (no_units d _ (nat_lt d 65536) (sym e))
 units_tell (c ∷ cs) [] u v e = absurd (no_units c _ (nat_lt c 65536) e)
 units_tell (c ∷ cs) (d ∷ ds) u v e =
-    let h = first_tells c d (flat_map encode_utf16 cs) (flat_map encode_utf16 ds) _ _ refl refl (first_so (scalar c) (scalars cs) u) (first_so (scalar d) (scalars ds) v) e in
+    let x = flat_map encode_utf16 cs in
+    let y = flat_map encode_utf16 ds in
+    let h = first_tells c d x y _ _ refl refl (first_so (scalar c) (scalars cs) u) (first_so (scalar d) (scalars ds) v) e in
     let t = units_tell cs ds (second_so (scalar c) (scalars cs) u) (second_so (scalar d) (scalars ds) v) h.1 in
     let head : c ≡ d = h.0 in
     cc
 
 pub same_from_tied : (a b : List ℕ) → IsUtf8 a → IsUtf8 b → name_cmp a b ≡ Equal → a ≡ b
 same_from_tied a b u v tied =
-    let units : utf16_units a ≡ utf16_units b = (bytes_eq-Decides (utf16_units a) (utf16_units b)).0 (sym (is_eq-slice_cmp (utf16_units a) (utf16_units b)) ∙ ap is_eq tied) in
+    let x = utf16_units a in
+    let y = utf16_units b in
+    let units : x ≡ y = (bytes_eq-Decides x y).0 (sym (is_eq-slice_cmp x y) ∙ ap is_eq tied) in
     let spelled = units_tell (chars a) (chars b) (scalars-chars a u) (scalars-chars b v) units in
     sym (encodes-chars a u) ∙ ap encodes spelled ∙ encodes-chars b v
 

@@ -1,5 +1,6 @@
 -- What stands at the place of a name, and at its gap, among pairs whose names ascend.
-use Rattle.std.proofs.Common.{◌≡◌, ℕ, zero, suc, ◌<◌, Bool, true, false, cond, List, [], ◌∷◌, length, get_or, set, Option, Some, None, option_map, Ordering, Less, Equal, Greater, refl, sym, ap, ◌∙◌, subst, arith}
+use Rattle.std.proofs.Common.{◌≡◌, ℕ, zero, suc, ◌<◌, Bool, true, false, cond, List, [], ◌∷◌, length, get_or, set, Option, Some, None, option_map}
+use Rattle.std.proofs.Common.{Ordering, Less, Equal, Greater, refl, sym, ap, ◌∙◌, subst, arith}
 use Rattle.std.specs.List.{insert, remove, AllByRecursion}
 use Rattle.std.specs.List.Sorted.{IsStrictlySortedBy}
 use Rattle.std.specs.Map.{keys_of, lookup}
@@ -164,7 +165,8 @@ module _ (name : List ℕ) where
       let above = subst (λ n. AllByRecursion (λ k. name_cmp n k ≡ Less) (keys_of es)) named ascend.0 in
       rw (is_name_from_same name e.0 (sym named)) (sym (without_absent es (absent_above name es above)))
   without_at (e ∷ es) (suc i) d ascend lt named =
-      rw (not_name_from_greater name e.0 (first_below name e es i d ascend (omega arith) named)) (ap (member e.0 (plain e.1)) (without_at es i d ascend.1 (omega arith) named))
+      rw (not_name_from_greater name e.0 (first_below name e es i d ascend (omega arith) named))
+      (ap (member e.0 (plain e.1)) (without_at es i d ascend.1 (omega arith) named))
 
   module _ (es : List (List ℕ × Json)) (i : ℕ) where
     module _ (at : IsPlaceOf name es i) (ascend : NamesAscend es) where

@@ -10,7 +10,7 @@ use Rattle.st_canon.specs.Names.{name_cmp}
 use Rattle.st_canon.specs.Plain.{Plain, Members, no_members, member}
 use Rattle.st_canon.specs.Proper.{AllAbove, MembersAreProper}
 use Rattle.st_canon.specs.Reading.{whole_value, whole_members}
-use Rattle.st_canon.proofs.Order.{name_total, greater_from_less, less_from_greater, tied_from_same}
+use Rattle.st_canon.proofs.Order.{by_order, name_total, greater_from_less, less_from_greater, tied_from_same}
 
 -- ---- two puts at different names may change places
 
@@ -56,11 +56,9 @@ tied_from_bytes k l is = tied_from_same k l ((bytes_eq-Decides k l).0 (sym (is_e
 pub fresh_put : (k l : List ℕ) (d : data'.Data) (ds : data'.Members) → (name_cmp k l ≡ Equal → ⊥) → IsFresh k ds
     → IsFresh k (data'.put l d ds)
 fresh_put k l d data'.no_members apart h = (apart, tt)
-fresh_put k l d (data'.member m e ds) apart h = elim (slice_cmp nat_cmp l m) as (λ o. IsFresh k (match_ordering o (data'.member l d (data'.member m e ds)) (data'.member m d ds) (data'.member m e (data'.put l d ds)))) [
-  | Less ↦ (apart, h)
-  | Equal ↦ h
-  | Greater ↦ (h.0, fresh_put k l d ds apart h.1)
-]
+fresh_put k l d (data'.member m e ds) apart h =
+    by_order (IsFresh k) (slice_cmp nat_cmp l m) (data'.member l d (data'.member m e ds)) (data'.member m d ds) (data'.member m e (data'.put l d ds))
+    (λ is. (apart, h)) (λ is. h) (λ is. (h.0, fresh_put k l d ds apart h.1))
 
 put_inside : (k l : List ℕ) (p : Plain) (e : Option Plain) (o : Option Members) → (name_cmp k l ≡ Equal → ⊥)
     → option_and_then (λ q. option_map (put l q) (option_map (put k p) o)) e ≡ option_map (put k p) (option_and_then (λ q. option_map (put l q) o) e)
@@ -72,7 +70,8 @@ put_inside k l p (Some q) (Some f) apart = ap Some (sym (swapped k l p q f apart
 whole_put_at : (k l : List ℕ) (d e : data'.Data) (p : Plain) (ds : data'.Members) (o : Ordering)
     → slice_cmp nat_cmp k l ≡ o → whole_value d ≡ Some p
     → (name_cmp k l ≡ Equal → ⊥) → whole_members (data'.put k d ds) ≡ option_map (put k p) (whole_members ds)
-    → whole_members (match_ordering o (data'.member k d (data'.member l e ds)) (data'.member l d ds) (data'.member l e (data'.put k d ds))) ≡ option_map (put k p) (whole_members (data'.member l e ds))
+    → whole_members (match_ordering o (data'.member k d (data'.member l e ds)) (data'.member l d ds) (data'.member l e (data'.put k d ds)))
+    ≡ option_map (put k p) (whole_members (data'.member l e ds))
 whole_put_at k l d e p ds Less is w apart ih = rw w refl
 whole_put_at k l d e p ds Equal is w apart ih = absurd (apart (tied_from_bytes k l is))
 whole_put_at k l d e p ds Greater is w apart ih =

@@ -1,5 +1,6 @@
 -- Data that is read over its tokens, and its canonical text, which goes out an item at a time.
-use Rattle.std.proofs.Common.{◌≡◌, ℕ, ℤ, zero, suc, ◌-◌, ◌<◌, ◌≤◌, List, [], ◌∷◌, ◌++◌, length, Bool, true, false, Option, Some, None, option_map, option_and_then, IfSome, IfErr, Result, Ok, Err, refl, sym, ap, ◌∙◌, subst, append_assoc}
+use Rattle.std.proofs.Common.{◌≡◌, ℕ, ℤ, zero, suc, ◌-◌, ◌<◌, ◌≤◌, List, [], ◌∷◌, ◌++◌, length, Bool, true, false, Option, Some, None, option_map}
+use Rattle.std.proofs.Common.{option_and_then, IfSome, IfErr, Result, Ok, Err, refl, sym, ap, ◌∙◌, subst, append_assoc}
 use Rattle.std.specs.Prelude.{◌&&◌, codes, is_some, ok_or}
 use Rattle.std.specs.Str.{IsUtf8}
 use Rattle.std.proofs.lemmas.List.{append-nil}
@@ -52,7 +53,8 @@ module _ (depth : ℕ) (old ts : Tokens) where
   pub number_data : (s : List ℕ) (there : Option Num) → old ≡ Token.number s ∷ ts → number_of s ≡ there
       → converted of_json (value depth old) ≡ option_map {U = Data × Tokens} (λ n. (data'.number n, ts)) there
   number_data s there is e =
-      ap (converted of_json) (ap (value depth) is ∙ value_is depth _) ∙ ap (λ o. option_map {U = Data × Tokens} (λ d. (d, ts)) (option_map data'.number o)) e ∙ given there
+      ap (converted of_json) (ap (value depth) is ∙ value_is depth _) ∙ ap (λ o. option_map {U = Data × Tokens} (λ d. (d, ts)) (option_map data'.number o)) e
+      ∙ given there
     where
       given : (o : Option Num) → option_map {U = Data × Tokens} (λ d. (d, ts)) (option_map data'.number o) ≡ option_map (λ n. (data'.number n, ts)) o
       given None = refl
@@ -110,7 +112,8 @@ none_converted : {B : Type 0} (r : Tokens) (x : Option B) → option_map {U = B 
 none_converted r None e = refl
 none_converted r (Some y) e = absurd (cc)
 
-with_item : (j : json.Json) (d : Data) → of_json j ≡ Some d → (o : Option (json.Items × Tokens)) → converted of_items (parse_map (json.item j) o) ≡ parse_map (data'.item d) (converted of_items o)
+with_item : (j : json.Json) (d : Data) → of_json j ≡ Some d → (o : Option (json.Items × Tokens)) → converted of_items (parse_map (json.item j) o)
+    ≡ parse_map (data'.item d) (converted of_items o)
 with_item j d e None = refl
 with_item j d e (Some p) = rw e (with_rest (data'.item d) p.1 (of_items p.0))
 
@@ -172,7 +175,8 @@ put_before p None = refl
 put_before p (Some ps) = refl
 
 first_whole : (there : Option Plain) (rest : Option (List Plain))
-    → option_and_then (λ p. option_map (item p) (option_map items_of rest)) there ≡ option_map items_of (option_and_then (λ p. option_map (λ ps. p ∷ ps) rest) there)
+    → option_and_then (λ p. option_map (item p) (option_map items_of rest)) there
+    ≡ option_map items_of (option_and_then (λ p. option_map (λ ps. p ∷ ps) rest) there)
 first_whole None rest = refl
 first_whole (Some p) rest = put_before p rest
 
@@ -186,7 +190,8 @@ abbrev with_last : Option Plain → Option (List Plain) → Option (List Plain)
 with_last there rest = option_and_then (λ ps. option_map (λ p. ps ++ p ∷ []) there) rest
 
 moved : (first there : Option Plain) (rest : Option (List Plain))
-    → option_and_then (λ p. option_map (λ ps. p ∷ ps) (with_last there rest)) first ≡ with_last there (option_and_then (λ p. option_map (λ ps. p ∷ ps) rest) first)
+    → option_and_then (λ p. option_map (λ ps. p ∷ ps) (with_last there rest)) first
+    ≡ with_last there (option_and_then (λ p. option_map (λ ps. p ∷ ps) rest) first)
 moved None there rest = refl
 moved (Some p) there None = refl
 moved (Some p) None (Some ps) = refl
@@ -241,7 +246,8 @@ module _ (before out first last : List ℕ) (c told next : Bool) (one : first �
       → IsWritten IsProper canonical (whole_value d) next first last
       → IsWritten (ItemsStand true) items_text (wholes (ds ++ d ∷ [])) (told && next) before last
   items_written_more ds d h g =
-      subst (λ there. IsWritten (ItemsStand true) items_text there (told && next) before last) (sym (wholes_more ds d)) (more_at (wholes ds) (whole_value d) h g)
+      subst (λ there. IsWritten (ItemsStand true) items_text there (told && next) before last) (sym (wholes_more ds d))
+      (more_at (wholes ds) (whole_value d) h g)
 
 all_at : (there : Option (List Plain)) (c told : Bool) (before out : List ℕ) → IsWritten (ItemsStand c) items_text there told before out
     → IsWritten ItemsAreProper (canonical_items false) (option_map items_of there) told before out
@@ -313,7 +319,8 @@ given_further says WantOfMemory h = tt
 abbrev data_at_end : Option (json.Json × Tokens) → Option Data
 data_at_end there = option_and_then of_json (option_and_then (λ p. json.if_last p.0 p.1) there)
 
-pub text_is_data : (bytes : List ℕ) (d : Data) → IsUtf8 bytes → converted of_json (value 127 (tokens bytes)) ≡ Some (d, []) → json_of bytes ≡ ok_or (whole_value d) NotWhole
+pub text_is_data : (bytes : List ℕ) (d : Data) → IsUtf8 bytes → converted of_json (value 127 (tokens bytes)) ≡ Some (d, [])
+    → json_of bytes ≡ ok_or (whole_value d) NotWhole
 text_is_data bytes d utf8 e =
     let all = was_read of_json (value 127 (tokens bytes)) d [] e in
     json_of-utf8 bytes utf8 ∙ ap json_of_data (ap data_at_end all.is ∙ all.gives)

@@ -1,16 +1,17 @@
 -- Pairs in the order of their names: there is one such list, so a stable sort gives it.
-use Rattle.std.proofs.Common.{◌≡◌, ℕ, suc, ◌+◌, ◌<◌, Bool, true, false, not, cond, List, [], ◌∷◌, length, get_or, Ordering, Less, Equal, Greater, is_eq, refl, sym, ap, ◌∙◌, subst, arith}
+use Rattle.std.proofs.Common.{◌≡◌, ℕ, suc, ◌+◌, ◌<◌, Bool, true, false, not, cond, List, [], ◌∷◌, length, get_or, Ordering, Less, Equal, Greater}
+use Rattle.std.proofs.Common.{is_eq, refl, sym, ap, ◌∙◌, subst, arith}
 use Rattle.std.specs.Prelude.{◌&&◌}
 use Rattle.std.specs.List.{filter, AllByRecursion}
 use Rattle.std.specs.List.Sorted.{IsStrictlySortedBy, IsSortedBy, IsStableBy, ties}
 use Rattle.std.specs.Map.{keys_of}
-use Rattle.std.specs.Ordering.{is_lt, match_ordering, ordering_reverse}
+use Rattle.std.specs.Ordering.{is_lt, ordering_reverse}
 use Rattle.std.proofs.lemmas.Cmp.{tied_itself}
 use Rattle.std.proofs.lemmas.List.MinMax.{ranks_by}
 use Rattle.std.proofs.lemmas.List.Sorted.{sorted_far}
 use Rattle.st_canon.specs.InOrder.{placed, in_order, NamesDiffer}
 use Rattle.st_canon.specs.Names.{name_cmp, NamesAscend}
-use Rattle.st_canon.proofs.Order.{name_total, less_from_greater}
+use Rattle.st_canon.proofs.Order.{by_order, name_total, less_from_greater}
 
 equal_from_is_eq : (o : Ordering) → is_eq o ≡ true → o ≡ Equal
 equal_from_is_eq Less h = cc
@@ -42,20 +43,20 @@ module _ {X : Type 0} where
   all_placed : (P : List ℕ → Type 0) (e : List ℕ × X) (es : List (List ℕ × X)) → P e.0 → AllByRecursion P (keys_of es)
       → AllByRecursion P (keys_of (placed e es))
   all_placed P e [] p all = (p, tt)
-  all_placed P e (f ∷ fs) p all = elim (name_cmp e.0 f.0) as (λ o. AllByRecursion P (keys_of (match_ordering o (e ∷ f ∷ fs) (e ∷ fs) (f ∷ placed e fs)))) [
-    | Less ↦ (p, all)
-    | Equal ↦ (p, all.1)
-    | Greater ↦ (all.0, all_placed P e fs p all.1)
-  ]
+  all_placed P e (f ∷ fs) p all =
+      by_order (λ es. AllByRecursion P (keys_of es)) (name_cmp e.0 f.0) (e ∷ f ∷ fs) (e ∷ fs) (f ∷ placed e fs)
+      (λ is. (p, all)) (λ is. (p, all.1)) (λ is. (all.0, all_placed P e fs p all.1))
 
   pub ascend_placed : (e : List ℕ × X) (es : List (List ℕ × X)) → NamesAscend es → NamesAscend (placed e es)
   unfolding IsStrictlySortedBy
   ascend_placed e [] ascend = (tt, tt)
-  ascend_placed e (f ∷ fs) ascend = elim (name_cmp e.0 f.0) as (λ o. name_cmp e.0 f.0 ≡ o → NamesAscend (match_ordering o (e ∷ f ∷ fs) (e ∷ fs) (f ∷ placed e fs))) [
-    | Less ↦ λ is. ((is, all_above e.0 f.0 is (keys_of fs) ascend.0), ascend)
-    | Equal ↦ λ is. (all_above_tied e.0 f.0 is (keys_of fs) ascend.0, ascend.1)
-    | Greater ↦ λ is. (all_placed (λ n. name_cmp f.0 n ≡ Less) e fs (less_from_greater e.0 f.0 is) ascend.0, ascend_placed e fs ascend.1)
-  ] refl
+  ascend_placed e (f ∷ fs) ascend =
+      let above = all_above e.0 f.0 in
+      let tied = all_above_tied e.0 f.0 in
+      by_order NamesAscend (name_cmp e.0 f.0) (e ∷ f ∷ fs) (e ∷ fs) (f ∷ placed e fs)
+      (λ is. ((is, above is (keys_of fs) ascend.0), ascend))
+      (λ is. (tied is (keys_of fs) ascend.0, ascend.1))
+      (λ is. (all_placed (λ n. name_cmp f.0 n ≡ Less) e fs (less_from_greater e.0 f.0 is) ascend.0, ascend_placed e fs ascend.1))
 
   pub ascend_from_placed : (e : List ℕ × X) (es fs : List (List ℕ × X)) → fs ≡ placed e es → NamesAscend es
       → NamesAscend fs
@@ -97,17 +98,20 @@ module _ {X : Type 0} where
       → AllByRecursion (λ n. name_cmp e.0 n ≡ Equal → ⊥) (keys_of es)
       → filter (tie x) (placed e es) ≡ filter (tie x) (e ∷ es)
   filter_placed x e [] differ = refl
-  filter_placed x e (f ∷ fs) differ = elim (name_cmp e.0 f.0) as (λ o. name_cmp e.0 f.0 ≡ o → filter (tie x) (match_ordering o (e ∷ f ∷ fs) (e ∷ fs) (f ∷ placed e fs)) ≡ filter (tie x) (e ∷ f ∷ fs)) [
-    | Less ↦ λ is. refl
-    | Equal ↦ λ is. absurd (differ.0 is)
-    | Greater ↦ λ is. passed (tie x f) (tie x e) e f (filter (tie x) fs) (filter (tie x) (placed e fs)) (λ a b. no_two x e f is b a) (filter_placed x e fs differ.1)
-  ] refl
+  filter_placed x e (f ∷ fs) differ =
+      let old = filter (tie x) fs in
+      let new = filter (tie x) (placed e fs) in
+      by_order (λ es. filter (tie x) es ≡ filter (tie x) (e ∷ f ∷ fs)) (name_cmp e.0 f.0) (e ∷ f ∷ fs) (e ∷ fs) (f ∷ placed e fs)
+      (λ is. refl)
+      (λ is. absurd (differ.0 is))
+      (λ is. passed (tie x f) (tie x e) e f old new (λ a b. no_two x e f is b a) (filter_placed x e fs differ.1))
 
   filter_in_order : (x : List ℕ × X) (es : List (List ℕ × X)) → NamesDiffer es
       → filter (tie x) (in_order es) ≡ filter (tie x) es
   filter_in_order x [] differ = refl
   filter_in_order x (e ∷ es) differ =
-      filter_placed x e (in_order es) (all_in_order (λ n. name_cmp e.0 n ≡ Equal → ⊥) es differ.0) ∙ ap (λ l. cond (tie x e) (e ∷ l) l) (filter_in_order x es differ.1)
+      filter_placed x e (in_order es) (all_in_order (λ n. name_cmp e.0 n ≡ Equal → ⊥) es differ.0)
+      ∙ ap (λ l. cond (tie x e) (e ∷ l) l) (filter_in_order x es differ.1)
 
   -- ---- only one list has given ties, and ascends
   abbrev NoneBelow : List ℕ × X → List (List ℕ × X) → Type 0

@@ -23,8 +23,8 @@ pub const MAX_DEPTH: usize = 127;
 pub enum ReadStopped {
     /// They are left to `read`: no value comes next, they are no JSON, nest deeper than asked, or have
     /// a number with a fraction or an exponent, `-0`, one outside -(2^53 - 1) to 2^53 - 1, or a name
-    /// twice in one object. `read_value` leaves also a name that is below more than 64 names before
-    /// it, and `rewrite` each that is below the one before it. No clause says which.
+    /// twice in one object. `rewrite` leaves also each name that is below the one before it. No clause
+    /// says which.
     Left,
     /// Memory could not be had.
     WantOfMemory,
@@ -70,10 +70,14 @@ fn read_text(alloc: Global, text: &str) -> Result<Json, ReadStopped>
     Ok(json)
 }
 
-/// The next value of a reader of tokens. Lists and objects may nest `depth` deep. What stops it says
-/// nothing of the tokens.
+// The next value of a reader of tokens. Lists and objects may nest `depth` deep. What stops it says
+// nothing of the tokens; a name that is below more than 64 names before it stops it too.
 #[cycle(read_value)]
-pub fn read_value(alloc: Global, reader: &mut Reader<'_>, depth: usize) -> Result<Json, ReadStopped>
+pub(crate) fn read_value(
+    alloc: Global,
+    reader: &mut Reader<'_>,
+    depth: usize,
+) -> Result<Json, ReadStopped>
     ensures value { IfOk result (λ json. converted whole_json (value depth reader.old) ≡ Some (plain json, reader.new)) }
     ensures proper { IfOk result (λ json. IsProper (plain json)) }
     ensures shorter { OnOk result (length reader.new < length reader.old) }

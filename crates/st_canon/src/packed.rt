@@ -58,29 +58,14 @@ impl PackedJson {
     pub fn pack(alloc: Global, value: &Json) -> Result<PackedJson, WantOfMemory>
         ensures { IfOk result (λ packed. packed ≡ plain value.now) }
     {
-        let form = form_of(alloc, value, None)?;
+        let form = form_of(alloc, value)?;
         Ok(PackedJson {
             form: Shared::new(alloc, form)?,
         })
     }
 
-    /// The value. Where its canonical text stands in the file at this offset, in bytes, it is shared with
-    /// the file; elsewhere, an offset beyond the file's end included, it is kept by itself.
-    pub fn pack_within(
-        alloc: Global,
-        value: &Json,
-        file: &Shared<Bytes>,
-        at: usize,
-    ) -> Result<PackedJson, WantOfMemory>
-        ensures { IfOk result (λ packed. packed ≡ plain value.now) }
-    {
-        let form = form_of(alloc, value, Some((file, at)))?;
-        Ok(PackedJson {
-            form: Shared::new(alloc, form)?,
-        })
-    }
-
-    /// The value whose canonical text this is, kept as by `pack_within`.
+    /// The value whose canonical text this is. Where that stands in the file at this offset, in bytes, it is
+    /// shared with the file; elsewhere, an offset beyond the file's end included, it is kept by itself.
     pub fn keep_within(
         alloc: Global,
         text: &[u8],
@@ -152,12 +137,8 @@ impl Copied for PackedJson {
     }
 }
 
-// What is kept of a value, whose text may stand in a file at this offset.
-fn form_of(
-    alloc: Global,
-    value: &Json,
-    place: Option<(&Shared<Bytes>, usize)>,
-) -> Result<Form, WantOfMemory>
+// What is kept of a value.
+fn form_of(alloc: Global, value: &Json) -> Result<Form, WantOfMemory>
     ensures value { IfOk result (λ form. packed_value form ≡ plain value.now) }
     ensures packed { IfOk result IsPacked }
 {
@@ -165,10 +146,10 @@ fn form_of(
         return Ok(Form::Parts(value.copy(alloc)?));
     }
     let text = write(alloc, value)?;
-    form_of_text(alloc, text.as_slice(), place)
+    form_of_text(alloc, text.as_slice(), None)
 }
 
-// The same of the value whose canonical text this is.
+// The same of the value whose canonical text this is, which may stand in a file at this offset.
 fn form_of_text(
     alloc: Global,
     text: &[u8],

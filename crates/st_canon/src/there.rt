@@ -1,7 +1,7 @@
 ghost use Rattle.std.specs.Prelude.{◌≡◌, map, option_and_then, option_map};
 ghost use Rattle.std.specs.Option.{option_copied};
 ghost use Rattle.st_canon.specs.Entries.{list_in};
-ghost use Rattle.st_canon.specs.Shapes.{entries_in, is_list_if_there, is_object_if_there, is_text_if_there, only_of};
+ghost use Rattle.st_canon.specs.Shapes.{entries_in, is_list_if_there, is_text_if_there};
 ghost use Rattle.st_canon.specs.View.{plain};
 
 use crate::value::Json;
@@ -29,17 +29,6 @@ pub fn is_list_if_there(there: Option<&Json>) -> bool
     }
 }
 
-/// Whether an object is there, or nothing.
-pub fn is_object_if_there(there: Option<&Json>) -> bool
-    ensures { result ≡ is_object_if_there (option_map plain (option_copied there.entry)) }
-{
-    match there {
-        None => true,
-        Some(Json::Object(_)) => true,
-        Some(_) => false,
-    }
-}
-
 /// The entries of the list that is there. Where there is nothing, or no list, there are none.
 pub fn entries_in<'a>(there: Option<&'a Json>) -> &'a [Json]
     ensures { map plain result.now ≡ entries_in (option_map plain (option_copied there.entry)) }
@@ -54,14 +43,4 @@ fn list_there(there: Option<&Json>) -> Option<&List<Json>>
     ensures { option_map (λ items. map plain items.now) result ≡ option_and_then list_in (option_map plain (option_copied there.entry)) }
 {
     there?.as_list()
-}
-
-/// The one entry of a list that has no other.
-pub fn only_of(entries: &[Json]) -> Option<&Json>
-    ensures { option_map plain (option_copied result) ≡ only_of (map plain entries.now) }
-{
-    match entries {
-        [entry] => Some(entry),
-        _ => None,
-    }
 }

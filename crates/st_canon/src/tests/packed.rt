@@ -1,4 +1,4 @@
-use crate::{Json, PackedJson, read, write};
+use crate::{Json, PackedJson, canonical_text, read, write};
 use st_base::{Bytes, Copied, List, Shared};
 use std::test::Fail;
 
@@ -64,10 +64,11 @@ fn a_value_of_any_depth_comes_out_again(rt: HostRuntime) -> Result<(), Fail> {
 #[test]
 fn a_delta_may_be_kept_in_its_file(rt: HostRuntime) -> Result<(), Fail> {
     let value = read(rt.alloc(), DELTA.as_bytes())?;
+    let kept = canonical_text(rt.alloc(), DELTA.as_bytes())?;
     let text = format!(in rt.alloc(); "{{\"deltas\":[{DELTA}]}}")?;
     let file = Shared::new(rt.alloc(), Bytes::from_slice(rt.alloc(), text.as_bytes())?)?;
     for at in [0, 10, 11, 12, 93, 94, 95, usize::MAX] {
-        let packed = PackedJson::pack_within(rt.alloc(), &value, &file, at)?;
+        let packed = PackedJson::keep_within(rt.alloc(), kept.as_slice(), &file, at)?;
         assert!(rt; is(&rt, &packed, &value, 82)?);
     }
     Ok(())

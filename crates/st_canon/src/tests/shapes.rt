@@ -1,7 +1,6 @@
 use super::{is_header, object};
 use crate::{
-    Json, Object, entries_in, is_list_if_there, is_object_if_there, is_text_if_there, only_of,
-    read, read_json, some_object,
+    Json, Object, entries_in, is_list_if_there, is_text_if_there, read, read_json, some_object,
 };
 use std::alloc::Global;
 use std::test::Fail;
@@ -82,12 +81,10 @@ fn are_of_their_kind(value: &Json) -> bool {
         && is_text_if_there(value.member("z"))
         && is_list_if_there(value.member("l"))
         && !is_list_if_there(value.member("t"))
-        && is_object_if_there(value.member("o"))
-        && !is_object_if_there(value.member("l"))
 }
 
 fn have_entries(value: &Json) -> bool {
-    only_of(entries_in(value.member("l"))).is_some() && entries_in(value.member("o")).is_empty()
+    entries_in(value.member("l")).len() == 1 && entries_in(value.member("o")).is_empty()
 }
 
 fn finds_kinds(alloc: Global) -> bool {

@@ -1,5 +1,6 @@
 use super::{is_respelled, is_written};
-use crate::{MAX_DEPTH, ReadStopped, read_value, rewrite};
+use crate::direct::read_value;
+use crate::{MAX_DEPTH, ReadStopped, rewrite};
 use json::{Reader, Scratch};
 use st_base::Bytes;
 use std::alloc::Global;

@@ -13,7 +13,8 @@ member_long : (b : Bool) (n : List ℕ) (p : Plain) (ms : Members)
     → length (canonical_members b (member n p ms)) ≡ length (comma b) + (length (quoted n) + (1 + (length (canonical p) + length (canonical_members true ms))))
 member_long b n p ms =
     let rest = canonical_members true ms in
-    omega (arith, length-append (comma b) (quoted n ++ (58 ∷ (canonical p ++ rest))), length-append (quoted n) (58 ∷ (canonical p ++ rest)), length-append (canonical p) rest)
+    let first = length-append (comma b) (quoted n ++ (58 ∷ (canonical p ++ rest))) in
+    omega (arith, first, length-append (quoted n) (58 ∷ (canonical p ++ rest)), length-append (canonical p) rest)
 
 pub add_members-loop-name-preserved : goal.add_members-loop-name-preserved
 add_members-loop-name-preserved t c =
@@ -29,5 +30,7 @@ add_members-loop-name-preserved t c =
     record {
       size = omega (arith, here, long, name);
       fits = omega arith;
-      proper = λ h. c.loop-name.invariant.proper (one_more_member pairs c.loop-name.name-index pair ascend lt c.loop-name-item.is (subst IsUtf8 c.as_str.ensures c.add_text-named.ensures.utf8) c.add-size.ensures.proper h);
+      proper = λ h. c.loop-name.invariant.proper
+          (one_more_member pairs c.loop-name.name-index pair ascend lt c.loop-name-item.is
+          (subst IsUtf8 c.as_str.ensures c.add_text-named.ensures.utf8) c.add-size.ensures.proper h);
     }

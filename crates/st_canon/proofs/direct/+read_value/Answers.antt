@@ -9,7 +9,8 @@ use Rattle.st_canon.specs.Plain.{list, object, text, boolean, null, whole}
 use Rattle.st_canon.specs.View.{plain, plain_items, plain_members}
 use Rattle.st_canon.specs.declared.value.Json.{Null, Bool, Whole, Text, List, Object, the_lemmas}
 use Rattle.st_canon.proofs.Converting.{items_after, items_after-nil, plain_pushed}
-use Rattle.st_canon.proofs.DirectLemmas.{boolean_value, items_over, list_value, members_over, next_item_read, next_member_read, none_yet, null_value, object_value, reads_all, text_value, whole_number_value}
+use Rattle.st_canon.proofs.DirectLemmas.{boolean_value, items_over, list_value, members_over, next_item_read, next_member_read, none_yet, null_value}
+use Rattle.st_canon.proofs.DirectLemmas.{object_value, reads_all, text_value, whole_number_value}
 use Rattle.st_canon.proofs.Kept.{ascending_proper, one_more_proper, placed_proper}
 use Rattle.st_canon.proofs.Sorting.{ascend_placed}
 use Rattle.st_canon.proofs.direct.+read_value.Goals as goal
@@ -31,7 +32,8 @@ read_value-returns-in-Some-whole_of-clause-value t c =
     let is = c.in-Some.ensures.value ∙ ap (λ k. token_of k ∷ c.next.new.self) c.in-Number.is in
     let z = c.in-Some-whole_of.whole in
     let seen : plain (Whole z) ≡ whole z = search (rules, the_lemmas) in
-    whole_number_value c.args.depth c.args.reader.now c.next.new.self c.in-Number.text.now z is c.in-Some-whole_of.ensures ∙ ap (λ p. Some (p, c.next.new.self)) (sym seen)
+    whole_number_value c.args.depth c.args.reader.now c.next.new.self c.in-Number.text.now z is c.in-Some-whole_of.ensures
+    ∙ ap (λ p. Some (p, c.next.new.self)) (sym seen)
 
 pub read_value-returns-in_ok-from_text-in-String-clause-value : goal.read_value-returns-in_ok-from_text-in-String-clause-value
 read_value-returns-in_ok-from_text-in-String-clause-value t c =
@@ -53,7 +55,8 @@ read_value-returns-in_ok-read_members-in-BeginObject-clause-value t c =
     let is = c.in-Some.ensures.value ∙ ap (λ k. token_of k ∷ c.next.new.self) c.in-BeginObject.is in
     let found = c.in_ok-read_members-in-BeginObject in
     let seen : plain (Object found.field-0) ≡ object (plain_members found.field-0) = search (rules, the_lemmas) in
-    object_value c.args.depth c.args.reader.now c.next.new.self _ _ is (omega arith) found.ensures.value ∙ ap (λ p. Some (p, c.read_members.new.reader)) (sym seen)
+    object_value c.args.depth c.args.reader.now c.next.new.self _ _ is (omega arith) found.ensures.value
+    ∙ ap (λ p. Some (p, c.read_members.new.reader)) (sym seen)
 
 pub read_items-items-init : goal.read_items-items-init
 read_items-items-init t c =
@@ -69,8 +72,10 @@ read_items-items-preserved t c =
     let shorter : length c.read_value.new.reader < length l.reader = rw (← going.1) done.shorter in (
       n - 1,
       omega (arith, l.invariant.1),
-      l.invariant.2 ∙ next_item_read (value c.args.depth) n l.reader c.read_value.new.reader (map plain l.found) (plain c.in_ok-json.json) (omega (arith, l.invariant.1)) going.0 (rw (← going.1) done.value)
-          ∙ ap (λ ps. parse_map (items_after ps) (converted whole_json_items (items (value c.args.depth) (n - 1) c.read_value.new.reader))) (plain_pushed l.found c.in_ok-json.json ∙ ap (map plain) (sym pushed)),
+      l.invariant.2 ∙ next_item_read (value c.args.depth) n l.reader c.read_value.new.reader (map plain l.found) (plain c.in_ok-json.json)
+          (omega (arith, l.invariant.1)) going.0 (rw (← going.1) done.value)
+          ∙ ap (λ ps. parse_map (items_after ps) (converted whole_json_items (items (value c.args.depth) (n - 1) c.read_value.new.reader)))
+          (plain_pushed l.found c.in_ok-json.json ∙ ap (map plain) (sym pushed)),
       omega (arith, l.invariant.3),
       rw pushed (one_more_proper l.found c.in_ok-json.json l.invariant.4 done.proper),
     )
@@ -85,7 +90,9 @@ read_items-returns-clause-value t c =
 pub read_members-members-init : goal.read_members-members-init
 unfolding IsStrictlySortedBy
 read_members-members-init t c =
-    (length c.args.reader.now, omega arith, rw c.new-found.ensures (reads_all (value c.args.depth) (length c.args.reader.now) c.args.reader.now), omega arith, rw c.new-found.ensures tt, rw c.new-found.ensures tt)
+    let n = length c.args.reader.now in
+    let all = reads_all (value c.args.depth) n c.args.reader.now in
+    (n, omega arith, rw c.new-found.ensures all, omega arith, rw c.new-found.ensures tt, rw c.new-found.ensures tt)
 
 pub read_members-members-preserved : goal.read_members-members-preserved
 read_members-members-preserved t c =
@@ -103,7 +110,8 @@ read_members-members-preserved t c =
     rw added (
       n - 1,
       omega (arith, l.invariant.1),
-      next_member_read (value c.args.depth) n l.reader _ l.found l.invariant.2 c.in_ok-name.name s c.read_value.new.reader c.in_ok-json.json (omega (arith, l.invariant.1)) (rw copied named) done.value apart,
+      next_member_read (value c.args.depth) n l.reader _ l.found l.invariant.2 c.in_ok-name.name s c.read_value.new.reader c.in_ok-json.json
+          (omega (arith, l.invariant.1)) (rw copied named) done.value apart,
       omega (arith, l.invariant.3),
       ascend_placed _ l.found l.invariant.4,
       placed_proper _ l.found (c.in_ok-add.ensures.utf8, done.proper) l.invariant.5,

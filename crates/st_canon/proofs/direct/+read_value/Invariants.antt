@@ -24,7 +24,8 @@ decreases-read_members l = 2 * l.depth + 1
 abbrev pub invariant-read_items-items : goal.invariant-read_items-items
 invariant-read_items-items l =
     (n : ℕ) × (length l.reader ≤ n)
-    × (converted whole_json_items (items (value l.depth) (length l.initial.reader) l.initial.reader) ≡ parse_map (items_after (map plain l.found)) (converted whole_json_items (items (value l.depth) n l.reader)))
+    × (converted whole_json_items (items (value l.depth) (length l.initial.reader) l.initial.reader)
+    ≡ parse_map (items_after (map plain l.found)) (converted whole_json_items (items (value l.depth) n l.reader)))
     × (length l.reader ≤ length l.initial.reader)
     × ItemsAreProper (plain_items l.found)
 
@@ -34,7 +35,8 @@ decreases-read_items-items l = length l.reader
 abbrev pub invariant-read_members-members : goal.invariant-read_members-members
 invariant-read_members-members l =
     (n : ℕ) × (length l.reader ≤ n)
-    × ReadsOn (converted (whole_json_members no_members) (members (value l.depth) (length l.initial.reader) l.initial.reader)) (value l.depth) n l.reader l.found
+    × ReadsOn (converted (whole_json_members no_members) (members (value l.depth) (length l.initial.reader) l.initial.reader))
+    (value l.depth) n l.reader l.found
     × (length l.reader ≤ length l.initial.reader)
     × NamesAscend l.found × PairsAreProper l.found
 

@@ -13,6 +13,7 @@ invariant-deepest_item-loop-item l = record {
 
 abbrev pub invariant-deepest_member-loop-member : goal.invariant-deepest_member-loop-member
 invariant-deepest_member-loop-member l = record {
-  depth : saturated (max l.deepest (members_depth (plain_members (drop l.member-index l.member-items)))) ≡ saturated (members_depth (plain_members l.member-items));
+  depth : saturated (max l.deepest (members_depth (plain_members (drop l.member-index l.member-items))))
+      ≡ saturated (members_depth (plain_members l.member-items));
   fits : l.deepest < 2 ^ 64;
 }

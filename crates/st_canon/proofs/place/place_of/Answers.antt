@@ -12,5 +12,6 @@ returns-clause-place g c =
 
 pub returns-clause-gap : goal.returns-clause-gap
 returns-clause-gap g c =
-    let by_name = c.binary_search_by.ensures.position (λ p. name_cmp p.0 c.args.name.now) (always_returns_same _ _ _ (λ a r after called. (search rules, search rules))) in
+    let by_name = c.binary_search_by.ensures.position (λ p. name_cmp p.0 c.args.name.now)
+    (always_returns_same _ _ _ (λ a r after called. (search rules, search rules))) in
     gap_from_search c.args.name.now c.args.pairs.now _ c.requires c.binary_search_by.ensures.bound by_name

@@ -10,7 +10,10 @@ use Rattle.st_canon.specs.Canonical.{canonical}
 use Rattle.st_canon.specs.Names.{name_cmp}
 use Rattle.st_canon.specs.Plain.{boolean, null, text}
 use Rattle.st_canon.proofs.GatheredLemmas.{gathered_written, none_gathered, one_more_gathered}
-use Rattle.st_canon.proofs.RespellingLemmas.{array_data, boolean_data, handed_on, item_refused, items_before, items_data_over, items_written, items_written_more, key_refused, list_written, member_refused, members_data_over, next_item_data, next_member_data, no_tokens, none_before, null_data, number_data, number_written, object_data, object_written, string_data, too_deep_array, too_deep_object}
+use Rattle.st_canon.proofs.RespellingLemmas.{array_data, boolean_data, handed_on, item_refused, items_before, items_data_over, items_written}
+use Rattle.st_canon.proofs.RespellingLemmas.{items_written_more, key_refused, list_written, member_refused, members_data_over, next_item_data}
+use Rattle.st_canon.proofs.RespellingLemmas.{next_member_data, no_tokens, none_before, null_data, number_data, number_written, object_data}
+use Rattle.st_canon.proofs.RespellingLemmas.{object_written, string_data, too_deep_array, too_deep_object}
 use Rattle.st_canon.proofs.respelling.+respell.Goals as goal
 
 -- ---- a value

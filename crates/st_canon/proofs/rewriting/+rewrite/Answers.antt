@@ -12,9 +12,11 @@ use Rattle.st_canon.specs.Plain.{list, object, text, boolean, null, whole}
 use Rattle.st_canon.specs.View.{plain, plain_items, plain_members}
 use Rattle.st_canon.specs.declared.value.Json.{Null, Bool, Whole, Text, List, Object, the_lemmas}
 use Rattle.st_canon.proofs.Converting.{items_after, items_after-nil, plain_pushed}
-use Rattle.st_canon.proofs.DirectLemmas.{boolean_value, items_over, list_value, members_over, next_item_read, next_member_read, none_yet, null_value, object_value, reads_all, text_value, whole_number_value}
+use Rattle.st_canon.proofs.DirectLemmas.{boolean_value, items_over, list_value, members_over, next_item_read, next_member_read, none_yet, null_value}
+use Rattle.st_canon.proofs.DirectLemmas.{object_value, reads_all, text_value, whole_number_value}
 use Rattle.st_canon.proofs.Kept.{ascending_proper, one_more_proper, placed_proper}
-use Rattle.st_canon.proofs.RewritingLemmas.{after_more, apart_last, in_brackets, is_next, items_grown, items_shallow, mapped, members_grown, members_shallow, next_last, placed_last}
+use Rattle.st_canon.proofs.RewritingLemmas.{after_more, apart_last, in_brackets, is_next, items_grown, items_shallow, mapped, members_grown}
+use Rattle.st_canon.proofs.RewritingLemmas.{members_shallow, next_last, placed_last}
 use Rattle.st_canon.proofs.Sorting.{ascend_placed}
 use Rattle.st_canon.proofs.rewriting.+rewrite.Goals as goal
 

@@ -13,5 +13,7 @@ append_members-loop-name-preserved t c =
     record {
       text = grind (arith, common_steps);
       proper =
-          λ h. c.loop-name.invariant.proper (one_more_member c.pairs-name-items.result.now c.loop-name.name-index c.loop-name-item.result ascend lt c.loop-name-item.is utf8 c.in_ok-append.ensures.proper h);
+          λ h. c.loop-name.invariant.proper
+          (one_more_member c.pairs-name-items.result.now c.loop-name.name-index c.loop-name-item.result ascend lt c.loop-name-item.is utf8
+          c.in_ok-append.ensures.proper h);
     }

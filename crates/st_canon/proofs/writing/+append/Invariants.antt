@@ -12,7 +12,8 @@ invariant-append_items-loop-item l = record {
 
 abbrev pub invariant-append_members-loop-name : goal.invariant-append_members-loop-name
 invariant-append_members-loop-name l = record {
-  text : l.initial.out ++ canonical_members false (plain_members l.name-items) ≡ l.out ++ canonical_members l.comma (plain_members (drop l.name-index l.name-items));
+  text : l.initial.out ++ canonical_members false (plain_members l.name-items)
+      ≡ l.out ++ canonical_members l.comma (plain_members (drop l.name-index l.name-items));
   proper : MembersAreProper (plain_members (drop l.name-index l.name-items))
       → MembersAreProper (plain_members l.name-items);
 }

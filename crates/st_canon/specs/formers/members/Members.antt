@@ -45,11 +45,14 @@ deepest_values depth [] = refl
 deepest_values depth (m ∷ ms) = λ i. max (sym (none_max (depth m.1)) i) (deepest_values depth ms i)
 
 pub members_put : {value : Former {0}} (weighed : Weighed value) (X : Type 0) (depth : X → ℕ) (members : List (Name × value.Of X)) (n : Count) (t : Row X n)
-    → deepest depth (list_count (named value) (map ((named value).shape X) members) n) (list_put (named value) X members n t) ≡ max (most (weighed.weight X depth) (values_of members)) (deepest depth n t)
-members_put weighed X depth members n t = List-puts (w_pair (w_const Name) weighed) X depth members n t ∙ ap (λ a. max a (deepest depth n t)) (deepest_values (weighed.weight X depth) members)
+    → deepest depth (list_count (named value) (map ((named value).shape X) members) n) (list_put (named value) X members n t)
+    ≡ max (most (weighed.weight X depth) (values_of members)) (deepest depth n t)
+members_put weighed X depth members n t = List-puts (w_pair (w_const Name) weighed) X depth members n t
+    ∙ ap (λ a. max a (deepest depth n t)) (deepest_values (weighed.weight X depth) members)
 
 abbrev pub the_weighed : {value : Former {0}} → Weighed value → Weighed (the_former value)
-the_weighed weighed = record { weight = λ X depth members. most (weighed.weight X depth) (values_of members); puts = λ X depth members. members_put weighed X depth members }
+the_weighed weighed =
+    record { weight = λ X depth members. most (weighed.weight X depth) (values_of members); puts = λ X depth members. members_put weighed X depth members }
 
 pub the_empty : List (Name × ⊥)
 the_empty = []
@@ -71,7 +74,8 @@ same_names h (m ∷ ms) = ap (λ names. m.0 ∷ names) (same_names h ms)
 
 module _ (R S : RattleType) (h : R.Denot → S.Denot) where
   pair_places : Alike R S h → Alike (Tuple (text.the_row ∷ R ∷ [])) (Tuple (text.the_row ∷ S ∷ [])) (with_value h)
-  pair_places alike = struct_places (tuple_type (text.the_row ∷ R ∷ [])) (tuple_type (text.the_row ∷ S ∷ [])) (λ name. name, (h, tt)) (with_value h) (λ d. refl) refl
+  pair_places alike = struct_places (tuple_type (text.the_row ∷ R ∷ [])) (tuple_type (text.the_row ∷ S ∷ [])) (λ name. name, (h, tt)) (with_value h)
+      (λ d. refl) refl
       (stays text.the_row, (laid _ _ _ alike, tt))
 
   pub the_places : Alike R S h → Alike (M.the_row R) (M.the_row S) ((the_former this).map R.Denot S.Denot h)
@@ -85,4 +89,5 @@ module _ (R S : RattleType) (h : R.Denot → S.Denot) where
 
   pub the_codes_placed : Recodes R S h → Recodes (M.the_row R) (M.the_row S) ((the_former this).map R.Denot S.Denot h)
   the_codes_placed recodes members =
-      sym (code_map (coded× (coded_list coded_ℕ) R.coded).code (coded× (coded_list coded_ℕ) S.coded).code (with_value h) (λ m i. gcons ((coded_list coded_ℕ).code m.0) (sym (recodes m.1) i)) members)
+      sym (code_map (coded× (coded_list coded_ℕ) R.coded).code (coded× (coded_list coded_ℕ) S.coded).code (with_value h)
+      (λ m i. gcons ((coded_list coded_ℕ).code m.0) (sym (recodes m.1) i)) members)

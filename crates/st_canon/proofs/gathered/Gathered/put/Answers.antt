@@ -10,5 +10,6 @@ invariant_of-self-2 c =
 pub returns-clause-put : goal.returns-clause-put
 returns-clause-put c =
     let added = c.in_ok-span.ensures.grown in
-    rw (← c.self.view_is) (texts_grown c.self.inside.texts c.add_text.new.texts added.0 added.1 c.self.inside.spans.entries c.insert.new.self.entries c.args.name.now
+    rw (← c.self.view_is)
+    (texts_grown c.self.inside.texts c.add_text.new.texts added.0 added.1 c.self.inside.spans.entries c.insert.new.self.entries c.args.name.now
     c.in_ok-span.span c.self.invariant c.in_ok-insert.ensures.entries _ c.in_ok-span.ensures.stands)

@@ -6,7 +6,8 @@ use Rattle.st_canon.proofs.members.Members.get_mut.Goals as goal
 pub invariant_of-self-lent : goal.invariant_of-self-lent
 invariant_of-self-lent g c w =
     let at = place_moved refl c.as_slice.ensures.value c.in-Ok.ensures.place in
-    ascend_from_placed (c.args.name.now, w) c.self.inside.pairs.items _ (changed_at_place c.args.name.now c.self.inside.pairs.items c.in-Ok.at at c.self.invariant _ w c.index_mut-pair.ensures.value) c.self.invariant
+    ascend_from_placed (c.args.name.now, w) c.self.inside.pairs.items _
+    (changed_at_place c.args.name.now c.self.inside.pairs.items c.in-Ok.at at c.self.invariant _ w c.index_mut-pair.ensures.value) c.self.invariant
 
 pub returns-in-Ok : goal.returns-in-Ok
 returns-in-Ok g c =

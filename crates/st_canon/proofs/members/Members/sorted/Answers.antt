@@ -10,10 +10,14 @@ pub invariant_of-result : goal.invariant_of-result
 invariant_of-result g c =
     let compares = answers_always _ _ _ (λ f a r after called. search rules) in
     let order = ranks_by name_total (λ p. p.0) in
-    subst NamesAscend (sym (in_order_from_sort c.args.pairs.items c.sort_by.new.self.items c.requires (c.in_ok-sort_by.ensures.sorted named_below order compares) (c.in_ok-sort_by.ensures.stable named_below order compares))) (ascend_in_order c.args.pairs.items)
+    let sorted = c.in_ok-sort_by.ensures.sorted named_below order compares in
+    let stable = c.in_ok-sort_by.ensures.stable named_below order compares in
+    subst NamesAscend (sym (in_order_from_sort c.args.pairs.items c.sort_by.new.self.items c.requires sorted stable)) (ascend_in_order c.args.pairs.items)
 
 pub returns : goal.returns
 returns g c =
     let compares = answers_always _ _ _ (λ f a r after called. search rules) in
     let order = ranks_by name_total (λ p. p.0) in
-    in_order_from_sort c.args.pairs.items c.sort_by.new.self.items c.requires (c.in_ok-sort_by.ensures.sorted named_below order compares) (c.in_ok-sort_by.ensures.stable named_below order compares)
+    let sorted = c.in_ok-sort_by.ensures.sorted named_below order compares in
+    let stable = c.in_ok-sort_by.ensures.stable named_below order compares in
+    in_order_from_sort c.args.pairs.items c.sort_by.new.self.items c.requires sorted stable

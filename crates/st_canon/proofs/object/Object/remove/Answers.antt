@@ -15,12 +15,16 @@ invariant_of-self c =
 pub returns-in-Ok-clause-value : goal.returns-in-Ok-clause-value
 returns-in-Ok-clause-value c =
     let at = subst (λ pairs. IsPlaceOf c.args.name.now pairs c.in-Ok.at) c.as_slice.ensures.value c.in-Ok.ensures.place in
-    rw (← c.self.view_is) (ap (λ p. Some (plain p.1)) c.remove-name.ensures.value ∙ value_at_place c.args.name.now c.self.inside.pairs.items c.in-Ok.at at c.self.invariant c.remove-name.result)
+    rw (← c.self.view_is)
+    (ap (λ p. Some (plain p.1)) c.remove-name.ensures.value
+    ∙ value_at_place c.args.name.now c.self.inside.pairs.items c.in-Ok.at at c.self.invariant c.remove-name.result)
 
 pub returns-in-Ok-clause-rest : goal.returns-in-Ok-clause-rest
 returns-in-Ok-clause-rest c =
     let at = subst (λ pairs. IsPlaceOf c.args.name.now pairs c.in-Ok.at) c.as_slice.ensures.value c.in-Ok.ensures.place in
-    rw (← c.self.view_is) (ap plain_members c.remove-name.ensures.items ∙ removed_at_place c.args.name.now c.self.inside.pairs.items c.in-Ok.at at c.self.invariant c.remove-name.result)
+    rw (← c.self.view_is)
+    (ap plain_members c.remove-name.ensures.items
+    ∙ removed_at_place c.args.name.now c.self.inside.pairs.items c.in-Ok.at at c.self.invariant c.remove-name.result)
 
 pub returns-in-Err-clause-value : goal.returns-in-Err-clause-value
 returns-in-Err-clause-value c =
@@ -38,7 +42,8 @@ returns-in-Ok-clause-gone c =
 
 pub returns-in-Ok-clause-others : goal.returns-in-Ok-clause-others
 returns-in-Ok-clause-others c =
-    subst (OthersStay c.args.name.now (plain_members c.args.self.now)) (sym (returns-in-Ok-clause-rest c)) (others_stay_without c.args.name.now (plain_members c.args.self.now))
+    subst (OthersStay c.args.name.now (plain_members c.args.self.now)) (sym (returns-in-Ok-clause-rest c))
+    (others_stay_without c.args.name.now (plain_members c.args.self.now))
 
 pub returns-in-Err-clause-gone : goal.returns-in-Err-clause-gone
 returns-in-Err-clause-gone c = sym (returns-in-Err-clause-value c)

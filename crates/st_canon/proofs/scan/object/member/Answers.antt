@@ -5,7 +5,8 @@ use Rattle.st_canon.proofs.scan.object.member.Goals as goal
 
 pub returns-in-Some-find-clause-value : goal.returns-in-Some-find-clause-value
 returns-in-Some-find-clause-value c =
-    at_member c.args.text.now c.in-Some.left.now c.requires c.in-Some.ensures.some c.args.name.now (Some (value_of c.in-Some-find.value.now)) c.in-Some-find.ensures.some
+    at_member c.args.text.now c.in-Some.left.now c.requires c.in-Some.ensures.some c.args.name.now
+    (Some (value_of c.in-Some-find.value.now)) c.in-Some-find.ensures.some
 
 pub returns-in-None-clause-value : goal.returns-in-None-clause-value
 returns-in-None-clause-value c =

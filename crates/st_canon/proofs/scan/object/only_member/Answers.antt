@@ -5,7 +5,8 @@ use Rattle.st_canon.proofs.scan.object.only_member.Goals as goal
 
 pub returns-in-Some-find_only-clause-value : goal.returns-in-Some-find_only-clause-value
 returns-in-Some-find_only-clause-value c =
-    at_only_member c.args.text.now c.in-Some.left.now c.requires c.in-Some.ensures.some c.args.name.now (Some (value_of c.in-Some-find_only.value.now)) c.in-Some-find_only.ensures.some
+    at_only_member c.args.text.now c.in-Some.left.now c.requires c.in-Some.ensures.some c.args.name.now
+    (Some (value_of c.in-Some-find_only.value.now)) c.in-Some-find_only.ensures.some
 
 pub returns-in-None-clause-value : goal.returns-in-None-clause-value
 returns-in-None-clause-value c =
