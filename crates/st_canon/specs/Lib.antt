@@ -4,6 +4,7 @@ pub mod Direct
 pub mod Entries
 pub mod Find
 pub mod InOrder
+pub mod KeptText
 pub mod Lends
 pub mod LendsValue
 pub mod Listed

@@ -53,3 +53,14 @@ impl Part {
         &self.file.get().as_slice()[self.from..self.to]
     }
 }
+
+impl Copied for Part {
+    /// One owner more of the same file.
+    fn copy(&self, alloc: Global) -> Result<Part, WantOfMemory> {
+        Ok(Part {
+            file: self.file.copy(alloc)?,
+            from: self.from,
+            to: self.to,
+        })
+    }
+}

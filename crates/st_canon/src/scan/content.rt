@@ -7,13 +7,14 @@ ghost use Rattle.st_canon.specs.View.{plain};
 ghost use Rattle.st_canon.specs.Standing.{IsText, value_of};
 ghost use Rattle.st_canon.specs.Texts.{is_text_of};
 
+use crate::kept_text::KeptText;
 use crate::packed::PackedJson;
 use crate::reading::read;
 use crate::scan::bare::bare;
 use crate::scan::kind::is_text;
 use crate::scan::quoted::is_quoted;
 use crate::value::Json;
-use st_base::{Text, WantOfMemory};
+use st_base::{Bytes, Shared, Text, WantOfMemory};
 use std::alloc::Global;
 
 // The bytes of the text, where JSON escapes none of them.
@@ -56,6 +57,28 @@ pub(crate) fn text_of(alloc: Global, canonical: &[u8]) -> Result<Option<Text>, W
         }
     }
     read_text(alloc, canonical)
+}
+
+// The same, which shares its bytes with the file where JSON escapes none of them and they stand there at this
+// offset.
+pub(crate) fn text_within(
+    alloc: Global,
+    canonical: &[u8],
+    file: &Shared<Bytes>,
+    at: usize,
+) -> Result<Option<KeptText>, WantOfMemory>
+    requires { IsText canonical.now }
+    ensures { IfOk result (λ found. found ≡ text_in (value_of canonical.now)) }
+{
+    if let Some(bytes) = bare_text(canonical) {
+        if let Ok(word) = simdutf8::basic::from_utf8(bytes) {
+            return Ok(Some(KeptText::within(alloc, word, file, at)?));
+        }
+    }
+    match text_of(alloc, canonical)? {
+        Some(text) => Ok(Some(KeptText::new(text))),
+        None => Ok(None),
+    }
 }
 
 fn read_text(alloc: Global, canonical: &[u8]) -> Result<Option<Text>, WantOfMemory>

@@ -7,9 +7,10 @@ ghost use Rattle.st_canon.specs.Plain.{text};
 ghost use Rattle.st_canon.specs.Shapes.{is_object_of, member_in, only_member};
 ghost use Rattle.st_canon.specs.Texts.{is_text_of};
 
+use crate::kept_text::KeptText;
 use crate::packed::PackedJson;
 use crate::scan::{content, kind, object};
-use st_base::{Text, WantOfMemory};
+use st_base::{Bytes, Shared, Text, WantOfMemory};
 use std::alloc::Global;
 use std::marker::Model;
 
@@ -60,6 +61,19 @@ impl<'a> Scanned<'a> {
         ensures { IfOk result (λ found. found ≡ text_in self.now) }
     {
         Ok(content::text_of(alloc, self.text)?)
+    }
+
+    /// The text that it is. Where JSON escapes none of its bytes and they stand in the file at this offset, they
+    /// are shared with the file.
+    pub fn text_within(
+        &self,
+        alloc: Global,
+        file: &Shared<Bytes>,
+        at: usize,
+    ) -> Result<Option<KeptText>, WantOfMemory>
+        ensures { IfOk result (λ found. found ≡ text_in self.now) }
+    {
+        Ok(content::text_within(alloc, self.text, file, at)?)
     }
 
     /// The bytes of the text that it is, where JSON escapes none of them.

@@ -1,4 +1,5 @@
 use crate::scan::{CanonicalText, Entries, Scanned, entries_in, is_object_if_there, only_of};
+use st_base::{Bytes, Copied, Shared, WantOfMemory};
 use std::alloc::Global;
 use std::test::Fail;
 
@@ -119,6 +120,50 @@ fn texts_are_told(rt: HostRuntime) -> Result<(), Fail> {
                 "\n\u{1}\"\\ /",
                 false
             )
+    );
+    Ok(())
+}
+
+// Whether the text is this word, wherever in the file it is looked for.
+fn is_kept(
+    alloc: Global,
+    value: &Scanned<'_>,
+    file: &Shared<Bytes>,
+    word: &str,
+) -> Result<bool, WantOfMemory> {
+    for at in [0, 1, 2, usize::MAX] {
+        let Some(kept) = value.text_within(alloc, file, at)? else {
+            return Ok(false);
+        };
+        let copied = kept.copy(alloc)?;
+        if copied.as_str() != word || kept.as_slice() != word.as_bytes() {
+            return Ok(false);
+        }
+    }
+    Ok(true)
+}
+
+// The same of JSON that is a file by itself.
+fn is_kept_of(alloc: Global, json: &str, word: &str) -> bool {
+    let (Ok(canonical), Ok(bytes)) = (
+        CanonicalText::read(alloc, json.as_bytes()),
+        Bytes::from_slice(alloc, json.as_bytes()),
+    ) else {
+        return false;
+    };
+    match Shared::new(alloc, bytes) {
+        Ok(file) => matches!(is_kept(alloc, &canonical.root(), &file, word), Ok(true)),
+        Err(_) => false,
+    }
+}
+
+#[test]
+fn texts_may_be_kept_in_their_file(rt: HostRuntime) -> Result<(), Fail> {
+    assert!(rt;
+        is_kept_of(rt.alloc(), "\"na\u{ef}ve\"", "na\u{ef}ve")
+            && is_kept_of(rt.alloc(), "\"\"", "")
+            && is_kept_of(rt.alloc(), "\"a\\n\"", "a\n")
+            && !is_kept_of(rt.alloc(), "1", "")
     );
     Ok(())
 }
