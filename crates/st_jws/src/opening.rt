@@ -14,8 +14,8 @@ use crate::jwk::Jwk;
 use crate::payload::key_in;
 use crate::refused::SignedRefused;
 use crate::texts::texts_of;
-use st_base::{Bytes, Copied, Text, WantOfMemory, Work};
-use st_canon::{Json, PackedJson, read_json};
+use st_base::{Bytes, Copied, WantOfMemory, Work};
+use st_canon::{Json, KeptText, PackedJson, read_json};
 use st_hash::{DecRefused, dec};
 use st_lms::verify;
 use std::alloc::Global;
@@ -24,7 +24,7 @@ use std::alloc::Global;
 #[derive(Drop)]
 pub struct Signed {
     /// The text as it was.
-    pub text: Text,
+    pub text: KeptText,
     /// What was signed, kept as its canonical text.
     pub payload: PackedJson,
     /// The key of the payload, under which the signature holds.
@@ -40,13 +40,14 @@ impl Copied for Signed {
     }
 }
 
-/// Opens a signed text of at most `limit` bytes. It counts as one proof, whatever it answers.
+/// Opens a signed text of at most `limit` bytes. What is shared with a file goes on being shared. It counts as
+/// one proof, whatever it answers.
 ///
 /// Each refusal but `WantOfMemory` comes exactly where it is the first in the order of
 /// `SignedRefused` that holds.
 pub fn open_signed(
     alloc: Global,
-    text: &Text,
+    text: &KeptText,
     limit: usize,
     work: &mut Work,
 ) -> Result<Signed, SignedRefused>
@@ -56,7 +57,7 @@ pub fn open_signed(
     ensures counted { work.new ≡ one_proof work.old }
 {
     work.tick_proofs();
-    let (payload, key) = open_text(alloc, text.as_str().as_bytes(), limit)?;
+    let (payload, key) = open_text(alloc, text.as_slice(), limit)?;
     let text = text.copy(alloc)?;
     let payload = PackedJson::pack(alloc, &payload)?;
     Ok(Signed { text, payload, key })

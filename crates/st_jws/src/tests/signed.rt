@@ -3,7 +3,7 @@ use crate::tests::samples::{
 };
 use crate::{SignedRefused, join_signed, open_signed, signing_input};
 use st_base::{Copied, Text, Work};
-use st_canon::{read, write};
+use st_canon::{KeptText, read, write};
 use st_lms::{Secret, sign_at};
 use std::alloc::Global;
 use std::test::Fail;
@@ -17,7 +17,7 @@ fn refusal_of(
     limit: usize,
 ) -> Result<(Option<SignedRefused>, u64), Fail> {
     let mut work = Work::new(rt);
-    let text = Text::from_text(rt.alloc(), text)?;
+    let text = KeptText::new(Text::from_text(rt.alloc(), text)?);
     match open_signed(rt.alloc(), &text, limit, &mut work) {
         Ok(_) => Ok((None, work.proofs())),
         Err(refused) => Ok((Some(refused), work.proofs())),
@@ -69,7 +69,7 @@ fn a_signed_text_opens_to_its_payload(rt: HostRuntime) -> Result<(), Fail> {
     ];
     for (signed, limit, payload) in cases {
         let mut work = Work::new(&rt);
-        let text = Text::from_text(rt.alloc(), signed)?;
+        let text = KeptText::new(Text::from_text(rt.alloc(), signed)?);
         let Ok(opened) = open_signed(rt.alloc(), &text, limit, &mut work) else {
             return Err(Fail::from("refused"));
         };
