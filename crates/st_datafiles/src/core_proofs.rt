@@ -1,11 +1,12 @@
-use st_base::{Copied, List, Text, WantOfMemory};
+use st_base::{Copied, List, WantOfMemory};
+use st_canon::KeptText;
 use std::alloc::Global;
 
 /// What a core proof file says: the signed texts of the recovers and of the deactivates.
-#[derive(Debug, Drop)]
+#[derive(Drop)]
 pub struct CoreProofs {
-    pub recovers: List<Text>,
-    pub deactivates: List<Text>,
+    pub recovers: List<KeptText>,
+    pub deactivates: List<KeptText>,
 }
 
 impl Copied for CoreProofs {

@@ -8,6 +8,7 @@ mod chunk_rule;
 mod chunk_writing;
 mod core_proofs;
 mod entries;
+mod place;
 mod proof_reading;
 mod proof_rule;
 mod proof_writing;

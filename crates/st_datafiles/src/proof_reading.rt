@@ -8,91 +8,107 @@ ghost use Rattle.st_datafiles.specs.ProofFiles.{core_proofs_of, proofs_of, signe
 ghost use Rattle.st_datafiles.specs.ProofRules.{core_proof_json_rules, core_proof_rules, has_proof_form, has_proofs, provisional_proof_json_rules, provisional_proof_rules};
 
 use crate::core_proofs::CoreProofs;
+use crate::place::Place;
 use crate::proof_rule::{ProofRefused, ProofRule};
-use st_base::{FileRefused, List, Text, WantOfMemory, Work};
+use st_base::{Bytes, FileRefused, List, Shared, WantOfMemory, Work};
+use st_canon::KeptText;
 use st_canon::scan::{CanonicalText, Entries, Scanned, entries_in};
 use st_params::Params;
 use std::alloc::Global;
 
-/// The signed texts of a core proof file, of which so many are wanted of each kind. It counts as one
-/// file, whatever it answers.
+/// The signed texts of a core proof file, of which so many are wanted of each kind. They are shared with the
+/// file where that is canonical. It counts as one file, whatever it answers.
 ///
 /// `Rejected` comes exactly with the first rule that the file fails.
 pub fn read_core_proof(
     alloc: Global,
-    bytes: &[u8],
+    file: &Shared<Bytes>,
     recovers: usize,
     deactivates: usize,
     params: &Params,
     work: &mut Work,
 ) -> Result<CoreProofs, ProofRefused>
-    ensures answers { Answers (core_proof_rules params.now recovers deactivates bytes.now) (Some (core_proofs_of (json_in bytes.now))) result }
+    ensures answers { Answers (core_proof_rules params.now recovers deactivates file.now) (Some (core_proofs_of (json_in file.now))) result }
     ensures counted { work.new ≡ one_file work.old }
 {
     work.tick_files();
+    let bytes = file.get().as_slice();
     if bytes.len() > params.max_proofs() {
         return Err(FileRefused::Rejected(ProofRule::Q1));
     }
     match CanonicalText::read_json(alloc, bytes)? {
-        Some(file) => core_proofs_in(alloc, &file.root(), recovers, deactivates),
+        Some(text) => core_proofs_in(alloc, &text.root(), file, recovers, deactivates),
         None => Err(FileRefused::Rejected(ProofRule::Q2)),
     }
 }
 
-/// The signed texts of a provisional proof file, of which so many are wanted. It counts as one file,
-/// whatever it answers.
+/// The signed texts of a provisional proof file, of which so many are wanted. They are shared with the file
+/// where that is canonical. It counts as one file, whatever it answers.
 ///
 /// `Rejected` comes exactly with the first rule that the file fails.
 pub fn read_provisional_proof(
     alloc: Global,
-    bytes: &[u8],
+    file: &Shared<Bytes>,
     updates: usize,
     params: &Params,
     work: &mut Work,
-) -> Result<List<Text>, ProofRefused>
-    ensures answers { Answers (provisional_proof_rules params.now updates bytes.now) (Some (signed_of (codes "update") (json_in bytes.now))) result }
+) -> Result<List<KeptText>, ProofRefused>
+    ensures answers { Answers (provisional_proof_rules params.now updates file.now) (Some (signed_of (codes "update") (json_in file.now))) result }
     ensures counted { work.new ≡ one_file work.old }
 {
     work.tick_files();
+    let bytes = file.get().as_slice();
     if bytes.len() > params.max_proofs() {
         return Err(FileRefused::Rejected(ProofRule::Q1));
     }
     match CanonicalText::read_json(alloc, bytes)? {
-        Some(file) => updates_in(alloc, &file.root(), updates),
+        Some(text) => updates_in(alloc, &text.root(), file, updates),
         None => Err(FileRefused::Rejected(ProofRule::Q2)),
     }
 }
 
+// The same by the JSON of the file, in which the texts are looked for.
 fn core_proofs_in(
     alloc: Global,
-    file: &Scanned<'_>,
+    json: &Scanned<'_>,
+    file: &Shared<Bytes>,
     recovers: usize,
     deactivates: usize,
 ) -> Result<CoreProofs, ProofRefused>
-    ensures { Answers (core_proof_json_rules recovers deactivates (Some file.now)) (Some (core_proofs_of (Some file.now))) result }
+    ensures { Answers (core_proof_json_rules recovers deactivates (Some json.now)) (Some (core_proofs_of (Some json.now))) result }
 {
-    if !has_proof_form(file, &["recover", "deactivate"]) {
+    if !has_proof_form(json, &["recover", "deactivate"]) {
         return Err(FileRefused::Rejected(ProofRule::Q3));
     }
-    if !(has_proofs(file, "recover", recovers) && has_proofs(file, "deactivate", deactivates)) {
+    if !(has_proofs(json, "recover", recovers) && has_proofs(json, "deactivate", deactivates)) {
         return Err(FileRefused::Rejected(ProofRule::Q4));
     }
+    // In the order in which they stand in a canonical text.
+    let mut place = Place::new();
+    let deactivates = signed_of(alloc, json, "deactivate", file, &mut place)?;
+    let recovers = signed_of(alloc, json, "recover", file, &mut place)?;
     Ok(CoreProofs {
-        recovers: signed_of(alloc, file, "recover")?,
-        deactivates: signed_of(alloc, file, "deactivate")?,
+        recovers,
+        deactivates,
     })
 }
 
-fn updates_in(alloc: Global, file: &Scanned<'_>, updates: usize) -> Result<List<Text>, ProofRefused>
-    ensures { Answers (provisional_proof_json_rules updates (Some file.now)) (Some (signed_of (codes "update") (Some file.now))) result }
+// The same by the JSON of the file, in which the texts are looked for.
+fn updates_in(
+    alloc: Global,
+    json: &Scanned<'_>,
+    file: &Shared<Bytes>,
+    updates: usize,
+) -> Result<List<KeptText>, ProofRefused>
+    ensures { Answers (provisional_proof_json_rules updates (Some json.now)) (Some (signed_of (codes "update") (Some json.now))) result }
 {
-    if !has_proof_form(file, &["update"]) {
+    if !has_proof_form(json, &["update"]) {
         return Err(FileRefused::Rejected(ProofRule::Q3));
     }
-    if !has_proofs(file, "update", updates) {
+    if !has_proofs(json, "update", updates) {
         return Err(FileRefused::Rejected(ProofRule::Q4));
     }
-    Ok(signed_of(alloc, file, "update")?)
+    Ok(signed_of(alloc, json, "update", file, &mut Place::new())?)
 }
 
 // ---- the form
@@ -160,31 +176,49 @@ fn has_proofs(file: &Scanned<'_>, kind: &str, wanted: usize) -> bool
 // ---- the texts
 
 #[tactic(auto, unfolding(crate::specs::ProofFiles::signed_of))]
-fn signed_of(alloc: Global, file: &Scanned<'_>, kind: &str) -> Result<List<Text>, WantOfMemory>
-    ensures { IfOk result (λ texts. texts ≡ signed_of kind.now (Some file.now)) }
+fn signed_of(
+    alloc: Global,
+    json: &Scanned<'_>,
+    kind: &str,
+    file: &Shared<Bytes>,
+    place: &mut Place,
+) -> Result<List<KeptText>, WantOfMemory>
+    ensures { IfOk result (λ texts. texts ≡ signed_of kind.now (Some json.now)) }
 {
-    texts_of(alloc, proofs_of(file, kind))
+    place.open(kind);
+    texts_of(alloc, proofs_of(json, kind), file, place)
 }
 
-// The signed texts of these entries.
-fn texts_of(alloc: Global, entries: Entries<'_>) -> Result<List<Text>, WantOfMemory>
+// The signed texts of these entries, looked for in the file.
+fn texts_of(
+    alloc: Global,
+    entries: Entries<'_>,
+    file: &Shared<Bytes>,
+    place: &mut Place,
+) -> Result<List<KeptText>, WantOfMemory>
     ensures { IfOk result (λ texts. texts ≡ filter_map signed_in entries.entry) }
 {
     let mut texts = List::new(alloc);
     let mut left = entries;
     'entries: while let Some(entry) = left.next() {
-        if let Some(text) = signed_in(alloc, &entry)? {
+        if let Some(text) = signed_in(alloc, &entry, file, place.text())? {
+            place.pass(&text);
             texts.push(alloc, text)?;
         }
     }
     Ok(texts)
 }
 
-fn signed_in(alloc: Global, entry: &Scanned<'_>) -> Result<Option<Text>, WantOfMemory>
+fn signed_in(
+    alloc: Global,
+    entry: &Scanned<'_>,
+    file: &Shared<Bytes>,
+    at: usize,
+) -> Result<Option<KeptText>, WantOfMemory>
     ensures { IfOk result (λ signed. signed ≡ signed_in entry.now) }
 {
     match entry.only_member("signedData") {
-        Some(signed) => signed.text(alloc),
+        Some(signed) => signed.text_within(alloc, file, at),
         None => Ok(None),
     }
 }

@@ -8,8 +8,8 @@ ghost use Rattle.st_datafiles.specs.ProofRules.{first_failing_core_proof_rule, f
 ghost use Rattle.st_params.specs.Limits.{Limits};
 
 use crate::core_proofs::CoreProofs;
-use st_base::{Bytes, Copied, List, Text, WantOfMemory};
-use st_canon::{Json, Object, some_list, some_object, write};
+use st_base::{Bytes, List, Text, WantOfMemory};
+use st_canon::{Json, KeptText, Object, some_list, some_object, write};
 use std::alloc::Global;
 
 /// The canonical text of the core proof file of these signed texts. Empty lists are left out, and an
@@ -26,7 +26,7 @@ pub fn write_core_proof(alloc: Global, proofs: &CoreProofs) -> Result<Bytes, Wan
 
 /// The canonical text of the provisional proof file of these signed texts. Without texts `operations`
 /// is left out.
-pub fn write_provisional_proof(alloc: Global, proofs: &[Text]) -> Result<Bytes, WantOfMemory>
+pub fn write_provisional_proof(alloc: Global, proofs: &[KeptText]) -> Result<Bytes, WantOfMemory>
     ensures text { IfOk result (λ text. text ≡ canonical (provisional_proof_json proofs.now)) }
     // Wherever the text fails no rule, it is read as the same signed texts.
     ensures read { IfOk result (λ text. (limits : Limits) (updates : ℕ) → first_failing_provisional_proof_rule limits updates text ≡ None
@@ -47,7 +47,7 @@ fn core_proof_json(alloc: Global, proofs: &CoreProofs) -> Result<Json, WantOfMem
     proof_json(alloc, operations)
 }
 
-fn provisional_proof_json(alloc: Global, proofs: &[Text]) -> Result<Json, WantOfMemory>
+fn provisional_proof_json(alloc: Global, proofs: &[KeptText]) -> Result<Json, WantOfMemory>
     ensures { IfOk result (λ json. plain json ≡ provisional_proof_json proofs.now) }
 {
     let mut operations = Object::new(alloc);
@@ -65,7 +65,7 @@ fn proof_json(alloc: Global, operations: Object) -> Result<Json, WantOfMemory>
 }
 
 // The entries that hold these texts.
-fn signed_entries(alloc: Global, texts: &[Text]) -> Result<List<Json>, WantOfMemory>
+fn signed_entries(alloc: Global, texts: &[KeptText]) -> Result<List<Json>, WantOfMemory>
     ensures { IfOk result (λ entries. map plain entries ≡ map signed_json texts.now) }
 {
     let mut entries = List::new(alloc);
@@ -75,10 +75,11 @@ fn signed_entries(alloc: Global, texts: &[Text]) -> Result<List<Json>, WantOfMem
     Ok(entries)
 }
 
-fn signed_json(alloc: Global, text: &Text) -> Result<Json, WantOfMemory>
+fn signed_json(alloc: Global, text: &KeptText) -> Result<Json, WantOfMemory>
     ensures { IfOk result (λ json. plain json ≡ signed_json text.now) }
 {
     let mut entry = Object::new(alloc);
-    entry.set(alloc, "signedData", Json::Text(text.copy(alloc)?))?;
+    let text = Text::from_text(alloc, text.as_str())?;
+    entry.set(alloc, "signedData", Json::Text(text))?;
     Ok(Json::Object(entry))
 }

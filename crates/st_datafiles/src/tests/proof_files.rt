@@ -2,13 +2,20 @@ use super::{case_of, spaces};
 use crate::{
     CoreProofs, read_core_proof, read_provisional_proof, write_core_proof, write_provisional_proof,
 };
-use st_base::{Copied, FileRefused, List, Text, Work};
+use st_base::{Bytes, Copied, FileRefused, List, Shared, Text, WantOfMemory, Work};
+use st_canon::KeptText;
 use st_params::Schedule;
+use std::alloc::Global;
 use std::test::Fail;
+
+// A file of these bytes.
+fn shared(alloc: Global, bytes: &[u8]) -> Result<Shared<Bytes>, WantOfMemory> {
+    Shared::new(alloc, Bytes::from_slice(alloc, bytes)?)
+}
 
 // How a core proof file is answered where no recover and so many deactivates are wanted: `read`, or
 // the rule that rejects it.
-fn core_answer(rt: &HostRuntime, file: &[u8], deactivates: usize) -> Result<String, Fail> {
+fn core_answer(rt: &HostRuntime, file: &Shared<Bytes>, deactivates: usize) -> Result<String, Fail> {
     let alloc = rt.alloc();
     let mut work = Work::new(rt);
     let params = Schedule::new().newest();
@@ -20,7 +27,11 @@ fn core_answer(rt: &HostRuntime, file: &[u8], deactivates: usize) -> Result<Stri
 }
 
 // The same of a provisional proof file.
-fn provisional_answer(rt: &HostRuntime, file: &[u8], updates: usize) -> Result<String, Fail> {
+fn provisional_answer(
+    rt: &HostRuntime,
+    file: &Shared<Bytes>,
+    updates: usize,
+) -> Result<String, Fail> {
     let alloc = rt.alloc();
     let mut work = Work::new(rt);
     let params = Schedule::new().newest();
@@ -52,13 +63,13 @@ fn a_core_proof_file_fails_its_first_rule(rt: HostRuntime) -> Result<(), Fail> {
         let Some((wanted, rule, file)) = case_of(case) else {
             return Err(Fail::from("a case"));
         };
-        let found = core_answer(&rt, file.as_bytes(), wanted)?;
+        let found = core_answer(&rt, &shared(rt.alloc(), file.as_bytes())?, wanted)?;
         assert_eq!(rt; found.as_str(), rule, "{case}");
     }
     for (size, rule) in [(16_000_000, "Q2"), (16_000_001, "Q1")] {
-        let file = spaces(rt.alloc(), size)?;
-        assert_eq!(rt; core_answer(&rt, file.as_slice(), 1)?.as_str(), rule);
-        assert_eq!(rt; provisional_answer(&rt, file.as_slice(), 1)?.as_str(), rule);
+        let file = Shared::new(rt.alloc(), spaces(rt.alloc(), size)?)?;
+        assert_eq!(rt; core_answer(&rt, &file, 1)?.as_str(), rule);
+        assert_eq!(rt; provisional_answer(&rt, &file, 1)?.as_str(), rule);
     }
     Ok(())
 }
@@ -77,17 +88,17 @@ fn a_provisional_proof_file_fails_its_first_rule(rt: HostRuntime) -> Result<(), 
         let Some((wanted, rule, file)) = case_of(case) else {
             return Err(Fail::from("a case"));
         };
-        let found = provisional_answer(&rt, file.as_bytes(), wanted)?;
+        let found = provisional_answer(&rt, &shared(rt.alloc(), file.as_bytes())?, wanted)?;
         assert_eq!(rt; found.as_str(), rule, "{case}");
     }
     Ok(())
 }
 
-fn texts(rt: &HostRuntime, first: &str, second: &str) -> Result<List<Text>, Fail> {
+fn texts(rt: &HostRuntime, first: &str, second: &str) -> Result<List<KeptText>, Fail> {
     let alloc = rt.alloc();
     let mut texts = List::new(alloc);
-    texts.push(alloc, Text::from_text(alloc, first)?)?;
-    texts.push(alloc, Text::from_text(alloc, second)?)?;
+    texts.push(alloc, KeptText::new(Text::from_text(alloc, first)?))?;
+    texts.push(alloc, KeptText::new(Text::from_text(alloc, second)?))?;
     Ok(texts)
 }
 
@@ -104,10 +115,10 @@ fn signed_texts_are_written_and_read_again(rt: HostRuntime) -> Result<(), Fail> 
     assert_eq!(rt; file.as_slice(), wanted.as_bytes());
     let mut work = Work::new(&rt);
     let params = Schedule::new().newest();
-    let read = read_core_proof(alloc, file.as_slice(), 0, 2, &params, &mut work)?;
+    let read = read_core_proof(alloc, &Shared::new(alloc, file)?, 0, 2, &params, &mut work)?;
     assert_eq!(rt; (read.recovers.len(), read.deactivates.len()), (0, 2));
     let file = write_provisional_proof(alloc, read.deactivates.as_slice())?;
-    let read = read_provisional_proof(alloc, file.as_slice(), 2, &params, &mut work)?;
+    let read = read_provisional_proof(alloc, &Shared::new(alloc, file)?, 2, &params, &mut work)?;
     let Some(second) = read.get(1) else {
         return Err(Fail::from("no text"));
     };
