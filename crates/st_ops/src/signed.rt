@@ -4,7 +4,8 @@ ghost use Rattle.st_canon.specs.Shapes.{text_at};
 ghost use Rattle.st_ops.specs.Operation.{plain_proof};
 ghost use Rattle.st_ops.specs.SignedPart.{proof_in, proof_of, target_in};
 
-use st_base::{Shared, Text, WantOfMemory, Work};
+use st_base::{Shared, WantOfMemory, Work};
+use st_canon::KeptText;
 use st_canon::scan::Scanned;
 use st_indexfiles::{Target, hash_in};
 use st_jws::{Signed, SignedRefused, open_signed};
@@ -45,11 +46,14 @@ pub(crate) fn proof_in(
     }
 }
 
-fn signed_text(alloc: Global, request: &Scanned<'_>) -> Result<Option<Text>, WantOfMemory>
+fn signed_text(alloc: Global, request: &Scanned<'_>) -> Result<Option<KeptText>, WantOfMemory>
     ensures { IfOk result (λ text. text ≡ text_at (codes "signedData") (Some request.now)) }
 {
-    match request.member("signedData") {
-        Some(signed) => signed.text(alloc),
+    let Some(signed) = request.member("signedData") else {
+        return Ok(None);
+    };
+    match signed.text(alloc)? {
+        Some(text) => Ok(Some(KeptText::new(text))),
         None => Ok(None),
     }
 }
@@ -57,7 +61,7 @@ fn signed_text(alloc: Global, request: &Scanned<'_>) -> Result<Option<Text>, Wan
 #[tactic(auto, unfolding(crate::specs::SignedPart::proof_of))]
 fn opened(
     alloc: Global,
-    text: &Text,
+    text: &KeptText,
     limit: usize,
     work: &mut Work,
 ) -> Result<Option<Shared<Signed>>, WantOfMemory>
