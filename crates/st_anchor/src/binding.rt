@@ -54,7 +54,7 @@ impl CoreBranch {
         } = self;
         match role {
             Role::CoreProof => {
-                let proofs = core_proof_part(alloc, file.get().as_slice(), &says, context, work)?;
+                let proofs = core_proof_part(alloc, file, &says, context, work)?;
                 Ok(CoreBranch {
                     says,
                     proofs,
@@ -159,13 +159,7 @@ impl ProvisionalBranch {
                 })
             }
             _ => {
-                let proofs = provisional_proof_part(
-                    alloc,
-                    file.get().as_slice(),
-                    &says,
-                    context,
-                    work,
-                )?;
+                let proofs = provisional_proof_part(alloc, file, &says, context, work)?;
                 Ok(ProvisionalBranch {
                     says,
                     proofs,

@@ -4,7 +4,8 @@ ghost use Rattle.st_anchor.specs.Counting.{WorkedAtMost, more_proofs};
 ghost use Rattle.st_anchor.specs.SignedTexts.{proof_of};
 ghost use Rattle.st_ops.specs.Operation.{plain_proof};
 
-use st_base::{Copied, List, Shared, Text, WantOfMemory, Work};
+use st_base::{Copied, List, Shared, WantOfMemory, Work};
+use st_canon::KeptText;
 use st_jws::{Signed, SignedRefused, open_signed};
 use std::alloc::Global;
 use std::marker::Model;
@@ -32,7 +33,7 @@ impl Proofs {
     /// The proofs that signed texts of at most `limit` bytes are. Each text counts as one proof.
     pub fn open(
         alloc: Global,
-        texts: &[Text],
+        texts: &[KeptText],
         limit: usize,
         work: &mut Work,
     ) -> Result<Proofs, WantOfMemory>
@@ -57,7 +58,7 @@ impl Proofs {
 
 fn open_all(
     alloc: Global,
-    texts: &[Text],
+    texts: &[KeptText],
     limit: usize,
     work: &mut Work,
 ) -> Result<List<Option<Shared<Signed>>>, WantOfMemory>
@@ -76,7 +77,7 @@ fn open_all(
 #[tactic(auto, unfolding(st_ops::specs::SignedPart::proof_of))]
 fn open_one(
     alloc: Global,
-    text: &Text,
+    text: &KeptText,
     limit: usize,
     work: &mut Work,
 ) -> Result<Option<Shared<Signed>>, WantOfMemory>

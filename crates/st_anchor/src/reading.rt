@@ -33,21 +33,21 @@ pub fn core_part(
     }
 }
 
-/// What the bytes of a core proof file make of their role, under a core index.
+/// What a core proof file makes of its role, under a core index.
 pub fn core_proof_part(
     alloc: Global,
-    bytes: &[u8],
+    file: &Shared<Bytes>,
     core: &CoreIndex,
     context: &Context,
     work: &mut Work,
 ) -> Result<Part<OpenedCore>, WantOfMemory>
-    ensures value { IfOk result (λ part. part ≡ core_proof_in context.now core.now bytes.now) }
-    ensures work { OnOk result (work.new ≡ one_file_with (count_read core_proof_count (core_proof_in context.now core.now bytes.now)) work.old) }
-    ensures few { WorkedAtMost 1 (count_read core_proof_count (core_proof_in context.now core.now bytes.now)) work.old work.new }
+    ensures value { IfOk result (λ part. part ≡ core_proof_in context.now core.now file.now) }
+    ensures work { OnOk result (work.new ≡ one_file_with (count_read core_proof_count (core_proof_in context.now core.now file.now)) work.old) }
+    ensures few { WorkedAtMost 1 (count_read core_proof_count (core_proof_in context.now core.now file.now)) work.old work.new }
 {
     let recovers = core.recovers.len();
     let deactivates = core.deactivates.len();
-    match read_core_proof(alloc, bytes, recovers, deactivates, &context.params, work) {
+    match read_core_proof(alloc, file, recovers, deactivates, &context.params, work) {
         Ok(proofs) => {
             let opened = open_core(alloc, &proofs, context.params.max_signed(), work)?;
             Ok(Part::Is(opened))
@@ -93,21 +93,21 @@ pub fn provisional_part(
     }
 }
 
-/// What the bytes of a provisional proof file make of their role, under a provisional index.
+/// What a provisional proof file makes of its role, under a provisional index.
 pub fn provisional_proof_part(
     alloc: Global,
-    bytes: &[u8],
+    file: &Shared<Bytes>,
     provisional: &ProvisionalIndex,
     context: &Context,
     work: &mut Work,
 ) -> Result<Part<Proofs>, WantOfMemory>
-    ensures value { IfOk result (λ part. part ≡ provisional_proof_in context.now provisional.now bytes.now) }
-    ensures work { OnOk result (work.new ≡ one_file_with (count_read length (provisional_proof_in context.now provisional.now bytes.now)) work.old) }
-    ensures few { WorkedAtMost 1 (count_read length (provisional_proof_in context.now provisional.now bytes.now)) work.old work.new }
+    ensures value { IfOk result (λ part. part ≡ provisional_proof_in context.now provisional.now file.now) }
+    ensures work { OnOk result (work.new ≡ one_file_with (count_read length (provisional_proof_in context.now provisional.now file.now)) work.old) }
+    ensures few { WorkedAtMost 1 (count_read length (provisional_proof_in context.now provisional.now file.now)) work.old work.new }
 {
     match read_provisional_proof(
         alloc,
-        bytes,
+        file,
         provisional.updates.len(),
         &context.params,
         work,
