@@ -6,8 +6,8 @@ ghost use Rattle.st_ops.specs.RequestText.{delta_there};
 
 use crate::in_files::{delta_in, suffix_data_in, target_in};
 use crate::parts::signed_text_in;
-use st_base::{Copied, List, Text, WantOfMemory};
-use st_canon::PackedJson;
+use st_base::{Copied, List, WantOfMemory};
+use st_canon::{KeptText, PackedJson};
 use st_indexfiles::{SuffixData, Target};
 use st_ops::Operation;
 use std::alloc::Global;
@@ -48,7 +48,7 @@ pub(crate) fn targets_of(
 pub(crate) fn signed_texts_of(
     alloc: Global,
     operations: &[Operation],
-) -> Result<List<Text>, WantOfMemory>
+) -> Result<List<KeptText>, WantOfMemory>
     ensures { IfOk result (λ found. found ≡ filter_map signed_text_in (map plain_operation operations.now)) }
 {
     let mut found = List::new(alloc);

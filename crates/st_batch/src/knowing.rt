@@ -15,12 +15,6 @@ pub(crate) fn know_operation(operation: &Operation)
 {
     know_hashes(operation);
     if let Some(text) = signed_text_in(operation) {
-        know_text(text.as_str());
+        let _bytes = text.as_slice();
     }
-}
-
-fn know_text(text: &str)
-    ensures { IsUtf8 text.now }
-{
-    let _length = text.len();
 }

@@ -98,7 +98,7 @@ fn proof_size(operation: &Operation) -> u64
     ensures { result ≡ proof_size (plain_operation operation.now) }
 {
     match signed_text_in(operation) {
-        Some(text) => text.as_str().len() as u64 + SIGNED.len() as u64,
+        Some(text) => text.as_slice().len() as u64 + SIGNED.len() as u64,
         None => 0,
     }
 }

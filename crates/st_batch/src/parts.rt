@@ -2,12 +2,13 @@ ghost use Rattle.std.specs.Prelude.{◌≡◌, option_map};
 ghost use Rattle.st_batch.specs.Groups.{signed_text_in};
 ghost use Rattle.st_ops.specs.Operation.{plain_operation, plain_proof};
 
-use st_base::{Shared, Text};
+use st_base::Shared;
+use st_canon::KeptText;
 use st_jws::Signed;
 use st_ops::Operation;
 
 /// The signed text of an operation that has a proof.
-pub(crate) fn signed_text_in(operation: &Operation) -> Option<&Text>
+pub(crate) fn signed_text_in(operation: &Operation) -> Option<&KeptText>
     ensures { option_map (λ text. text.now) result ≡ signed_text_in (plain_operation operation.now) }
 {
     match operation {
@@ -18,7 +19,7 @@ pub(crate) fn signed_text_in(operation: &Operation) -> Option<&Text>
     }
 }
 
-fn text_of(proof: &Option<Shared<Signed>>) -> Option<&Text>
+fn text_of(proof: &Option<Shared<Signed>>) -> Option<&KeptText>
     ensures { option_map (λ text. text.now) result ≡ option_map (λ found. found.text) (option_map plain_proof proof.now) }
 {
     match proof {

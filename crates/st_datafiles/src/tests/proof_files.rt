@@ -1,4 +1,5 @@
 use super::{case_of, spaces};
+use crate::place::Place;
 use crate::{
     CoreProofs, read_core_proof, read_provisional_proof, write_core_proof, write_provisional_proof,
 };
@@ -128,5 +129,46 @@ fn signed_texts_are_written_and_read_again(rt: HostRuntime) -> Result<(), Fail> 
         b"{}".as_slice()
     );
     assert_eq!(rt; work.files(), 2);
+    Ok(())
+}
+
+// Whether these texts of one kind stand in the file where they are looked for.
+fn stand(
+    alloc: Global,
+    place: &mut Place,
+    file: &[u8],
+    kind: &str,
+    texts: &str,
+) -> Result<bool, WantOfMemory> {
+    place.open(kind);
+    for text in texts.lines() {
+        let from = place.text();
+        if from > file.len() || !file[from..].starts_with(text.as_bytes()) {
+            return Ok(false);
+        }
+        place.pass(&KeptText::new(Text::from_text(alloc, text)?));
+    }
+    Ok(true)
+}
+
+#[test]
+fn a_signed_text_is_looked_for_where_it_stands(rt: HostRuntime) -> Result<(), Fail> {
+    let alloc = rt.alloc();
+    let updates =
+        "{\"operations\":{\"update\":[{\"signedData\":\"a.b.c\"},{\"signedData\":\"d\"}]}}";
+    assert!(rt; stand(alloc, &mut Place::new(), updates.as_bytes(), "update", "a.b.c\nd")?);
+    let both = "{\"operations\":{\"deactivate\":[{\"signedData\":\"a.b.c\"},{\"signedData\":\"d\"}],\
+\"recover\":[{\"signedData\":\"e\"}]}}";
+    let mut place = Place::new();
+    assert!(rt;
+        stand(alloc, &mut place, both.as_bytes(), "deactivate", "a.b.c\nd")?
+            && stand(alloc, &mut place, both.as_bytes(), "recover", "e")?
+    );
+    let recovers = "{\"operations\":{\"recover\":[{\"signedData\":\"e\"}]}}";
+    let mut place = Place::new();
+    assert!(rt;
+        stand(alloc, &mut place, recovers.as_bytes(), "deactivate", "")?
+            && stand(alloc, &mut place, recovers.as_bytes(), "recover", "e")?
+    );
     Ok(())
 }

@@ -7,4 +7,4 @@ use Rattle.st_batch.proofs.operation_sizes.proof_size.Goals as goal
 pub returns-in-Some : goal.returns-in-Some
 returns-in-Some c =
     let found = sym (ap (option_map (λ text. text.now)) c.in-Some.is) ∙ c.signed_text_in.ensures in
-    omega (arith, ap length c.as_str.ensures, signed_counted (signed_text_in (plain_operation c.args.operation.now)) found c.requires.bare)
+    omega (arith, ap length c.as_slice.ensures.bytes, signed_counted (signed_text_in (plain_operation c.args.operation.now)) found c.requires.bare)
