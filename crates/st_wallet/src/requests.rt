@@ -7,6 +7,7 @@ ghost use Rattle.st_wallet.specs.Machine.{request_reply};
 use crate::drafting::{Change, Draft};
 use crate::replies::tell_request;
 use st_base::{Bytes, Shared, WantOfMemory};
+use st_canon::KeptText;
 use st_indexfiles::Target;
 use st_jws::{Signed, join_signed};
 use st_lms::Signer;
@@ -50,7 +51,7 @@ fn sign(
         change,
     } = draft;
     let signature = counter.sign_with(alloc, signer, input.as_slice())?;
-    let text = join_signed(alloc, &input, &signature)?;
+    let text = KeptText::new(join_signed(alloc, &input, &signature)?);
     let proof = Shared::new(alloc, Signed { text, payload, key })?;
     Ok(with_proof(target, change, proof))
 }
