@@ -1,9 +1,7 @@
 -- Members that are gathered by name as they come, in whatever order and more than once.
-use Rattle.std.proofs.Common.{◌≡◌, ℕ, ◌+◌, ◌≤◌, List, [], ◌∷◌, ◌++◌, drop, length, length-drop, map, take, Bool, true, false, Option, Some, None}
-use Rattle.std.proofs.Common.{option_map, option_and_then, Ordering, Less, Equal, Greater, nat_cmp, is_eq, if◌then◌else◌, IfSome, refl, sym, ap, ap₂}
-use Rattle.std.proofs.Common.{◌∙◌, subst, arith, append_assoc}
-use Rattle.std.specs.Prelude.{⊤, is_some}
-use Rattle.std.specs.BTreeMap.{insert_entry}
+use Rattle.std.proofs.Common.{◌≡◌, ℕ, ◌<◌, List, [], ◌∷◌, ◌++◌, length, map, Bool, true, false, Option, Some, None, option_map, option_and_then}
+use Rattle.std.proofs.Common.{Ordering, Less, Equal, Greater, nat_cmp, is_eq, IfSome, refl, sym, ap, ◌∙◌, subst, arith, append_assoc}
+use Rattle.std.specs.Prelude.{⊤, reverse}
 use Rattle.std.specs.Cmp.Lexicographic.{slice_cmp, nat_list_cmp_total}
 use Rattle.std.specs.List.{AllByRecursion}
 use Rattle.std.specs.List.Sorted.{IsStrictlySortedBy}
@@ -11,30 +9,37 @@ use Rattle.std.specs.Map.{keys_of}
 use Rattle.std.specs.Ordering.{match_ordering, ordering_reverse}
 use Rattle.std.specs.Str.{IsUtf8}
 use Rattle.std.proofs.lemmas.Cmp.{tied_itself}
-use Rattle.std.proofs.lemmas.List.{drop-append-le, length-append, take-append-le}
+use Rattle.std.proofs.lemmas.List.{reverse-append}
 use Rattle.std.proofs.lemmas.Map.Text.{is_eq-slice_cmp}
 use Rattle.std.proofs.lemmas.Slice.Eq.{bytes_eq-Decides}
 use Rattle.serde_json.specs.Data as data'
+use Rattle.st_base.specs.Words.{HasNo}
 use Rattle.st_canon.specs.Canonical.{canonical, canonical_members, comma, quoted}
 use Rattle.st_canon.specs.Find.{put}
-use Rattle.st_canon.specs.Names.{name_cmp}
+use Rattle.st_canon.specs.Held.{IsHeld, entry_at, mark, some_text}
+use Rattle.st_canon.specs.InOrder.{in_order, placed}
+use Rattle.st_canon.specs.Names.{name_cmp, NamesAscend}
 use Rattle.st_canon.specs.Plain.{Plain, Members, no_members, member}
 use Rattle.st_canon.specs.Proper.{AllAbove, IsProper, MembersAreProper}
 use Rattle.st_canon.specs.Reading.{whole_value, whole_members}
-use Rattle.st_canon.specs.Respelled.{AreWithin, IsWithin, IsWritten, Texts, members_text, text_at, texts_at}
+use Rattle.st_canon.specs.Respelled.{HasEnded, IsWritten, Texts, members_text, texts_in}
+use Rattle.st_canon.proofs.FrontLemmas.{some_canonical}
+use Rattle.st_canon.proofs.HeldLemmas.{all_stay, entries_stay, entry_held, no_mark}
 use Rattle.st_canon.proofs.Order.{by_order, name_total, greater_from_less, less_from_greater, same_from_tied}
+use Rattle.st_canon.proofs.Sorting.{all_placed, ascend_placed}
+use Rattle.st_canon.proofs.Texts.{IsUtf8-canonical}
 
 -- ---- a name that goes in among others
 
 module _ {X : Type 0} where
   abbrev with_name : List ℕ → X → List (List ℕ × X) → List (List ℕ × X)
-  with_name k x es = insert_entry name_cmp es k x
+  with_name k x es = placed (k, x) es
 
   again_at : (k : List ℕ) (x y : X) (e : List ℕ × X) (es : List (List ℕ × X)) (o : Ordering) → name_cmp k e.0 ≡ o → name_cmp k k ≡ Equal
       → with_name k y (with_name k x es) ≡ with_name k y es
       → with_name k y (with_name k x (e ∷ es)) ≡ with_name k y (e ∷ es)
   again_at k x y e es Less is own ih = simp (is, own) refl
-  again_at k x y e es Equal is own ih = simp is refl
+  again_at k x y e es Equal is own ih = simp (is, own) refl
   again_at k x y e es Greater is own ih = simp is (ap (λ l. e ∷ l) ih)
 
   -- the value that comes later stays
@@ -46,11 +51,11 @@ module _ {X : Type 0} where
       → name_cmp k e.0 ≡ a → name_cmp l e.0 ≡ b → with_name k x (with_name l y es) ≡ with_name l y (with_name k x es)
       → with_name k x (with_name l y (e ∷ es)) ≡ with_name l y (with_name k x (e ∷ es))
   swap_at k l x y e es Less Less lt gt a b ih = simp (a, b, lt, gt) refl
-  swap_at k l x y e es Less Equal lt gt a b ih = simp (a, b, gt) refl
+  swap_at k l x y e es Less Equal lt gt a b ih = simp (a, b, lt, gt) refl
   swap_at k l x y e es Less Greater lt gt a b ih = simp (a, b, gt) refl
   swap_at k l x y e es Equal Less lt gt a b ih = let c = name_total.congr k e.0 l a in let d = name_total.antisymm e.0 l ∙ ap ordering_reverse b in cc
   swap_at k l x y e es Equal Equal lt gt a b ih = let c = name_total.congr k e.0 l a in let d = name_total.antisymm e.0 l ∙ ap ordering_reverse b in cc
-  swap_at k l x y e es Equal Greater lt gt a b ih = simp (a, b) refl
+  swap_at k l x y e es Equal Greater lt gt a b ih = simp (a, b, gt) refl
   swap_at k l x y e es Greater Less lt gt a b ih = let c = name_total.trans k l e.0 lt b in cc
   swap_at k l x y e es Greater Equal lt gt a b ih = let c = name_total.congr l e.0 k b in let d = name_total.antisymm e.0 k ∙ ap ordering_reverse a in cc
   swap_at k l x y e es Greater Greater lt gt a b ih = simp (a, b) (ap (λ rest. e ∷ rest) ih)
@@ -66,19 +71,12 @@ module _ {X : Type 0} where
   swapped_by k l x y es Equal is apart = absurd (apart refl)
   swapped_by k l x y es Greater is apart = sym (lower_first l k y x es (less_from_greater k l is))
 
-  all_names : (P : List ℕ → Type 0) (k : List ℕ) (x : X) (es : List (List ℕ × X)) → P k → AllByRecursion P (keys_of es)
-      → AllByRecursion P (keys_of (with_name k x es))
-  all_names P k x [] p h = (p, tt)
-  all_names P k x (e ∷ es) p h =
-      by_order (λ fs. AllByRecursion P (keys_of fs)) (name_cmp k e.0) ((k, x) ∷ e ∷ es) ((e.0, x) ∷ es) (e ∷ with_name k x es)
-      (λ is. (p, h)) (λ is. h) (λ is. (h.0, all_names P k x es p h.1))
-
   all_values : (P : List ℕ → Type 0) (Q : X → Type 0) (k : List ℕ) (x : X) (es : List (List ℕ × X)) → P k → Q x
       → AllByRecursion (λ e. P e.0 × Q e.1) es → AllByRecursion (λ e. P e.0 × Q e.1) (with_name k x es)
   all_values P Q k x [] p q h = ((p, q), tt)
   all_values P Q k x (e ∷ es) p q h =
-      by_order (AllByRecursion (λ e. P e.0 × Q e.1)) (name_cmp k e.0) ((k, x) ∷ e ∷ es) ((e.0, x) ∷ es) (e ∷ with_name k x es)
-      (λ is. ((p, q), h)) (λ is. ((h.0.0, q), h.1)) (λ is. (h.0, all_values P Q k x es p q h.1))
+      by_order (AllByRecursion (λ e. P e.0 × Q e.1)) (name_cmp k e.0) ((k, x) ∷ e ∷ es) ((k, x) ∷ es) (e ∷ with_name k x es)
+      (λ is. ((p, q), h)) (λ is. ((p, q), h.1)) (λ is. (h.0, all_values P Q k x es p q h.1))
 
 -- values under a function
 values_with : {X Y : Type 0} (f : X → Y) (k : List ℕ) (x : X) (es : List (List ℕ × X))
@@ -87,15 +85,11 @@ values_with f k x [] = refl
 values_with {X = X} {Y = Y} f k x (e ∷ es) = at (name_cmp k e.0) _ _ (values_with f k x es)
   where
     at : (o : Ordering) (fs : List (List ℕ × X)) (gs : List (List ℕ × Y)) → map (λ e. (e.0, f e.1)) fs ≡ gs
-        → map (λ e. (e.0, f e.1)) (match_ordering o ((k, x) ∷ e ∷ es) ((e.0, x) ∷ es) (e ∷ fs))
-        ≡ match_ordering o ((k, f x) ∷ map (λ e. (e.0, f e.1)) (e ∷ es)) ((e.0, f x) ∷ map (λ e. (e.0, f e.1)) es) ((e.0, f e.1) ∷ gs)
+        → map (λ e. (e.0, f e.1)) (match_ordering o ((k, x) ∷ e ∷ es) ((k, x) ∷ es) (e ∷ fs))
+        ≡ match_ordering o ((k, f x) ∷ map (λ e. (e.0, f e.1)) (e ∷ es)) ((k, f x) ∷ map (λ e. (e.0, f e.1)) es) ((e.0, f e.1) ∷ gs)
     at Less fs gs ih = refl
     at Equal fs gs ih = refl
     at Greater fs gs ih = ap (λ l. (e.0, f e.1) ∷ l) ih
-
-pub names_stay : {X Y : Type 0} (f : X → Y) (es : List (List ℕ × X)) → keys_of (map (λ e. (e.0, f e.1)) es) ≡ keys_of es
-names_stay f [] = refl
-names_stay f (e ∷ es) = ap (λ l. e.0 ∷ l) (names_stay f es)
 
 -- ---- names by their bytes, which is the order of `serde_json`
 
@@ -211,7 +205,7 @@ all_whole_with : (k : List ℕ) (there : Option Plain) (es : Outcomes) → AllBy
 all_whole_with k there [] apart = one_whole k there
 all_whole_with k there (e ∷ es) apart =
     by_order (λ fs. all_whole fs ≡ option_and_then (λ p. option_map (put k p) (all_whole (e ∷ es))) there) (name_cmp k e.0)
-    ((k, there) ∷ e ∷ es) ((e.0, there) ∷ es) (e ∷ with_name k there es)
+    ((k, there) ∷ e ∷ es) ((k, there) ∷ es) (e ∷ with_name k there es)
     (λ is. all_first k there e es is)
     (λ is. absurd (apart.0 is))
     (λ is.
@@ -222,7 +216,7 @@ apart_from_above : (k : List ℕ) (ds : data'.Members) → IsUtf8 k → AreUtf8 
     → AllByRecursion (λ n. name_cmp k n ≡ Equal → ⊥) (keys_of (outcomes ds))
 apart_from_above k data'.no_members u h above = tt
 apart_from_above k (data'.member l d ds) u h above =
-    all_names (λ n. name_cmp k n ≡ Equal → ⊥) l (whole_value d) (outcomes ds) (never_tied k l Less u h.0 above.0 less_apart)
+    all_placed (λ n. name_cmp k n ≡ Equal → ⊥) (l, whole_value d) (outcomes ds) (never_tied k l Less u h.0 above.0 less_apart)
     (apart_from_above k ds u h.1 above.1)
 
 whole_members_are : (ds : data'.Members) → AreUtf8 ds → BytesAscend ds → whole_members ds ≡ all_whole (outcomes ds)
@@ -271,6 +265,11 @@ proper_with k None rest u p above h = tt
 proper_with k (Some q) None u p above h = tt
 proper_with k (Some q) (Some ms) u p above h = (u, above, p, h)
 
+ascend_outcomes : (ds : data'.Members) → NamesAscend (outcomes ds)
+unfolding IsStrictlySortedBy
+ascend_outcomes data'.no_members = tt
+ascend_outcomes (data'.member k d ds) = ascend_placed (k, whole_value d) (outcomes ds) (ascend_outcomes ds)
+
 all_proper : (es : Outcomes) → IsStrictlySortedBy name_cmp (keys_of es) → AreProper es → IfSome (all_whole es) MembersAreProper
 unfolding IsStrictlySortedBy
 all_proper [] s h = tt
@@ -278,114 +277,124 @@ all_proper (e ∷ es) s h = proper_with e.0 e.1 (all_whole es) h.0.0 h.0.1 (all_
 
 -- ---- what is gathered of data
 
-pub record IsGathered (ds : data'.Members) (texts : Texts) : Type 0 where
-  pub are : texts ≡ texts_of (outcomes ds)
+pub record IsGathered (ds : data'.Members) (bytes places : List ℕ) : Type 0 where
+  pub are : texts_in bytes places ≡ texts_of (outcomes ds)
+  pub held : AllByRecursion (IsHeld bytes) (reverse places)
   pub ascend : BytesAscend ds
   pub utf8 : AreUtf8 ds
   pub proper : AreProper (outcomes ds)
 
-pub none_gathered : IsGathered data'.no_members []
-none_gathered = record { are = refl; ascend = tt; utf8 = tt; proper = tt }
+pub none_gathered : (bytes places : List ℕ) → places ≡ [] → IsGathered data'.no_members bytes places
+none_gathered bytes places none = rw none (record { are = refl; held = tt; ascend = tt; utf8 = tt; proper = tt })
 
-text_given : (there : Option Plain) (told : Bool) (text : List ℕ) → IsWritten IsProper canonical there told [] text
-    → (if told then Some text else None) ≡ option_map canonical there
-text_given None told text h = rw h.0 refl
-text_given (Some p) told text h = rw (h.0, h.1.1) refl
+-- a member that came: where it stands, and that what was held before still is
+record HasCome (k : List ℕ) (there : Option Plain) (old new places news : List ℕ) : Type 0 where
+  place : ℕ
+  more : List ℕ
+  grown : new ≡ old ++ more
+  among : news ≡ places ++ place ∷ []
+  held : IsHeld new place
+  entry : entry_at new place ≡ (k, option_map canonical there)
 
-proper_given : (there : Option Plain) (told : Bool) (text : List ℕ) → IsWritten IsProper canonical there told [] text → IfSome there IsProper
-proper_given None told text h = tt
-proper_given (Some p) told text h = h.1.0
+-- a name and a text behind others
+one_held : (front k text new : List ℕ) → IsUtf8 k → HasNo mark text → new ≡ front ++ (k ++ (mark ∷ (text ++ mark ∷ []))) → IsHeld new (length front)
+one_held front k text new u bare is = record { front = front; name = k; text = text; rest = []; is = is; at = refl; utf8 = u; bare = bare }
 
-pub one_more_gathered : (ds : data'.Members) (texts new : Texts) (k : List ℕ) (d : data'.Data) (told : Bool) (text : List ℕ)
-    → IsGathered ds texts → IsUtf8 k → IsWritten IsProper canonical (whole_value d) told [] text
-    → new ≡ insert_entry name_cmp texts k (if told then Some text else None) → IsGathered (data'.put k d ds) new
-one_more_gathered ds texts new k d told text are u written is =
-    let more = outcomes_put k d ds u are.utf8 in record {
-      are = is ∙ ap (λ given. with_name k given texts) (text_given (whole_value d) told text written)
-          ∙ ap (with_name k (option_map canonical (whole_value d))) are.are ∙ sym (values_with (option_map canonical) k (whole_value d) (outcomes ds))
-          ∙ ap texts_of (sym more);
+text_there : (p : Plain) → IsProper p → some_text (canonical p) ≡ Some (canonical p)
+text_there p proper = at (canonical p) (some_canonical p proper)
+  where
+    at : (text : List ℕ) → 0 < length text → some_text text ≡ Some text
+    at [] some = absurd (omega (arith, some))
+    at (b ∷ bs) some = refl
+
+module _ (k old first second third places news : List ℕ) (place : ℕ) (u : IsUtf8 k) (begun : first ≡ old ++ (k ++ mark ∷ [])) where
+  whole_came : (p : Plain) → IsProper p → second ≡ first ++ canonical p → place ≡ length old → HasEnded k place true second places third news
+      → HasCome k (Some p) old third places news
+  unfolding one_held
+  whole_came p proper written at ended =
+      let text = canonical p in
+      let grown : third ≡ old ++ (k ++ (mark ∷ (text ++ mark ∷ []))) =
+      ended.0 ∙ ap (λ t. t ++ mark ∷ []) (written ∙ ap (λ t. t ++ text) begun)
+      ∙ append_assoc (old ++ (k ++ mark ∷ [])) text (mark ∷ []) ∙ append_assoc old (k ++ mark ∷ []) (text ++ mark ∷ [])
+      ∙ ap (λ t. old ++ t) (append_assoc k (mark ∷ []) (text ++ mark ∷ [])) in
+      let held = one_held old k text third u (no_mark text (IsUtf8-canonical p proper)) grown in
+      record {
+        place = length old;
+        more = k ++ (mark ∷ (text ++ mark ∷ []));
+        grown = grown;
+        among = ended.1 ∙ ap (λ n. places ++ n ∷ []) at;
+        held = held;
+        entry = entry_held third (length old) held ∙ ap (λ t. (k, t)) (text_there p proper);
+      }
+
+  other_came : (added : List ℕ) → second ≡ first ++ added → HasEnded k place false second places third news → HasCome k None old third places news
+  unfolding one_held
+  other_came added written ended =
+      let more = (k ++ mark ∷ []) ++ (added ++ (k ++ mark ∷ mark ∷ [])) in
+      let held = one_held second k [] third u tt ended.0 in
+      record {
+        place = length second;
+        more = more;
+        grown = ended.0 ∙ ap (λ t. t ++ (k ++ mark ∷ mark ∷ [])) (written ∙ ap (λ t. t ++ added) begun)
+            ∙ append_assoc (old ++ (k ++ mark ∷ [])) added (k ++ mark ∷ mark ∷ []) ∙ append_assoc old (k ++ mark ∷ []) (added ++ (k ++ mark ∷ mark ∷ []));
+        among = ended.1;
+        held = held;
+        entry = entry_held third (length second) held;
+      }
+
+  has_come : (there : Option Plain) (told : Bool) → place ≡ length old → IsWritten IsProper canonical there told first second
+      → HasEnded k place told second places third news → HasCome k there old third places news
+  has_come None told at written ended =
+      other_came written.1.0 written.1.1 (subst (λ t. HasEnded k place t second places third news) written.0 ended)
+  has_come (Some p) told at written ended =
+      whole_came p written.1.0 written.1.1 at (subst (λ t. HasEnded k place t second places third news) written.0 ended)
+
+proper_given : (there : Option Plain) (told : Bool) (before after : List ℕ) → IsWritten IsProper canonical there told before after → IfSome there IsProper
+proper_given None told before after h = tt
+proper_given (Some p) told before after h = h.1.0
+
+one_more_come : (ds : data'.Members) (old new places news : List ℕ) (k : List ℕ) (d : data'.Data) → IsGathered ds old places → IsUtf8 k
+    → IfSome (whole_value d) IsProper → HasCome k (whole_value d) old new places news → IsGathered (data'.put k d ds) new news
+one_more_come ds old new places news k d are u proper come =
+    let there = whole_value d in
+    let more = outcomes_put k d ds u are.utf8 in
+    let all : reverse news ≡ come.place ∷ reverse places = ap reverse come.among ∙ reverse-append places (come.place ∷ []) in
+    let stay = ap in_order (entries_stay old new come.more come.grown (reverse places) are.held) ∙ are.are in
+    record {
+      are = ap (λ ps. in_order (map (entry_at new) ps)) all ∙ ap (λ e. placed e (in_order (map (entry_at new) (reverse places)))) come.entry
+          ∙ ap (with_name k (option_map canonical there)) stay ∙ sym (values_with (option_map canonical) k there (outcomes ds)) ∙ ap texts_of (sym more);
+      held = subst (AllByRecursion (IsHeld new)) (sym all) (come.held, all_stay old new come.more come.grown (reverse places) are.held);
       ascend = ascend_put k d ds are.ascend;
       utf8 = utf8_put k d ds u are.utf8;
-      proper = subst AreProper (sym more)
-          (all_values IsUtf8 (λ there. IfSome there IsProper) k (whole_value d) (outcomes ds) u (proper_given (whole_value d) told text written) are.proper);
+      proper = subst AreProper (sym more) (all_values IsUtf8 (λ there. IfSome there IsProper) k there (outcomes ds) u proper are.proper);
     }
+
+pub one_more_gathered : (ds : data'.Members) (old first second third places news : List ℕ) (k : List ℕ) (d : data'.Data) (told : Bool) (place : ℕ)
+    → IsGathered ds old places → IsUtf8 k → first ≡ old ++ (k ++ mark ∷ []) → place ≡ length old
+    → IsWritten IsProper canonical (whole_value d) told first second → HasEnded k place told second places third news
+    → IsGathered (data'.put k d ds) third news
+one_more_gathered ds old first second third places news k d told place are u begun at written ended =
+    one_more_come ds old third places news k d are u (proper_given (whole_value d) told first second written)
+    (has_come k old first second third places news place u begun (whole_value d) told at written ended)
 
 members_given : (there : Option Members) (told : Bool) (before after : List ℕ) → IfSome there MembersAreProper
     → IsWritten (λ t. ⊤) (λ t. t) (option_map (canonical_members false) there) told before after
     → IsWritten MembersAreProper (canonical_members false) there told before after
-members_given None told before after p h = (h.0, tt)
+members_given None told before after p h = h
 members_given (Some ms) told before after p h = (h.0, (p, h.1.1))
 
-pub gathered_written : (ds : data'.Members) (texts : Texts) (told : Bool) (before after : List ℕ) → IsGathered ds texts
-    → IsStrictlySortedBy name_cmp (keys_of texts) → IsWritten (λ t. ⊤) (λ t. t) (members_text false texts) told before after
+pub gathered_written : (ds : data'.Members) (bytes places : List ℕ) (told : Bool) (before after : List ℕ) → IsGathered ds bytes places
+    → IsWritten (λ t. ⊤) (λ t. t) (members_text false (texts_in bytes places)) told before after
     → IsWritten MembersAreProper (canonical_members false) (whole_members ds) told before after
-gathered_written ds texts told before after are sorted written =
+gathered_written ds bytes places told before after are written =
     let es = outcomes ds in
-    let ascend = subst (IsStrictlySortedBy name_cmp) (ap keys_of are.are ∙ names_stay (option_map canonical) es) sorted in
     let text = ap (members_text false) are.are ∙ text_of_members false es in
     subst (λ there. IsWritten MembersAreProper (canonical_members false) there told before after) (sym (whole_members_are ds are.utf8 are.ascend))
-    (members_given (all_whole es) told before after (all_proper es ascend are.proper)
+    (members_given (all_whole es) told before after (all_proper es (ascend_outcomes ds) are.proper)
     (subst (λ there. IsWritten (λ t. ⊤) (λ t. t) there told before after) text written))
-
--- ---- parts of bytes that grow
-
-abbrev Spans : Type 0
-Spans = List (List ℕ × Option (ℕ × ℕ))
-
-module _ (old new added : List ℕ) (grown : new ≡ old ++ added) where
-  span_stays : (span : Option (ℕ × ℕ)) → IfSome span (IsWithin old) → IfSome span (IsWithin new)
-  span_stays None within = tt
-  span_stays (Some s) within = rw grown (omega (arith, within, length-append old added))
-
-  text_stays : (span : Option (ℕ × ℕ)) → IfSome span (IsWithin old) → text_at new span ≡ text_at old span
-  text_stays None within = refl
-  text_stays (Some s) within =
-      ap (λ bytes. Some (take s.1 (drop s.0 bytes))) grown
-      ∙ ap (λ bytes. Some (take s.1 bytes)) (drop-append-le s.0 old added (omega (arith, within)))
-      ∙ ap Some (take-append-le s.1 (drop s.0 old) added (omega (arith, within, length-drop s.0 old)))
-
-  all_stay : (spans : Spans) → AreWithin old spans → AreWithin new spans
-  all_stay [] within = tt
-  all_stay (e ∷ es) within = (span_stays e.1 within.0, all_stay es within.1)
-
-  texts_stay : (spans : Spans) → AreWithin old spans → texts_at new spans ≡ texts_at old spans
-  texts_stay [] within = refl
-  texts_stay (e ∷ es) within = ap₂ (λ text rest. (e.0, text) ∷ rest) (text_stays e.1 within.0) (texts_stay es within.1)
-
-  module _ (spans more : Spans) (k : List ℕ) (span : Option (ℕ × ℕ)) (within : AreWithin old spans) (is : more ≡ insert_entry name_cmp spans k span) where
-    pub within_grown : IfSome span (IsWithin new) → AreWithin new more
-    within_grown one = rw is (all_within spans one (all_stay spans within))
-      where
-        all_within : (es : Spans) → IfSome span (IsWithin new) → AreWithin new es → AreWithin new (insert_entry name_cmp es k span)
-        all_within [] one h = (one, tt)
-        all_within (e ∷ es) one h =
-            by_order (AreWithin new) (name_cmp k e.0) ((k, span) ∷ e ∷ es) ((e.0, span) ∷ es) (e ∷ insert_entry name_cmp es k span)
-            (λ is. (one, h)) (λ is. (one, h.1)) (λ is. (h.0, all_within es one h.1))
-
-    pub texts_grown : (text : Option (List ℕ)) → text_at new span ≡ text → texts_at new more ≡ insert_entry name_cmp (texts_at old spans) k text
-    texts_grown text e =
-        ap (texts_at new) is ∙ values_with (text_at new) k span spans ∙ ap (insert_entry name_cmp (texts_at new spans) k) e
-        ∙ ap (λ es. insert_entry name_cmp es k text) (texts_stay spans within)
 
 -- ---- what goes out of them, one after another
 
-pub one_more_text : (all : Option (List ℕ)) (b : Bool) (entries rest : Texts) (k text before done out first second third last : List ℕ)
-    → out ≡ before ++ done → all ≡ option_map (λ r. done ++ r) (members_text b entries) → entries ≡ (k, Some text) ∷ rest
-    → first ≡ out ++ comma b → second ≡ first ++ quoted k → third ≡ second ++ 58 ∷ [] → last ≡ third ++ text
-    → (more : List ℕ) × (last ≡ before ++ more) × (all ≡ option_map (λ r. more ++ r) (members_text true rest))
-one_more_text all b entries rest k text before done out first second third last was so_far is one two three four =
-    let new = comma b ++ (quoted k ++ (58 ∷ text)) in (
-      done ++ new,
-      four ∙ ap (λ t. t ++ text) (three ∙ ap (λ t. t ++ 58 ∷ []) (two ∙ ap (λ t. t ++ quoted k) (one ∙ ap (λ t. t ++ comma b) was)))
-          ∙ append_assoc (((before ++ done) ++ comma b) ++ quoted k) (58 ∷ []) text
-          ∙ append_assoc ((before ++ done) ++ comma b) (quoted k) (58 ∷ text)
-          ∙ append_assoc (before ++ done) (comma b) (quoted k ++ (58 ∷ text)) ∙ append_assoc before done new,
-      so_far ∙ ap (λ es. option_map (λ r. done ++ r) (members_text b es)) is ∙ joined (members_text true rest),
-    )
-  where
-    joined : (there : Option (List ℕ)) → option_map (λ r. done ++ r) (option_map (λ r. comma b ++ (quoted k ++ (58 ∷ (text ++ r)))) there)
-        ≡ option_map (λ r. (done ++ (comma b ++ (quoted k ++ (58 ∷ text)))) ++ r) there
-    joined None = refl
-    joined (Some r) =
-        ap Some (ap (λ t. done ++ t) (sym (append_assoc (comma b) (quoted k ++ (58 ∷ text)) r ∙ ap (λ t. comma b ++ t) (append_assoc (quoted k) (58 ∷ text) r)))
-        ∙ sym (append_assoc done (comma b ++ (quoted k ++ (58 ∷ text))) r))
+-- all that goes out, where this went out and these are left
+abbrev pub all_of : List ℕ → Bool → Texts → Option (List ℕ)
+all_of done b es = option_map (λ r. done ++ r) (members_text b es)

@@ -9,14 +9,17 @@ mod Depths
 mod EntryLemmas
 mod FrontLemmas
 mod GatheredLemmas
+mod HeldLemmas
 mod Kept
 mod KindLemmas
+mod LatestLemmas
 mod ListsLemmas
 mod MarkLemmas
 mod MemberLemmas
 mod Outcomes
 mod Puts
 mod QuotedLemmas
+mod RankLemmas
 mod ReadLemmas
 mod RespellingLemmas
 mod RewritingLemmas

@@ -1,9 +1,8 @@
 -- What an object has by name once a member was put or removed, over plain values.
-use Rattle.std.proofs.Common.{◌≡◌, ℕ, true, false, not, cond, List, Some, None, Less, Equal, Greater, refl, sym, ap, ◌∙◌}
+use Rattle.std.proofs.Common.{◌≡◌, ℕ, true, false, not, cond, List, Some, None, Equal, refl, sym, ap, ◌∙◌}
 use Rattle.std.proofs.lemmas.Bool.{not-true}
 use Rattle.std.specs.Prelude.{◌&&◌}
 use Rattle.std.specs.Cmp.{first_so, second_so}
-use Rattle.std.specs.Ordering.{match_ordering}
 use Rattle.std.specs.Str.{IsUtf8}
 use Rattle.json.proofs.Printed.Utf8.{are_ascii, IsUtf8-are_ascii}
 use Rattle.st_canon.specs.Find.{OthersStay, member_at, put, without}

@@ -1,7 +1,7 @@
 -- Data that is read over its tokens, and its canonical text, which goes out an item at a time.
 use Rattle.std.proofs.Common.{◌≡◌, ℕ, ℤ, zero, suc, ◌-◌, ◌<◌, ◌≤◌, List, [], ◌∷◌, ◌++◌, length, Bool, true, false, Option, Some, None, option_map}
 use Rattle.std.proofs.Common.{option_and_then, IfSome, IfErr, Result, Ok, Err, refl, sym, ap, ◌∙◌, subst, append_assoc}
-use Rattle.std.specs.Prelude.{◌&&◌, codes, is_some, ok_or}
+use Rattle.std.specs.Prelude.{◌&&◌, ok_or}
 use Rattle.std.specs.Str.{IsUtf8}
 use Rattle.std.proofs.lemmas.List.{append-nil}
 use Rattle.json.specs.Json as json
@@ -16,10 +16,10 @@ use mathlib.Core.Bool.{true≢false}
 use Rattle.st_base.specs.Answers.{GivesAs}
 use Rattle.st_canon.specs.Canonical.{canonical, canonical_items, canonical_members, comma}
 use Rattle.st_canon.specs.Packed.{IsReadAgain, value_read}
-use Rattle.st_canon.specs.Plain.{Plain, IsWhole, whole, list, object, Items, no_items, item, Members}
+use Rattle.st_canon.specs.Plain.{Plain, IsWhole, whole, list, object, Items, item, Members}
 use Rattle.st_canon.specs.Proper.{IsProper, ItemsAreProper, MembersAreProper}
 use Rattle.st_canon.specs.Reading.{json_of, refusal_of, whole_value, whole_items}
-use Rattle.st_canon.specs.Respelled.{IsNoJson, IsWritten}
+use Rattle.st_canon.specs.Respelled.{IsNoJson, IsWritten, WasAdded}
 use Rattle.st_canon.specs.View.{items_of}
 use Rattle.st_canon.specs.declared.refused.ReadRefused.{ReadRefused}
 use Rattle.st_canon.specs.declared.refused.ReadRefused.TheVariants.{NotJson, NotWhole, WantOfMemory}
@@ -95,14 +95,16 @@ number_written (Some z) told before after h = h
 pub list_written : (there : Option Items) (told : Bool) (before one two three : List ℕ) → one ≡ before ++ 91 ∷ []
     → IsWritten ItemsAreProper (canonical_items false) there told one two → three ≡ two ++ 93 ∷ []
     → IsWritten IsProper canonical (option_map list there) told before three
-list_written None told before one two three first h third = (h.0, tt)
+list_written None told before one two three first h third =
+    (h.0, (91 ∷ (h.1.0 ++ 93 ∷ []), in_brackets before h.1.0 one two three 91 93 first h.1.1 third))
 list_written (Some ps) told before one two three first h third =
     (h.0, (h.1.0, in_brackets before (canonical_items false ps) one two three 91 93 first h.1.1 third))
 
 pub object_written : (there : Option Members) (told : Bool) (before one two three : List ℕ) → one ≡ before ++ 123 ∷ []
     → IsWritten MembersAreProper (canonical_members false) there told one two → three ≡ two ++ 125 ∷ []
     → IsWritten IsProper canonical (option_map object there) told before three
-object_written None told before one two three first h third = (h.0, tt)
+object_written None told before one two three first h third =
+    (h.0, (123 ∷ (h.1.0 ++ 125 ∷ []), in_brackets before h.1.0 one two three 123 125 first h.1.1 third))
 object_written (Some ms) told before one two three first h third =
     (h.0, (h.1.0, in_brackets before (canonical_members false ms) one two three 123 125 first h.1.1 third))
 
@@ -226,11 +228,24 @@ ItemsStand c ps = ItemsAreProper (items_of ps) × (c ≡ after false ps)
 abbrev pub items_text : List Plain → List ℕ
 items_text ps = canonical_items false (items_of ps)
 
+was_added : {P : Type 0} (proper : P → Type 0) (text : P → List ℕ) (there : Option P) (before after : List ℕ)
+    → WasAdded proper text there before after → (added : List ℕ) × (after ≡ before ++ added)
+was_added proper text None before after h = h
+was_added proper text (Some p) before after h = (text p, h.1)
+
 module _ (before out first last : List ℕ) (c told next : Bool) (one : first ≡ out ++ comma c) where
+  added_more : (added more : List ℕ) → out ≡ before ++ added → last ≡ first ++ more → last ≡ before ++ (added ++ (comma c ++ more))
+  added_more added more was new =
+      new ∙ ap (λ text. text ++ more) (one ∙ ap (λ text. text ++ comma c) was)
+      ∙ append_assoc (before ++ added) (comma c) more ∙ append_assoc before added (comma c ++ more)
+
   more_at : (rest : Option (List Plain)) (there : Option Plain) → IsWritten (ItemsStand c) items_text rest told before out
       → IsWritten IsProper canonical there next first last → IsWritten (ItemsStand true) items_text (with_last there rest) (told && next) before last
-  more_at None there h g = (rw h.0 refl, tt)
-  more_at (Some ps) None h g = (rw (h.0, g.0) refl, tt)
+  more_at None there h g =
+      let more = was_added IsProper canonical there first last g.1 in
+      (rw h.0 refl, (h.1.0 ++ (comma c ++ more.0), added_more h.1.0 more.0 h.1.1 more.1))
+  more_at (Some ps) None h g =
+      (rw (h.0, g.0) refl, (items_text ps ++ (comma c ++ g.1.0), added_more (items_text ps) g.1.0 h.1.1 g.1.1))
   more_at (Some ps) (Some p) h g = (
     rw (h.0, g.0) refl,
     (
@@ -251,7 +266,7 @@ module _ (before out first last : List ℕ) (c told next : Bool) (one : first �
 
 all_at : (there : Option (List Plain)) (c told : Bool) (before out : List ℕ) → IsWritten (ItemsStand c) items_text there told before out
     → IsWritten ItemsAreProper (canonical_items false) (option_map items_of there) told before out
-all_at None c told before out h = (h.0, tt)
+all_at None c told before out h = h
 all_at (Some ps) c told before out h = (h.0, (h.1.0.0, h.1.1))
 
 pub items_written : (ds : List Data) (c told : Bool) (before out : List ℕ) → IsWritten (ItemsStand c) items_text (wholes ds) told before out

@@ -2,6 +2,7 @@
 use Rattle.std.proofs.Common.{◌≡◌, ℕ, suc, ◌+◌, ◌<◌, Bool, true, false, not, cond, List, [], ◌∷◌, length, get_or, Ordering, Less, Equal, Greater}
 use Rattle.std.proofs.Common.{is_eq, refl, sym, ap, ◌∙◌, subst, arith}
 use Rattle.std.specs.Prelude.{◌&&◌}
+use Rattle.std.specs.Cmp.{IsStrictWeakOrder}
 use Rattle.std.specs.List.{filter, AllByRecursion}
 use Rattle.std.specs.List.Sorted.{IsStrictlySortedBy, IsSortedBy, IsStableBy, ties}
 use Rattle.std.specs.Map.{keys_of}
@@ -13,7 +14,7 @@ use Rattle.st_canon.specs.InOrder.{placed, in_order, NamesDiffer}
 use Rattle.st_canon.specs.Names.{name_cmp, NamesAscend}
 use Rattle.st_canon.proofs.Order.{by_order, name_total, less_from_greater}
 
-equal_from_is_eq : (o : Ordering) → is_eq o ≡ true → o ≡ Equal
+pub equal_from_is_eq : (o : Ordering) → is_eq o ≡ true → o ≡ Equal
 equal_from_is_eq Less h = cc
 equal_from_is_eq Equal h = refl
 equal_from_is_eq Greater h = cc
@@ -24,23 +25,67 @@ tied_tests Equal = refl
 tied_tests Greater = refl
 
 -- ---- names above another
-all_above : (x y : List ℕ) → name_cmp x y ≡ Less → (ks : List (List ℕ)) → AllByRecursion (λ k. name_cmp y k ≡ Less) ks
+pub all_above : (x y : List ℕ) → name_cmp x y ≡ Less → (ks : List (List ℕ)) → AllByRecursion (λ k. name_cmp y k ≡ Less) ks
     → AllByRecursion (λ k. name_cmp x k ≡ Less) ks
 all_above x y lt [] all = tt
 all_above x y lt (k ∷ ks) all = (name_total.trans x y k lt all.0, all_above x y lt ks all.1)
 
-all_above_tied : (x y : List ℕ) → name_cmp x y ≡ Equal → (ks : List (List ℕ))
+pub all_above_tied : (x y : List ℕ) → name_cmp x y ≡ Equal → (ks : List (List ℕ))
     → AllByRecursion (λ k. name_cmp y k ≡ Less) ks → AllByRecursion (λ k. name_cmp x k ≡ Less) ks
 all_above_tied x y tied [] all = tt
 all_above_tied x y tied (k ∷ ks) all = (name_total.congr x y k tied ∙ all.0, all_above_tied x y tied ks all.1)
 
+-- ---- what a sort gives
+module _ {A : Type 0} (lt : A → A → Bool) where
+  abbrev pub NoneBelow : A → List A → Type 0
+  NoneBelow y = AllByRecursion (λ z. lt z y ≡ false)
+
+  -- nothing is below what stands before it
+  abbrev pub NeverFall : List A → Type 0
+  NeverFall [] = Unit {0}
+  NeverFall (y ∷ ys) = NoneBelow y ys × NeverFall ys
+
+  none_below_from_places : (y : A) (ys : List A) → ((j : ℕ) (d : A) → j < length ys → lt (get_or ys j d) y ≡ false) → NoneBelow y ys
+  none_below_from_places y [] at = tt
+  none_below_from_places y (z ∷ zs) at =
+      (at 0 z (omega arith), none_below_from_places y zs (λ j d less. at (suc j) d (omega arith)))
+
+  rest_sorted : (y : A) (ys : List A) → IsSortedBy lt (y ∷ ys) → IsSortedBy lt ys
+  rest_sorted y ys sorted = λ k d low less.
+      let next : suc k + 1 ≡ suc (k + 1) = omega arith in rw next at (sorted (suc k) d (omega arith) (omega arith))
+
+  pub never_fall : IsStrictWeakOrder lt → (ys : List A) → IsSortedBy lt ys → NeverFall ys
+  never_fall order [] sorted = tt
+  never_fall order (y ∷ ys) sorted = (
+    none_below_from_places y ys (λ j d below. sorted_far lt order (y ∷ ys) sorted 0 (suc j) d (omega arith) (omega arith)),
+    never_fall order ys (rest_sorted y ys sorted),
+  )
+
+-- ---- things that have names
+module _ {A : Type 0} (name : A → List ℕ) where
+  -- it is named below the other
+  abbrev pub below : A → A → Bool
+  below x y = is_lt (name_cmp (name x) (name y))
+
+  -- its name ties with this one
+  abbrev pub tied_with : List ℕ → A → Bool
+  tied_with k x = is_eq (name_cmp k (name x))
+
+  pub ties_are : (x y : A) → ties below x y ≡ tied_with (name x) y
+  ties_are x y =
+      ap (λ o. not (is_lt (name_cmp (name x) (name y))) && not (is_lt o)) (name_total.antisymm (name y) (name x))
+      ∙ tied_tests (name_cmp (name x) (name y))
+
 module _ {X : Type 0} where
+  abbrev pub name_of : List ℕ × X → List ℕ
+  name_of pair = pair.0
+
   -- the pair is named below the other
   abbrev pub named_below : List ℕ × X → List ℕ × X → Bool
   named_below p q = is_lt (name_cmp p.0 q.0)
 
   -- ---- placing a pair
-  all_placed : (P : List ℕ → Type 0) (e : List ℕ × X) (es : List (List ℕ × X)) → P e.0 → AllByRecursion P (keys_of es)
+  pub all_placed : (P : List ℕ → Type 0) (e : List ℕ × X) (es : List (List ℕ × X)) → P e.0 → AllByRecursion P (keys_of es)
       → AllByRecursion P (keys_of (placed e es))
   all_placed P e [] p all = (p, tt)
   all_placed P e (f ∷ fs) p all =
@@ -73,15 +118,10 @@ module _ {X : Type 0} where
   all_in_order P (e ∷ es) all = all_placed P e (in_order es) all.0 (all_in_order P es all.1)
 
   -- ---- the pairs whose names tie with one
-  abbrev tie : List ℕ × X → List ℕ × X → Bool
+  abbrev pub tie : List ℕ × X → List ℕ × X → Bool
   tie x y = is_eq (name_cmp x.0 y.0)
 
-  ties_are : (x y : List ℕ × X) → ties named_below x y ≡ tie x y
-  ties_are x y =
-      ap (λ o. not (is_lt (name_cmp x.0 y.0)) && not (is_lt o)) (name_total.antisymm y.0 x.0)
-      ∙ tied_tests (name_cmp x.0 y.0)
-
-  no_two : (x e f : List ℕ × X) → name_cmp e.0 f.0 ≡ Greater → tie x e ≡ true → tie x f ≡ true → ⊥
+  pub no_two : (x e f : List ℕ × X) → name_cmp e.0 f.0 ≡ Greater → tie x e ≡ true → tie x f ≡ true → ⊥
   no_two x e f gt a b =
       let first = name_total.congr x.0 e.0 f.0 (equal_from_is_eq (name_cmp x.0 e.0) a) in
       let second = equal_from_is_eq (name_cmp x.0 f.0) b in
@@ -114,17 +154,10 @@ module _ {X : Type 0} where
       ∙ ap (λ l. cond (tie x e) (e ∷ l) l) (filter_in_order x es differ.1)
 
   -- ---- only one list has given ties, and ascends
-  abbrev NoneBelow : List ℕ × X → List (List ℕ × X) → Type 0
-  NoneBelow y = AllByRecursion (λ z. named_below z y ≡ false)
-
-  abbrev NeverFall : List (List ℕ × X) → Type 0
-  NeverFall [] = Unit {0}
-  NeverFall (y ∷ ys) = NoneBelow y ys × NeverFall ys
-
   first_ties : (y : List ℕ × X) (ys : List (List ℕ × X)) → filter (tie y) (y ∷ ys) ≡ y ∷ filter (tie y) ys
   first_ties y ys = rw (tied_itself name_total y.0) refl
 
-  none_tie_above : (y : List ℕ × X) (zs : List (List ℕ × X))
+  pub none_tie_above : (y : List ℕ × X) (zs : List (List ℕ × X))
       → AllByRecursion (λ n. name_cmp y.0 n ≡ Less) (keys_of zs) → filter (tie y) zs ≡ []
   none_tie_above y [] all = refl
   none_tie_above y (z ∷ zs) all = rw all.0 (none_tie_above y zs all.1)
@@ -135,7 +168,7 @@ module _ {X : Type 0} where
   not_tied y z w lt up Equal is = let same = name_total.congr z.0 w.0 y.0 is in let below : named_below w y ≡ true = ap is_lt (sym same ∙ lt) in cc
   not_tied y z w lt up Greater is = refl
 
-  none_tie_below : (y z : List ℕ × X) (ws : List (List ℕ × X)) → name_cmp z.0 y.0 ≡ Less → NoneBelow y ws
+  none_tie_below : (y z : List ℕ × X) (ws : List (List ℕ × X)) → name_cmp z.0 y.0 ≡ Less → NoneBelow named_below y ws
       → filter (tie z) ws ≡ []
   none_tie_below y z [] lt up = refl
   none_tie_below y z (w ∷ ws) lt up =
@@ -146,7 +179,7 @@ module _ {X : Type 0} where
   same_rest true y ys zs e = cc
   same_rest false y ys zs e = e
 
-  one_list : (ys zs : List (List ℕ × X)) → NeverFall ys → NamesAscend zs
+  pub one_list : (ys zs : List (List ℕ × X)) → NeverFall named_below ys → NamesAscend zs
       → ((x : List ℕ × X) → filter (tie x) ys ≡ filter (tie x) zs) → ys ≡ zs
   unfolding IsStrictlySortedBy
   one_list [] [] up ascend same = refl
@@ -175,25 +208,8 @@ module _ {X : Type 0} where
   ] refl
 
   -- ---- what a stable sort gives
-  none_below_from_places : (y : List ℕ × X) (ys : List (List ℕ × X))
-      → ((j : ℕ) (d : List ℕ × X) → j < length ys → named_below (get_or ys j d) y ≡ false) → NoneBelow y ys
-  none_below_from_places y [] at = tt
-  none_below_from_places y (z ∷ zs) at =
-      (at 0 z (omega arith), none_below_from_places y zs (λ j d lt. at (suc j) d (omega arith)))
-
-  rest_sorted : (y : List ℕ × X) (ys : List (List ℕ × X)) → IsSortedBy named_below (y ∷ ys)
-      → IsSortedBy named_below ys
-  rest_sorted y ys sorted = λ k d low lt. let next : suc k + 1 ≡ suc (k + 1) = omega arith in rw next at (sorted (suc k) d (omega arith) (omega arith))
-
-  never_fall : (ys : List (List ℕ × X)) → IsSortedBy named_below ys → NeverFall ys
-  never_fall [] sorted = tt
-  never_fall (y ∷ ys) sorted = (
-    none_below_from_places y ys (λ j d lt. sorted_far named_below (ranks_by name_total (λ p. p.0)) (y ∷ ys) sorted 0 (suc j) d (omega arith) (omega arith)),
-    never_fall ys (rest_sorted y ys sorted),
-  )
-
   pub in_order_from_sort : (es ys : List (List ℕ × X)) → NamesDiffer es → IsSortedBy named_below ys
       → IsStableBy named_below es ys → ys ≡ in_order es
   in_order_from_sort es ys differ sorted stable =
-      one_list ys (in_order es) (never_fall ys sorted) (ascend_in_order es)
-      (λ x. sym (λ i. filter (λ y. ties_are x y i) ys) ∙ stable x ∙ (λ i. filter (λ y. ties_are x y i) es) ∙ sym (filter_in_order x es differ))
+      one_list ys (in_order es) (never_fall named_below (ranks_by name_total name_of) ys sorted) (ascend_in_order es)
+      (λ x. sym (λ i. filter (λ y. ties_are name_of x y i) ys) ∙ stable x ∙ (λ i. filter (λ y. ties_are name_of x y i) es) ∙ sym (filter_in_order x es differ))

@@ -3,6 +3,7 @@ pub mod Depth
 pub mod Direct
 pub mod Entries
 pub mod Find
+pub mod Held
 pub mod InOrder
 pub mod KeptText
 pub mod Lends

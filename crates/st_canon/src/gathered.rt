@@ -1,191 +1,143 @@
-ghost use Rattle.std.specs.Prelude.{◌≡◌, ⊤, ℕ, ◌+◌, ◌≤◌, List, [], ◌++◌, drop, length, take, false, IfOk, IfSome, OnOk};
-ghost use Rattle.std.specs.BTreeMap.{insert_entry};
-ghost use Rattle.std.specs.List.Sorted.{IsStrictlySortedBy};
-ghost use Rattle.std.specs.Map.{keys_of};
+ghost use Rattle.std.specs.Prelude.{◌≡◌, ⊤, ℕ, ◌∷◌, [], ◌++◌, length, map, reverse, None, false, IfOk, OnOk};
+ghost use Rattle.std.specs.List.{AllByRecursion};
 ghost use Rattle.std.specs.Option.{option_copied};
-ghost use Rattle.std.specs.Ordering.{as_partial_cmp, eq_by_cmp};
 ghost use Rattle.std.specs.Str.{IsUtf8};
-ghost use Rattle.st_canon.specs.Names.{name_cmp};
-ghost use Rattle.st_canon.specs.Respelled.{AreWithin, IsWithin, IsWritten, members_text, name_cmp-partial, name_cmp-total, name_eq-equivalence, text_at, texts_at};
+ghost use Rattle.st_canon.specs.Canonical.{comma as comma_text, quoted};
+ghost use Rattle.st_canon.specs.Held.{IsHeld, entry_at, mark};
+ghost use Rattle.st_canon.specs.InOrder.{firsts, in_order, is_same};
+ghost use Rattle.st_canon.specs.Respelled.{HasEnded, IsWritten, members_text, texts_in};
 
 use crate::escape::append_text;
+use crate::held::{MARK, name_at, value_at};
 use crate::names::compare;
+use crate::ranks::compare_at;
 use crate::writing::append_comma;
 use st_base::{Bytes, WantOfMemory};
 use std::alloc::Global;
-use std::cmp::Ordering;
-use std::collections::BTreeMap;
-use std::marker::Model;
 
-// The members of an object as they come: for each name the canonical text of its value, or none where that
-// is not whole. Contracts see them in the order of the names.
+// The members of an object as they come, in little memory.
 #[derive(Drop)]
-pub(crate) struct Gathered<'a> {
-    spans: Spans<'a>,
+pub(crate) struct Gathered {
+    // Of each member its name, a mark, the canonical text of its value where that is whole, and a mark. Among
+    // them stands what was written of values that are not whole.
+    pub(crate) texts: Bytes,
 
-    // The texts one after another, among them those that later ones replaced: so each takes no memory of
-    // its own.
-    texts: Bytes,
+    // Where the name of each stands.
+    places: Vec<u32>,
 }
 
-// Where the text of each value begins among the texts, and how long it is.
-type Spans<'a> = BTreeMap<Name<'a>, Option<(usize, usize)>>;
-
-impl<'a> Model for Gathered<'a> {
-    ghost use Rattle.st_canon.specs.Respelled.{Texts, AreWithin, texts_at};
-
-    ghost Value = { Texts };
-
-    ghost view = { λ gathered. texts_at gathered.texts gathered.spans.entries };
-
-    ghost invariant = { λ gathered. AreWithin gathered.texts gathered.spans.entries };
-}
-
-impl<'a> Gathered<'a> {
-    pub(crate) fn new(alloc: Global) -> Gathered<'a>
-        ensures { result ≡ [] }
+impl Gathered {
+    pub(crate) fn new(alloc: Global) -> Gathered
+        ensures texts { result.texts ≡ [] }
+        ensures places { result.places.items ≡ [] }
     {
         Gathered {
-            spans: BTreeMap::new(alloc),
             texts: Bytes::new(alloc),
+            places: Vec::new(alloc),
         }
     }
 
-    // Puts the text of a value, in the place of what its name had.
-    pub(crate) fn put(
-        &mut self,
-        alloc: Global,
-        name: &'a str,
-        text: Option<&[u8]>,
-    ) -> Result<(), WantOfMemory>
-        ensures put { OnOk result (self.new ≡ insert_entry name_cmp self.old name.now (option_copied text.entry)) }
+    // Begins a member, and gives its place. The text of its value comes next.
+    pub(crate) fn begin(&mut self, alloc: Global, name: &str) -> Result<u32, WantOfMemory>
+        ensures texts { OnOk result (self.new.texts ≡ self.old.texts ++ (name.now ++ mark ∷ [])) }
+        ensures place { IfOk result (λ place. place ≡ length self.old.texts) }
+        ensures places { OnOk result (self.new.places.items ≡ self.old.places.items) }
         ensures utf8 { OnOk result (IsUtf8 name.now) }
     {
-        let span = add_text(alloc, &mut self.texts, text)?;
-        self.spans.insert(Name { text: name }, span)?;
+        let Ok(place) = u32::try_from(self.texts.as_slice().len()) else {
+            return Err(WantOfMemory);
+        };
+        self.texts.push_all(alloc, name.as_bytes())?;
+        self.texts.push_all(alloc, &[MARK])?;
+        Ok(place)
+    }
+
+    // Ends the member that was begun there. Where its value is not whole, it has no text.
+    pub(crate) fn end(
+        &mut self,
+        alloc: Global,
+        name: &str,
+        place: u32,
+        whole: bool,
+    ) -> Result<(), WantOfMemory>
+        ensures { OnOk result (HasEnded name.now place whole self.old.texts self.old.places.items self.new.texts self.new.places.items) }
+    {
+        let place = if whole {
+            place
+        } else {
+            self.begin(alloc, name)?
+        };
+        self.texts.push_all(alloc, &[MARK])?;
+        self.places.push(place)?;
         Ok(())
     }
 
-    // Appends the members one after another, where each has a text, and gives whether each has.
-    pub(crate) fn append(&self, alloc: Global, out: &mut Bytes) -> Result<bool, WantOfMemory>
-        ensures written { IfOk result (λ told. IsWritten (λ t. ⊤) (λ t. t) (members_text false self.now) told out.old out.new) }
-        ensures ascend { IsStrictlySortedBy name_cmp (keys_of self.now) }
+    // Appends the members in the order of their names, of several with one name the last alone, and gives
+    // whether each of these has a text.
+    pub(crate) fn append(&mut self, alloc: Global, out: &mut Bytes) -> Result<bool, WantOfMemory>
+        requires { AllByRecursion (IsHeld self.old.texts) (reverse self.old.places.items) }
+        ensures { IfOk result (λ told. IsWritten (λ t. ⊤) (λ t. t) (members_text false (texts_in self.old.texts self.old.places.items)) told out.old out.new) }
     {
-        append_members(alloc, out, &self.spans, self.texts.as_slice())
+        sort(self.texts.as_slice(), &mut self.places)?;
+        append_members(alloc, out, self.texts.as_slice(), self.places.as_slice())
     }
 }
 
-// Adds the text to those that are there, and gives where it stands.
-fn add_text(
-    alloc: Global,
-    texts: &mut Bytes,
-    text: Option<&[u8]>,
-) -> Result<Option<(usize, usize)>, WantOfMemory>
-    ensures grown { (added : List ℕ) × (texts.new ≡ texts.old ++ added) }
-    ensures stands { IfOk result (λ span. text_at texts.new span ≡ option_copied text.entry) }
-    ensures within { IfOk result (λ span. IfSome span (IsWithin texts.new)) }
+// Brings the places into the order of their names, and of several with one name the last to the front.
+fn sort(texts: &[u8], places: &mut Vec<u32>) -> Result<(), WantOfMemory>
+    requires { AllByRecursion (IsHeld texts.now) (reverse places.old.items) }
+    ensures { OnOk result (firsts None (map (entry_at texts.now) places.new.items) ≡ texts_in texts.now places.old.items) }
 {
-    match text {
-        Some(text) => {
-            let start = texts.as_slice().len();
-            texts.push_all(alloc, text)?;
-            Ok(Some((start, text.len())))
-        }
-        None => Ok(None),
-    }
+    places.reverse();
+    places.sort_by(|first, second| compare_at(texts, *first, *second))?;
+    Ok(())
 }
 
 fn append_members(
     alloc: Global,
     out: &mut Bytes,
-    spans: &Spans<'_>,
     texts: &[u8],
+    places: &[u32],
 ) -> Result<bool, WantOfMemory>
-    requires { AreWithin texts.now spans.now.entries }
-    ensures written { IfOk result (λ told. IsWritten (λ t. ⊤) (λ t. t) (members_text false (texts_at texts.now spans.now.entries)) told out.old out.new) }
-    ensures ascend { IsStrictlySortedBy name_cmp (keys_of spans.now.entries) }
+    ensures { IfOk result (λ told. IsWritten (λ t. ⊤) (λ t. t) (members_text false (firsts None (map (entry_at texts.now) places.now))) told out.old out.new) }
 {
-    let mut comma = false;
-    'members: for member in spans.iter() {
-        let Some(span) = member.1 else {
+    let mut last: Option<&str> = None;
+    'places: for place in places {
+        let name = name_at(texts, *place);
+        if is_same(last, name) {
+            continue;
+        }
+        let text = value_at(texts, *place);
+        if text.is_empty() {
             return Ok(false);
-        };
-        append_comma(alloc, out, comma)?;
-        append_text(alloc, out, member.0.text())?;
-        out.push_all(alloc, b":")?;
-        out.push_all(alloc, part(texts, span.0, span.1))?;
-        comma = true;
+        }
+        append_member(alloc, out, last.is_some(), name, text)?;
+        last = Some(name);
     }
     Ok(true)
 }
 
-fn part(texts: &[u8], start: usize, size: usize) -> &[u8]
-    requires { start + size ≤ length texts.now }
-    ensures { result.now ≡ take size (drop start texts.now) }
+// Whether a name is that of the member before it, where there is one.
+fn is_same(last: Option<&str>, name: &str) -> bool
+    ensures { result ≡ is_same (option_copied last.entry) name.now }
 {
-    &texts[start..start + size]
-}
-
-// A name, in the order of UTF-16 code units.
-#[derive(Drop)]
-struct Name<'a> {
-    text: &'a str,
-}
-
-impl<'a> Model for Name<'a> {
-    ghost use Rattle.std.specs.Prelude.{List, ℕ};
-
-    ghost Value = { List ℕ };
-
-    ghost view = { λ name. name.text.now };
-}
-
-impl<'a> Name<'a> {
-    fn text(&self) -> &'a str
-        ensures { result.now ≡ self.now }
-    {
-        self.text
+    match last {
+        Some(last) => compare(last, name).is_eq(),
+        None => false,
     }
 }
 
-impl<'a> PartialEq for Name<'a> {
-    ghost use Rattle.std.specs.Cmp.{partial_equiv_from_equiv};
-
-    ghost eq = { eq_by_cmp name_cmp };
-
-    ghost laws = { partial_equiv_from_equiv name_eq-equivalence };
-
-    fn eq(&self, other: &Name<'a>) -> bool {
-        compare(self.text, other.text).is_eq()
-    }
-}
-
-impl<'a> Eq for Name<'a> {
-    ghost laws = { name_eq-equivalence };
-}
-
-impl<'a> PartialOrd for Name<'a> {
-    ghost partial_cmp = { as_partial_cmp name_cmp };
-
-    ghost laws = { name_cmp-partial };
-
-    fn partial_cmp(&self, other: &Name<'a>) -> Option<Ordering> {
-        Some(self.cmp(other))
-    }
-}
-
-impl<'a> Ord for Name<'a> {
-    ghost use Rattle.std.specs.Prelude.{refl};
-
-    ghost cmp = { name_cmp };
-
-    ghost total = { name_cmp-total };
-
-    ghost matches_partial_cmp = { λ first second. refl };
-
-    ghost matches_eq = { λ first second. refl };
-
-    fn cmp(&self, other: &Name<'a>) -> Ordering {
-        compare(self.text, other.text)
-    }
+fn append_member(
+    alloc: Global,
+    out: &mut Bytes,
+    comma: bool,
+    name: &str,
+    text: &[u8],
+) -> Result<(), WantOfMemory>
+    ensures { OnOk result (out.new ≡ out.old ++ (comma_text comma ++ (quoted name.now ++ (58 ∷ text.now)))) }
+{
+    append_comma(alloc, out, comma)?;
+    append_text(alloc, out, name)?;
+    out.push_all(alloc, b":")?;
+    out.push_all(alloc, text)
 }

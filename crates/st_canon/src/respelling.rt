@@ -1,5 +1,4 @@
-ghost use Rattle.std.specs.Prelude.{◌≡◌, ◌<◌, if◌then◌else◌, length, Ok, Some, None, IfErr, IfOk, OnOk};
-ghost use Rattle.std.specs.Option.{option_copied};
+ghost use Rattle.std.specs.Prelude.{◌≡◌, ◌<◌, length, Ok, None, IfErr, IfOk, OnOk};
 ghost use Rattle.json.specs.Json.{items, members, value};
 ghost use Rattle.serde_json.specs.Data.{no_members};
 ghost use Rattle.serde_json.specs.Read.{converted, number_of, of_items, of_json, of_members};
@@ -77,7 +76,7 @@ fn respell_text(alloc: Global, text: &str) -> Result<Bytes, ReadRefused>
 }
 
 // Appends the canonical text of the next value of a reader of tokens, and gives whether all numbers in it
-// are whole, else `out` is of no use. Lists and objects may nest `depth` deep.
+// are whole, else `out` has something behind what it had that is of no use. Lists and objects may nest `depth` deep.
 #[cycle(respell)]
 fn respell(
     alloc: Global,
@@ -184,14 +183,8 @@ fn respell_members(
         let Some(key) = key else {
             return Ok(gathered.append(alloc, out)?);
         };
-        let mut text = Bytes::new(alloc);
-        let whole = respell(alloc, &mut text, reader, depth)?;
-        gathered.put(alloc, key, if_whole(whole, &text))?;
+        let place = gathered.begin(alloc, key)?;
+        let whole = respell(alloc, &mut gathered.texts, reader, depth)?;
+        gathered.end(alloc, key, place, whole)?;
     }
-}
-
-fn if_whole(whole: bool, text: &Bytes) -> Option<&[u8]>
-    ensures { option_copied result ≡ (if whole then Some text.now else None) }
-{
-    if whole { Some(text.as_slice()) } else { None }
 }

@@ -1,14 +1,9 @@
-use Rattle.std.proofs.Common.{◌≡◌, ◌-◌, ◌<◌, ◌∷◌, [], ◌++◌, length, Some, None, Err, ◌+◌, ap, refl, sym, ◌∙◌, arith, rules}
-use Rattle.json.specs.Json.{after_end_array, items, members, parse_map, read_key, value}
+use Rattle.std.proofs.Common.{◌≡◌, ◌-◌, ◌<◌, ◌∷◌, [], ◌++◌, length, Some, None, ap, refl, ◌∙◌, arith, rules}
+use Rattle.json.specs.Json.{after_end_array, read_key, value}
 use Rattle.json.specs.Reads.{token_of}
-use Rattle.json.specs.Token.{Token}
 use Rattle.json.proofs.Grammar.{read_key-shorter, value_is}
 use Rattle.serde_json.specs.Data as data'
-use Rattle.serde_json.specs.Read.{converted, number_of, of_items, of_json, of_members}
-use Rattle.std.specs.BTreeMap.{insert_entry}
-use Rattle.st_canon.specs.Canonical.{canonical}
-use Rattle.st_canon.specs.Names.{name_cmp}
-use Rattle.st_canon.specs.Plain.{boolean, null, text}
+use Rattle.serde_json.specs.Read.{converted, of_json}
 use Rattle.st_canon.proofs.GatheredLemmas.{gathered_written, none_gathered, one_more_gathered}
 use Rattle.st_canon.proofs.RespellingLemmas.{array_data, boolean_data, handed_on, item_refused, items_before, items_data_over, items_written}
 use Rattle.st_canon.proofs.RespellingLemmas.{items_written_more, key_refused, list_written, member_refused, members_data_over, next_item_data}
@@ -159,7 +154,7 @@ respell_items-returns-clause-items t c =
 
 pub respell_members-members-init : goal.respell_members-members-init
 respell_members-members-init t c =
-    (data'.no_members, length c.args.reader.now, omega arith, refl, omega arith, rw c.new-gathered.ensures none_gathered, refl)
+    (data'.no_members, length c.args.reader.now, omega arith, refl, omega arith, none_gathered _ _ c.new-gathered.ensures.places, refl)
 
 pub respell_members-returns-in_default-clause-none : goal.respell_members-returns-in_default-clause-none
 respell_members-returns-in_default-clause-none t c =
@@ -174,7 +169,7 @@ respell_members-returns-in_default-key-clause-members t c =
     record {
       are = ds;
       read = l.invariant.3 ∙ members_data_over ds (value c.args.depth) l.invariant.1 l.reader c.next_key.new.self l.invariant.2 (grind arith);
-      written = gathered_written ds l.gathered _ c.args.out.now _ l.invariant.5 c.in_ok-append.ensures.ascend (rw was at c.in_ok-append.ensures.written);
+      written = gathered_written ds l.gathered.texts l.gathered.places.items _ c.args.out.now _ l.invariant.5 (rw was at c.in_ok-append.ensures);
     }
 
 pub respell_members-returns-in_err-whole-clause-none : goal.respell_members-returns-in_err-whole-clause-none
@@ -197,8 +192,8 @@ respell_members-members-preserved t c =
     let named : read_key l.reader ≡ Some (Some k, s) = grind arith in
     let done = c.in_ok-whole.ensures in
     let next = done.next in
-    let written = rw c.new-text.ensures at next.written in
-    let put = c.in_ok-put.ensures in
+    let begun = c.in_ok-place.ensures in
+    let ended = rw begun.places at c.in_ok-end.ensures in
     let less = read_key-shorter l.reader (Some k) s named in
     let lesser = done.shorter in (
       data'.put k next.is ds,
@@ -206,7 +201,7 @@ respell_members-members-preserved t c =
       omega (arith, l.invariant.2),
       l.invariant.3 ∙ next_member_data ds (value c.args.depth) n l.reader s r k next.is (omega (arith, l.invariant.2)) named next.read,
       omega (arith, l.invariant.4),
-      one_more_gathered ds l.gathered c.put.new.self k next.is c.in_ok-whole.whole c.respell.new.out l.invariant.5 put.utf8 written
-          (put.put ∙ ap (λ given. insert_entry name_cmp l.gathered k given) c.if_whole.ensures),
+      one_more_gathered ds l.gathered.texts _ _ _ l.gathered.places.items _ k next.is c.in_ok-whole.whole c.in_ok-place.place l.invariant.5
+          begun.utf8 begun.texts begun.place next.written ended,
       l.invariant.6,
     )

@@ -34,7 +34,7 @@ invariant-respell_members-members l =
     × (converted (λ ms. of_members ms no_members) (members (value l.depth) (length l.initial.reader) l.initial.reader)
     ≡ converted (λ ms. of_members ms ds) (members (value l.depth) n l.reader))
     × (length l.reader ≤ length l.initial.reader)
-    × IsGathered ds l.gathered × (l.out ≡ l.initial.out)
+    × IsGathered ds l.gathered.texts l.gathered.places.items × (l.out ≡ l.initial.out)
 
 abbrev pub decreases-respell_members-members : goal.decreases-respell_members-members
 decreases-respell_members-members l = length l.reader

@@ -1,6 +1,5 @@
-use Rattle.std.proofs.Common.{◌≡◌, ◌∷◌, [], arith, rules}
-use Rattle.json.specs.Reads.{token_of}
-use Rattle.st_canon.proofs.RespellingLemmas.{text_given, text_goes_on, text_not_whole, text_written}
+use Rattle.std.proofs.Common.{◌≡◌, [], arith, rules}
+use Rattle.st_canon.proofs.RespellingLemmas.{text_given, text_not_whole, text_written}
 use Rattle.st_canon.proofs.respelling.respell_text.Goals as goal
 
 pub returns-in_err-whole-clause-value : goal.returns-in_err-whole-clause-value
