@@ -30,20 +30,20 @@ pub fn canonical_text(alloc: Global, bytes: &[u8]) -> Result<Bytes, ReadRefused>
     let Ok(text) = simdutf8::compat::from_utf8(bytes) else {
         return Err(ReadRefused::NotJson);
     };
-    match rewrite_text(alloc, text) {
+    let mut scratch = Scratch::new(alloc);
+    match rewrite_text(alloc, text, &mut scratch) {
         Ok(written) => Ok(written),
-        Err(ReadStopped::Left) => respell_text(alloc, text),
+        Err(ReadStopped::Left) => respell_text(alloc, text, &mut scratch),
         Err(ReadStopped::WantOfMemory) => Err(ReadRefused::WantOfMemory),
     }
 }
 
 // The canonical text, straight from the tokens, where they come in its order.
-fn rewrite_text(alloc: Global, text: &str) -> Result<Bytes, ReadStopped>
+fn rewrite_text(alloc: Global, text: &str, scratch: &mut Scratch) -> Result<Bytes, ReadStopped>
     ensures value { IfOk result (λ written. json_of text.now ≡ Ok (value_read (json_of written))) }
     ensures again { IfOk result IsReadAgain }
 {
-    let mut scratch = Scratch::new(alloc);
-    let Ok(mut reader) = Reader::new(text, &mut scratch) else {
+    let Ok(mut reader) = Reader::new(text, scratch) else {
         return Err(ReadStopped::WantOfMemory);
     };
     let mut written = Bytes::with_room(alloc, text.len())?;
@@ -55,12 +55,11 @@ fn rewrite_text(alloc: Global, text: &str) -> Result<Bytes, ReadStopped>
 }
 
 // The same of whatever tokens. It gathers the members of each object first.
-fn respell_text(alloc: Global, text: &str) -> Result<Bytes, ReadRefused>
+fn respell_text(alloc: Global, text: &str, scratch: &mut Scratch) -> Result<Bytes, ReadRefused>
     ensures value { GivesAs (λ text. value_read (json_of text)) refusal_of (json_of text.now) result }
     ensures again { IfOk result IsReadAgain }
 {
-    let mut scratch = Scratch::new(alloc);
-    let Ok(mut reader) = Reader::new(text, &mut scratch) else {
+    let Ok(mut reader) = Reader::new(text, scratch) else {
         return Err(ReadRefused::WantOfMemory);
     };
     let mut written = Bytes::with_room(alloc, text.len())?;

@@ -20,8 +20,8 @@ returns-then-whole-clause-again c =
     (text_written c.args.text.now c.respell.new.out next.is c.in_ok-whole.whole c.utf8.text c.if-whole.true
     (rw (c.in-Ok.ensures.ok, none) at next.read) (rw c.in_ok-written.ensures at next.written)).0
 
-pub returns-clause-value : goal.returns-clause-value
-returns-clause-value c =
+pub returns-else-whole-clause-value : goal.returns-else-whole-clause-value
+returns-else-whole-clause-value c =
     let next = c.in_ok-whole.ensures.next in
     let none : c.respell.new.reader ≡ [] = search rules in
     text_not_whole c.args.text.now c.respell.new.out next.is c.in_ok-whole.whole c.utf8.text c.if-whole.false
