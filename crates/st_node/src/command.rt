@@ -2,7 +2,8 @@ ghost use Rattle.std.specs.Option.{option_copied};
 ghost use Rattle.st_base.specs.Answers.{Gives};
 ghost use Rattle.st_node.specs.Command.{anchor_of, cause_of, command_of, command_of_words, content_of, explain_of, flush_of, report_of, resolve_of, rollback_of, submit_of, wanted_of};
 
-use st_base::{Bytes, Copied, WantOfMemory, cut_at, cut_word, read_number};
+use crate::lent::Lent;
+use st_base::{Bytes, WantOfMemory, cut_at, cut_word, read_number};
 use st_hash::{DecRefused, dec};
 use std::alloc::Global;
 use thiserror::Error;
@@ -28,46 +29,27 @@ const SUBMIT: &[u8] = b"submit";
 
 const FLUSH: &[u8] = b"flush";
 
-/// What a line asks for.
+/// What a line asks for. Texts and requests are parts of the line, lent; the bytes of a file are decoded.
 #[derive(Debug, Drop)]
-pub enum Command {
+pub enum Command<'a> {
     /// `content <base64url>`: here are the bytes of a file.
     Content(Bytes),
     /// `anchor <height> <text>`: append this entry to the ledger.
-    Anchor { height: u32, text: Bytes },
+    Anchor { height: u32, text: Lent<'a> },
     /// `rollback <n>`: keep the first `n` entries of the ledger.
     Rollback(u32),
     /// `resolve <did>`: what does this identifier resolve to?
-    Resolve(Bytes),
+    Resolve(Lent<'a>),
     /// `explain <did>`: what became of each operation of this identifier?
-    Explain(Bytes),
+    Explain(Lent<'a>),
     /// `wanted`: which files are missing?
     Wanted,
     /// `report <n>`: how does it stand with the five roles of this entry?
     Report(u32),
     /// `submit <request>`: queue the operation that this request asks for.
-    Submit(Bytes),
+    Submit(Lent<'a>),
     /// `flush`: make a batch of what is queued.
     Flush,
-}
-
-impl Copied for Command {
-    fn copy(&self, alloc: Global) -> Result<Command, WantOfMemory> {
-        match self {
-            Command::Content(bytes) => Ok(Command::Content(bytes.copy(alloc)?)),
-            Command::Anchor { height, text } => Ok(Command::Anchor {
-                height: *height,
-                text: text.copy(alloc)?,
-            }),
-            Command::Rollback(n) => Ok(Command::Rollback(*n)),
-            Command::Resolve(did) => Ok(Command::Resolve(did.copy(alloc)?)),
-            Command::Explain(did) => Ok(Command::Explain(did.copy(alloc)?)),
-            Command::Wanted => Ok(Command::Wanted),
-            Command::Report(n) => Ok(Command::Report(*n)),
-            Command::Submit(request) => Ok(Command::Submit(request.copy(alloc)?)),
-            Command::Flush => Ok(Command::Flush),
-        }
-    }
 }
 
 /// Why a line is no command: the first of these that holds, in this order.
@@ -110,7 +92,7 @@ impl From<WantOfMemory> for LineRefused {
 /// The command of a line, which comes without its line feed.
 ///
 /// `BadLine` comes exactly where the line is no command, with the first cause that holds.
-pub fn read_command(alloc: Global, line: &[u8]) -> Result<Command, LineRefused>
+pub fn read_command(alloc: Global, line: &[u8]) -> Result<Command<'_>, LineRefused>
     ensures { Gives cause_of (command_of line.now) result }
 {
     if line.len() > LONGEST_LINE {
@@ -121,25 +103,29 @@ pub fn read_command(alloc: Global, line: &[u8]) -> Result<Command, LineRefused>
 }
 
 // The command of this command word, and of what stands behind it and a space.
-fn read_words(alloc: Global, word: &[u8], behind: Option<&[u8]>) -> Result<Command, LineRefused>
+fn read_words<'a>(
+    alloc: Global,
+    word: &[u8],
+    behind: Option<&'a [u8]>,
+) -> Result<Command<'a>, LineRefused>
     ensures { Gives cause_of (command_of_words word.now (option_copied behind.entry)) result }
 {
     if word == CONTENT {
         read_content(alloc, behind)
     } else if word == ANCHOR {
-        read_entry(alloc, behind)
+        read_entry(behind)
     } else if word == ROLLBACK {
         read_rollback(behind)
     } else if word == RESOLVE {
-        read_resolve(alloc, behind)
+        read_resolve(behind)
     } else if word == EXPLAIN {
-        read_explain(alloc, behind)
+        read_explain(behind)
     } else if word == WANTED {
         read_wanted(behind)
     } else if word == REPORT {
         read_report(behind)
     } else if word == SUBMIT {
-        read_submit(alloc, behind)
+        read_submit(behind)
     } else if word == FLUSH {
         read_flush(behind)
     } else {
@@ -147,7 +133,7 @@ fn read_words(alloc: Global, word: &[u8], behind: Option<&[u8]>) -> Result<Comma
     }
 }
 
-fn read_content(alloc: Global, behind: Option<&[u8]>) -> Result<Command, LineRefused>
+fn read_content(alloc: Global, behind: Option<&[u8]>) -> Result<Command<'_>, LineRefused>
     ensures { Gives cause_of (content_of (option_copied behind.entry)) result }
 {
     let Some(text) = behind else {
@@ -160,7 +146,7 @@ fn read_content(alloc: Global, behind: Option<&[u8]>) -> Result<Command, LineRef
     }
 }
 
-fn read_entry(alloc: Global, behind: Option<&[u8]>) -> Result<Command, LineRefused>
+fn read_entry(behind: Option<&[u8]>) -> Result<Command<'_>, LineRefused>
     ensures { Gives cause_of (anchor_of (option_copied behind.entry)) result }
 {
     let Some(rest) = behind else {
@@ -172,11 +158,13 @@ fn read_entry(alloc: Global, behind: Option<&[u8]>) -> Result<Command, LineRefus
     let Some(height) = read_number(height, u32::MAX) else {
         return Err(LineRefused::BadLine(LineCause::Number));
     };
-    let text = Bytes::from_slice(alloc, text)?;
-    Ok(Command::Anchor { height, text })
+    Ok(Command::Anchor {
+        height,
+        text: Lent::new(text),
+    })
 }
 
-fn read_rollback(behind: Option<&[u8]>) -> Result<Command, LineRefused>
+fn read_rollback(behind: Option<&[u8]>) -> Result<Command<'_>, LineRefused>
     ensures { Gives cause_of (rollback_of (option_copied behind.entry)) result }
 {
     let Some(rest) = behind else {
@@ -188,27 +176,25 @@ fn read_rollback(behind: Option<&[u8]>) -> Result<Command, LineRefused>
     Ok(Command::Rollback(n))
 }
 
-fn read_resolve(alloc: Global, behind: Option<&[u8]>) -> Result<Command, LineRefused>
+fn read_resolve(behind: Option<&[u8]>) -> Result<Command<'_>, LineRefused>
     ensures { Gives cause_of (resolve_of (option_copied behind.entry)) result }
 {
     let Some(did) = behind else {
         return Err(LineRefused::BadLine(LineCause::Words));
     };
-    let did = Bytes::from_slice(alloc, did)?;
-    Ok(Command::Resolve(did))
+    Ok(Command::Resolve(Lent::new(did)))
 }
 
-fn read_explain(alloc: Global, behind: Option<&[u8]>) -> Result<Command, LineRefused>
+fn read_explain(behind: Option<&[u8]>) -> Result<Command<'_>, LineRefused>
     ensures { Gives cause_of (explain_of (option_copied behind.entry)) result }
 {
     let Some(did) = behind else {
         return Err(LineRefused::BadLine(LineCause::Words));
     };
-    let did = Bytes::from_slice(alloc, did)?;
-    Ok(Command::Explain(did))
+    Ok(Command::Explain(Lent::new(did)))
 }
 
-fn read_wanted(behind: Option<&[u8]>) -> Result<Command, LineRefused>
+fn read_wanted(behind: Option<&[u8]>) -> Result<Command<'_>, LineRefused>
     ensures { Gives cause_of (wanted_of (option_copied behind.entry)) result }
 {
     match behind {
@@ -217,7 +203,7 @@ fn read_wanted(behind: Option<&[u8]>) -> Result<Command, LineRefused>
     }
 }
 
-fn read_report(behind: Option<&[u8]>) -> Result<Command, LineRefused>
+fn read_report(behind: Option<&[u8]>) -> Result<Command<'_>, LineRefused>
     ensures { Gives cause_of (report_of (option_copied behind.entry)) result }
 {
     let Some(rest) = behind else {
@@ -229,17 +215,16 @@ fn read_report(behind: Option<&[u8]>) -> Result<Command, LineRefused>
     Ok(Command::Report(n))
 }
 
-fn read_submit(alloc: Global, behind: Option<&[u8]>) -> Result<Command, LineRefused>
+fn read_submit(behind: Option<&[u8]>) -> Result<Command<'_>, LineRefused>
     ensures { Gives cause_of (submit_of (option_copied behind.entry)) result }
 {
     let Some(request) = behind else {
         return Err(LineRefused::BadLine(LineCause::Words));
     };
-    let request = Bytes::from_slice(alloc, request)?;
-    Ok(Command::Submit(request))
+    Ok(Command::Submit(Lent::new(request)))
 }
 
-fn read_flush(behind: Option<&[u8]>) -> Result<Command, LineRefused>
+fn read_flush(behind: Option<&[u8]>) -> Result<Command<'_>, LineRefused>
     ensures { Gives cause_of (flush_of (option_copied behind.entry)) result }
 {
     match behind {

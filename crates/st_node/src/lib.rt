@@ -3,13 +3,14 @@
 //! requests that are submitted to it.
 #![tactic(auto)]
 
-mod answers;
 mod causes;
 mod changes;
 mod command;
 mod explaining;
 mod flushing;
+mod kept_replies;
 mod laws;
+mod lent;
 mod node;
 mod resolving;
 mod submitting;
@@ -20,4 +21,5 @@ mod tests;
 pub use changes::changing;
 pub use command::{Command, LONGEST_LINE, LineCause, LineRefused, read_command};
 pub use laws::{changes_law, isolation_law};
+pub use lent::Lent;
 pub use node::Node;

@@ -6,11 +6,11 @@ ghost use Rattle.st_node.specs.Machine.{AnswersWith, answered, answered_anchor, 
 ghost use Rattle.st_node.specs.Work.{AdmittedCounts, ArrivalCounts, CommandCounts, FlushCounts, LineCounts, RollbackCounts, StaysDue, entry_of_command, entry_of_line, submitted_by, submitted_by_line};
 ghost use Rattle.st_ledger.specs.Ledger.{admitted};
 
-use crate::answers::Answers;
 use crate::causes::{cause_word, ledger_word};
 use crate::command::{Command, LineRefused, read_command};
 use crate::explaining::explain;
 use crate::flushing::{take_files, tell_batch};
+use crate::kept_replies::KeptReplies;
 use crate::resolving::resolve_kept;
 use crate::submitting::{limits_now, submit};
 use crate::telling::{tell_states, tell_wanted};
@@ -32,7 +32,7 @@ pub struct Node {
     observer: Observer,
     queue: Queue,
     // Replies since the observer last changed. A command that changes it goes on with none.
-    answers: Answers,
+    kept: KeptReplies,
 }
 
 impl Model for Node {
@@ -46,7 +46,7 @@ impl Model for Node {
 
     ghost view = { λ n. record { observed = n.observer; queue = n.queue } };
 
-    ghost invariant = { λ n. AreAnswers n.observer n.answers };
+    ghost invariant = { λ n. AreAnswers n.observer n.kept };
 }
 
 impl Node {
@@ -58,7 +58,7 @@ impl Node {
         Ok(Node {
             observer,
             queue: Queue::new(alloc),
-            answers: Answers::new(alloc),
+            kept: KeptReplies::new(alloc),
         })
     }
 
@@ -116,14 +116,14 @@ impl Node {
     pub fn step(
         self,
         alloc: Global,
-        command: Command,
+        command: Command<'_>,
         work: &mut Work,
     ) -> Result<(Node, Bytes), WantOfMemory>
-        ensures answer { IfOk result (AnswersWith (answered_command self command)) }
+        ensures answer { IfOk result (AnswersWith (answered_command self command.entry)) }
         ensures changing { IfOk result (λ done. TellsChange self done.0 done.1) }
-        ensures counts { CommandCounts self command work.old work.new }
-        ensures due { StaysDue self.observed (answered_command self command).next.observed
-            (entry_of_command self command) (submitted_by command) work.old work.new }
+        ensures counts { CommandCounts self command.entry work.old work.new }
+        ensures due { StaysDue self.observed (answered_command self command.entry).next.observed
+            (entry_of_command self command.entry) (submitted_by command.entry) work.old work.new }
     {
         // In two steps, so that what is due is proved once, from what is counted, and what the reply tells
         // once, from what it is.
@@ -136,25 +136,25 @@ impl Node {
     fn carry_out(
         self,
         alloc: Global,
-        command: Command,
+        command: Command<'_>,
         work: &mut Work,
     ) -> Result<(Node, Bytes), WantOfMemory>
-        ensures answer { IfOk result (AnswersWith (answered_command self command)) }
-        ensures serves { OnOk result (Serves self command) }
-        ensures counts { CommandCounts self command work.old work.new }
+        ensures answer { IfOk result (AnswersWith (answered_command self command.entry)) }
+        ensures serves { OnOk result (Serves self command.entry) }
+        ensures counts { CommandCounts self command.entry work.old work.new }
     {
         match command {
             Command::Content(bytes) => self.take(alloc, bytes, work),
-            Command::Anchor { height, text } => self.append(alloc, Entry { height, text }, work),
+            Command::Anchor { height, text } => self.append(alloc, height, text.as_slice(), work),
             Command::Rollback(n) => self.cut(alloc, n, work),
-            Command::Resolve(did) => self.resolve(alloc, did, work),
+            Command::Resolve(did) => self.resolve(alloc, did.as_slice(), work),
             Command::Explain(did) => {
                 let text = explain(alloc, &self.observer, did.as_slice(), work)?;
                 Ok((self, text))
             }
             Command::Wanted => self.wanted(alloc),
             Command::Report(n) => self.report(alloc, n),
-            Command::Submit(request) => self.submit(alloc, request, work),
+            Command::Submit(request) => self.submit(alloc, request.as_slice(), work),
             Command::Flush => self.flush(alloc, work),
         }
     }
@@ -174,7 +174,7 @@ impl Node {
             queue,
             ..
         } = self;
-        let answers = Answers::new(alloc);
+        let kept = KeptReplies::new(alloc);
         let (observer, uri, put) = observer.arrive(alloc, bytes, work)?;
         let uri = hash_text(alloc, &uri)?;
         let word = match put {
@@ -185,7 +185,7 @@ impl Node {
         let node = Node {
             observer,
             queue,
-            answers,
+            kept,
         };
         Ok((node, text))
     }
@@ -194,28 +194,31 @@ impl Node {
     fn append(
         self,
         alloc: Global,
-        entry: Entry,
+        height: u32,
+        text: &[u8],
         work: &mut Work,
     ) -> Result<(Node, Bytes), WantOfMemory>
-        ensures answer { IfOk result (AnswersWith (answered_anchor self entry)) }
-        ensures counts { AdmittedCounts self.observed entry (admitted self.observed.ledger entry.height) work.old work.new }
+        ensures answer { IfOk result (AnswersWith (answered_anchor self (record { height = height; text = text.now }))) }
+        ensures counts { AdmittedCounts self.observed (record { height = height; text = text.now })
+            (admitted self.observed.ledger height) work.old work.new }
     {
-        if let Err(refused) = self.observer.ledger().admits(entry.height) {
+        if let Err(refused) = self.observer.ledger().admits(height) {
             let text = reply(alloc, "refused ", ledger_word(refused).as_bytes())?;
             return Ok((self, text));
         }
+        let text = Bytes::from_slice(alloc, text)?;
         let Node {
             observer,
             queue,
             ..
         } = self;
-        let answers = Answers::new(alloc);
-        let (observer, number) = observer.append(alloc, entry, work)?;
+        let kept = KeptReplies::new(alloc);
+        let (observer, number) = observer.append(alloc, Entry { height, text }, work)?;
         let text = reply(alloc, "anchored ", Buffer::new().format(number).as_bytes())?;
         let node = Node {
             observer,
             queue,
-            answers,
+            kept,
         };
         Ok((node, text))
     }
@@ -235,13 +238,13 @@ impl Node {
             queue,
             ..
         } = self;
-        let answers = Answers::new(alloc);
+        let kept = KeptReplies::new(alloc);
         let (observer, removed) = observer.cut(alloc, n, work)?;
         let text = reply(alloc, "cut ", Buffer::new().format(removed).as_bytes())?;
         let node = Node {
             observer,
             queue,
-            answers,
+            kept,
         };
         Ok((node, text))
     }
@@ -250,22 +253,22 @@ impl Node {
     fn resolve(
         self,
         alloc: Global,
-        did: Bytes,
+        did: &[u8],
         work: &mut Work,
     ) -> Result<(Node, Bytes), WantOfMemory>
-        ensures answer { IfOk result (AnswersWith (answered_resolve self did)) }
+        ensures answer { IfOk result (AnswersWith (answered_resolve self did.now)) }
         ensures counts { AppliesAtMost 1 work.old work.new }
     {
         let Node {
             observer,
             queue,
-            answers,
+            kept,
         } = self;
-        let (answers, text) = resolve_kept(alloc, &observer, answers, did, work)?;
+        let (kept, text) = resolve_kept(alloc, &observer, kept, did, work)?;
         let node = Node {
             observer,
             queue,
-            answers,
+            kept,
         };
         Ok((node, text))
     }
@@ -294,23 +297,23 @@ impl Node {
     fn submit(
         self,
         alloc: Global,
-        request: Bytes,
+        request: &[u8],
         work: &mut Work,
     ) -> Result<(Node, Bytes), WantOfMemory>
-        ensures answer { IfOk result (AnswersWith (answered_submit self request)) }
+        ensures answer { IfOk result (AnswersWith (answered_submit self request.now)) }
         ensures counts { ProofsAtMost 1 work.old work.new }
     {
         let Node {
             observer,
             mut queue,
-            answers,
+            kept,
         } = self;
         let params = limits_now(&observer);
-        let text = submit(alloc, &mut queue, request.as_slice(), &params, work)?;
+        let text = submit(alloc, &mut queue, request, &params, work)?;
         let node = Node {
             observer,
             queue,
-            answers,
+            kept,
         };
         Ok((node, text))
     }
@@ -326,7 +329,7 @@ impl Node {
             queue,
             ..
         } = self;
-        let answers = Answers::new(alloc);
+        let kept = KeptReplies::new(alloc);
         let params = limits_now(&observer);
         match queue.flush(alloc, &params) {
             Ok((queue, batch)) => {
@@ -336,7 +339,7 @@ impl Node {
                 let node = Node {
                     observer,
                     queue,
-                    answers,
+                    kept,
                 };
                 Ok((node, text))
             }
@@ -345,7 +348,7 @@ impl Node {
                 let node = Node {
                     observer,
                     queue,
-                    answers,
+                    kept,
                 };
                 Ok((node, text))
             }

@@ -19,28 +19,28 @@ const LONGEST_KEPT: usize = 65_536;
 /// more comes, all others go, so that no order of use has to be kept. So all of them have 8 MiB at most. No
 /// count of what resolves would bound this: a long form may have a delta that doesn't count, of any length.
 #[derive(Drop)]
-pub struct Answers {
+pub struct KeptReplies {
     replies: Replies,
 }
 
 type Replies = BTreeMap<Vec<u8>, Bytes>;
 
-impl Model for Answers {
+impl Model for KeptReplies {
     ghost use Rattle.st_node.specs.Answers.{IsSmall, Kept, kept_in};
 
     ghost Value = { Kept };
 
-    ghost view = { λ a. kept_in a.replies.entries };
+    ghost view = { λ k. kept_in k.replies.entries };
 
-    ghost invariant = { λ a. IsSmall (kept_in a.replies.entries) };
+    ghost invariant = { λ k. IsSmall (kept_in k.replies.entries) };
 }
 
-impl Answers {
+impl KeptReplies {
     /// No replies. It takes no memory yet.
-    pub fn new(alloc: Global) -> Answers
+    pub fn new(alloc: Global) -> KeptReplies
         ensures { result ≡ [] }
     {
-        Answers {
+        KeptReplies {
             replies: BTreeMap::new(alloc),
         }
     }
@@ -52,15 +52,21 @@ impl Answers {
         self.replies.get(text)
     }
 
-    /// Keeps a copy of the reply to this text, where it is a result and neither is long.
-    pub fn keep(self, alloc: Global, text: Bytes, reply: &Bytes) -> Result<Answers, WantOfMemory>
-        ensures { IfOk result (λ answers. answers ≡ once_replied text reply.now self) }
+    /// Keeps copies of this text and of the reply to it, where that is a result and neither is long.
+    pub fn keep(
+        self,
+        alloc: Global,
+        text: &[u8],
+        reply: &Bytes,
+    ) -> Result<KeptReplies, WantOfMemory>
+        ensures { IfOk result (λ kept. kept ≡ once_replied text.now reply.now self) }
     {
-        if is_kept(text.as_slice(), reply.as_slice()) {
+        if is_kept(text, reply.as_slice()) {
+            let text = Vec::from_slice(alloc, text)?;
             let reply = reply.copy(alloc)?;
-            let Answers { replies } = self;
-            let replies = put(replies, text.into_vec(), reply)?;
-            return Ok(Answers { replies });
+            let KeptReplies { replies } = self;
+            let replies = put(replies, text, reply)?;
+            return Ok(KeptReplies { replies });
         }
         Ok(self)
     }

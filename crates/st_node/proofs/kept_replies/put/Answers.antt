@@ -4,7 +4,7 @@ use Rattle.std.specs.Cmp.Lexicographic.{slice_cmp}
 use Rattle.std.specs.Ordering.{nat_cmp}
 use Rattle.st_node.specs.Answers.{kept_in}
 use Rattle.st_node.proofs.KeptLemmas.{put_in}
-use Rattle.st_node.proofs.answers.put.Goals as goal
+use Rattle.st_node.proofs.kept_replies.put.Goals as goal
 
 pub returns : goal.returns
 returns c =

@@ -1,0 +1,33 @@
+ghost use Rattle.std.specs.Prelude.{◌≡◌};
+
+use std::marker::Model;
+
+/// A part of a line, lent: it takes no memory of its own. Contracts see its bytes.
+#[derive(Debug, Drop)]
+pub struct Lent<'a> {
+    bytes: &'a [u8],
+}
+
+impl<'a> Model for Lent<'a> {
+    ghost use Rattle.std.specs.Prelude.{List, ℕ};
+
+    ghost Value = { List ℕ };
+
+    ghost view = { λ lent. lent.bytes.now };
+}
+
+impl<'a> Lent<'a> {
+    /// These bytes.
+    pub fn new(bytes: &'a [u8]) -> Lent<'a>
+        ensures { result ≡ bytes.now }
+    {
+        Lent { bytes }
+    }
+
+    /// The bytes, for as long as the line is lent.
+    pub fn as_slice(&self) -> &'a [u8]
+        ensures { result.now ≡ self.now }
+    {
+        self.bytes
+    }
+}
