@@ -156,8 +156,17 @@ fn a_signed_text_is_looked_for_where_it_stands(rt: HostRuntime) -> Result<(), Fa
     let alloc = rt.alloc();
     let updates =
         "{\"operations\":{\"update\":[{\"signedData\":\"a.b.c\"},{\"signedData\":\"d\"}]}}";
-    assert!(rt; stand(alloc, &mut Place::new(), updates.as_bytes(), "update", "a.b.c\nd")?);
-    let both = "{\"operations\":{\"deactivate\":[{\"signedData\":\"a.b.c\"},{\"signedData\":\"d\"}],\
+    assert!(rt;
+        stand(
+            alloc,
+            &mut Place::new(),
+            updates.as_bytes(),
+            "update",
+            "a.b.c\nd"
+        )?
+    );
+    let both =
+        "{\"operations\":{\"deactivate\":[{\"signedData\":\"a.b.c\"},{\"signedData\":\"d\"}],\
 \"recover\":[{\"signedData\":\"e\"}]}}";
     let mut place = Place::new();
     assert!(rt;
