@@ -348,13 +348,6 @@ refused_at (Some (j, t ∷ ts)) e = refl
 pub text_refused : (bytes : List ℕ) → IsUtf8 bytes → converted of_json (value 127 (tokens bytes)) ≡ None → json_of bytes ≡ Err NotJson
 text_refused bytes utf8 e = json_of-utf8 bytes utf8 ∙ ap json_of_data (refused_at (value 127 (tokens bytes)) e)
 
--- something stands behind the value
-pub text_goes_on : (bytes : List ℕ) (d : Data) (t : Token) (ts : Tokens) → IsUtf8 bytes → converted of_json (value 127 (tokens bytes)) ≡ Some (d, t ∷ ts)
-    → json_of bytes ≡ Err NotJson
-text_goes_on bytes d t ts utf8 e =
-    let all = was_read of_json (value 127 (tokens bytes)) d (t ∷ ts) e in
-    json_of-utf8 bytes utf8 ∙ ap json_of_data (ap data_at_end all.is)
-
 -- nothing could be read
 pub text_given : (bytes : List ℕ) (result : Result (List ℕ) ReadRefused) (refused : ReadRefused) → IsUtf8 bytes → result ≡ Err refused
     → IsNoJson (converted of_json (value 127 (tokens bytes)) ≡ None) refused → GivesAs (λ text. value_read (json_of text)) refusal_of (json_of bytes) result
