@@ -9,7 +9,7 @@ ghost use Rattle.st_ops.specs.RequestText.{request_text};
 use crate::deltas::{delta, delta_hash, patches};
 use crate::keys::{recovery_jwk, update_jwk};
 use st_base::{Bytes, List, Shared, Text, WantOfMemory};
-use st_canon::{Json, Object, PackedJson};
+use st_canon::{Json, KeptText, Object, PackedJson};
 use st_hash::Hash;
 use st_indexfiles::{SuffixData, hash_json};
 use st_jws::{Jwk, Signed, commitment, join_signed, reveal, signing_input};
@@ -121,7 +121,7 @@ fn update(
         (signed counter.key counter.number (payload revealed.now (plain delta.now))) (plain delta.now)) }
 {
     let payload = payload(alloc, revealed, delta)?;
-    let text = signed(alloc, signer, counter, &payload)?;
+    let text = KeptText::new(signed(alloc, signer, counter, &payload)?);
     let payload = PackedJson::pack(alloc, &payload)?;
     let proof = Shared::new(
         alloc,
