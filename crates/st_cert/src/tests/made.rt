@@ -2,7 +2,7 @@
 //! signed, since a step looks at claims alone.
 
 use st_base::{Shared, Text};
-use st_canon::{Json, PackedJson, read};
+use st_canon::{Json, KeptText, PackedJson, read};
 use st_hash::{Hash, hash_text, hash256};
 use st_indexfiles::SuffixData;
 use st_jws::{Jwk, Signed, commitment, reveal};
@@ -92,7 +92,7 @@ fn signed(
         .as_str()
         .replace(rt.alloc(), "DELTA", delta_hash.as_str())?;
     let signed = Signed {
-        text: Text::from_text(rt.alloc(), "not opened")?,
+        text: KeptText::new(Text::from_text(rt.alloc(), "not opened")?),
         payload: PackedJson::pack(rt.alloc(), &value(rt, text.as_str())?)?,
         key: key(rt, name)?,
     };
