@@ -9,21 +9,21 @@ use Rattle.st_anchor.proofs.reading.core_proof_part.Goals as goal
 pub returns-in_err-opened-in-Ok-clause-few : goal.returns-in_err-opened-in-Ok-clause-few
 returns-in_err-opened-in-Ok-clause-few c =
     file-then_few _ (length c.in-Ok.proofs.recovers + length c.in-Ok.proofs.deactivates) c.args.work.now c.read_core_proof.new.work c.open_core.new.work
-    (core_proof-count c.args.context.now c.args.core.now c.args.file.now c.len-recovers.result c.len-deactivates.result c.len-recovers.ensures c.len-deactivates.ensures
-    c.in-Ok.proofs c.in-Ok.ensures.answers.0 c.in-Ok.ensures.answers.1)
+    (core_proof-count c.args.context.now c.args.core.now c.args.file.now c.len-recovers.result c.len-deactivates.result
+    c.len-recovers.ensures c.len-deactivates.ensures c.in-Ok.proofs c.in-Ok.ensures.answers.0 c.in-Ok.ensures.answers.1)
     c.in-Ok.ensures.counted c.in_err-opened-in-Ok.ensures.few
 
 pub returns-in_ok-opened-in-Ok-clause-value : goal.returns-in_ok-opened-in-Ok-clause-value
 returns-in_ok-opened-in-Ok-clause-value c =
     ap (λ opened. Is opened) (c.in_ok-opened-in-Ok.ensures.value ∙ ap (λ limit. opened_of limit c.in-Ok.proofs) c.max_signed.ensures)
-    ∙ core_proof-says c.args.context.now c.args.core.now c.args.file.now c.len-recovers.result c.len-deactivates.result c.len-recovers.ensures c.len-deactivates.ensures
-    c.in-Ok.proofs c.in-Ok.ensures.answers.0 c.in-Ok.ensures.answers.1
+    ∙ core_proof-says c.args.context.now c.args.core.now c.args.file.now c.len-recovers.result c.len-deactivates.result
+    c.len-recovers.ensures c.len-deactivates.ensures c.in-Ok.proofs c.in-Ok.ensures.answers.0 c.in-Ok.ensures.answers.1
 
 pub returns-in_ok-opened-in-Ok-clause-work : goal.returns-in_ok-opened-in-Ok-clause-work
 returns-in_ok-opened-in-Ok-clause-work c =
     file-then _ (length c.in-Ok.proofs.recovers + length c.in-Ok.proofs.deactivates) c.args.work.now c.read_core_proof.new.work c.open_core.new.work
-    (core_proof-count c.args.context.now c.args.core.now c.args.file.now c.len-recovers.result c.len-deactivates.result c.len-recovers.ensures c.len-deactivates.ensures
-    c.in-Ok.proofs c.in-Ok.ensures.answers.0 c.in-Ok.ensures.answers.1)
+    (core_proof-count c.args.context.now c.args.core.now c.args.file.now c.len-recovers.result c.len-deactivates.result
+    c.len-recovers.ensures c.len-deactivates.ensures c.in-Ok.proofs c.in-Ok.ensures.answers.0 c.in-Ok.ensures.answers.1)
     c.in-Ok.ensures.counted c.in_ok-opened-in-Ok.ensures.work
 
 pub returns-in_ok-opened-in-Ok-clause-few : goal.returns-in_ok-opened-in-Ok-clause-few
@@ -33,8 +33,8 @@ pub returns-in-Err-Rejected-clause-value : goal.returns-in-Err-Rejected-clause-v
 returns-in-Err-Rejected-clause-value c =
     let is = rw c.in-Err-Rejected.field-0-is at c.in-Err-Rejected.ensures.answers in
     rw c.in-Err-Rejected.field-0-is
-    (core_proof-fails c.args.context.now c.args.core.now c.args.file.now c.len-recovers.result c.len-deactivates.result c.len-recovers.ensures c.len-deactivates.ensures
-    c.in-Err-Rejected.rule is)
+    (core_proof-fails c.args.context.now c.args.core.now c.args.file.now c.len-recovers.result c.len-deactivates.result
+    c.len-recovers.ensures c.len-deactivates.ensures c.in-Err-Rejected.rule is)
 
 pub returns-in-Err-Rejected-clause-work : goal.returns-in-Err-Rejected-clause-work
 returns-in-Err-Rejected-clause-work c =

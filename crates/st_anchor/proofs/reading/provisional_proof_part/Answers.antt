@@ -9,19 +9,22 @@ use Rattle.st_anchor.proofs.reading.provisional_proof_part.Goals as goal
 pub returns-in_err-proofs-in-Ok-clause-few : goal.returns-in_err-proofs-in-Ok-clause-few
 returns-in_err-proofs-in-Ok-clause-few c =
     file-then_few _ (length c.in-Ok.texts) c.args.work.now c.read_provisional_proof.new.work c.open.new.work
-    (provisional_proof-count c.args.context.now c.args.provisional.now c.args.file.now c.len.result c.len.ensures c.in-Ok.texts c.in-Ok.ensures.answers.0 c.in-Ok.ensures.answers.1)
+    (provisional_proof-count c.args.context.now c.args.provisional.now c.args.file.now c.len.result c.len.ensures
+    c.in-Ok.texts c.in-Ok.ensures.answers.0 c.in-Ok.ensures.answers.1)
     c.in-Ok.ensures.counted
     (subst (λ texts. WorkedAtMost 0 (length texts) c.read_provisional_proof.new.work c.open.new.work) c.as_slice.ensures c.in_err-proofs-in-Ok.ensures.few)
 
 pub returns-in_ok-proofs-in-Ok-clause-value : goal.returns-in_ok-proofs-in-Ok-clause-value
 returns-in_ok-proofs-in-Ok-clause-value c =
     ap (λ proofs. Is proofs) (c.in_ok-proofs-in-Ok.ensures.value ∙ (λ i. map (proof_of (c.max_signed.ensures i)) (c.as_slice.ensures i)))
-    ∙ provisional_proof-says c.args.context.now c.args.provisional.now c.args.file.now c.len.result c.len.ensures c.in-Ok.texts c.in-Ok.ensures.answers.0 c.in-Ok.ensures.answers.1
+    ∙ provisional_proof-says c.args.context.now c.args.provisional.now c.args.file.now c.len.result c.len.ensures
+    c.in-Ok.texts c.in-Ok.ensures.answers.0 c.in-Ok.ensures.answers.1
 
 pub returns-in_ok-proofs-in-Ok-clause-work : goal.returns-in_ok-proofs-in-Ok-clause-work
 returns-in_ok-proofs-in-Ok-clause-work c =
     file-then _ (length c.in-Ok.texts) c.args.work.now c.read_provisional_proof.new.work c.open.new.work
-    (provisional_proof-count c.args.context.now c.args.provisional.now c.args.file.now c.len.result c.len.ensures c.in-Ok.texts c.in-Ok.ensures.answers.0 c.in-Ok.ensures.answers.1)
+    (provisional_proof-count c.args.context.now c.args.provisional.now c.args.file.now c.len.result c.len.ensures
+    c.in-Ok.texts c.in-Ok.ensures.answers.0 c.in-Ok.ensures.answers.1)
     c.in-Ok.ensures.counted
     (c.in_ok-proofs-in-Ok.ensures.work ∙ ap (λ texts. more_proofs (length texts) c.read_provisional_proof.new.work) c.as_slice.ensures)
 
