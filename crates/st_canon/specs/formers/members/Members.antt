@@ -37,6 +37,7 @@ named value = pair (const Name) value
 abbrev with_value : {X Y : Type 0} → (X → Y) → Name × X → Name × Y
 with_value h member = (member.0, h member.1)
 
+-- what members hold: a list of pairs of a name and a value
 abbrev pub the_former : Former {0} → Former {0}
 the_former value = list (named value)
 
@@ -50,6 +51,7 @@ pub members_put : {value : Former {0}} (weighed : Weighed value) (X : Type 0) (d
 members_put weighed X depth members n t = List-puts (w_pair (w_const Name) weighed) X depth members n t
     ∙ ap (λ a. max a (deepest depth n t)) (deepest_values (weighed.weight X depth) members)
 
+-- they are as deep as the deepest of their values
 abbrev pub the_weighed : {value : Former {0}} → Weighed value → Weighed (the_former value)
 the_weighed weighed =
     record { weight = λ X depth members. most (weighed.weight X depth) (values_of members); puts = λ X depth members. members_put weighed X depth members }
@@ -57,6 +59,7 @@ the_weighed weighed =
 pub the_empty : List (Name × ⊥)
 the_empty = []
 
+-- the values alone, in the order of the names
 abbrev pub the_items : (X : Type 0) → List (Name × X) → List X
 the_items X members = values_of members
 
