@@ -1,7 +1,7 @@
 -- Members that are gathered by name as they come, in whatever order and more than once.
 use Rattle.std.proofs.Common.{◌≡◌, ℕ, ◌<◌, List, [], ◌∷◌, ◌++◌, length, map, Bool, true, false, Option, Some, None, option_map, option_and_then}
 use Rattle.std.proofs.Common.{Ordering, Less, Equal, Greater, nat_cmp, is_eq, IfSome, refl, sym, ap, ◌∙◌, subst, arith, append_assoc}
-use Rattle.std.specs.Prelude.{⊤, reverse}
+use Rattle.std.specs.Prelude.{⊤, if◌then◌else◌, reverse, take}
 use Rattle.std.specs.Cmp.Lexicographic.{slice_cmp, nat_list_cmp_total}
 use Rattle.std.specs.List.{AllByRecursion}
 use Rattle.std.specs.List.Sorted.{IsStrictlySortedBy}
@@ -9,7 +9,7 @@ use Rattle.std.specs.Map.{keys_of}
 use Rattle.std.specs.Ordering.{match_ordering, ordering_reverse}
 use Rattle.std.specs.Str.{IsUtf8}
 use Rattle.std.proofs.lemmas.Cmp.{tied_itself}
-use Rattle.std.proofs.lemmas.List.{reverse-append}
+use Rattle.std.proofs.lemmas.List.{append-nil, reverse-append, take_at}
 use Rattle.std.proofs.lemmas.Map.Text.{is_eq-slice_cmp}
 use Rattle.std.proofs.lemmas.Slice.Eq.{bytes_eq-Decides}
 use Rattle.serde_json.specs.Data as data'
@@ -19,10 +19,10 @@ use Rattle.st_canon.specs.Find.{put}
 use Rattle.st_canon.specs.Held.{IsHeld, entry_at, mark, some_text}
 use Rattle.st_canon.specs.InOrder.{in_order, placed}
 use Rattle.st_canon.specs.Names.{name_cmp, NamesAscend}
-use Rattle.st_canon.specs.Plain.{Plain, Members, no_members, member}
+use Rattle.st_canon.specs.Plain.{Plain, object, Members, no_members, member}
 use Rattle.st_canon.specs.Proper.{AllAbove, IsProper, MembersAreProper}
 use Rattle.st_canon.specs.Reading.{whole_value, whole_members}
-use Rattle.st_canon.specs.Respelled.{HasEnded, IsWritten, Texts, members_text, texts_in}
+use Rattle.st_canon.specs.Respelled.{AreGathered, IsWritten, Texts, members_text, texts_in}
 use Rattle.st_canon.proofs.FrontLemmas.{some_canonical}
 use Rattle.st_canon.proofs.HeldLemmas.{all_stay, entries_stay, entry_held, no_mark}
 use Rattle.st_canon.proofs.Order.{by_order, name_total, greater_from_less, less_from_greater, same_from_tied}
@@ -277,15 +277,17 @@ all_proper (e ∷ es) s h = proper_with e.0 e.1 (all_whole es) h.0.0 h.0.1 (all_
 
 -- ---- what is gathered of data
 
-pub record IsGathered (ds : data'.Members) (bytes places : List ℕ) : Type 0 where
+pub record IsGathered (ds : data'.Members) (front bytes places : List ℕ) : Type 0 where
+  pub behind : (added : List ℕ) × (bytes ≡ front ++ added)
   pub are : texts_in bytes places ≡ texts_of (outcomes ds)
   pub held : AllByRecursion (IsHeld bytes) (reverse places)
   pub ascend : BytesAscend ds
   pub utf8 : AreUtf8 ds
   pub proper : AreProper (outcomes ds)
 
-pub none_gathered : (bytes places : List ℕ) → places ≡ [] → IsGathered data'.no_members bytes places
-none_gathered bytes places none = rw none (record { are = refl; held = tt; ascend = tt; utf8 = tt; proper = tt })
+pub none_gathered : (bytes places : List ℕ) → places ≡ [] → IsGathered data'.no_members bytes bytes places
+none_gathered bytes places none =
+    rw none (record { behind = ([], sym (append-nil bytes)); are = refl; held = tt; ascend = tt; utf8 = tt; proper = tt })
 
 -- a member that came: where it stands, and that what was held before still is
 record HasCome (k : List ℕ) (there : Option Plain) (old new places news : List ℕ) : Type 0 where
@@ -307,14 +309,14 @@ text_there p proper = at (canonical p) (some_canonical p proper)
     at [] some = absurd (omega (arith, some))
     at (b ∷ bs) some = refl
 
-module _ (k old first second third places news : List ℕ) (place : ℕ) (u : IsUtf8 k) (begun : first ≡ old ++ (k ++ mark ∷ [])) where
-  whole_came : (p : Plain) → IsProper p → second ≡ first ++ canonical p → place ≡ length old → HasEnded k place true second places third news
-      → HasCome k (Some p) old third places news
+module _ (k old first second third places news : List ℕ) (place : ℕ) (u : IsUtf8 k) (begun : first ≡ old ++ (k ++ mark ∷ [])) (at : place ≡ length old)
+    (among : news ≡ places ++ place ∷ []) where
+  whole_came : (p : Plain) → IsProper p → second ≡ first ++ canonical p → third ≡ second ++ mark ∷ [] → HasCome k (Some p) old third places news
   unfolding one_held
-  whole_came p proper written at ended =
+  whole_came p proper written ended =
       let text = canonical p in
       let grown : third ≡ old ++ (k ++ (mark ∷ (text ++ mark ∷ []))) =
-      ended.0 ∙ ap (λ t. t ++ mark ∷ []) (written ∙ ap (λ t. t ++ text) begun)
+      ended ∙ ap (λ t. t ++ mark ∷ []) (written ∙ ap (λ t. t ++ text) begun)
       ∙ append_assoc (old ++ (k ++ mark ∷ [])) text (mark ∷ []) ∙ append_assoc old (k ++ mark ∷ []) (text ++ mark ∷ [])
       ∙ ap (λ t. old ++ t) (append_assoc k (mark ∷ []) (text ++ mark ∷ [])) in
       let held = one_held old k text third u (no_mark text (IsUtf8-canonical p proper)) grown in
@@ -322,45 +324,49 @@ module _ (k old first second third places news : List ℕ) (place : ℕ) (u : Is
         place = length old;
         more = k ++ (mark ∷ (text ++ mark ∷ []));
         grown = grown;
-        among = ended.1 ∙ ap (λ n. places ++ n ∷ []) at;
+        among = among ∙ ap (λ n. places ++ n ∷ []) at;
         held = held;
         entry = entry_held third (length old) held ∙ ap (λ t. (k, t)) (text_there p proper);
       }
 
-  other_came : (added : List ℕ) → second ≡ first ++ added → HasEnded k place false second places third news → HasCome k None old third places news
+  other_came : third ≡ first ++ mark ∷ [] → HasCome k None old third places news
   unfolding one_held
-  other_came added written ended =
-      let more = (k ++ mark ∷ []) ++ (added ++ (k ++ mark ∷ mark ∷ [])) in
-      let held = one_held second k [] third u tt ended.0 in
+  other_came ended =
+      let grown : third ≡ old ++ (k ++ (mark ∷ mark ∷ [])) =
+      ended ∙ ap (λ t. t ++ mark ∷ []) begun ∙ append_assoc old (k ++ mark ∷ []) (mark ∷ [])
+      ∙ ap (λ t. old ++ t) (append_assoc k (mark ∷ []) (mark ∷ [])) in
+      let held = one_held old k [] third u tt grown in
       record {
-        place = length second;
-        more = more;
-        grown = ended.0 ∙ ap (λ t. t ++ (k ++ mark ∷ mark ∷ [])) (written ∙ ap (λ t. t ++ added) begun)
-            ∙ append_assoc (old ++ (k ++ mark ∷ [])) added (k ++ mark ∷ mark ∷ []) ∙ append_assoc old (k ++ mark ∷ []) (added ++ (k ++ mark ∷ mark ∷ []));
-        among = ended.1;
+        place = length old;
+        more = k ++ (mark ∷ mark ∷ []);
+        grown = grown;
+        among = among ∙ ap (λ n. places ++ n ∷ []) at;
         held = held;
-        entry = entry_held third (length second) held;
+        entry = entry_held third (length old) held;
       }
 
-  has_come : (there : Option Plain) (told : Bool) → place ≡ length old → IsWritten IsProper canonical there told first second
-      → HasEnded k place told second places third news → HasCome k there old third places news
-  has_come None told at written ended =
-      other_came written.1.0 written.1.1 (subst (λ t. HasEnded k place t second places third news) written.0 ended)
-  has_come (Some p) told at written ended =
-      whole_came p written.1.0 written.1.1 at (subst (λ t. HasEnded k place t second places third news) written.0 ended)
+  -- what the value of a member left, where it was cut back unless that is whole
+  has_come : (there : Option Plain) (told : Bool) (value : ℕ) → value ≡ length first → IsWritten IsProper canonical there told first second
+      → third ≡ (if told then second else take value second) ++ mark ∷ [] → HasCome k there old third places news
+  has_come None told value from written ended =
+      let back = ap (take value) written.1.1 ∙ take_at first written.1.0 value (sym from) in
+      other_came (subst (λ t. third ≡ (if t then second else take value second) ++ mark ∷ []) written.0 ended ∙ ap (λ t. t ++ mark ∷ []) back)
+  has_come (Some p) told value from written ended =
+      whole_came p written.1.0 written.1.1 (subst (λ t. third ≡ (if t then second else take value second) ++ mark ∷ []) written.0 ended)
 
 proper_given : (there : Option Plain) (told : Bool) (before after : List ℕ) → IsWritten IsProper canonical there told before after → IfSome there IsProper
 proper_given None told before after h = tt
 proper_given (Some p) told before after h = h.1.0
 
-one_more_come : (ds : data'.Members) (old new places news : List ℕ) (k : List ℕ) (d : data'.Data) → IsGathered ds old places → IsUtf8 k
-    → IfSome (whole_value d) IsProper → HasCome k (whole_value d) old new places news → IsGathered (data'.put k d ds) new news
-one_more_come ds old new places news k d are u proper come =
+one_more_come : (ds : data'.Members) (front old new places news : List ℕ) (k : List ℕ) (d : data'.Data) → IsGathered ds front old places → IsUtf8 k
+    → IfSome (whole_value d) IsProper → HasCome k (whole_value d) old new places news → IsGathered (data'.put k d ds) front new news
+one_more_come ds front old new places news k d are u proper come =
     let there = whole_value d in
     let more = outcomes_put k d ds u are.utf8 in
     let all : reverse news ≡ come.place ∷ reverse places = ap reverse come.among ∙ reverse-append places (come.place ∷ []) in
     let stay = ap in_order (entries_stay old new come.more come.grown (reverse places) are.held) ∙ are.are in
     record {
+      behind = (are.behind.0 ++ come.more, come.grown ∙ ap (λ t. t ++ come.more) are.behind.1 ∙ append_assoc front are.behind.0 come.more);
       are = ap (λ ps. in_order (map (entry_at new) ps)) all ∙ ap (λ e. placed e (in_order (map (entry_at new) (reverse places)))) come.entry
           ∙ ap (with_name k (option_map canonical there)) stay ∙ sym (values_with (option_map canonical) k there (outcomes ds)) ∙ ap texts_of (sym more);
       held = subst (AllByRecursion (IsHeld new)) (sym all) (come.held, all_stay old new come.more come.grown (reverse places) are.held);
@@ -369,13 +375,25 @@ one_more_come ds old new places news k d are u proper come =
       proper = subst AreProper (sym more) (all_values IsUtf8 (λ there. IfSome there IsProper) k there (outcomes ds) u proper are.proper);
     }
 
-pub one_more_gathered : (ds : data'.Members) (old first second third places news : List ℕ) (k : List ℕ) (d : data'.Data) (told : Bool) (place : ℕ)
-    → IsGathered ds old places → IsUtf8 k → first ≡ old ++ (k ++ mark ∷ []) → place ≡ length old
-    → IsWritten IsProper canonical (whole_value d) told first second → HasEnded k place told second places third news
-    → IsGathered (data'.put k d ds) third news
-one_more_gathered ds old first second third places news k d told place are u begun at written ended =
-    one_more_come ds old third places news k d are u (proper_given (whole_value d) told first second written)
-    (has_come k old first second third places news place u begun (whole_value d) told at written ended)
+pub one_more_gathered : (ds : data'.Members) (front old first second third places news : List ℕ) (k : List ℕ) (d : data'.Data) (told : Bool)
+    (place value : ℕ) → IsGathered ds front old places → IsUtf8 k → first ≡ old ++ (k ++ mark ∷ []) → place ≡ length old → value ≡ length first
+    → IsWritten IsProper canonical (whole_value d) told first second → third ≡ (if told then second else take value second) ++ mark ∷ []
+    → news ≡ places ++ place ∷ [] → IsGathered (data'.put k d ds) front third news
+one_more_gathered ds front old first second third places news k d told place value are u begun at from written ended among =
+    one_more_come ds front old third places news k d are u (proper_given (whole_value d) told first second written)
+    (has_come k old first second third places news place u begun at among (whole_value d) told value from written ended)
+
+pub all_gathered : (ds : data'.Members) (front bytes places : List ℕ) → IsGathered ds front bytes places → AreGathered ds bytes places
+all_gathered ds front bytes places are =
+    let es = outcomes ds in
+    let all = whole_members_are ds are.utf8 are.ascend in
+    record {
+      held = are.held;
+      text = ap (members_text false) are.are ∙ text_of_members false es ∙ ap (option_map (canonical_members false)) (sym all);
+      proper = subst (λ there. IfSome there MembersAreProper) (sym all) (all_proper es (ascend_outcomes ds) are.proper);
+    }
+
+-- ---- their text
 
 members_given : (there : Option Members) (told : Bool) (before after : List ℕ) → IfSome there MembersAreProper
     → IsWritten (λ t. ⊤) (λ t. t) (option_map (canonical_members false) there) told before after
@@ -383,15 +401,25 @@ members_given : (there : Option Members) (told : Bool) (before after : List ℕ)
 members_given None told before after p h = h
 members_given (Some ms) told before after p h = (h.0, (p, h.1.1))
 
-pub gathered_written : (ds : data'.Members) (bytes places : List ℕ) (told : Bool) (before after : List ℕ) → IsGathered ds bytes places
+pub members_written : (ds : data'.Members) (bytes places : List ℕ) (told : Bool) (before after : List ℕ) → AreGathered ds bytes places
     → IsWritten (λ t. ⊤) (λ t. t) (members_text false (texts_in bytes places)) told before after
     → IsWritten MembersAreProper (canonical_members false) (whole_members ds) told before after
-gathered_written ds bytes places told before after are written =
-    let es = outcomes ds in
-    let text = ap (members_text false) are.are ∙ text_of_members false es in
-    subst (λ there. IsWritten MembersAreProper (canonical_members false) there told before after) (sym (whole_members_are ds are.utf8 are.ascend))
-    (members_given (all_whole es) told before after (all_proper es (ascend_outcomes ds) are.proper)
-    (subst (λ there. IsWritten (λ t. ⊤) (λ t. t) there told before after) text written))
+members_written ds bytes places told before after are written =
+    members_given (whole_members ds) told before after are.proper
+    (subst (λ there. IsWritten (λ t. ⊤) (λ t. t) there told before after) are.text written)
+
+object_given : (there : Option Members) (told : Bool) (before after : List ℕ) → IfSome there MembersAreProper
+    → IsWritten (λ t. ⊤) (λ t. 123 ∷ (t ++ 125 ∷ [])) (option_map (canonical_members false) there) told before after
+    → IsWritten IsProper canonical (option_map object there) told before after
+object_given None told before after p h = h
+object_given (Some ms) told before after p h = (h.0, (p, h.1.1))
+
+pub object_gathered : (ds : data'.Members) (bytes places : List ℕ) (told : Bool) (before after : List ℕ) → AreGathered ds bytes places
+    → IsWritten (λ t. ⊤) (λ t. 123 ∷ (t ++ 125 ∷ [])) (members_text false (texts_in bytes places)) told before after
+    → IsWritten IsProper canonical (option_map object (whole_members ds)) told before after
+object_gathered ds bytes places told before after are written =
+    object_given (whole_members ds) told before after are.proper
+    (subst (λ there. IsWritten (λ t. ⊤) (λ t. 123 ∷ (t ++ 125 ∷ [])) there told before after) are.text written)
 
 -- ---- what goes out of them, one after another
 

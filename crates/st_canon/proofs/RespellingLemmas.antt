@@ -1,7 +1,7 @@
 -- Data that is read over its tokens, and its canonical text, which goes out an item at a time.
 use Rattle.std.proofs.Common.{◌≡◌, ℕ, ℤ, zero, suc, ◌-◌, ◌<◌, ◌≤◌, List, [], ◌∷◌, ◌++◌, length, Bool, true, false, Option, Some, None, option_map}
-use Rattle.std.proofs.Common.{option_and_then, IfSome, IfErr, Result, Ok, Err, refl, sym, ap, ◌∙◌, subst, append_assoc}
-use Rattle.std.specs.Prelude.{◌&&◌, ok_or}
+use Rattle.std.proofs.Common.{arith, option_and_then, IfSome, IfErr, Result, Ok, Err, refl, sym, ap, ◌∙◌, subst, append_assoc}
+use Rattle.std.specs.Prelude.{◌&&◌, if◌then◌else◌, ok_or, IfOk}
 use Rattle.std.specs.Str.{IsUtf8}
 use Rattle.std.proofs.lemmas.List.{append-nil}
 use Rattle.json.specs.Json as json
@@ -12,13 +12,12 @@ use Rattle.json.proofs.Grammar.{value_is, value-begin_array, value-begin_object,
 use Rattle.serde_json.specs.Data as data'
 use Rattle.serde_json.specs.Data.{Data, Num}
 use Rattle.serde_json.specs.Read.{converted, number_of, of_json, of_items, of_members, read}
-use mathlib.Core.Bool.{true≢false}
 use Rattle.st_base.specs.Answers.{GivesAs}
 use Rattle.st_canon.specs.Canonical.{canonical, canonical_items, canonical_members, comma}
 use Rattle.st_canon.specs.Packed.{IsReadAgain, value_read}
 use Rattle.st_canon.specs.Plain.{Plain, IsWhole, whole, list, object, Items, item, Members}
 use Rattle.st_canon.specs.Proper.{IsProper, ItemsAreProper, MembersAreProper}
-use Rattle.st_canon.specs.Reading.{json_of, refusal_of, whole_value, whole_items}
+use Rattle.st_canon.specs.Reading.{json_of, refusal_of, whole_value, whole_items, whole_members}
 use Rattle.st_canon.specs.Respelled.{IsNoJson, IsWritten, WasAdded}
 use Rattle.st_canon.specs.View.{items_of}
 use Rattle.st_canon.specs.declared.refused.ReadRefused.{ReadRefused}
@@ -355,20 +354,32 @@ text_given bytes result refused utf8 is h =
     subst (λ (r : Result (List ℕ) ReadRefused). GivesAs (λ text. value_read (json_of text)) refusal_of (json_of bytes) r) (sym is)
     (given_further (json_of bytes) refused (said_further _ _ refused h (text_refused bytes utf8)))
 
-whole_at : (bytes out : List ℕ) (there : Option Plain) (told : Bool) → told ≡ true → json_of bytes ≡ ok_or there NotWhole
-    → IsWritten IsProper canonical there told [] out → IsReadAgain out × (json_of bytes ≡ Ok (value_read (json_of out)))
-whole_at bytes out None told is read h = let not = sym is ∙ h.0 in absurd (true≢false not)
-whole_at bytes out (Some p) told is read h = read_again bytes out p h.1.0 read h.1.1
+-- something came behind the value
+pub text_goes_on : (bytes : List ℕ) (d : Data) (r : Tokens) → IsUtf8 bytes → converted of_json (value 127 (tokens bytes)) ≡ Some (d, r)
+    → (r ≡ [] → ⊥) → json_of bytes ≡ Err NotJson
+text_goes_on bytes d r utf8 e some =
+    let all = was_read of_json (value 127 (tokens bytes)) d r e in
+    json_of-utf8 bytes utf8 ∙ ap json_of_data (ap data_at_end all.is ∙ at all.spelled r some)
+  where
+    at : (j : json.Json) (r : Tokens) → (r ≡ [] → ⊥) → data_at_end (Some (j, r)) ≡ None
+    at j [] some = absurd (some refl)
+    at j (t ∷ ts) some = refl
 
-pub text_written : (bytes out : List ℕ) (d : Data) (told : Bool) → IsUtf8 bytes → told ≡ true → converted of_json (value 127 (tokens bytes)) ≡ Some (d, [])
-    → IsWritten IsProper canonical (whole_value d) told [] out → IsReadAgain out × (json_of bytes ≡ Ok (value_read (json_of out)))
-text_written bytes out d told utf8 is e h = whole_at bytes out (whole_value d) told is (text_is_data bytes d utf8 e) h
+-- where nothing came behind a text's object
+pub object_is_data : (bytes : List ℕ) (ts : Tokens) (are : data'.Members) → IsUtf8 bytes → tokens bytes ≡ Token.begin_object ∷ ts
+    → converted (λ ms. of_members ms data'.no_members) (members (value 126) (length ts) ts) ≡ Some (are, [])
+    → json_of bytes ≡ ok_or (option_map object (whole_members are)) NotWhole
+object_is_data bytes ts are utf8 is read =
+    text_is_data bytes (data'.object are) utf8 (object_data 127 (tokens bytes) ts (Some (are, [])) is (omega arith) read)
 
-not_whole_at : (out : List ℕ) (there : Option Plain) (told : Bool) → told ≡ false → IsWritten IsProper canonical there told [] out
-    → ok_or there NotWhole ≡ Err NotWhole
-not_whole_at out None told is h = refl
-not_whole_at out (Some p) told is h = let not = sym h.0 ∙ is in absurd (true≢false not)
-
-pub text_not_whole : (bytes out : List ℕ) (d : Data) (told : Bool) → IsUtf8 bytes → told ≡ false → converted of_json (value 127 (tokens bytes)) ≡ Some (d, [])
-    → IsWritten IsProper canonical (whole_value d) told [] out → json_of bytes ≡ Err NotWhole
-text_not_whole bytes out d told utf8 is e h = text_is_data bytes d utf8 e ∙ not_whole_at out (whole_value d) told is h
+-- What a text is was written of it, or is refused, where numbers are not whole.
+pub text_told : (bytes out : List ℕ) (there : Option Plain) (told : Bool) (result : Result (List ℕ) ReadRefused) → json_of bytes ≡ ok_or there NotWhole
+    → IsWritten IsProper canonical there told [] out → result ≡ (if told then Ok out else Err NotWhole)
+    → GivesAs (λ text. value_read (json_of text)) refusal_of (json_of bytes) result × IfOk result IsReadAgain
+text_told bytes out None told result read h is =
+    let refused : result ≡ Err NotWhole = is ∙ ap (λ t. if t then Ok out else Err NotWhole) h.0 in
+    subst (λ r. GivesAs (λ text. value_read (json_of text)) refusal_of (json_of bytes) r × IfOk r IsReadAgain) (sym refused) (read, tt)
+text_told bytes out (Some p) told result read h is =
+    let given : result ≡ Ok out = is ∙ ap (λ t. if t then Ok out else Err NotWhole) h.0 in
+    let again = read_again bytes out p h.1.0 read h.1.1 in
+    subst (λ r. GivesAs (λ text. value_read (json_of text)) refusal_of (json_of bytes) r × IfOk r IsReadAgain) (sym given) (again.1, again.0)

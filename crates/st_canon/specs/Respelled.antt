@@ -1,15 +1,16 @@
 -- The canonical text (RFC 8785) of what comes next among the tokens of a text, where its numbers are whole.
-use Rattle.std.specs.Prelude.{◌≡◌, ⊤, ℕ, List, [], ◌∷◌, ◌++◌, length, map, reverse, Bool, true, false, Option, Some, None, is_some, option_map, option_and_then}
+use Rattle.std.specs.Prelude.{◌≡◌, ⊤, ℕ, List, [], ◌∷◌, ◌++◌, length, map, reverse, Bool, true, false, Option, Some, None, IfSome, is_some, ok_or, option_map, option_and_then}
+use Rattle.std.specs.List.{AllByRecursion}
 use Rattle.json.specs.Json.{items, members, value}
 use Rattle.json.specs.Token.{Token}
 use Rattle.serde_json.specs.Data.{Data, Num, Items, Members, no_members}
 use Rattle.serde_json.specs.Read.{converted, number_of, of_items, of_json, of_members}
 use Rattle.st_canon.specs.Canonical.{canonical, canonical_items, canonical_members, comma, quoted}
-use Rattle.st_canon.specs.Held.{entry_at, mark}
+use Rattle.st_canon.specs.Held.{IsHeld, entry_at}
 use Rattle.st_canon.specs.InOrder.{in_order}
-use Rattle.st_canon.specs.Plain.{IsWhole, whole}
+use Rattle.st_canon.specs.Plain.{IsWhole, object, whole}
 use Rattle.st_canon.specs.Proper.{IsProper, ItemsAreProper, MembersAreProper}
-use Rattle.st_canon.specs.Reading.{whole_items, whole_members, whole_number, whole_value}
+use Rattle.st_canon.specs.Reading.{json_of, whole_items, whole_members, whole_number, whole_value}
 use Rattle.st_canon.specs.declared.refused.ReadRefused.{ReadRefused}
 use Rattle.st_canon.specs.declared.refused.ReadRefused.TheVariants.{NotJson, NotWhole, WantOfMemory}
 
@@ -35,6 +36,36 @@ pub record IsNumberWritten (digits : List ℕ) (told : Bool) (before after : Lis
   pub read : number_of digits ≡ Some is
   pub written : IsWritten IsWhole (λ z. canonical (whole z)) (whole_number is) told before after
 
+-- ---- the members of an object, gathered
+
+-- Names with the canonical text of the value of each, where that is whole.
+abbrev pub Texts : Type 0
+Texts = List (List ℕ × Option (List ℕ))
+
+-- what bytes hold at these places, in the order of the names, each once: of several with one name the last
+abbrev pub texts_in : List ℕ → List ℕ → Texts
+texts_in bytes places = in_order (map (entry_at bytes) (reverse places))
+
+-- the text of the members, where each value has one
+abbrev pub members_text : Bool → Texts → Option (List ℕ)
+members_text b [] = Some []
+members_text b (e ∷ es) =
+    option_and_then (λ t. option_map (λ rest. comma b ++ (quoted e.0 ++ (58 ∷ (t ++ rest)))) (members_text true es)) e.1
+
+-- These members stand there.
+pub record AreGathered (are : Members) (bytes places : List ℕ) : Type 0 where
+  pub held : AllByRecursion (IsHeld bytes) (reverse places)
+  pub text : members_text false (texts_in bytes places) ≡ option_map (canonical_members false) (whole_members are)
+  pub proper : IfSome (whole_members are) MembersAreProper
+
+-- The bytes are the text of an object, whose members stand there.
+pub record ObjectIsGathered (object_text bytes places : List ℕ) : Type 0 where
+  pub are : Members
+  pub is : json_of object_text ≡ ok_or (option_map object (whole_members are)) NotWhole
+  pub gathered : AreGathered are bytes places
+
+-- ---- a value and its parts
+
 -- Lists and objects may nest `depth` deep. The tokens are these before it is read and those behind it, the
 -- bytes those before it was written and those after.
 module _ (depth : ℕ) (old new : List Token) (told : Bool) (before after : List ℕ) where
@@ -56,24 +87,15 @@ module _ (depth : ℕ) (old new : List Token) (told : Bool) (before after : List
     pub read : converted (λ ms. of_members ms no_members) (members (value depth) (length old) old) ≡ Some (are, new)
     pub written : IsWritten MembersAreProper (canonical_members false) (whole_members are) told before after
 
--- ---- the members of an object, gathered
+-- the bytes were read as one value, which was written where all numbers in it are whole
+pub record TextIsRespelled (text : List ℕ) (told : Bool) (before after : List ℕ) : Type 0 where
+  pub is : Data
+  pub read : json_of text ≡ ok_or (whole_value is) NotWhole
+  pub written : IsWritten IsProper canonical (whole_value is) told before after
 
--- Names with the canonical text of the value of each, where that is whole.
-abbrev pub Texts : Type 0
-Texts = List (List ℕ × Option (List ℕ))
-
--- what bytes hold at these places, in the order of the names, each once: of several with one name the last
-abbrev pub texts_in : List ℕ → List ℕ → Texts
-texts_in bytes places = in_order (map (entry_at bytes) (reverse places))
-
--- A member that was begun at a place has ended: its place came to those of the others. Where its value is not
--- whole, its name stands once more, with no text, and its place is that.
-abbrev pub HasEnded : List ℕ → ℕ → Bool → List ℕ → List ℕ → List ℕ → List ℕ → Type 0
-HasEnded name place true old places new news = (new ≡ old ++ mark ∷ []) × (news ≡ places ++ place ∷ [])
-HasEnded name place false old places new news = (new ≡ old ++ (name ++ mark ∷ mark ∷ [])) × (news ≡ places ++ length old ∷ [])
-
--- the text of the members, where each value has one
-abbrev pub members_text : Bool → Texts → Option (List ℕ)
-members_text b [] = Some []
-members_text b (e ∷ es) =
-    option_and_then (λ t. option_map (λ rest. comma b ++ (quoted e.0 ++ (58 ∷ (t ++ rest)))) (members_text true es)) e.1
+-- The members of an object and the brace that closes it were read, and stand behind what was there before.
+pub record MembersAreGathered (depth : ℕ) (old new : List Token) (before after places : List ℕ) : Type 0 where
+  pub are : Members
+  pub read : converted (λ ms. of_members ms no_members) (members (value depth) (length old) old) ≡ Some (are, new)
+  pub behind : (added : List ℕ) × (after ≡ before ++ added)
+  pub gathered : AreGathered are after places

@@ -1,11 +1,11 @@
-ghost use Rattle.std.specs.Prelude.{◌≡◌, ⊤, ℕ, ◌∷◌, [], ◌++◌, length, map, reverse, None, false, IfOk, OnOk};
+ghost use Rattle.std.specs.Prelude.{◌≡◌, ⊤, ◌∷◌, [], ◌++◌, length, map, reverse, take, if◌then◌else◌, None, false, IfOk, OnOk};
 ghost use Rattle.std.specs.List.{AllByRecursion};
 ghost use Rattle.std.specs.Option.{option_copied};
 ghost use Rattle.std.specs.Str.{IsUtf8};
 ghost use Rattle.st_canon.specs.Canonical.{comma as comma_text, quoted};
 ghost use Rattle.st_canon.specs.Held.{IsHeld, entry_at, mark};
 ghost use Rattle.st_canon.specs.InOrder.{firsts, in_order, is_same};
-ghost use Rattle.st_canon.specs.Respelled.{HasEnded, IsWritten, members_text, texts_in};
+ghost use Rattle.st_canon.specs.Respelled.{IsWritten, members_text, texts_in};
 
 use crate::escape::append_text;
 use crate::held::{MARK, name_at, value_at};
@@ -14,73 +14,95 @@ use crate::ranks::compare_at;
 use crate::writing::append_comma;
 use st_base::{Bytes, WantOfMemory};
 use std::alloc::Global;
+use std::mem;
 
-// The members of an object as they come, in little memory.
-#[derive(Drop)]
-pub(crate) struct Gathered {
-    // Of each member its name, a mark, the canonical text of its value where that is whole, and a mark. Among
-    // them stands what was written of values that are not whole.
-    pub(crate) texts: Bytes,
+// The members of an object as they come, in little memory: of each a text has its name, a mark, the canonical
+// text of its value where that is whole, and a mark.
 
-    // Where the name of each stands.
-    places: Vec<u32>,
+// Where the name of a member stands in a text, and where the text of its value begins.
+#[derive(Clone, Copy)]
+pub(crate) struct Begun {
+    place: u32,
+    value: usize,
 }
 
-impl Gathered {
-    pub(crate) fn new(alloc: Global) -> Gathered
-        ensures texts { result.texts ≡ [] }
-        ensures places { result.places.items ≡ [] }
-    {
-        Gathered {
-            texts: Bytes::new(alloc),
-            places: Vec::new(alloc),
-        }
-    }
+// Begins a member behind what a text has: its name and a mark. The text of its value comes next.
+pub(crate) fn begin(alloc: Global, texts: &mut Bytes, name: &str) -> Result<Begun, WantOfMemory>
+    ensures texts { OnOk result (texts.new ≡ texts.old ++ (name.now ++ mark ∷ [])) }
+    ensures place { IfOk result (λ begun. begun.place ≡ length texts.old) }
+    ensures value { IfOk result (λ begun. begun.value ≡ length texts.new) }
+    ensures utf8 { OnOk result (IsUtf8 name.now) }
+{
+    let Ok(place) = u32::try_from(texts.as_slice().len()) else {
+        return Err(WantOfMemory);
+    };
+    texts.push_all(alloc, name.as_bytes())?;
+    texts.push_all(alloc, &[MARK])?;
+    Ok(Begun {
+        place,
+        value: texts.as_slice().len(),
+    })
+}
 
-    // Begins a member, and gives its place. The text of its value comes next.
-    pub(crate) fn begin(&mut self, alloc: Global, name: &str) -> Result<u32, WantOfMemory>
-        ensures texts { OnOk result (self.new.texts ≡ self.old.texts ++ (name.now ++ mark ∷ [])) }
-        ensures place { IfOk result (λ place. place ≡ length self.old.texts) }
-        ensures places { OnOk result (self.new.places.items ≡ self.old.places.items) }
-        ensures utf8 { OnOk result (IsUtf8 name.now) }
-    {
-        let Ok(place) = u32::try_from(self.texts.as_slice().len()) else {
-            return Err(WantOfMemory);
-        };
-        self.texts.push_all(alloc, name.as_bytes())?;
-        self.texts.push_all(alloc, &[MARK])?;
-        Ok(place)
+// Ends the member that was begun there, whose place comes to those of the others. Where its value is not
+// whole, nothing of that stays.
+pub(crate) fn end(
+    alloc: Global,
+    texts: &mut Bytes,
+    places: &mut Vec<u32>,
+    begun: Begun,
+    whole: bool,
+) -> Result<(), WantOfMemory>
+    ensures texts { OnOk result (texts.new ≡ (if whole then texts.old else take begun.value texts.old) ++ mark ∷ []) }
+    ensures places { OnOk result (places.new.items ≡ places.old.items ++ begun.place ∷ []) }
+{
+    if !whole {
+        cut_back(alloc, texts, begun.value);
     }
+    texts.push_all(alloc, &[MARK])?;
+    places.push(begun.place)?;
+    Ok(())
+}
 
-    // Ends the member that was begun there. Where its value is not whole, it has no text.
-    pub(crate) fn end(
-        &mut self,
-        alloc: Global,
-        name: &str,
-        place: u32,
-        whole: bool,
-    ) -> Result<(), WantOfMemory>
-        ensures { OnOk result (HasEnded name.now place whole self.old.texts self.old.places.items self.new.texts self.new.places.items) }
-    {
-        let place = if whole {
-            place
-        } else {
-            self.begin(alloc, name)?
-        };
-        self.texts.push_all(alloc, &[MARK])?;
-        self.places.push(place)?;
-        Ok(())
-    }
+// Leaves so many bytes of a text.
+pub(crate) fn cut_back(alloc: Global, text: &mut Bytes, length: usize)
+    ensures { text.new ≡ take length text.old }
+{
+    let mut bytes = mem::replace(text, Bytes::new(alloc)).into_vec();
+    bytes.truncate(length);
+    *text = Bytes::from_vec(bytes);
+}
 
-    // Appends the members in the order of their names, of several with one name the last alone, and gives
-    // whether each of these has a text.
-    pub(crate) fn append(&mut self, alloc: Global, out: &mut Bytes) -> Result<bool, WantOfMemory>
-        requires { AllByRecursion (IsHeld self.old.texts) (reverse self.old.places.items) }
-        ensures { IfOk result (λ told. IsWritten (λ t. ⊤) (λ t. t) (members_text false (texts_in self.old.texts self.old.places.items)) told out.old out.new) }
-    {
-        sort(self.texts.as_slice(), &mut self.places)?;
-        append_members(alloc, out, self.texts.as_slice(), self.places.as_slice())
-    }
+// Appends the members that stand at these places in the order of their names, of several with one name the
+// last alone, and gives whether each of these has a text.
+pub(crate) fn append_gathered(
+    alloc: Global,
+    out: &mut Bytes,
+    texts: &[u8],
+    places: &mut Vec<u32>,
+) -> Result<bool, WantOfMemory>
+    requires { AllByRecursion (IsHeld texts.now) (reverse places.old.items) }
+    ensures { IfOk result (λ told. IsWritten (λ t. ⊤) (λ t. t) (members_text false (texts_in texts.now places.old.items)) told out.old out.new) }
+{
+    sort(texts, places)?;
+    append_members(alloc, out, texts, places.as_slice())
+}
+
+// The same of an object, which is written whole.
+pub(crate) fn append_object(
+    alloc: Global,
+    out: &mut Bytes,
+    texts: &[u8],
+    places: Vec<u32>,
+) -> Result<bool, WantOfMemory>
+    requires { AllByRecursion (IsHeld texts.now) (reverse places.items) }
+    ensures { IfOk result (λ told. IsWritten (λ t. ⊤) (λ t. 123 ∷ (t ++ 125 ∷ [])) (members_text false (texts_in texts.now places.items)) told out.old out.new) }
+{
+    let mut places = places;
+    out.push_all(alloc, b"{")?;
+    let whole = append_gathered(alloc, out, texts, &mut places)?;
+    out.push_all(alloc, b"}")?;
+    Ok(whole)
 }
 
 // Brings the places into the order of their names, and of several with one name the last to the front.

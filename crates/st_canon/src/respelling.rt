@@ -1,15 +1,16 @@
-ghost use Rattle.std.specs.Prelude.{◌≡◌, ◌<◌, length, Ok, None, IfErr, IfOk, OnOk};
+ghost use Rattle.std.specs.Prelude.{◌≡◌, ◌<◌, if◌then◌else◌, length, Err, Ok, None, IfErr, IfNone, IfOk, IfSome, OnOk};
 ghost use Rattle.json.specs.Json.{items, members, value};
 ghost use Rattle.serde_json.specs.Data.{no_members};
 ghost use Rattle.serde_json.specs.Read.{converted, number_of, of_items, of_json, of_members};
 ghost use Rattle.st_base.specs.Answers.{GivesAs};
 ghost use Rattle.st_canon.specs.Packed.{IsReadAgain, value_read};
 ghost use Rattle.st_canon.specs.Reading.{json_of, refusal_of};
-ghost use Rattle.st_canon.specs.Respelled.{IsNoJson, IsNumberWritten, IsRespelled, ItemsAreRespelled, MembersAreRespelled};
+ghost use Rattle.st_canon.specs.declared.refused.ReadRefused.TheVariants.{NotJson, NotWhole};
+ghost use Rattle.st_canon.specs.Respelled.{IsNoJson, IsNumberWritten, IsRespelled, ItemsAreRespelled, MembersAreGathered, MembersAreRespelled, ObjectIsGathered, TextIsRespelled};
 
 use crate::direct::{MAX_DEPTH, ReadStopped};
 use crate::escape::append_text;
-use crate::gathered::Gathered;
+use crate::gathered::{append_gathered, append_object, begin, cut_back, end};
 use crate::numbers::number_in;
 use crate::refused::ReadRefused;
 use crate::rewriting::rewrite;
@@ -33,7 +34,7 @@ pub fn canonical_text(alloc: Global, bytes: &[u8]) -> Result<Bytes, ReadRefused>
     let mut scratch = Scratch::new(alloc);
     match rewrite_text(alloc, text, &mut scratch) {
         Ok(written) => Ok(written),
-        Err(ReadStopped::Left) => respell_text(alloc, text, &mut scratch),
+        Err(ReadStopped::Left) => respell_text(alloc, text, scratch),
         Err(ReadStopped::WantOfMemory) => Err(ReadRefused::WantOfMemory),
     }
 }
@@ -54,37 +55,101 @@ fn rewrite_text(alloc: Global, text: &str, scratch: &mut Scratch) -> Result<Byte
     Ok(written)
 }
 
-// The same of whatever tokens. It gathers the members of each object first.
-fn respell_text(alloc: Global, text: &str, scratch: &mut Scratch) -> Result<Bytes, ReadRefused>
+// The same of whatever tokens. The members of an object go out once all of it is read, when what the reader
+// took is given back.
+fn respell_text(alloc: Global, text: &str, scratch: Scratch) -> Result<Bytes, ReadRefused>
     ensures value { GivesAs (λ text. value_read (json_of text)) refusal_of (json_of text.now) result }
     ensures again { IfOk result IsReadAgain }
 {
-    let Ok(mut reader) = Reader::new(text, scratch) else {
-        return Err(ReadRefused::WantOfMemory);
-    };
-    let mut written = Bytes::with_room(alloc, text.len())?;
-    let whole = respell(alloc, &mut written, &mut reader, MAX_DEPTH)?;
-    if reader.next().is_some() {
-        return Err(ReadRefused::NotJson);
+    let mut scratch = scratch;
+    let mut out = Bytes::with_room(alloc, text.len())?;
+    let mut side = Bytes::with_room(alloc, text.len())?;
+    match gather_text(alloc, text, &mut out, &mut side, &mut scratch)? {
+        Some(places) => {
+            drop(scratch);
+            let whole = append_object(alloc, &mut out, side.as_slice(), places)?;
+            if_whole(out, whole)
+        }
+        None => {
+            let whole = respell_value(alloc, text, &mut out, &mut side, &mut scratch)?;
+            if_whole(out, whole)
+        }
     }
+}
+
+fn if_whole(text: Bytes, whole: bool) -> Result<Bytes, ReadRefused>
+    ensures { result ≡ (if whole then Ok text else Err NotWhole) }
+{
     if whole {
-        Ok(written)
+        Ok(text)
     } else {
         Err(ReadRefused::NotWhole)
     }
 }
 
+// Gathers the members of a text that is an object in `side`, and gives their places. Where the text begins
+// otherwise, there are none.
+fn gather_text(
+    alloc: Global,
+    text: &str,
+    out: &mut Bytes,
+    side: &mut Bytes,
+    scratch: &mut Scratch,
+) -> Result<Option<Vec<u32>>, ReadRefused>
+    ensures object { IfOk result (λ there. IfSome there (λ places. ObjectIsGathered text.now side.new places.items)) }
+    ensures none { IfErr result (IsNoJson (json_of text.now ≡ Err NotJson)) }
+    ensures out { OnOk result (out.new ≡ out.old) }
+    ensures side { IfOk result (λ there. IfNone there (side.new ≡ side.old)) }
+{
+    let Ok(mut reader) = Reader::new(text, scratch) else {
+        return Err(ReadRefused::WantOfMemory);
+    };
+    let Some(Token::BeginObject) = reader.next() else {
+        return Ok(None);
+    };
+    let places = gather_members(alloc, out, side, &mut reader, MAX_DEPTH - 1)?;
+    if reader.next().is_some() {
+        return Err(ReadRefused::NotJson);
+    }
+    Ok(Some(places))
+}
+
+// Appends the canonical text of a value that is all of a text, and gives whether all numbers in it are whole.
+fn respell_value(
+    alloc: Global,
+    text: &str,
+    out: &mut Bytes,
+    side: &mut Bytes,
+    scratch: &mut Scratch,
+) -> Result<bool, ReadRefused>
+    ensures value { IfOk result (λ whole. TextIsRespelled text.now whole out.old out.new) }
+    ensures none { IfErr result (IsNoJson (json_of text.now ≡ Err NotJson)) }
+{
+    let Ok(mut reader) = Reader::new(text, scratch) else {
+        return Err(ReadRefused::WantOfMemory);
+    };
+    let whole = respell(alloc, out, side, &mut reader, MAX_DEPTH)?;
+    if reader.next().is_some() {
+        return Err(ReadRefused::NotJson);
+    }
+    Ok(whole)
+}
+
 // Appends the canonical text of the next value of a reader of tokens, and gives whether all numbers in it
 // are whole, else `out` has something behind what it had that is of no use. Lists and objects may nest `depth` deep.
+// The members of an object are gathered behind what `side` has, which is then as it was: so two texts serve for
+// objects in objects.
 #[cycle(respell)]
 fn respell(
     alloc: Global,
     out: &mut Bytes,
+    side: &mut Bytes,
     reader: &mut Reader<'_>,
     depth: usize,
 ) -> Result<bool, ReadRefused>
     ensures next { IfOk result (λ whole. IsRespelled depth reader.old reader.new whole out.old out.new) }
     ensures none { IfErr result (IsNoJson (converted of_json (value depth reader.old) ≡ None)) }
+    ensures side { OnOk result (side.new ≡ side.old) }
     ensures shorter { OnOk result (length reader.new < length reader.old) }
 {
     let Some(token) = reader.next() else {
@@ -108,7 +173,7 @@ fn respell(
             Err(ReadRefused::NotJson)
         } else {
             out.push_all(alloc, b"[")?;
-            let whole = respell_items(alloc, out, reader, depth - 1)?;
+            let whole = respell_items(alloc, out, side, reader, depth - 1)?;
             out.push_all(alloc, b"]")?;
             Ok(whole)
         },
@@ -116,7 +181,7 @@ fn respell(
             Err(ReadRefused::NotJson)
         } else {
             out.push_all(alloc, b"{")?;
-            let whole = respell_members(alloc, out, reader, depth - 1)?;
+            let whole = respell_members(alloc, out, side, reader, depth - 1)?;
             out.push_all(alloc, b"}")?;
             Ok(whole)
         },
@@ -145,18 +210,20 @@ fn respell_number(alloc: Global, out: &mut Bytes, text: &str) -> Result<bool, Re
 fn respell_items(
     alloc: Global,
     out: &mut Bytes,
+    side: &mut Bytes,
     reader: &mut Reader<'_>,
     depth: usize,
 ) -> Result<bool, ReadRefused>
     ensures items { IfOk result (λ whole. ItemsAreRespelled depth reader.old reader.new whole out.old out.new) }
     ensures none { IfErr result (IsNoJson (converted of_items (items (value depth) (length reader.old) reader.old) ≡ None)) }
+    ensures side { OnOk result (side.new ≡ side.old) }
     ensures shorter { OnOk result (length reader.new < length reader.old) }
 {
     let mut comma = false;
     let mut whole = true;
     'items: while !reader.take_end_array() {
         append_comma(alloc, out, comma)?;
-        let next = respell(alloc, out, reader, depth)?;
+        let next = respell(alloc, out, side, reader, depth)?;
         whole = whole & next;
         comma = true;
     }
@@ -167,23 +234,47 @@ fn respell_items(
 fn respell_members(
     alloc: Global,
     out: &mut Bytes,
+    side: &mut Bytes,
     reader: &mut Reader<'_>,
     depth: usize,
 ) -> Result<bool, ReadRefused>
     ensures members { IfOk result (λ whole. MembersAreRespelled depth reader.old reader.new whole out.old out.new) }
     ensures none { IfErr result (IsNoJson (converted (λ ms. of_members ms no_members) (members (value depth) (length reader.old) reader.old) ≡ None)) }
+    ensures side { OnOk result (side.new ≡ side.old) }
     ensures shorter { OnOk result (length reader.new < length reader.old) }
 {
-    let mut gathered = Gathered::new(alloc);
+    let length = side.as_slice().len();
+    let mut places = gather_members(alloc, out, side, reader, depth)?;
+    let whole = append_gathered(alloc, out, side.as_slice(), &mut places)?;
+    cut_back(alloc, side, length);
+    Ok(whole)
+}
+
+// Gathers the members of an object behind what `side` has, and gives their places. Objects among their values
+// are gathered in `out`.
+#[cycle(respell)]
+fn gather_members(
+    alloc: Global,
+    out: &mut Bytes,
+    side: &mut Bytes,
+    reader: &mut Reader<'_>,
+    depth: usize,
+) -> Result<Vec<u32>, ReadRefused>
+    ensures members { IfOk result (λ places. MembersAreGathered depth reader.old reader.new side.old side.new places.items) }
+    ensures none { IfErr result (IsNoJson (converted (λ ms. of_members ms no_members) (members (value depth) (length reader.old) reader.old) ≡ None)) }
+    ensures out { OnOk result (out.new ≡ out.old) }
+    ensures shorter { OnOk result (length reader.new < length reader.old) }
+{
+    let mut places = Vec::new(alloc);
     'members: loop {
         let Ok(key) = reader.next_key() else {
             return Err(ReadRefused::NotJson);
         };
         let Some(key) = key else {
-            return Ok(gathered.append(alloc, out)?);
+            return Ok(places);
         };
-        let place = gathered.begin(alloc, key)?;
-        let whole = respell(alloc, &mut gathered.texts, reader, depth)?;
-        gathered.end(alloc, key, place, whole)?;
+        let begun = begin(alloc, side, key)?;
+        let whole = respell(alloc, side, out, reader, depth)?;
+        end(alloc, side, &mut places, begun, whole)?;
     }
 }

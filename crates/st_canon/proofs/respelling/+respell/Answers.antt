@@ -1,10 +1,12 @@
 use Rattle.std.proofs.Common.{◌≡◌, ◌-◌, ◌<◌, ◌∷◌, [], ◌++◌, length, Some, None, ap, refl, ◌∙◌, arith, rules}
+use Rattle.std.specs.Prelude.{take}
+use Rattle.std.proofs.lemmas.List.{take_at}
 use Rattle.json.specs.Json.{after_end_array, read_key, value}
 use Rattle.json.specs.Reads.{token_of}
 use Rattle.json.proofs.Grammar.{read_key-shorter, value_is}
 use Rattle.serde_json.specs.Data as data'
 use Rattle.serde_json.specs.Read.{converted, of_json}
-use Rattle.st_canon.proofs.GatheredLemmas.{gathered_written, none_gathered, one_more_gathered}
+use Rattle.st_canon.proofs.GatheredLemmas.{all_gathered, members_written, none_gathered, one_more_gathered}
 use Rattle.st_canon.proofs.RespellingLemmas.{array_data, boolean_data, handed_on, item_refused, items_before, items_data_over, items_written}
 use Rattle.st_canon.proofs.RespellingLemmas.{items_written_more, key_refused, list_written, member_refused, members_data_over, next_item_data}
 use Rattle.st_canon.proofs.RespellingLemmas.{next_member_data, no_tokens, none_before, null_data, number_data, number_written, object_data}
@@ -111,7 +113,7 @@ respell-returns-in_ok-push_all-in-BeginObject-2-clause-next t c =
 
 pub respell_items-items-init : goal.respell_items-items-init
 respell_items-items-init t c =
-    ([], length c.args.reader.now, omega arith, none_before _, omega arith, (refl, ((tt, refl), search rules)))
+    ([], length c.args.reader.now, omega arith, none_before _, omega arith, (refl, ((tt, refl), search rules)), refl)
 
 pub respell_items-returns-in_err-next-clause-none : goal.respell_items-returns-in_err-next-clause-none
 respell_items-returns-in_err-next-clause-none t c =
@@ -138,6 +140,7 @@ respell_items-items-preserved t c =
       omega (arith, l.invariant.4),
       items_written_more c.args.out.now l.out c.append_comma.new.out c.respell.new.out l.comma l.whole c.in_ok-next.next
           c.in_ok-append_comma.ensures ds next.is l.invariant.5 next.written,
+      done.side ∙ l.invariant.6,
     )
 
 pub respell_items-returns-clause-items : goal.respell_items-returns-clause-items
@@ -152,28 +155,50 @@ respell_items-returns-clause-items t c =
 
 -- ---- members
 
-pub respell_members-members-init : goal.respell_members-members-init
-respell_members-members-init t c =
-    (data'.no_members, length c.args.reader.now, omega arith, refl, omega arith, none_gathered _ _ c.new-gathered.ensures.places, refl)
+pub respell_members-returns-in_err-places-clause-none : goal.respell_members-returns-in_err-places-clause-none
+respell_members-returns-in_err-places-clause-none t c =
+    handed_on _ _ _ c.in_err-places.field-0.0 (grind arith) c.in_err-places.ensures.none (λ none. none)
 
-pub respell_members-returns-in_default-clause-none : goal.respell_members-returns-in_default-clause-none
-respell_members-returns-in_default-clause-none t c =
+pub respell_members-returns-clause-members : goal.respell_members-returns-clause-members
+respell_members-returns-clause-members t c =
+    let found = c.in_ok-places.ensures in
+    let members = found.members in
+    record {
+      are = members.are;
+      read = members.read;
+      written = members_written members.are _ _ _ c.args.out.now _ members.gathered (rw (found.out, c.as_slice.ensures) at c.in_ok-whole.ensures);
+    }
+
+pub respell_members-returns-clause-side : goal.respell_members-returns-clause-side
+respell_members-returns-clause-side t c =
+    let behind = c.in_ok-places.ensures.members.behind in
+    c.cut_back.ensures ∙ ap (take _) behind.1 ∙ take_at c.args.side.now behind.0 _ (search rules)
+
+-- ---- members, as they come
+
+pub gather_members-members-init : goal.gather_members-members-init
+gather_members-members-init t c =
+    (data'.no_members, length c.args.reader.now, omega arith, refl, omega arith, none_gathered _ _ (search rules), refl)
+
+pub gather_members-returns-in_default-clause-none : goal.gather_members-returns-in_default-clause-none
+gather_members-returns-in_default-clause-none t c =
     let l = c.members in
     l.invariant.3 ∙ key_refused l.invariant.0 (value c.args.depth) l.invariant.1 l.reader c.in_default.ensures.value
 
-pub respell_members-returns-in_default-key-clause-members : goal.respell_members-returns-in_default-key-clause-members
-respell_members-returns-in_default-key-clause-members t c =
+pub gather_members-returns-in_default-key-clause-members : goal.gather_members-returns-in_default-key-clause-members
+gather_members-returns-in_default-key-clause-members t c =
     let l = c.members in
     let ds = l.invariant.0 in
-    let was = l.invariant.6 in
+    let are = l.invariant.5 in
     record {
       are = ds;
       read = l.invariant.3 ∙ members_data_over ds (value c.args.depth) l.invariant.1 l.reader c.next_key.new.self l.invariant.2 (grind arith);
-      written = gathered_written ds l.gathered.texts l.gathered.places.items _ c.args.out.now _ l.invariant.5 (rw was at c.in_ok-append.ensures);
+      behind = are.behind;
+      gathered = all_gathered ds c.args.side.now l.side l.places.items are;
     }
 
-pub respell_members-returns-in_err-whole-clause-none : goal.respell_members-returns-in_err-whole-clause-none
-respell_members-returns-in_err-whole-clause-none t c =
+pub gather_members-returns-in_err-whole-clause-none : goal.gather_members-returns-in_err-whole-clause-none
+gather_members-returns-in_err-whole-clause-none t c =
     let l = c.members in
     let k = c.in-Some.key.now in
     let s = c.next_key.new.self in
@@ -181,8 +206,8 @@ respell_members-returns-in_err-whole-clause-none t c =
     handed_on _ _ _ c.in_err-whole.field-0.0 (grind arith) c.in_err-whole.ensures.none
     (λ none. l.invariant.3 ∙ member_refused l.invariant.0 (value c.args.depth) l.invariant.1 l.reader s k named none)
 
-pub respell_members-members-preserved : goal.respell_members-members-preserved
-respell_members-members-preserved t c =
+pub gather_members-members-preserved : goal.gather_members-members-preserved
+gather_members-members-preserved t c =
     let l = c.members in
     let ds = l.invariant.0 in
     let n = l.invariant.1 in
@@ -192,8 +217,8 @@ respell_members-members-preserved t c =
     let named : read_key l.reader ≡ Some (Some k, s) = grind arith in
     let done = c.in_ok-whole.ensures in
     let next = done.next in
-    let begun = c.in_ok-place.ensures in
-    let ended = rw begun.places at c.in_ok-end.ensures in
+    let begun = c.in_ok-begun.ensures in
+    let ended = c.in_ok-end.ensures in
     let less = read_key-shorter l.reader (Some k) s named in
     let lesser = done.shorter in (
       data'.put k next.is ds,
@@ -201,7 +226,7 @@ respell_members-members-preserved t c =
       omega (arith, l.invariant.2),
       l.invariant.3 ∙ next_member_data ds (value c.args.depth) n l.reader s r k next.is (omega (arith, l.invariant.2)) named next.read,
       omega (arith, l.invariant.4),
-      one_more_gathered ds l.gathered.texts _ _ _ l.gathered.places.items _ k next.is c.in_ok-whole.whole c.in_ok-place.place l.invariant.5
-          begun.utf8 begun.texts begun.place next.written ended,
-      l.invariant.6,
+      one_more_gathered ds c.args.side.now l.side _ _ _ l.places.items _ k next.is c.in_ok-whole.whole c.in_ok-begun.begun.place
+          c.in_ok-begun.begun.value l.invariant.5 begun.utf8 begun.texts begun.place begun.value next.written ended.texts ended.places,
+      done.side ∙ l.invariant.6,
     )

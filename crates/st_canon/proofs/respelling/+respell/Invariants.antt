@@ -8,13 +8,16 @@ use Rattle.st_canon.proofs.RespellingLemmas.{ItemsStand, items_before, items_tex
 use Rattle.st_canon.proofs.respelling.+respell.Given as goal
 
 abbrev pub decreases-respell : goal.decreases-respell
-decreases-respell l = 2 * l.depth
+decreases-respell l = 3 * l.depth
 
 abbrev pub decreases-respell_items : goal.decreases-respell_items
-decreases-respell_items l = 2 * l.depth + 1
+decreases-respell_items l = 3 * l.depth + 2
 
 abbrev pub decreases-respell_members : goal.decreases-respell_members
-decreases-respell_members l = 2 * l.depth + 1
+decreases-respell_members l = 3 * l.depth + 2
+
+abbrev pub decreases-gather_members : goal.decreases-gather_members
+decreases-gather_members l = 3 * l.depth + 1
 
 -- these items were read, and so many turns are enough for the tokens that are left
 abbrev pub invariant-respell_items-items : goal.invariant-respell_items-items
@@ -24,17 +27,18 @@ invariant-respell_items-items l =
     ≡ parse_map (items_before ds) (converted of_items (items (value l.depth) n l.reader)))
     × (length l.reader ≤ length l.initial.reader)
     × IsWritten (ItemsStand l.comma) items_text (wholes ds) l.whole l.initial.out l.out
+    × (l.side ≡ l.initial.side)
 
 abbrev pub decreases-respell_items-items : goal.decreases-respell_items-items
 decreases-respell_items-items l = length l.reader
 
-abbrev pub invariant-respell_members-members : goal.invariant-respell_members-members
-invariant-respell_members-members l =
+abbrev pub invariant-gather_members-members : goal.invariant-gather_members-members
+invariant-gather_members-members l =
     (ds : Members) × (n : ℕ) × (length l.reader ≤ n)
     × (converted (λ ms. of_members ms no_members) (members (value l.depth) (length l.initial.reader) l.initial.reader)
     ≡ converted (λ ms. of_members ms ds) (members (value l.depth) n l.reader))
     × (length l.reader ≤ length l.initial.reader)
-    × IsGathered ds l.gathered.texts l.gathered.places.items × (l.out ≡ l.initial.out)
+    × IsGathered ds l.initial.side l.side l.places.items × (l.out ≡ l.initial.out)
 
-abbrev pub decreases-respell_members-members : goal.decreases-respell_members-members
-decreases-respell_members-members l = length l.reader
+abbrev pub decreases-gather_members-members : goal.decreases-gather_members-members
+decreases-gather_members-members l = length l.reader

@@ -1,28 +1,38 @@
-use Rattle.std.proofs.Common.{◌≡◌, [], arith, rules}
-use Rattle.st_canon.proofs.RespellingLemmas.{text_given, text_not_whole, text_written}
+use Rattle.std.proofs.Common.{◌∙◌, option_map}
+use Rattle.st_canon.specs.Plain.{object}
+use Rattle.st_canon.specs.Reading.{whole_members}
+use Rattle.st_canon.proofs.GatheredLemmas.{object_gathered}
+use Rattle.st_canon.proofs.RespellingLemmas.{text_told}
 use Rattle.st_canon.proofs.respelling.respell_text.Goals as goal
 
-pub returns-in_err-whole-clause-value : goal.returns-in_err-whole-clause-value
-returns-in_err-whole-clause-value c =
-    text_given c.args.text.now _ c.in_err-whole.field-0.0 c.utf8.text (grind arith) (rw c.in-Ok.ensures.ok at c.in_err-whole.ensures.none)
+pub returns-in_ok-whole-in-Some-clause-value : goal.returns-in_ok-whole-in-Some-clause-value
+returns-in_ok-whole-in-Some-clause-value c =
+    let found = c.in_ok-places.ensures in
+    let members = rw c.in-Some.is at found.object in
+    let all = object_gathered members.are c.gather_text.new.side c.in-Some.places.items c.in_ok-whole-in-Some.whole c.gather_text.new.out
+    c.append_object.new.out members.gathered (rw c.as_slice.ensures at c.in_ok-whole-in-Some.ensures) in
+    (text_told c.args.text.now _ (option_map object (whole_members members.are)) c.in_ok-whole-in-Some.whole _ members.is
+    (rw (found.out, c.in_ok-out.ensures) at all) c.if_whole.ensures).0
 
-pub returns-then-whole-clause-value : goal.returns-then-whole-clause-value
-returns-then-whole-clause-value c =
-    let next = c.in_ok-whole.ensures.next in
-    let none : c.respell.new.reader ≡ [] = search rules in
-    (text_written c.args.text.now c.respell.new.out next.is c.in_ok-whole.whole c.utf8.text c.if-whole.true
-    (rw (c.in-Ok.ensures.ok, none) at next.read) (rw c.in_ok-written.ensures at next.written)).1
+pub returns-in_ok-whole-in-Some-clause-again : goal.returns-in_ok-whole-in-Some-clause-again
+returns-in_ok-whole-in-Some-clause-again c =
+    let found = c.in_ok-places.ensures in
+    let members = rw c.in-Some.is at found.object in
+    let all = object_gathered members.are c.gather_text.new.side c.in-Some.places.items c.in_ok-whole-in-Some.whole c.gather_text.new.out
+    c.append_object.new.out members.gathered (rw c.as_slice.ensures at c.in_ok-whole-in-Some.ensures) in
+    (text_told c.args.text.now _ (option_map object (whole_members members.are)) c.in_ok-whole-in-Some.whole _ members.is
+    (rw (found.out, c.in_ok-out.ensures) at all) c.if_whole.ensures).1
 
-pub returns-then-whole-clause-again : goal.returns-then-whole-clause-again
-returns-then-whole-clause-again c =
-    let next = c.in_ok-whole.ensures.next in
-    let none : c.respell.new.reader ≡ [] = search rules in
-    (text_written c.args.text.now c.respell.new.out next.is c.in_ok-whole.whole c.utf8.text c.if-whole.true
-    (rw (c.in-Ok.ensures.ok, none) at next.read) (rw c.in_ok-written.ensures at next.written)).0
+pub returns-in_ok-whole-in-None-clause-value : goal.returns-in_ok-whole-in-None-clause-value
+returns-in_ok-whole-in-None-clause-value c =
+    let found = c.in_ok-whole-in-None.ensures.value in
+    let none = c.in_ok-places.ensures.out ∙ c.in_ok-out.ensures in
+    (text_told c.args.text.now _ _ c.in_ok-whole-in-None.whole _ found.read (rw none at found.written)
+    c.if_whole-in-None.ensures).0
 
-pub returns-else-whole-clause-value : goal.returns-else-whole-clause-value
-returns-else-whole-clause-value c =
-    let next = c.in_ok-whole.ensures.next in
-    let none : c.respell.new.reader ≡ [] = search rules in
-    text_not_whole c.args.text.now c.respell.new.out next.is c.in_ok-whole.whole c.utf8.text c.if-whole.false
-    (rw (c.in-Ok.ensures.ok, none) at next.read) (rw c.in_ok-written.ensures at next.written)
+pub returns-in_ok-whole-in-None-clause-again : goal.returns-in_ok-whole-in-None-clause-again
+returns-in_ok-whole-in-None-clause-again c =
+    let found = c.in_ok-whole-in-None.ensures.value in
+    let none = c.in_ok-places.ensures.out ∙ c.in_ok-out.ensures in
+    (text_told c.args.text.now _ _ c.in_ok-whole-in-None.whole _ found.read (rw none at found.written)
+    c.if_whole-in-None.ensures).1
