@@ -81,6 +81,10 @@ LINES = {
     "submit, the same and a number that isn't whole": submit(LISTS, LINE, b"[", b"1.5]"),
     "submit, the same and no end": submit(LISTS, LINE, b"[", b"1"),
     "submit, names out of order alone": ["submit {" + names(LINE - 9).decode() + "}"],
+    "submit, names out of order in a list": ["submit [{" + names(LINE - 11).decode() + "}]"],
+    "submit, one name 4,799,998 times": submit(b'"":1,', LINE, b"{", b'"":1}'),
+    "submit, lists in lists under names out of order 100 deep":
+        submit(LISTS, LINE, b'{"b":1,"a":' * 100 + b"[", b"1]" + b"}" * 100),
     "submit, a delta of lists in lists": submit(LISTS, LINE, CREATE, b"1]}}"),
     "resolve, lists in lists": resolve(LISTS),
     "resolve, a delta of lists in lists": resolve(LISTS, b'{"delta":{"a":[', b'1]},"suffixData":%s}' % SUFFIX_DATA),
@@ -115,7 +119,7 @@ def main():
             figures = len(lines[-1]), most, times, of_process(node, "VmRSS"), took
             if reply.startswith("have"):
                 reply = node.ask("report 0")[0]
-        print("%-50s %10d bytes %6.0f MiB %5.1f times %6.0f MiB stay %5.1f s  %s" % (name, *figures, reply[:60]), flush=True)
+        print("%-56s %10d bytes %6.0f MiB %5.1f times %6.0f MiB stay %5.1f s  %s" % (name, *figures, reply[:60]), flush=True)
 
 
 if __name__ == "__main__":
