@@ -1,6 +1,7 @@
--- What a queue keeps, and a delta that counts.
+-- What a queue keeps, a delta that counts, and what submitting a request counts.
 mod DeltaLemmas
 mod QueueLemmas
+mod CountedLemmas
 -- What is written is read again: values, hashes, entries of files.
 mod AgainEntryLemmas
 mod AgainHashLemmas

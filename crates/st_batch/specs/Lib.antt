@@ -6,6 +6,7 @@ pub mod Prefix
 pub mod Fits
 pub mod Flushed
 pub mod Submitted
+pub mod Counted
 pub mod Kept
 pub mod ReadBack
 pub mod BatchLaws

@@ -1,12 +1,14 @@
 ghost use Rattle.std.specs.Prelude.{◌≡◌, true, IfOk, IfSome, OnOk};
 ghost use Rattle.st_base.specs.Answers.{Gives, GivesAs, holds_or};
 ghost use Rattle.st_base.specs.Work.{ProofsAtMost};
+ghost use Rattle.st_batch.specs.Counted.{CountsAsking};
 ghost use Rattle.st_batch.specs.Fits.{Fits, has_right_delta};
 ghost use Rattle.st_batch.specs.Kept.{IsFormed};
 ghost use Rattle.st_batch.specs.Submitted.{asked_rightly, refusal_of};
 ghost use Rattle.st_batch.specs.declared.refused.SubmitRefused.TheVariants.{BadDelta};
 ghost use Rattle.st_canon.specs.Proper.{IsProper};
 ghost use Rattle.st_ops.specs.Operation.{plain_operation};
+ghost use Rattle.st_ops.specs.Request.{request_of};
 ghost use Rattle.st_ops.specs.RequestText.{delta_there};
 ghost use Rattle.st_params.specs.Limits.{limits_of};
 
@@ -31,6 +33,7 @@ pub(crate) fn ask(
     ensures formed { IfOk result (λ operation. IsFormed (plain_operation operation)) }
     ensures versioned { OnOk result (params.now ≡ limits_of params.now.version) }
     ensures counted { ProofsAtMost 1 work.old work.new }
+    ensures exact { CountsAsking (request_of params.now bytes.now) result work.old work.new }
 {
     // For proofs: the limits are those of their version.
     let _version = params.version();

@@ -1,9 +1,11 @@
 ghost use Rattle.std.specs.Prelude.{◌≡◌, ◌≤◌, [], length, IfErr, IfOk, OnErr, OnOk};
 ghost use Rattle.st_base.specs.Answers.{GivesAs};
 ghost use Rattle.st_base.specs.Work.{ProofsAtMost};
+ghost use Rattle.st_batch.specs.Counted.{CountsAsking};
 ghost use Rattle.st_batch.specs.Flushed.{IsFlushed, RefusesToFlush};
 ghost use Rattle.st_batch.specs.Kept.{AreDifferent, most_queued};
 ghost use Rattle.st_batch.specs.Submitted.{AddsFitting, refusal_of, submitted};
+ghost use Rattle.st_ops.specs.Request.{request_of};
 
 use crate::asking::ask;
 use crate::batch::Batch;
@@ -75,6 +77,8 @@ impl Queue {
         // The operation that was added fits these limits.
         ensures fits { OnOk result (AddsFitting params.now self.old self.new) }
         ensures counted { ProofsAtMost 1 work.old work.new }
+        // It is counted exactly where the request came so far.
+        ensures exact { CountsAsking (request_of params.now bytes.now) result work.old work.new }
     {
         let operation = ask(alloc, bytes, params, work)?;
         put(&mut self.queued, alloc, operation)

@@ -1,5 +1,7 @@
+use Rattle.std.proofs.Common.{arith}
 use Rattle.st_ops.specs.Operation.{plain_operation}
 use Rattle.st_batch.proofs.DeltaLemmas.{right_within}
+use Rattle.st_batch.proofs.CountedLemmas.{counts_asking, counts_opened, counts_refused}
 use Rattle.st_batch.proofs.asking.ask.Goals as goal
 
 pub returns-clause-fits : goal.returns-clause-fits
@@ -9,3 +11,17 @@ returns-clause-fits c =
       request = c.in_ok-operation.ensures.again (right_within c.args.params.now (plain_operation c.in_ok-operation.operation) right);
       delta = right;
     }
+
+pub returns-in_err-operation-clause-exact : goal.returns-in_err-operation-clause-exact
+returns-in_err-operation-clause-exact c =
+    counts_refused _ _ _ c.in_err-operation.field-0.0 _ (grind arith) c.in_err-operation.ensures.value c.in_err-operation.ensures.exact
+
+pub returns-in_err-want_right_delta-clause-exact : goal.returns-in_err-want_right_delta-clause-exact
+returns-in_err-want_right_delta-clause-exact c =
+    let read = c.in_ok-operation.ensures in
+    counts_asking _ _ _ _ (counts_opened _ _ _ c.in_ok-operation.operation read.value read.exact)
+
+pub returns-clause-exact : goal.returns-clause-exact
+returns-clause-exact c =
+    let read = c.in_ok-operation.ensures in
+    counts_opened _ _ _ c.in_ok-operation.operation read.value read.exact

@@ -1,0 +1,5 @@
+use Rattle.st_batch.proofs.CountedLemmas.{counts_asking}
+use Rattle.st_batch.proofs.queue.Queue.submit.Goals as goal
+
+pub returns-clause-exact : goal.returns-clause-exact
+returns-clause-exact c = counts_asking _ _ _ _ c.in_ok-operation.ensures.exact
