@@ -1,6 +1,6 @@
 -- What is known of a delta that counts: how deep it nests, and how long it is; and so of the right delta
 -- of an operation.
-use Rattle.std.proofs.Common.{◌≡◌, ℕ, ◌≤◌, Bool, true, false, if◌then◌else◌, Option, Some, None, arith}
+use Rattle.std.proofs.Common.{◌≡◌, ◌≤◌, Bool, true, false, if◌then◌else◌, Option, Some, None, arith}
 use Rattle.std.specs.Prelude.{is_some, IfSome}
 use Rattle.std.specs.Result.{result_ok}
 use Rattle.st_apply.specs.Counting.{counted}

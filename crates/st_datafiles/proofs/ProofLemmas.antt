@@ -1,5 +1,5 @@
 -- The signed texts of a proof file, as they were written.
-use Rattle.std.proofs.Common.{◌≡◌, ◌∙◌, ℕ, List, [], ◌∷◌, Option, Some, None, option_and_then, map, codes, refl, ap}
+use Rattle.std.proofs.Common.{◌≡◌, ◌∙◌, ℕ, List, [], ◌∷◌, Option, Some, map, codes, refl, ap}
 use Rattle.std.specs.List.{filter_map}
 use Rattle.st_canon.proofs.ObjectLemmas.{entries_in-some_list, member_at-some_listed, member_in-some_object}
 use Rattle.st_canon.specs.Find.{member_at}

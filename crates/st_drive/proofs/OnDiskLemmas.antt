@@ -2,7 +2,7 @@
 use Rattle.std.proofs.Common.{◌≡◌, ◌∙◌, ◌⊎◌, inl, inr, ⊎_elim, ◌++◌, ◌+◌, ◌≤◌, ℕ, List, [], ◌∷◌, refl, ap, sym, arith, append_assoc, append-nil, length, length-append}
 use Rattle.std.proofs.lemmas.List.{nil_from_length}
 use Rattle.st_io.specs.Past.{Past, Leaves}
-use Rattle.st_io.proofs.PastLemmas.{stands, goes_on, splits_since_sync}
+use Rattle.st_io.proofs.PastLemmas.{goes_on, splits_since_sync}
 use Rattle.st_drive.specs.DiskLaws.{head_is}
 use Rattle.st_drive.specs.Runs.{Begins, course}
 use Rattle.st_drive.specs.Tables.{AnsweredFirst}

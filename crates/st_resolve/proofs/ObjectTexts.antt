@@ -1,6 +1,6 @@
 -- The objects of a result have these texts.
 use Rattle.std.specs.Prelude.{is_some}
-use Rattle.std.proofs.Common.{◌≡◌, ◌∙◌, ℕ, Bool, true, false, List, [], ◌∷◌, ◌++◌, codes, map, Option, Some, None, option_map, refl, append_assoc, append-nil, ap}
+use Rattle.std.proofs.Common.{◌≡◌, ◌∙◌, ℕ, Bool, true, false, List, [], ◌∷◌, ◌++◌, codes, map, Some, option_map, refl, append_assoc, append-nil, ap}
 use Rattle.std.specs.Str.{chars}
 use Rattle.st_apply.specs.Seen.{State}
 use Rattle.st_canon.specs.Canonical.{canonical, canonical_items, escape, quoted}

@@ -1,5 +1,5 @@
 -- Which states are opened without a count.
-use Rattle.std.proofs.Common.{◌≡◌, Bool, true, false, refl, sym}
+use Rattle.std.proofs.Common.{◌≡◌, true, false, refl}
 use Rattle.std.proofs.lemmas.Bool.{false≢true}
 use Rattle.st_apply.specs.Seen.{State, absent, active, deactivated, is_active}
 use Rattle.st_doc.specs.Document.{PlainDocument}

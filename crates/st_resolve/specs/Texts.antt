@@ -1,5 +1,5 @@
 -- The canonical texts of the objects of a result, put together of what differs.
-use Rattle.std.specs.Prelude.{ℕ, Bool, List, [], ◌++◌, codes, map, Option, Some, option_map, Result, Ok}
+use Rattle.std.specs.Prelude.{ℕ, Bool, List, [], ◌++◌, codes, map, Some, option_map, Result, Ok}
 use Rattle.st_base.specs.Answers.{◌>>=◌}
 use Rattle.st_apply.specs.Seen.{State}
 use Rattle.st_canon.specs.Canonical.{canonical, quoted}

@@ -1,6 +1,6 @@
 -- For crates above: what is spent over several calls, which counters are, and what an image is by what it is
 -- opened as.
-use Rattle.std.proofs.Common.{◌≡◌, ◌∙◌, ◌<◌, ⊎_elim, ℕ, List, not, Result, Ok, Err, ap, refl, sym}
+use Rattle.std.proofs.Common.{◌≡◌, ◌∙◌, ◌<◌, ℕ, List, not, Result, Ok, Err, ap, refl, sym}
 use Rattle.st_base.specs.Answers.{◌>>=◌, ◌>>◌, holds_or}
 use Rattle.st_io.specs.Past.{Past}
 use Rattle.st_lms.specs.Keys.{SecretKey}

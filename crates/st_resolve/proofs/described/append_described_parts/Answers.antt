@@ -1,4 +1,4 @@
-use Rattle.std.proofs.Common.{◌∙◌, refl, append_assoc, append-nil}
+use Rattle.std.proofs.Common.{◌∙◌, refl, append_assoc}
 use Rattle.st_resolve.specs.Texts.{described_text}
 use Rattle.st_resolve.proofs.described.append_described_parts.Goals as goal
 

@@ -1,4 +1,4 @@
-use Rattle.std.proofs.Common.{◌∙◌, refl, append_assoc, append-nil}
+use Rattle.std.proofs.Common.{◌∙◌, refl, append_assoc}
 use Rattle.st_resolve.specs.Texts.{metadata_text}
 use Rattle.st_resolve.proofs.metadata.append_metadata_parts.Goals as goal
 

@@ -1,4 +1,4 @@
-use Rattle.std.proofs.Common.{◌∙◌, refl, append_assoc, append-nil}
+use Rattle.std.proofs.Common.{◌∙◌, refl}
 use Rattle.st_resolve.proofs.metadata.append_recovery.Goals as goal
 
 pub returns-in_ok-append_hash-in-Active : goal.returns-in_ok-append_hash-in-Active

@@ -1,4 +1,4 @@
-use Rattle.std.proofs.Common.{◌∙◌, refl, append_assoc, append-nil}
+use Rattle.std.proofs.Common.{◌∙◌, refl, append_assoc}
 use Rattle.st_resolve.proofs.metadata.append_short.Goals as goal
 
 pub returns : goal.returns
