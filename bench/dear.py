@@ -83,8 +83,7 @@ LINES = {
     "submit, names out of order alone": ["submit {" + names(LINE - 9).decode() + "}"],
     "submit, names out of order in a list": ["submit [{" + names(LINE - 11).decode() + "}]"],
     "submit, one name 4,799,998 times": submit(b'"":1,', LINE, b"{", b'"":1}'),
-    "submit, lists in lists under names out of order 100 deep":
-        submit(LISTS, LINE, b'{"b":1,"a":' * 100 + b"[", b"1]" + b"}" * 100),
+    "submit, numbers under names out of order 100 deep": submit(b"1,", LINE, b'{"b":1,"a":' * 100 + b"[", b"1]" + b"}" * 100),
     "submit, a delta of lists in lists": submit(LISTS, LINE, CREATE, b"1]}}"),
     "resolve, lists in lists": resolve(LISTS),
     "resolve, a delta of lists in lists": resolve(LISTS, b'{"delta":{"a":[', b'1]},"suffixData":%s}' % SUFFIX_DATA),

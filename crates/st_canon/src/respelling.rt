@@ -1,4 +1,4 @@
-ghost use Rattle.std.specs.Prelude.{◌≡◌, ◌<◌, if◌then◌else◌, length, Err, Ok, None, IfErr, IfNone, IfOk, IfSome, OnOk};
+ghost use Rattle.std.specs.Prelude.{◌≡◌, ◌<◌, [], if◌then◌else◌, length, Err, Ok, None, IfErr, IfNone, IfOk, IfSome, OnOk};
 ghost use Rattle.json.specs.Json.{items, members, value};
 ghost use Rattle.serde_json.specs.Data.{no_members};
 ghost use Rattle.serde_json.specs.Read.{converted, number_of, of_items, of_json, of_members};
@@ -18,6 +18,9 @@ use crate::writing::{append_bool, append_comma, append_whole};
 use json::{Reader, Scratch, Token};
 use st_base::{Bytes, WantOfMemory};
 use std::alloc::Global;
+
+// So many bytes has the shortest member, its comma among them: `"":1,`.
+const SHORTEST_MEMBER: usize = 5;
 
 /// The canonical text (RFC 8785) of the JSON that bytes of any spelling are. A member whose name stands twice
 /// has its last value.
@@ -107,7 +110,10 @@ fn gather_text(
     let Some(Token::BeginObject) = reader.next() else {
         return Ok(None);
     };
-    let places = gather_members(alloc, out, side, &mut reader, MAX_DEPTH - 1)?;
+    let Ok(room) = Vec::with_capacity(alloc, text.len() / SHORTEST_MEMBER) else {
+        return Err(ReadRefused::WantOfMemory);
+    };
+    let places = gather_members(alloc, out, side, &mut reader, MAX_DEPTH - 1, room)?;
     if reader.next().is_some() {
         return Err(ReadRefused::NotJson);
     }
@@ -244,14 +250,14 @@ fn respell_members(
     ensures shorter { OnOk result (length reader.new < length reader.old) }
 {
     let length = side.as_slice().len();
-    let mut places = gather_members(alloc, out, side, reader, depth)?;
+    let mut places = gather_members(alloc, out, side, reader, depth, Vec::new(alloc))?;
     let whole = append_gathered(alloc, out, side.as_slice(), &mut places)?;
     cut_back(alloc, side, length);
     Ok(whole)
 }
 
-// Gathers the members of an object behind what `side` has, and gives their places. Objects among their values
-// are gathered in `out`.
+// Gathers the members of an object behind what `side` has, and gives their places in the vector, which has
+// none yet. Objects among their values are gathered in `out`.
 #[cycle(respell)]
 fn gather_members(
     alloc: Global,
@@ -259,13 +265,15 @@ fn gather_members(
     side: &mut Bytes,
     reader: &mut Reader<'_>,
     depth: usize,
+    places: Vec<u32>,
 ) -> Result<Vec<u32>, ReadRefused>
+    requires { places.items ≡ [] }
     ensures members { IfOk result (λ places. MembersAreGathered depth reader.old reader.new side.old side.new places.items) }
     ensures none { IfErr result (IsNoJson (converted (λ ms. of_members ms no_members) (members (value depth) (length reader.old) reader.old) ≡ None)) }
     ensures out { OnOk result (out.new ≡ out.old) }
     ensures shorter { OnOk result (length reader.new < length reader.old) }
 {
-    let mut places = Vec::new(alloc);
+    let mut places = places;
     'members: loop {
         let Ok(key) = reader.next_key() else {
             return Err(ReadRefused::NotJson);

@@ -178,7 +178,7 @@ respell_members-returns-clause-side t c =
 
 pub gather_members-members-init : goal.gather_members-members-init
 gather_members-members-init t c =
-    (data'.no_members, length c.args.reader.now, omega arith, refl, omega arith, none_gathered _ _ (search rules), refl)
+    (data'.no_members, length c.args.reader.now, omega arith, refl, omega arith, none_gathered _ _ c.requires, refl)
 
 pub gather_members-returns-in_default-clause-none : goal.gather_members-returns-in_default-clause-none
 gather_members-returns-in_default-clause-none t c =
