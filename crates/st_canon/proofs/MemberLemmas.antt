@@ -1,13 +1,13 @@
 -- The first of the members that are left of an object.
-use Rattle.std.proofs.Common.{◌≡◌, ◌∙◌, ℕ, ◌<◌, Bool, true, false, List, [], ◌∷◌, ◌++◌, length, Option, Some, None, Less, refl, ap, sym, subst, arith}
+use Rattle.std.proofs.Common.{◌≡◌, ◌∙◌, ◌↔◌, ℕ, ◌<◌, Bool, true, false, List, [], ◌∷◌, ◌++◌, length, Option, Some, None, Less, refl, ap, sym, subst, arith}
 use Rattle.std.proofs.Common.{append_assoc, length-append}
-use Rattle.std.specs.Prelude.{is_some, unwrap_or}
+use Rattle.std.specs.Prelude.{is_some, unwrap_or, IsTrue}
 use Rattle.st_canon.specs.Canonical.{canonical, canonical_members, quoted}
 use Rattle.st_canon.specs.Entries.{members_in}
 use Rattle.st_canon.specs.Plain.{Plain, text, object, Members, no_members, member}
 use Rattle.st_canon.specs.Names.{is_name, name_cmp}
 use Rattle.st_canon.specs.Proper.{AllAbove, IsProper, MembersAreProper}
-use Rattle.st_canon.specs.Shapes.{is_object_of, member_in, only_member}
+use Rattle.st_canon.specs.Shapes.{both_members, is_object_of, member_in, only_member}
 use Rattle.st_canon.specs.ObjectsOfLists.{is_object_of_lists}
 use Rattle.st_canon.specs.Find.{has_only, member_at}
 use Rattle.st_canon.specs.Lists.{only_lists}
@@ -121,6 +121,17 @@ some_member : (left : List ℕ) → IsText (123 ∷ left) → starts 125 left �
     → (n : List ℕ) × (p : Plain) × (others : Members) × (members_left left ≡ member n p others)
 some_member left is some = let here = as_object left is in some_of left here.0 here.1 some
 
+-- none is left exactly where the closing bracket stands in front
+closed_by : (left : List ℕ) (closed : Bool) → IsText (123 ∷ left) → closed ≡ starts 125 left → members_left left ≡ no_members → closed ≡ true
+closed_by left true is test none = refl
+closed_by left false is test none =
+    let there = some_member left is (sym test) in
+    let apart = sym there.3 ∙ none in
+    cc
+
+pub none_left : (left : List ℕ) (closed : Bool) → IsText (123 ∷ left) → closed ≡ starts 125 left → IsTrue closed ↔ (members_left left ≡ no_members)
+none_left left closed is test = (λ yes. no_member left is (sym test ∙ yes), closed_by left closed is test)
+
 -- ---- one member and no other
 
 alone : (name word : List ℕ) (p : Plain) → is_name name word ≡ true → only_member name (Some (object (member word p no_members))) ≡ Some p
@@ -152,6 +163,29 @@ module _ (left name value rest asked : List ℕ) (is : IsText (123 ∷ left)) (n
       let above = subst (AllAbove next.word) second.3 proper.1 in
       listed ∙ ap (λ ms. only_member asked (Some (object (member next.word (value_of value) ms)))) second.3
       ∙ not_alone asked next.word second.0 (value_of value) second.1 second.2 same above.0
+
+-- ---- two members and no other
+
+both_alone : (first second word other : List ℕ) (p q : Plain) → is_name first word ≡ true → is_name second other ≡ true → name_cmp word other ≡ Less
+    → both_members first second (Some (object (member word p (member other q no_members)))) ≡ Some (p, q)
+both_alone first second word other p q same also below =
+    let apart : is_name other word ≡ false = name_turned other word ∙ not_name_from_less word other below in
+    let not_first : is_name other first ≡ false = ap (is_name other) (same_from_is_name first word same) ∙ apart in
+    let not_second : is_name second word ≡ false = ap (λ n. is_name n word) (same_from_is_name second other also) ∙ apart in
+    rw (name_turned word first ∙ same, not_first, name_turned other second ∙ also, same, not_second, also) refl
+
+module _ (left name value rest another further others first second : List ℕ) (is : IsText (123 ∷ left))
+    (next : IsNextMember left name value rest) (then : IsNextMember rest another further others) where
+  pub both_found : is_name first next.word ≡ true → is_name second then.word ≡ true → starts 125 others ≡ true
+      → both_members first second (Some (object (members_left left))) ≡ Some (value_of value, value_of further)
+  both_found same also none =
+      let last : members_left rest ≡ member then.word (value_of further) no_members =
+      then.listed ∙ ap (member then.word (value_of further)) (no_member others then.others none) in
+      let all : members_left left ≡ member next.word (value_of value) (member then.word (value_of further) no_members) =
+      next.listed ∙ ap (member next.word (value_of value)) last in
+      let proper = subst MembersAreProper all (proper_members left is) in
+      ap (λ ms. both_members first second (Some (object ms))) all
+      ∙ both_alone first second next.word then.word (value_of value) (value_of further) same also proper.1.0
 
 -- ---- a text that is an object, or none
 

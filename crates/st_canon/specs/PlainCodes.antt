@@ -99,3 +99,7 @@ mutual
 -- a plain value by its tree
 abbrev pub coded_plain : Coded Plain
 coded_plain = record { code = code_plain; inj = inj_plain }
+
+-- members by their tree
+abbrev pub coded_members : Coded Members
+coded_members = record { code = code_members; inj = inj_members }

@@ -2,6 +2,7 @@
 -- that each test says something of every file.
 use Rattle.std.specs.Prelude.{ℕ, Bool, true, false, List, [], ◌∷◌, if◌then◌else◌, Option, Some, None, is_some, option_and_then, unwrap_or}
 use Rattle.std.specs.Result.{result_ok}
+use Rattle.st_base.specs.Options.{◌>>=◌, ◌>>◌}
 use Rattle.st_canon.specs.Entries.{items_in, list_in, members_in, text_in}
 use Rattle.st_canon.specs.Find.{has_only, member_at}
 use Rattle.st_canon.specs.Plain.{Plain, object, Members}
@@ -37,6 +38,14 @@ is_object_of names other = false
 -- the value of the only member, where an object stands there with a member of this name and no other
 abbrev pub only_member : List ℕ → Option Plain → Option Plain
 only_member name there = if is_object_of (name ∷ []) there then member_in name there else None
+
+-- the values of the two members, where an object stands there with members of these names and no other
+abbrev pub both_members : List ℕ → List ℕ → Option Plain → Option (Plain × Plain)
+both_members first second there = do
+  is_object_of (first ∷ second ∷ []) there
+  one ← member_in first there
+  other ← member_in second there
+  Some (one, other)
 
 -- ---- nothing, or a value of one kind
 

@@ -8,6 +8,7 @@ mod entries;
 mod items;
 mod kind;
 mod members;
+mod members_left;
 mod object;
 mod quoted;
 mod root;
@@ -17,6 +18,7 @@ mod there;
 mod walk;
 
 pub use entries::{Entries, entries_in, only_of};
+pub use members_left::Members;
 pub use root::CanonicalText;
 pub use scanned::Scanned;
 pub use there::{

@@ -37,11 +37,9 @@ impl SuffixData {
         requires last { version ≤ 2 }
         ensures { result ≡ suffix_data_of version (Some value.now) }
     {
-        if !value.is_object_of(&["deltaHash", "recoveryCommitment"]) {
-            return None;
-        }
-        let delta_hash = hash_in(value.member("deltaHash"), version)?;
-        let recovery_commitment = hash_in(value.member("recoveryCommitment"), version)?;
+        let (delta_hash, commitment) = value.both_members("deltaHash", "recoveryCommitment")?;
+        let delta_hash = hash_in(Some(delta_hash), version)?;
+        let recovery_commitment = hash_in(Some(commitment), version)?;
         Some(SuffixData {
             delta_hash,
             recovery_commitment,

@@ -28,11 +28,9 @@ impl Entry for Target {
     ghost json = { target_json };
 
     fn read(entry: &Scanned<'_>, version: u8) -> Option<Target> {
-        if !entry.is_object_of(&["didSuffix", "revealValue"]) {
-            return None;
-        }
-        let suffix = hash_in(entry.member("didSuffix"), version)?;
-        let reveal = hash_in(entry.member("revealValue"), version)?;
+        let (suffix, reveal) = entry.both_members("didSuffix", "revealValue")?;
+        let suffix = hash_in(Some(suffix), version)?;
+        let reveal = hash_in(Some(reveal), version)?;
         Some(Target { suffix, reveal })
     }
 

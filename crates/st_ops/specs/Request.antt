@@ -27,12 +27,17 @@ with_claim limits operation = do
   claim ← ok_or (claim_of limits operation) BadProof
   Ok operation
 
+-- the create of this suffix data and this delta
+abbrev pub create_of : Limits → Option Plain → Option Plain → Result PlainOperation RequestRefused
+create_of limits suffix_data delta = do
+  hashes ← ok_or (suffix_data_of limits.version suffix_data) BadHash
+  Ok (creating hashes delta)
+
 -- the create that a request asks for (after DIF Sidetree v1.0.0, "Create")
 abbrev pub create_asked : Limits → Option Plain → Result PlainOperation RequestRefused
 create_asked limits request = do
   holds_or (is_create_form request) BadForm
-  suffix_data ← ok_or (suffix_data_of limits.version (member_in (codes "suffixData") request)) BadHash
-  Ok (creating suffix_data (member_in (codes "delta") request))
+  create_of limits (member_in (codes "suffixData") request) (member_in (codes "delta") request)
 
 -- the update that a request asks for ("Update")
 abbrev pub update_asked : Limits → Option Plain → Result PlainOperation RequestRefused

@@ -1,4 +1,4 @@
-ghost use Rattle.std.specs.Prelude.{◌≡◌, IfSome, Some, codes, is_some};
+ghost use Rattle.std.specs.Prelude.{◌≡◌, true, IfSome, Some, codes, is_some};
 ghost use Rattle.st_canon.specs.Shapes.{member_in, object_at, text_at};
 ghost use Rattle.st_ops.specs.RequestForm.{has_signed_texts, is_change_form, is_create_form, is_deactivate_form, is_suffix_data_form};
 
@@ -33,13 +33,36 @@ pub(crate) fn create_parts<'a>(request: &Scanned<'a>) -> Option<CreateParts<'a>>
     Some(CreateParts { suffix_data, delta })
 }
 
+/// The parts of a create whose members come in the order of canonical texts, in one walk. Where there are
+/// none, the request is looked at member by member.
+#[tactic(auto, unfolding(crate::specs::RequestForm::is_create_form))]
+pub(crate) fn parts_in_turn<'a>(request: &Scanned<'a>) -> Option<CreateParts<'a>>
+    ensures kind { IfSome result (λ _. text_at (codes "type") (Some request.now) ≡ Some (codes "create")) }
+    ensures form { IfSome result (λ _. is_create_form (Some request.now) ≡ true) }
+    ensures suffix_data { IfSome result (λ parts. member_in (codes "suffixData") (Some request.now) ≡ Some parts.suffix_data) }
+    ensures delta { IfSome result (λ parts. member_in (codes "delta") (Some request.now) ≡ Some parts.delta) }
+{
+    let mut members = request.members()?;
+    let delta = members.next_named("delta")?;
+    let suffix_data = members.next_named("suffixData")?;
+    let kind = members.next_named("type")?;
+    if !members.is_empty() || !kind.is_text_of("create") {
+        return None;
+    }
+    if !is_suffix_data_form(&suffix_data) || !delta.is_object() {
+        return None;
+    }
+    Some(CreateParts { suffix_data, delta })
+}
+
 #[tactic(auto, unfolding(crate::specs::RequestForm::is_suffix_data_form))]
 fn is_suffix_data_form(value: &Scanned<'_>) -> bool
     ensures { result ≡ is_suffix_data_form (Some value.now) }
 {
-    value.is_object_of(&["deltaHash", "recoveryCommitment"])
-        && has_text(value, "deltaHash")
-        && has_text(value, "recoveryCommitment")
+    match value.both_members("deltaHash", "recoveryCommitment") {
+        Some((delta_hash, commitment)) => delta_hash.is_text() && commitment.is_text(),
+        None => false,
+    }
 }
 
 /// Whether these are the members of an update or of a recover: its `type`, the texts of what is

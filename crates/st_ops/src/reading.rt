@@ -6,12 +6,12 @@ ghost use Rattle.st_canon.specs.Canonical.{escape};
 ghost use Rattle.st_canon.specs.Shapes.{member_in, text_at};
 ghost use Rattle.st_ops.specs.Counting.{CountsOpening};
 ghost use Rattle.st_ops.specs.Operation.{plain_operation};
-ghost use Rattle.st_ops.specs.Request.{asked, create_asked, deactivate_asked, recover_asked, refusal_of, request_of, update_asked, with_claim, IsComplete};
+ghost use Rattle.st_ops.specs.Request.{asked, create_asked, create_of, deactivate_asked, recover_asked, refusal_of, request_of, update_asked, with_claim, IsComplete};
 ghost use Rattle.st_ops.specs.RequestText.{IsDeltaWithin, IsReadAgain};
 ghost use Rattle.st_ops.specs.declared.refused.RequestRefused.TheVariants.{BadProof};
 
 use crate::claiming::claim_of;
-use crate::form::{create_parts, is_change_form, is_deactivate_form};
+use crate::form::{CreateParts, create_parts, is_change_form, is_deactivate_form, parts_in_turn};
 use crate::operation::Operation;
 use crate::refused::RequestRefused;
 use crate::signed::{proof_in, target_in};
@@ -59,7 +59,7 @@ pub fn read_request(
     }
 }
 
-// By the type of the request.
+// By the type of the request. Creates, which most requests are, are found in one walk.
 #[tactic(auto, unfolding(crate::specs::Request::asked))]
 fn asked(
     alloc: Global,
@@ -71,6 +71,9 @@ fn asked(
     ensures counted { ProofsAtMost 1 work.old work.new }
     ensures exact { CountsOpening result work.old work.new }
 {
+    if let Some(parts) = parts_in_turn(request) {
+        return create_of(alloc, &parts, params);
+    }
     let Some(kind) = kind_in(request) else {
         return Err(RequestRefused::BadForm);
     };
@@ -106,9 +109,20 @@ fn create_asked(
     ensures value { GivesAs plain_operation refusal_of (create_asked params.now (Some request.now)) result }
     ensures exact { (work : Counts) → CountsOpening result work work }
 {
-    let Some(parts) = create_parts(request) else {
-        return Err(RequestRefused::BadForm);
-    };
+    match create_parts(request) {
+        Some(parts) => create_of(alloc, &parts, params),
+        None => Err(RequestRefused::BadForm),
+    }
+}
+
+fn create_of(
+    alloc: Global,
+    parts: &CreateParts<'_>,
+    params: &Params,
+) -> Result<Operation, RequestRefused>
+    ensures value { GivesAs plain_operation refusal_of (create_of params.now (Some parts.now.suffix_data) (Some parts.now.delta)) result }
+    ensures exact { (work : Counts) → CountsOpening result work work }
+{
     let Some(suffix_data) = SuffixData::read(&parts.suffix_data, params.version()) else {
         return Err(RequestRefused::BadHash);
     };

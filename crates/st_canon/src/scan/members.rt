@@ -5,7 +5,7 @@ ghost use Rattle.st_canon.specs.Canonical.{quoted};
 ghost use Rattle.st_canon.specs.Find.{has_only, member_at};
 ghost use Rattle.st_canon.specs.Names.{is_name};
 ghost use Rattle.st_canon.specs.Plain.{object};
-ghost use Rattle.st_canon.specs.Shapes.{only_member};
+ghost use Rattle.st_canon.specs.Shapes.{both_members, only_member};
 ghost use Rattle.st_canon.specs.Lists.{only_lists};
 ghost use Rattle.st_canon.specs.Standing.{IsText, members_left, value_of};
 
@@ -47,6 +47,27 @@ pub(crate) fn find_only<'a>(left: &'a [u8], name: &str) -> Option<&'a [u8]>
         return None;
     }
     Some(value)
+}
+
+// The values of the next two members, where they have these names and none is behind them.
+pub(crate) fn find_both<'a>(
+    left: &'a [u8],
+    first: &str,
+    second: &str,
+) -> Option<(&'a [u8], &'a [u8])>
+    requires { IsText (123 ∷ left.now) }
+    ensures value { IfSome result (λ both. both_members first.now second.now (Some (object (members_left left.now)))
+        ≡ Some (value_of both.0.now, value_of both.1.now)) }
+    ensures first { IfSome result (λ both. IsText both.0.now) }
+    ensures second { IfSome result (λ both. IsText both.1.now) }
+{
+    let (key, one, rest) = next_member(left)?;
+    let (another, other, others) = next_member(rest)?;
+    if is_named(key, first) && is_named(another, second) && starts(others, b'}') {
+        Some((one, other))
+    } else {
+        None
+    }
 }
 
 // Whether each of the members that are left has one of these names.

@@ -1,10 +1,23 @@
-ghost use Rattle.std.specs.Prelude.{◌≡◌, IfSome, Some, map, option_map};
+ghost use Rattle.std.specs.Prelude.{◌≡◌, ◌∷◌, IfSome, Some, map, option_map};
+ghost use Rattle.st_canon.specs.Entries.{members_in};
 ghost use Rattle.st_canon.specs.ObjectsOfLists.{is_object_of_lists};
-ghost use Rattle.st_canon.specs.Shapes.{is_object_of, member_in, only_member};
-ghost use Rattle.st_canon.specs.Standing.{IsText, value_of};
+ghost use Rattle.st_canon.specs.Shapes.{both_members, is_object_of, member_in, only_member};
+ghost use Rattle.st_canon.specs.Standing.{IsText, members_left, value_of};
 
 use crate::scan::cursor::opened;
-use crate::scan::members::{find, find_only, have_only, have_only_lists};
+use crate::scan::members::{find, find_both, find_only, have_only, have_only_lists};
+
+// What stands behind the bracket of an object, where the text is that of one.
+pub(crate) fn members(text: &[u8]) -> Option<&[u8]>
+    requires { IsText text.now }
+    ensures value { option_map (λ left. members_left left.now) result ≡ members_in (value_of text.now) }
+    ensures text { IfSome result (λ left. IsText (123 ∷ left.now)) }
+{
+    match opened(text, b'{') {
+        Some(left) => Some(left),
+        None => None,
+    }
+}
 
 // The text of the value of the member of this name, where the text is that of an object that has one.
 pub(crate) fn member<'a>(text: &'a [u8], name: &str) -> Option<&'a [u8]>
@@ -34,6 +47,22 @@ pub(crate) fn only_member<'a>(text: &'a [u8], name: &str) -> Option<&'a [u8]>
         Some(value) => Some(value),
         None => None,
     }
+}
+
+// The texts of the values of the members of these names, where these are all and come in turn.
+pub(crate) fn both_in_turn<'a>(
+    text: &'a [u8],
+    first: &str,
+    second: &str,
+) -> Option<(&'a [u8], &'a [u8])>
+    requires { IsText text.now }
+    ensures value { IfSome result (λ both. both_members first.now second.now (Some (value_of text.now))
+        ≡ Some (value_of both.0.now, value_of both.1.now)) }
+    ensures first { IfSome result (λ both. IsText both.0.now) }
+    ensures second { IfSome result (λ both. IsText both.1.now) }
+{
+    let left = opened(text, b'{')?;
+    find_both(left, first, second)
 }
 
 pub(crate) fn is_object_of(text: &[u8], names: &[&str]) -> bool

@@ -4,11 +4,12 @@ ghost use Rattle.st_canon.specs.Canonical.{escape};
 ghost use Rattle.st_canon.specs.Entries.{items_in, members_in, text_in};
 ghost use Rattle.st_canon.specs.ObjectsOfLists.{is_object_of_lists};
 ghost use Rattle.st_canon.specs.Plain.{text};
-ghost use Rattle.st_canon.specs.Shapes.{is_object_of, member_in, only_member};
+ghost use Rattle.st_canon.specs.Shapes.{both_members, is_object_of, member_in, only_member};
 ghost use Rattle.st_canon.specs.Texts.{is_text_of};
 
 use crate::kept_text::KeptText;
 use crate::packed::PackedJson;
+use crate::scan::members_left::Members;
 use crate::scan::{content, kind, object};
 use st_base::{Bytes, Shared, Text, WantOfMemory};
 use std::alloc::Global;
@@ -94,6 +95,16 @@ impl<'a> Scanned<'a> {
         content::is_text_of(self.text, word)
     }
 
+    /// Its members, where it is an object.
+    pub fn members(&self) -> Option<Members<'a>>
+        ensures { result ≡ members_in self.now }
+    {
+        match object::members(self.text) {
+            Some(left) => Some(Members { left }),
+            None => None,
+        }
+    }
+
     /// The value of the member of this name, where it is an object that has one.
     pub fn member(&self, name: &str) -> Option<Scanned<'a>>
         ensures { result ≡ member_in name.now (Some self.now) }
@@ -112,6 +123,21 @@ impl<'a> Scanned<'a> {
             Some(text) => Some(Scanned { text }),
             None => None,
         }
+    }
+
+    /// The values of the members of these names, where it is an object that has both and no other.
+    pub fn both_members(&self, first: &str, second: &str) -> Option<(Scanned<'a>, Scanned<'a>)>
+        ensures { result ≡ both_members first.now second.now (Some self.now) }
+    {
+        if let Some((one, other)) = object::both_in_turn(self.text, first, second) {
+            return Some((Scanned { text: one }, Scanned { text: other }));
+        }
+        if !self.is_object_of(&[first, second]) {
+            return None;
+        }
+        let one = self.member(first)?;
+        let other = self.member(second)?;
+        Some((one, other))
     }
 
     /// Whether it is an object whose members all have one of these names.

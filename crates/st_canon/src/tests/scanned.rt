@@ -51,6 +51,40 @@ fn members_are_found_by_name(rt: HostRuntime) -> Result<(), Fail> {
     }
 }
 
+// Whether the members come in turn under these names: a text, a list, and no more.
+fn come_in_turn(file: &Scanned<'_>, first: &str, second: &str) -> bool {
+    let Some(mut members) = file.members() else {
+        return false;
+    };
+    let (Some(one), None, Some(other)) = (
+        members.next_named(first),
+        members.next_named(first),
+        members.next_named(second),
+    ) else {
+        return false;
+    };
+    one.text == b"\"x\"".as_slice() && other.text == b"[1]".as_slice() && members.is_empty()
+}
+
+// Whether the members under these names are a text and a list, and there are no others.
+fn are_both(file: &Scanned<'_>, text: &str, list: &str) -> bool {
+    match file.both_members(text, list) {
+        Some((one, other)) => one.text == b"\"x\"".as_slice() && other.text == b"[1]".as_slice(),
+        None => false,
+    }
+}
+
+#[test]
+fn members_come_in_turn(rt: HostRuntime) -> Result<(), Fail> {
+    let Ok(text) = CanonicalText::read(rt.alloc(), br#"{ "b\"": [1], "a": "x" }"#) else {
+        return Err(Fail::from("no JSON"));
+    };
+    let file = text.root();
+    assert!(rt; come_in_turn(&file, "a", "b\"") && are_both(&file, "a", "b\""));
+    assert!(rt; file.both_members("a", "b").is_none());
+    Ok(())
+}
+
 // Whether these are the texts of the entries, one a line.
 fn are(entries: &mut Entries<'_>, lines: &str) -> bool {
     for line in lines.lines() {
