@@ -37,6 +37,17 @@ impl<T: Drop> Boxed<T> {
         &*self.inner
     }
 
+    ghost use Rattle.std.specs.Borrow.{sem};
+    ghost use Rattle.st_base.specs.Lends.{lends_value};
+
+    /// The value, to be changed where it stands.
+    pub fn get_mut(&mut self) -> &mut T
+        ensures* writes_back { sem 𝓛 (lends_value T.row self.entry result) }
+        ensures value { result.now ≡ self.old }
+    {
+        self.inner.as_mut()
+    }
+
     /// The value, taken out.
     pub fn take(self) -> T
         ensures { result ≡ self }

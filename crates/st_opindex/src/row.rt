@@ -1,4 +1,4 @@
-ghost use Rattle.std.specs.Prelude.{◌≡◌, ◌+◌, ◌-◌, ◌≤◌, ◌<◌, ◌⊎◌, length, slice_index_or, IfOk, if◌then◌else◌, []};
+ghost use Rattle.std.specs.Prelude.{◌≡◌, ◌+◌, ◌-◌, ◌≤◌, ◌<◌, ◌⊎◌, length, slice_index_or, IfOk, OnOk, if◌then◌else◌, []};
 ghost use Rattle.st_base.specs.Work.{AppliesAtMost};
 ghost use Rattle.st_opindex.specs.Items.{Ascend, SplitsAt, before, from, with_item, reaches};
 ghost use Rattle.st_opindex.specs.Kept.{IsFolded, IsKeptBefore, IsRow};
@@ -12,7 +12,8 @@ use std::alloc::Global;
 const STRIDE: usize = 8;
 
 /// What stands for one key: its items in order of place, how many of the first of them are folded, the
-/// state after every eighth of these, and the state after all of these.
+/// state after every eighth of these, and the state after all of these. It is changed where it stands: want
+/// of memory may leave it half changed, since the index that it belongs to is let go then.
 #[derive(Drop)]
 pub struct Row<I, S> {
     pub items: Vec<(u32, I)>,
@@ -43,62 +44,44 @@ pub fn empty_row<F: Folder>(
 pub fn put_row<F: Folder>(
     alloc: Global,
     folder: &F,
-    row: Row<F::Item, F::State>,
+    row: &mut Row<F::Item, F::State>,
     place: u32,
     item: F::Item,
-) -> Result<Row<F::Item, F::State>, WantOfMemory>
-    requires { IsRow (F.next folder.now) (F.first folder.now) row }
-    ensures items { IfOk result (λ put. put.items.items ≡ with_item place item row.items.items) }
-    ensures row { IfOk result (IsRow (F.next folder.now) (F.first folder.now)) }
-    ensures left { IfOk result (λ put. (put.done ≡ row.done) ⊎ (left_of put ≤ 7 + length (from place put.items.items))) }
+) -> Result<(), WantOfMemory>
+    requires { IsRow (F.next folder.now) (F.first folder.now) row.old }
+    ensures items { OnOk result (row.new.items.items ≡ with_item place item row.old.items.items) }
+    ensures row { OnOk result (IsRow (F.next folder.now) (F.first folder.now) row.new) }
+    ensures left { OnOk result ((row.new.done ≡ row.old.done) ⊎ (left_of row.new ≤ 7 + length (from place row.new.items.items))) }
 {
-    let Row {
-        items,
-        done,
-        kept,
-        last,
-    } = row;
-    let at = count_before(items.as_slice(), place);
-    let items = set_item(items, at, place, item)?;
-    if at >= done {
-        return Ok(Row {
-            items,
-            done,
-            kept,
-            last,
-        });
+    let at = count_before(row.items.as_slice(), place);
+    set_item(&mut row.items, at, place, item)?;
+    if at < row.done {
+        go_back(alloc, folder, row, at)?;
     }
-    let row = go_back(alloc, folder, items, at, kept)?;
-    Ok(row)
+    Ok(())
 }
 
 // Drops the items at this place or later. Where there are none, nothing is folded.
 pub fn cut_row<F: Folder>(
     alloc: Global,
     folder: &F,
-    row: Row<F::Item, F::State>,
+    row: &mut Row<F::Item, F::State>,
     place: u32,
     work: &mut Work,
-) -> Result<Row<F::Item, F::State>, WantOfMemory>
-    requires { IsFolded (F.next folder.now) (F.first folder.now) row }
-    ensures items { IfOk result (λ cut. cut.items.items ≡ before place row.items.items) }
-    ensures folded { IfOk result (IsFolded (F.next folder.now) (F.first folder.now)) }
-    ensures bound { AppliesAtMost (if reaches place row.items.items then 7 else 0) work.old work.new }
+) -> Result<(), WantOfMemory>
+    requires { IsFolded (F.next folder.now) (F.first folder.now) row.old }
+    ensures items { OnOk result (row.new.items.items ≡ before place row.old.items.items) }
+    ensures folded { OnOk result (IsFolded (F.next folder.now) (F.first folder.now) row.new) }
+    ensures bound { AppliesAtMost (if reaches place row.old.items.items then 7 else 0) work.old work.new }
 {
     let at = count_before(row.items.as_slice(), place);
     if at == row.items.len() {
-        return Ok(row);
+        return Ok(());
     }
-    let Row {
-        mut items,
-        done: _,
-        kept,
-        last: _,
-    } = row;
-    items.truncate(at);
-    let back = go_back(alloc, folder, items, at, kept)?;
-    let row = fold_row(alloc, folder, back, work)?;
-    Ok(row)
+    row.items.truncate(at);
+    go_back(alloc, folder, row, at)?;
+    fold_row(alloc, folder, row, work)?;
+    Ok(())
 }
 
 // How many items stand before this place.
@@ -111,46 +94,41 @@ fn count_before<I>(items: &[(u32, I)], place: u32) -> usize
 
 // Puts the item at its place, before which so many stand.
 fn set_item<I: Drop>(
-    mut items: Vec<(u32, I)>,
+    items: &mut Vec<(u32, I)>,
     at: usize,
     place: u32,
     item: I,
-) -> Result<Vec<(u32, I)>, WantOfMemory>
-    requires { SplitsAt place items.items at }
-    ensures { IfOk result (λ set. set.items ≡ with_item place item items.items) }
+) -> Result<(), WantOfMemory>
+    requires { SplitsAt place items.old.items at }
+    ensures { OnOk result (items.new.items ≡ with_item place item items.old.items) }
 {
     if at < items.len() && items[at].0 == place {
         items[at] = (place, item);
-        return Ok(items);
+        return Ok(());
     }
     items.insert(at, (place, item))?;
-    Ok(items)
+    Ok(())
 }
 
 // Goes back to the last state that was kept before `at`. What stands from it on is to be folded again.
 fn go_back<F: Folder>(
     alloc: Global,
     folder: &F,
-    items: Vec<(u32, F::Item)>,
+    row: &mut Row<F::Item, F::State>,
     at: usize,
-    mut kept: Vec<F::State>,
-) -> Result<Row<F::Item, F::State>, WantOfMemory>
-    requires ascends { Ascend items.items }
-    requires at { at ≤ length items.items }
-    requires kept { IsKeptBefore (F.next folder.now) (F.first folder.now) items.items at kept.items }
-    ensures items { IfOk result (λ row. row.items.items ≡ items.items) }
-    ensures row { IfOk result (IsRow (F.next folder.now) (F.first folder.now)) }
-    ensures left { IfOk result (λ row. left_of row ≤ 7 + (length items.items - at)) }
+) -> Result<(), WantOfMemory>
+    requires ascends { Ascend row.old.items.items }
+    requires at { at ≤ length row.old.items.items }
+    requires kept { IsKeptBefore (F.next folder.now) (F.first folder.now) row.old.items.items at row.old.kept.items }
+    ensures items { OnOk result (row.new.items.items ≡ row.old.items.items) }
+    ensures row { OnOk result (IsRow (F.next folder.now) (F.first folder.now) row.new) }
+    ensures left { OnOk result (left_of row.new ≤ 7 + (length row.old.items.items - at)) }
 {
     let states = at / STRIDE;
-    kept.truncate(states);
-    let last = last_kept(alloc, folder, kept.as_slice())?;
-    Ok(Row {
-        items,
-        done: states * STRIDE,
-        kept,
-        last,
-    })
+    row.kept.truncate(states);
+    row.last = last_kept(alloc, folder, row.kept.as_slice())?;
+    row.done = states * STRIDE;
+    Ok(())
 }
 
 // The last of these states, or the start where there is none.
@@ -172,31 +150,20 @@ fn last_kept<F: Folder>(
 pub fn fold_row<F: Folder>(
     alloc: Global,
     folder: &F,
-    row: Row<F::Item, F::State>,
+    row: &mut Row<F::Item, F::State>,
     work: &mut Work,
-) -> Result<Row<F::Item, F::State>, WantOfMemory>
-    requires { IsRow (F.next folder.now) (F.first folder.now) row }
-    ensures items { IfOk result (λ folded. folded.items.items ≡ row.items.items) }
-    ensures folded { IfOk result (IsFolded (F.next folder.now) (F.first folder.now)) }
-    ensures bound { AppliesAtMost (left_of row) work.old work.new }
+) -> Result<(), WantOfMemory>
+    requires { IsRow (F.next folder.now) (F.first folder.now) row.old }
+    ensures items { OnOk result (row.new.items.items ≡ row.old.items.items) }
+    ensures folded { OnOk result (IsFolded (F.next folder.now) (F.first folder.now) row.new) }
+    ensures bound { AppliesAtMost (left_of row.old) work.old work.new }
 {
-    let Row {
-        items,
-        done,
-        mut kept,
-        mut last,
-    } = row;
-    let all = items.len();
-    for at in done..items.len() {
-        last = folder.step(alloc, &last, &items[at].1, work)?;
+    for at in row.done..row.items.len() {
+        row.last = folder.step(alloc, &row.last, &row.items[at].1, work)?;
         if (at + 1) % STRIDE == 0 {
-            kept.push(folder.copy_state(alloc, &last)?)?;
+            row.kept.push(folder.copy_state(alloc, &row.last)?)?;
         }
     }
-    Ok(Row {
-        items,
-        done: all,
-        kept,
-        last,
-    })
+    row.done = row.items.len();
+    Ok(())
 }

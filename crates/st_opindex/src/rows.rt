@@ -4,18 +4,20 @@ ghost use Rattle.st_opindex.specs.Items.{with_item, before, reaches};
 ghost use Rattle.st_opindex.specs.ByKey.{items_at, ChangesAt, NamesLosing, AreCut};
 ghost use Rattle.st_opindex.specs.Changed.{AreNamed, names_cost};
 ghost use Rattle.st_opindex.specs.Kept.{IsRow};
-ghost use Rattle.st_opindex.specs.Seen.{AreFolded, AreOwed, AreRows, FoldsKey, LeavesMore, left_at, left_of, seen_items};
+ghost use Rattle.st_opindex.specs.Seen.{AreFolded, AreOwed, AreRows, FoldsKey, LeavesMore, left_at, seen_items};
 
 use crate::folder::Folder;
 use crate::row::{Row, cut_row, empty_row, fold_row, put_row};
 use st_base::{Boxed, WantOfMemory, Work};
 use std::alloc::Global;
 use std::collections::BTreeMap;
+use std::collections::btree_map::Entry;
 
 /// The row of each key that has one, boxed, so that the tree moves keys and pointers where it makes room.
 pub type Rows<K, F> = BTreeMap<K, Boxed<Row<<F as Folder>::Item, <F as Folder>::State>>>;
 
-// Inserts the item at this place of the key, or replaces the one there. Nothing is applied.
+// Inserts the item at this place of the key, or replaces the one there. Nothing is applied. The map is
+// searched once, and a row that is there is changed where it stands.
 pub fn put_item<K: Copy + Ord, F: Folder>(
     alloc: Global,
     folder: &F,
@@ -29,31 +31,33 @@ pub fn put_item<K: Copy + Ord, F: Folder>(
     ensures items { OnOk result (ChangesAt K.cmp key (with_item place item) (seen_items rows.old.entries) (seen_items rows.new.entries)) }
     ensures left { OnOk result (LeavesMore K.cmp key place rows.old.entries rows.new.entries) }
 {
-    let row = take_row(alloc, folder, rows, key)?;
-    let row = put_row(alloc, folder, row, place, item)?;
-    rows.insert(key, Boxed::new(alloc, row)?)?;
-    Ok(())
+    match rows.entry(key)? {
+        Entry::Occupied(mut entry) => {
+            let row = entry.get_mut();
+            put_row(alloc, folder, row.get_mut(), place, item)?;
+            Ok(())
+        }
+        Entry::Vacant(entry) => {
+            let row = first_row(alloc, folder, place, item)?;
+            let _row = entry.insert(row);
+            Ok(())
+        }
+    }
 }
 
-// Takes the key's row out, or makes one where it has none.
-fn take_row<K: Copy + Ord, F: Folder>(
+// A row with this item alone, in a box of its own.
+fn first_row<F: Folder>(
     alloc: Global,
     folder: &F,
-    rows: &mut Rows<K, F>,
-    key: K,
-) -> Result<Row<F::Item, F::State>, WantOfMemory>
-    requires { AreRows K.cmp (F.next folder.now) (F.first folder.now) rows.old.entries }
+    place: u32,
+    item: F::Item,
+) -> Result<Boxed<Row<F::Item, F::State>>, WantOfMemory>
     ensures row { IfOk result (IsRow (F.next folder.now) (F.first folder.now)) }
-    ensures items { IfOk result (λ row. row.items.items ≡ items_at K.cmp key (seen_items rows.old.entries)) }
-    ensures left { IfOk result (λ row. left_of row ≡ left_at K.cmp key rows.old.entries) }
-    ensures rows { AreRows K.cmp (F.next folder.now) (F.first folder.now) rows.new.entries }
-    ensures rest { ChangesAt K.cmp key (λ _. []) (seen_items rows.old.entries) (seen_items rows.new.entries) }
-    ensures folds { FoldsKey K.cmp key rows.old.entries rows.new.entries }
+    ensures items { IfOk result (λ row. row.items.items ≡ with_item place item []) }
 {
-    match rows.remove(&key) {
-        Some(row) => Ok(row.take()),
-        None => empty_row(alloc, folder),
-    }
+    let mut row = Boxed::new(alloc, empty_row(alloc, folder)?)?;
+    put_row(alloc, folder, row.get_mut(), place, item)?;
+    Ok(row)
 }
 
 // Folds what is left to be folded of the keys of these changes.
@@ -77,7 +81,7 @@ pub fn fold_keys<K: Copy + Ord, F: Folder>(
     Ok(())
 }
 
-// Folds what is left to be folded of the key.
+// Folds what is left to be folded of the key, in its row where that stands.
 fn fold_key<K: Copy + Ord, F: Folder>(
     alloc: Global,
     folder: &F,
@@ -91,11 +95,10 @@ fn fold_key<K: Copy + Ord, F: Folder>(
     ensures folds { OnOk result (FoldsKey K.cmp key rows.old.entries rows.new.entries) }
     ensures bound { AppliesAtMost (left_at K.cmp key rows.old.entries) work.old work.new }
 {
-    let Some(row) = rows.remove(&key) else {
+    let Some(row) = rows.get_mut(&key) else {
         return Ok(());
     };
-    let row = fold_row(alloc, folder, row.take(), work)?;
-    rows.insert(key, Boxed::new(alloc, row)?)?;
+    fold_row(alloc, folder, row.get_mut(), work)?;
     Ok(())
 }
 
@@ -119,7 +122,7 @@ pub fn cut_keys<K: Copy + Ord, F: Folder>(
     Ok(())
 }
 
-// Drops the key's items at this place or later.
+// Drops the key's items at this place or later, and its row where none is left.
 fn cut_key<K: Copy + Ord, F: Folder>(
     alloc: Global,
     folder: &F,
@@ -133,13 +136,13 @@ fn cut_key<K: Copy + Ord, F: Folder>(
     ensures items { OnOk result (ChangesAt K.cmp key (before place) (seen_items rows.old.entries) (seen_items rows.new.entries)) }
     ensures bound { AppliesAtMost (if reaches place (items_at K.cmp key (seen_items rows.old.entries)) then 7 else 0) work.old work.new }
 {
-    let Some(row) = rows.remove(&key) else {
+    let Some(row) = rows.get_mut(&key) else {
         return Ok(());
     };
-    let row = cut_row(alloc, folder, row.take(), place, work)?;
+    let row = row.get_mut();
+    cut_row(alloc, folder, row, place, work)?;
     if row.items.is_empty() {
-        return Ok(());
+        rows.remove(&key);
     }
-    rows.insert(key, Boxed::new(alloc, row)?)?;
     Ok(())
 }

@@ -5,10 +5,10 @@ use Rattle.st_opindex.proofs.row.go_back.Goals as goal
 pub returns-clause-row : goal.returns-clause-row
 returns-clause-row g c =
     let lent = c.as_slice.ensures.value ∙ c.truncate.ensures.items in
-    let none = rw lent at c.in_ok-last.ensures.none in
-    let some = rw lent at c.in_ok-last.ensures.last in
+    let none = rw lent at c.in_ok-row.ensures.none in
+    let some = rw lent at c.in_ok-row.ensures.last in
     record {
       ascends = c.requires.ascends;
       within = omega (arith, c.requires.at);
-      reached = rw c.truncate.ensures.items (reached_before c.requires.kept _ c.in_ok-last.last (omega arith) none some);
+      reached = rw c.truncate.ensures.items (reached_before c.requires.kept _ _ (omega arith) none some);
     }

@@ -1,55 +1,39 @@
-use Rattle.std.proofs.Common.{◌≡◌, ◌∙◌, ap, sym, Some, None, arith}
+use Rattle.std.proofs.Common.{◌≡◌, ◌∙◌, ap, Some, refl, arith, rules}
 use Rattle.st_opindex.specs.Seen.{left_of}
-use Rattle.st_opindex.proofs.Keyed.{left_folded, left_taken, row_found, rows_updated, seen_changed, seen_found, seen_gone, seen_taken}
+use Rattle.st_opindex.proofs.Keyed.{IsUpdated, left_folded, row_found, rows_updated, seen_changed, updated_by_itself}
 use Rattle.st_opindex.proofs.rows.fold_key.Goals as goal
 
 pub returns-in_default-clause-rows : goal.returns-in_default-clause-rows
-returns-in_default-clause-rows g c = rows_updated c.requires c.args.key None c.remove.new.self.entries c.remove.ensures.updates.0 tt
+returns-in_default-clause-rows g c = rw c.get_mut.follows.holds-at-none c.requires
 
 pub returns-in_default-clause-items : goal.returns-in_default-clause-items
 returns-in_default-clause-items g c =
-    let old = c.args.rows.now.entries in
-    let taken = c.remove.new.self.entries in
-    seen_gone g.met.K.Ord.total c.args.key old taken (seen_taken g.met.K.Ord.total c.args.key old taken c.remove.ensures.updates.0) (λ items. items)
-    (sym (seen_found g.K.Ord.cmp c.args.key old None (sym (sym c.remove.ensures.value ∙ c.in_default.is))))
+    let order = g.met.K.Ord.total in
+    let missing = c.in_default.ensures.value in
+    rw c.get_mut.follows.holds-at-none (seen_changed (updated_by_itself order missing) order (λ items. items) missing refl)
 
 pub returns-in_default-clause-folds : goal.returns-in_default-clause-folds
-returns-in_default-clause-folds g c = left_taken g.K.Ord.cmp c.args.key c.args.rows.now.entries c.remove.new.self.entries c.remove.ensures.updates.0
+returns-in_default-clause-folds g c =
+    rw c.get_mut.follows.holds-at-none (left_folded (updated_by_itself g.met.K.Ord.total c.in_default.ensures.value) refl)
 
 pub fold_row-requires : goal.fold_row-requires
-fold_row-requires g c = rw c.take.ensures (row_found c.requires c.args.key c.in-Some.row c.in-Some.ensures.value)
+fold_row-requires g c = row_found c.requires c.args.key c.get_mut-2.result.now (ap Some c.get_mut-2.ensures.value ∙ c.in-Some.ensures.value)
 
-pub returns-in_err-row-clause-bound : goal.returns-in_err-row-clause-bound
-returns-in_err-row-clause-bound g c =
-    let bound = rw c.take.ensures at c.fold_row.ensures.bound in
-    rw (← c.in-Some.ensures.value) bound
-
-pub returns-in_err-new-clause-bound : goal.returns-in_err-new-clause-bound
-returns-in_err-new-clause-bound g c =
-    let bound = rw c.take.ensures at c.fold_row.ensures.bound in
-    rw (← c.in-Some.ensures.value) bound
-
-pub returns-in_err-insert-clause-bound : goal.returns-in_err-insert-clause-bound
-returns-in_err-insert-clause-bound g c =
-    let bound = rw c.take.ensures at c.fold_row.ensures.bound in
-    rw (← c.in-Some.ensures.value) bound
+pub returns-in_err-fold_row-clause-bound : goal.returns-in_err-fold_row-clause-bound
+returns-in_err-fold_row-clause-bound g c =
+    let found = ap Some c.get_mut-2.ensures.value ∙ c.in-Some.ensures.value in
+    rw (← found) c.fold_row.ensures.bound
 
 pub returns : goal.returns
 returns g c =
-    let order = g.met.K.Ord.total in
-    let old = c.args.rows.now.entries in
-    let taken = c.remove.new.self.entries in
-    let row = c.in_ok-new.field-0 in
-    let is = c.in_ok-new.ensures in
-    let none : left_of c.in_ok-row.row ≡ 0 = omega (arith, c.in_ok-row.ensures.folded.all) in
-    let bound = rw c.take.ensures at c.fold_row.ensures.bound in
+    let row = c.fold_row.new.row in
+    let found = ap Some c.get_mut-2.ensures.value ∙ c.in-Some.ensures.value in
+    let updates : IsUpdated g.K.Ord.cmp c.args.key (Some row) c.args.rows.now.entries (c.get_mut.follows.lender row).entries =
+    record { each = ((c.get_mut.follows.holds row).3 (search rules)).0 } in
+    let none : left_of row ≡ 0 = omega (arith, c.in_ok-fold_row.ensures.folded.all) in
     record {
-      rows = rows_updated (rows_updated c.requires c.args.key None taken c.in-Some.ensures.updates.0 tt) c.args.key (Some row) c.insert.new.self.entries
-          c.in_ok-insert.ensures.updates.0 (rw is c.in_ok-row.ensures.folded.is);
-      items = seen_changed order c.args.key old taken (seen_taken order c.args.key old taken c.in-Some.ensures.updates.0) (λ items. items)
-          row c.insert.new.self.entries (ap (λ row. row.items.items) is ∙ c.in_ok-row.ensures.items ∙ ap (λ row. row.items.items) c.take.ensures
-          ∙ sym (seen_found g.K.Ord.cmp c.args.key old (Some c.in-Some.row) c.in-Some.ensures.value)) c.in_ok-insert.ensures.updates.0;
-      folds = left_folded g.K.Ord.cmp c.args.key old taken (left_taken g.K.Ord.cmp c.args.key old taken c.in-Some.ensures.updates.0) row
-          c.insert.new.self.entries c.in_ok-insert.ensures.updates.0 (ap left_of is ∙ none);
-      bound = rw (← c.in-Some.ensures.value) bound;
+      rows = rows_updated c.requires updates c.in_ok-fold_row.ensures.folded.is;
+      items = seen_changed updates g.met.K.Ord.total (λ items. items) found c.in_ok-fold_row.ensures.items;
+      folds = left_folded updates none;
+      bound = rw (← found) c.fold_row.ensures.bound;
     }

@@ -1,34 +1,46 @@
-use Rattle.std.proofs.Common.{◌∙◌, ap, length, Some, arith, inl, inr}
-use Rattle.st_opindex.specs.Items.{with_item}
-use Rattle.st_opindex.proofs.Keyed.{left_more, rows_updated, seen_changed}
+use Rattle.std.proofs.Common.{◌≡◌, ◌+◌, ◌≤◌, ◌⊎◌, length, Some, None, arith, rules, inl, inr}
+use Rattle.std.specs.BTreeMap.{is_at}
+use Rattle.std.specs.BTreeMap.Entry.{map_with_value}
+use Rattle.std.specs.Map.{lookup}
+use Rattle.st_opindex.specs.Items.{from, with_item}
+use Rattle.st_opindex.specs.Seen.{left_of}
+use Rattle.st_opindex.proofs.Keyed.{IsUpdated, left_more, row_found, rows_updated, seen_changed, updated_as}
 use Rattle.st_opindex.proofs.rows.put_item.Goals as goal
 
-pub returns-clause-rows : goal.returns-clause-rows
-returns-clause-rows g c =
-    rows_updated c.take_row.ensures.rows c.args.key (Some c.in_ok-new.field-0) c.insert.new.self.entries c.in_ok-insert.ensures.updates.0
-    (rw c.in_ok-new.ensures c.in_ok-row-2.ensures.row)
+pub put_row-requires : goal.put_row-requires
+put_row-requires g c =
+    let found : Some c.get_mut.result.now ≡ lookup (is_at (g.K.Ord.cmp c.args.key)) c.args.rows.now.entries = search rules in
+    row_found c.requires c.args.key c.get_mut.result.now found
 
-pub returns-clause-items : goal.returns-clause-items
-returns-clause-items g c =
-    seen_changed g.met.K.Ord.total c.args.key c.args.rows.now.entries c.take_row.new.rows.entries c.take_row.ensures.rest (with_item c.args.place c.args.item)
-    c.in_ok-new.field-0 c.insert.new.self.entries
-    (ap (λ row. row.items.items) c.in_ok-new.ensures ∙ c.in_ok-row-2.ensures.items ∙ ap (with_item c.args.place c.args.item) c.in_ok-row.ensures.items)
-    c.in_ok-insert.ensures.updates.0
+pub returns-in_ok-put_row-in-Occupied : goal.returns-in_ok-put_row-in-Occupied
+returns-in_ok-put_row-in-Occupied g c =
+    let order = g.met.K.Ord.total in
+    let place = c.args.place in
+    let old = c.args.rows.now.entries in
+    let was = c.get_mut.result.now in
+    let row = c.put_row.new.row in
+    let put = c.in_ok-put_row-in-Occupied.ensures in
+    let found : Some was ≡ lookup (is_at (g.K.Ord.cmp c.args.key)) old = search rules in
+    let is = row_found c.requires c.args.key was found in
+    let more : (left_of row + length was.items.items ≤ left_of was + length row.items.items) ⊎ (left_of row ≤ 7 + length (from place row.items.items)) =
+    elim put.left [
+      | inl same ↦ inl (omega (arith, same, is.within, put.row.within))
+      | inr few ↦ inr few
+    ] in
+    let written : IsUpdated g.K.Ord.cmp c.args.key (Some row) old (map_with_value c.in_ok-entry.field-0 row).entries =
+    record { each = (c.in_ok-entry.ensures.update.0 row).0 } in
+    let updates : IsUpdated g.K.Ord.cmp c.args.key (Some row) old _ = updated_as written (search rules) in
+    record {
+      rows = rows_updated c.requires updates put.row;
+      items = seen_changed updates order (with_item place c.args.item) found put.items;
+      left = left_more updates order place found more;
+    }
 
-pub returns-clause-left : goal.returns-clause-left
-returns-clause-left g c =
-    left_more g.K.Ord.cmp c.args.key c.args.rows.now.entries c.take_row.new.rows.entries c.take_row.ensures.folds c.in_ok-new.field-0 c.insert.new.self.entries
-    c.in_ok-insert.ensures.updates.0 g.met.K.Ord.total c.args.place
-    (elim c.in_ok-row-2.ensures.left [
-      | inl same ↦ inl (omega (
-        arith,
-        same,
-        c.in_ok-row.ensures.row.within,
-        c.in_ok-row-2.ensures.row.within,
-        ap length c.in_ok-row.ensures.items,
-        c.in_ok-row.ensures.left,
-        ap (λ row. row.done) c.in_ok-new.ensures,
-        ap (λ row. length row.items.items) c.in_ok-new.ensures,
-      ))
-      | inr few ↦ inr (rw c.in_ok-new.ensures few)
-    ])
+pub returns-in_ok-row-in-Vacant-clause-items : goal.returns-in_ok-row-in-Vacant-clause-items
+returns-in_ok-row-in-Vacant-clause-items g c =
+    let row = c.insert-row.result.now in
+    let old = c.args.rows.now.entries in
+    let missing : None ≡ lookup (is_at (g.K.Ord.cmp c.args.key)) old = search rules in
+    let written : IsUpdated g.K.Ord.cmp c.args.key (Some row) old (map_with_value c.in_ok-entry.field-0 row).entries =
+    record { each = (c.in_ok-entry.ensures.update.0 row).0 } in
+    seen_changed (updated_as written (search rules)) g.met.K.Ord.total (with_item c.args.place c.args.item) missing (search rules)
