@@ -10,7 +10,7 @@ ghost use Rattle.st_hash.specs.Hash.{IsCode, hash_of_with};
 use crate::document::KeptDocument;
 use st_base::{Copied, WantOfMemory};
 use st_canon::{PackedJson, write};
-use st_doc::{Delta, DeltaRefused, Document, PatchRefused, apply_all, check_delta};
+use st_doc::{Delta, DeltaRefused, Document, PatchRefused, apply_all, check_short_delta};
 use st_hash::{Hash, hash_with};
 use st_params::Params;
 use std::alloc::Global;
@@ -31,6 +31,8 @@ pub fn counted_delta(
     let Some(delta) = delta else {
         return Ok(None);
     };
+    // For proofs: the limits are those of their version.
+    let _version = params.version();
     // Its text is there, so one that is too long is neither hashed nor read.
     if delta.size() > params.max_delta() {
         return Ok(None);
@@ -39,7 +41,7 @@ pub fn counted_delta(
         return Ok(None);
     }
     let value = delta.unpack(alloc)?;
-    match check_delta(alloc, value, params) {
+    match check_short_delta(alloc, value, params) {
         Ok(delta) => Ok(Some(delta)),
         Err(DeltaRefused::TooLong) => Ok(None),
         Err(DeltaRefused::BadDelta) => Ok(None),

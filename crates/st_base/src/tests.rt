@@ -146,7 +146,8 @@ fn a_value_is_shared_and_boxed(rt: HostRuntime) -> Result<(), Fail> {
 
 fn is_shared_and_boxed(alloc: Global) -> Result<bool, WantOfMemory> {
     let shared = Shared::new(alloc, 7u64)?;
-    let boxed = Boxed::new(alloc, *shared.copy(alloc)?.get())?;
+    let mut boxed = Boxed::new(alloc, *shared.copy(alloc)?.get())?;
     let copied = boxed.copy(alloc)?;
-    Ok(*boxed.get() == 7 && copied.take() == 7)
+    *boxed.get_mut() = 8;
+    Ok(*boxed.get() == 8 && copied.take() == 7)
 }

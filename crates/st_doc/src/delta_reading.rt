@@ -28,9 +28,20 @@ const MAX_DEPTH: u64 = 64;
 pub fn check_delta(alloc: Global, value: Json, params: &Params) -> Result<Delta, DeltaRefused>
     ensures { GivesAs plain_delta refusal_of (delta_of params.now (plain value)) result }
 {
-    if !is_within_size(&value, params) {
-        return Err(DeltaRefused::TooLong);
+    if is_within_size(&value, params) {
+        check_short_delta(alloc, value, params)
+    } else {
+        Err(DeltaRefused::TooLong)
     }
+}
+
+/// The same of a value whose canonical text is known to be no longer than that of a delta may be. It isn't
+/// measured again.
+#[tactic(auto, unfolding(crate::specs::Delta::delta_of))]
+pub fn check_short_delta(alloc: Global, value: Json, params: &Params) -> Result<Delta, DeltaRefused>
+    requires { size_of (plain value) ≤ params.now.max_delta }
+    ensures { GivesAs plain_delta refusal_of (delta_of params.now (plain value)) result }
+{
     if !value.is_object_of(&["patches", "updateCommitment"]) {
         return Err(DeltaRefused::BadDelta);
     }

@@ -24,7 +24,7 @@ mod tests;
 
 pub use applying::apply_all;
 pub use delta::Delta;
-pub use delta_reading::check_delta;
+pub use delta_reading::{check_delta, check_short_delta};
 pub use document::Document;
 pub use patch::Patch;
 pub use refused::{DeltaRefused, DocumentRefused, PatchRefused};

@@ -115,6 +115,7 @@ fn create_asked(
     }
 }
 
+// The create of these parts.
 fn create_of(
     alloc: Global,
     parts: &CreateParts<'_>,
