@@ -6,6 +6,7 @@ use Rattle.std.specs.List.{AllByRecursion, sum_by}
 use Rattle.std.specs.Str.{IsUtf8}
 use Rattle.std.proofs.lemmas.List.Sums.{sum_by-cons}
 use Rattle.st_apply.specs.Counting.{counted}
+use Rattle.st_apply.proofs.LongLemmas.{longest_delta}
 use Rattle.st_base.proofs.Quantifiers.{each-weaker}
 use Rattle.st_canon.specs.Measure.{size_of}
 use Rattle.st_canon.specs.Plain.{Plain}
@@ -79,13 +80,9 @@ module _ (version : ℕ) where
       → IfSome there (λ delta. size_of delta ≤ 2000)
   counted_low delta_hash there some = low there (counted_size (limits_of version) delta_hash there some)
     where
-      most : (one : Bool) → (if one then 1000 else 2000) ≤ 2000
-      most true = omega arith
-      most false = omega arith
-
       low : (there : Option Plain) → IfSome there (λ delta. size_of delta ≤ in_version version 1000 2000) → IfSome there (λ delta. size_of delta ≤ 2000)
       low None short = tt
-      low (Some delta) short = omega (arith, short, most (version == 1))
+      low (Some delta) short = omega (arith, short, longest_delta version)
 
   entry_low : (there : Option Plain) → IfSome there (λ delta. size_of delta ≤ 2000) → entry_size there ≤ 5000
   entry_low None short = omega arith
