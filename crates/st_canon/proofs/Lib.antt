@@ -1,6 +1,7 @@
 -- Private: what the answers of this crate cite.
 mod AsciiNames
 mod BareLemmas
+mod BracketLemmas
 mod Compact
 mod Compared
 mod ContentLemmas

@@ -1,5 +1,6 @@
 -- How deep a plain value nests: a scalar and what is empty have depth 1.
-use Rattle.std.specs.Prelude.{ℕ, ◌+◌, max}
+use Rattle.std.specs.Prelude.{ℕ, ◌+◌, ◌==◌, Bool, ◌||◌, max, List}
+use Rattle.std.specs.List.{count_by}
 use Rattle.st_canon.specs.Plain.{Plain, null, boolean, whole, text, list, object, Items, no_items, item, Members, no_members, member}
 
 abbrev mutual
@@ -36,3 +37,13 @@ abbrev mutual
   pub members_nest : Members → ℕ
   members_nest no_members = 0
   members_nest (member k p ms) = max (nests p) (members_nest ms)
+
+-- ---- a bound by the text alone
+
+-- the bracket that begins a list, or the one that begins an object
+abbrev pub is_opening : ℕ → Bool
+is_opening byte = (byte == 91) || (byte == 123)
+
+-- how many of these stand in a text, those within its texts among them
+abbrev pub opening_count : List ℕ → ℕ
+opening_count bytes = count_by is_opening bytes

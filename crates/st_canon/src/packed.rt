@@ -7,6 +7,7 @@ use crate::counting::size;
 use crate::nesting::depth;
 use crate::part::Part;
 use crate::reading::read;
+use crate::scan::Scanned;
 use crate::value::Json;
 use crate::writing::write;
 use st_base::{Bytes, Copied, Shared, WantOfMemory};
@@ -112,6 +113,18 @@ impl PackedJson {
         match self.form.get() {
             Form::Text(text) => Some(text.as_slice()),
             Form::Within(part) => Some(part.as_slice()),
+            Form::Parts(_) => None,
+        }
+    }
+
+    /// The value, as it stands in its canonical text, where it is kept as that.
+    pub fn scanned(&self) -> Option<Scanned<'_>>
+        ensures value { IfSome result (λ scanned. scanned ≡ self.now) }
+        ensures proper { IfSome result (λ _. IsProper self.now) }
+    {
+        match self.form.get() {
+            Form::Text(text) => Some(Scanned::again(text.as_slice())),
+            Form::Within(part) => Some(Scanned::again(part.as_slice())),
             Form::Parts(_) => None,
         }
     }

@@ -2,6 +2,7 @@
 //! no tree is made of them. What a reader of a file or of a request looks at takes no memory then but the text.
 
 mod bare;
+mod brackets;
 mod content;
 mod cursor;
 mod entries;

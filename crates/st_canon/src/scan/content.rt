@@ -2,6 +2,7 @@ ghost use Rattle.std.specs.Prelude.{◌≡◌, ◌≢◌, ℕ, List, IfNone, IfO
 ghost use Rattle.std.specs.List.{flat_map};
 ghost use Rattle.st_canon.specs.Canonical.{escape};
 ghost use Rattle.st_canon.specs.Entries.{text_in};
+ghost use Rattle.st_canon.specs.Measure.{size_of};
 ghost use Rattle.st_canon.specs.Plain.{text};
 ghost use Rattle.st_canon.specs.View.{plain};
 ghost use Rattle.st_canon.specs.Standing.{IsText, value_of};
@@ -98,6 +99,13 @@ fn text_in(json: Json) -> Option<Text>
         Json::Text(text) => Some(text),
         _ => None,
     }
+}
+
+pub(crate) fn size(canonical: &[u8]) -> usize
+    requires { IsText canonical.now }
+    ensures { result ≡ size_of (value_of canonical.now) }
+{
+    canonical.len()
 }
 
 // The value, kept in little memory.

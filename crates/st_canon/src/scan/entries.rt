@@ -70,6 +70,13 @@ impl<'a> Entries<'a> {
         }
     }
 
+    /// The same entries once more, to be gone through beside these.
+    pub fn again(&self) -> Entries<'a>
+        ensures { result ≡ self.now }
+    {
+        Entries { left: self.left }
+    }
+
     /// How many are left.
     pub fn count(&self) -> usize
         ensures { result ≡ length self.now }

@@ -1,16 +1,20 @@
-ghost use Rattle.std.specs.Prelude.{◌≡◌, ◌≢◌, ℕ, List, IfOk, IfSome, IfNone, Some, is_some, map};
+ghost use Rattle.std.specs.Prelude.{◌≡◌, ◌≢◌, ◌≤◌, ℕ, List, IfOk, IfSome, IfNone, Some, is_some, map};
 ghost use Rattle.std.specs.List.{flat_map};
 ghost use Rattle.st_canon.specs.Canonical.{escape};
+ghost use Rattle.st_canon.specs.Depth.{depth_of};
 ghost use Rattle.st_canon.specs.Entries.{items_in, members_in, text_in};
+ghost use Rattle.st_canon.specs.Measure.{size_of};
 ghost use Rattle.st_canon.specs.ObjectsOfLists.{is_object_of_lists};
+ghost use Rattle.st_canon.specs.Packed.{IsReadAgain, value_read};
 ghost use Rattle.st_canon.specs.Plain.{text};
+ghost use Rattle.st_canon.specs.Reading.{json_of};
 ghost use Rattle.st_canon.specs.Shapes.{both_members, is_object_of, member_in, only_member};
 ghost use Rattle.st_canon.specs.Texts.{is_text_of};
 
 use crate::kept_text::KeptText;
 use crate::packed::PackedJson;
 use crate::scan::members_left::Members;
-use crate::scan::{content, kind, object};
+use crate::scan::{brackets, content, kind, object};
 use st_base::{Bytes, Shared, Text, WantOfMemory};
 use std::alloc::Global;
 use std::marker::Model;
@@ -36,6 +40,15 @@ impl<'a> Model for Scanned<'a> {
 }
 
 impl<'a> Scanned<'a> {
+    // The value whose canonical text this is.
+    #[tactic(auto, unfolding(crate::specs::Standing::value_of), using(crate::proofs::ReadLemmas::text_from_read))]
+    pub(crate) fn again(text: &'a [u8]) -> Scanned<'a>
+        requires { IsReadAgain text.now }
+        ensures { result ≡ value_read (json_of text.now) }
+    {
+        Scanned { text }
+    }
+
     /// Whether it is a text.
     pub fn is_text(&self) -> bool
         ensures { result ≡ is_some (text_in self.now) }
@@ -152,6 +165,20 @@ impl<'a> Scanned<'a> {
         ensures { result ≡ is_object_of_lists (map (λ n. n.now) names.now) (Some self.now) }
     {
         object::is_object_of_lists(self.text, names)
+    }
+
+    /// The length of its canonical text.
+    pub fn size(&self) -> usize
+        ensures { result ≡ size_of self.now }
+    {
+        content::size(self.text)
+    }
+
+    /// How deep it nests at most, counted as by [`depth`](crate::depth), by the brackets that stand in its text.
+    pub fn depth_bound(&self) -> usize
+        ensures { depth_of self.now ≤ result }
+    {
+        brackets::depth_bound(self.text)
     }
 
     /// The same value, kept in little memory.

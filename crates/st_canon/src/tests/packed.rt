@@ -52,6 +52,19 @@ fn a_delta_is_kept_as_its_text(rt: HostRuntime) -> Result<(), Fail> {
     Ok(())
 }
 
+// Two brackets open in it, so it nests three deep at most.
+#[test]
+fn a_delta_is_scanned_where_it_is_kept(rt: HostRuntime) -> Result<(), Fail> {
+    let value = read(rt.alloc(), DELTA.as_bytes())?;
+    let packed = packed_copy(&rt, &value)?;
+    let Some(delta) = packed.scanned() else {
+        return Err(Fail::from("no text"));
+    };
+    assert!(rt; delta.is_object_of(&["patches", "updateCommitment"]));
+    assert!(rt; delta.size() == 82 && delta.depth_bound() == 3);
+    Ok(())
+}
+
 // No text with more than 127 open brackets is read.
 #[test]
 fn a_value_of_any_depth_comes_out_again(rt: HostRuntime) -> Result<(), Fail> {

@@ -105,7 +105,7 @@ fn lists(alloc: Global, list: &str, lines: &str, count: usize) -> bool {
     match CanonicalText::read_json(alloc, list.as_bytes()) {
         Ok(Some(text)) => {
             let mut entries = entries_in(Some(text.root()));
-            entries.count() == count && are(&mut entries, lines)
+            entries.count() == count && are(&mut entries.again(), lines) && are(&mut entries, lines)
         }
         _ => false,
     }
