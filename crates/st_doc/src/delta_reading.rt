@@ -17,7 +17,7 @@ use st_hash::{Hash, read_hash_at};
 use st_params::Params;
 use std::alloc::Global;
 
-const MAX_DEPTH: u64 = 64;
+pub(crate) const MAX_DEPTH: u64 = 64;
 
 /// The delta at these parameters that this value is. The value is taken over: keys, services and
 /// documents in it are moved and not copied.

@@ -7,17 +7,17 @@ ghost use Rattle.st_doc.specs.Entries.{is_base64url_sign, is_id, is_id_text, is_
 use st_canon::Json;
 
 /// 1 to so many bytes.
-fn is_short(text: &str, most: usize) -> bool
-    ensures { result ≡ is_short most text.now }
+pub(crate) fn is_short(bytes: &[u8], most: usize) -> bool
+    ensures { result ≡ is_short most bytes.now }
 {
-    1 <= text.len() && text.len() <= most
+    1 <= bytes.len() && bytes.len() <= most
 }
 
 /// 1 to 50 signs of base64url.
-pub(crate) fn is_id(text: &str) -> bool
-    ensures { result ≡ is_id text.now }
+pub(crate) fn is_id(bytes: &[u8]) -> bool
+    ensures { result ≡ is_id bytes.now }
 {
-    is_short(text, 50) && are_base64url_signs(text.as_bytes())
+    is_short(bytes, 50) && are_base64url_signs(bytes)
 }
 
 fn are_base64url_signs(bytes: &[u8]) -> bool
@@ -41,7 +41,7 @@ fn is_base64url_sign(byte: u8) -> bool
 pub(crate) fn is_name(text: &str) -> bool
     ensures { result ≡ is_name text.now }
 {
-    is_short(text, 100)
+    is_short(text.as_bytes(), 100)
 }
 
 /// Whether a text of 1 to so many bytes is there.
@@ -49,7 +49,7 @@ pub(crate) fn is_short_text(there: Option<&Json>, most: usize) -> bool
     ensures { result ≡ is_short_text most (option_map plain (option_copied there.entry)) }
 {
     match there {
-        Some(Json::Text(text)) => is_short(text.as_str(), most),
+        Some(Json::Text(text)) => is_short(text.as_str().as_bytes(), most),
         _ => false,
     }
 }
@@ -60,7 +60,7 @@ pub(crate) fn is_short_text_if_there(there: Option<&Json>, most: usize) -> bool
 {
     match there {
         None => true,
-        Some(Json::Text(text)) => is_short(text.as_str(), most),
+        Some(Json::Text(text)) => is_short(text.as_str().as_bytes(), most),
         Some(_) => false,
     }
 }
@@ -70,7 +70,7 @@ pub(crate) fn is_id_text(there: Option<&Json>) -> bool
     ensures { result ≡ is_id_text (option_map plain (option_copied there.entry)) }
 {
     match there {
-        Some(Json::Text(text)) => is_id(text.as_str()),
+        Some(Json::Text(text)) => is_id(text.as_str().as_bytes()),
         _ => false,
     }
 }

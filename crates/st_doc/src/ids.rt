@@ -11,7 +11,7 @@ use std::collections::BTreeSet;
 
 // From so many texts on, a set tells whether one stands twice. Fewer are compared with one another,
 // which takes no memory.
-const MANY: usize = 8;
+pub(crate) const MANY: usize = 8;
 
 /// The id of a key or a service; of what has none, the empty text.
 pub(crate) fn id_of(entry: &Json) -> &str

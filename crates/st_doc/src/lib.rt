@@ -18,6 +18,7 @@ mod patch_reading;
 mod reading;
 mod refused;
 mod service;
+mod sight;
 mod taking;
 #[cfg(test)]
 mod tests;
@@ -28,3 +29,4 @@ pub use delta_reading::{check_delta, check_short_delta};
 pub use document::Document;
 pub use patch::Patch;
 pub use refused::{DeltaRefused, DocumentRefused, PatchRefused};
+pub use sight::is_delta_at_sight;

@@ -217,7 +217,7 @@ fn are_ids(texts: &[Text]) -> bool
     ensures { result ≡ list_all is_id texts.now }
 {
     for text in texts {
-        if !is_id(text.as_str()) {
+        if !is_id(text.as_str().as_bytes()) {
             return false;
         }
     }

@@ -1,6 +1,7 @@
 mod applied;
 mod bounds;
 mod forms;
+mod sight;
 
 use crate::{Delta, DeltaRefused, Document, PatchRefused, apply_all, check_delta};
 use st_base::{Copied, read_number};
