@@ -1,24 +1,26 @@
-ghost use Rattle.std.specs.Prelude.{◌≡◌, IfOk, IfSome, OnOk, option_map};
+ghost use Rattle.std.specs.Prelude.{◌≡◌, ◌≤◌, true, false, is_some, IfOk, IfSome, IsTrue, None, OnOk, Some, option_map};
+ghost use Rattle.std.specs.Result.{result_ok};
 ghost use Rattle.st_apply.specs.Counting.{change_by, counted};
 ghost use Rattle.st_apply.specs.Step.{changed};
 ghost use Rattle.st_canon.specs.Canonical.{canonical};
+ghost use Rattle.st_canon.specs.Measure.{size_of};
 ghost use Rattle.st_canon.specs.Proper.{IsProper};
-ghost use Rattle.st_doc.specs.Delta.{plain_delta};
+ghost use Rattle.st_doc.specs.Delta.{delta_of, plain_delta};
 ghost use Rattle.st_doc.specs.Document.{empty_document};
 ghost use Rattle.st_hash.specs.Hash.{IsCode, hash_of_with};
 
 use crate::document::KeptDocument;
 use st_base::{Copied, WantOfMemory};
 use st_canon::{PackedJson, write};
-use st_doc::{Delta, DeltaRefused, Document, PatchRefused, apply_all, check_short_delta};
+use st_doc::{
+    Delta, DeltaRefused, Document, PatchRefused, apply_all, check_short_delta, is_delta_at_sight,
+};
 use st_hash::{Hash, hash_with};
 use st_params::Params;
 use std::alloc::Global;
 
-/// The delta, where it counts for the delta hash: one is there, its hash is the delta hash, and it is a
-/// delta at these limits. That is after DIF Sidetree v1.0.0, "Operation Compilation"; the rules are this
-/// project's own.
-pub fn counted_delta(
+// The delta, where it counts for the delta hash.
+pub(crate) fn counted_delta(
     alloc: Global,
     params: &Params,
     delta_hash: &Hash,
@@ -31,15 +33,80 @@ pub fn counted_delta(
     let Some(delta) = delta else {
         return Ok(None);
     };
+    if !may_count(alloc, params, delta_hash, delta)? {
+        return Ok(None);
+    }
+    read_short(alloc, params, delta)
+}
+
+/// Whether the delta counts for the delta hash: one is there, its hash is the delta hash, and it is a delta at
+/// these limits. That is after DIF Sidetree v1.0.0, "Operation Compilation"; the rules are this project's own.
+/// One that is seen to be a delta in its text isn't read.
+pub fn counts_for(
+    alloc: Global,
+    params: &Params,
+    delta_hash: &Hash,
+    delta: &Option<PackedJson>,
+) -> Result<bool, WantOfMemory>
+    ensures value { IfOk result (λ counts. counts ≡ is_some (counted params.now delta_hash.now delta.now)) }
+    ensures proper { IfOk result (λ counts. counts ≡ true → IfSome delta.now IsProper) }
+{
+    let Some(delta) = delta else {
+        return Ok(false);
+    };
+    if !may_count(alloc, params, delta_hash, delta)? {
+        return Ok(false);
+    }
+    if is_seen(params, delta) {
+        return Ok(true);
+    }
+    let read = read_short(alloc, params, delta)?;
+    Ok(read.is_some())
+}
+
+// Whether the delta is no longer than one may be and has this delta hash, so that it counts where it is one.
+fn may_count(
+    alloc: Global,
+    params: &Params,
+    delta_hash: &Hash,
+    delta: &PackedJson,
+) -> Result<bool, WantOfMemory>
+    ensures no { IfOk result (λ may. may ≡ false → counted params.now delta_hash.now (Some delta.now) ≡ None) }
+    ensures yes { IfOk result (λ may. may ≡ true → counted params.now delta_hash.now (Some delta.now) ≡ result_ok (delta_of params.now delta.now)) }
+    ensures short { IfOk result (λ may. may ≡ true → size_of delta.now ≤ params.now.max_delta) }
+    ensures proper { IfOk result (λ may. may ≡ true → IsProper delta.now) }
+{
     // For proofs: the limits are those of their version.
     let _version = params.version();
     // Its text is there, so one that is too long is neither hashed nor read.
     if delta.size() > params.max_delta() {
-        return Ok(None);
+        return Ok(false);
     }
     if hash_of_delta(alloc, delta, delta_hash.code())? != *delta_hash {
-        return Ok(None);
+        return Ok(false);
     }
+    Ok(true)
+}
+
+// Whether it is seen in its text that it is a delta.
+fn is_seen(params: &Params, delta: &PackedJson) -> bool
+    ensures { IsTrue result → is_some (result_ok (delta_of params.now delta.now)) ≡ true }
+{
+    match delta.scanned() {
+        Some(scanned) => is_delta_at_sight(&scanned, params),
+        None => false,
+    }
+}
+
+// The delta that it is.
+fn read_short(
+    alloc: Global,
+    params: &Params,
+    delta: &PackedJson,
+) -> Result<Option<Delta>, WantOfMemory>
+    requires { size_of delta.now ≤ params.now.max_delta }
+    ensures { IfOk result (λ found. option_map plain_delta found ≡ result_ok (delta_of params.now delta.now)) }
+{
     let value = delta.unpack(alloc)?;
     match check_short_delta(alloc, value, params) {
         Ok(delta) => Ok(Some(delta)),

@@ -14,7 +14,7 @@ mod state;
 mod tests;
 
 pub use applying::{apply, reveals};
-pub use counting::counted_delta;
+pub use counting::counts_for;
 pub use laws::{alike_law, anchored_law, given_law, resolution_laws};
 pub use opening::{StateParts, open_applied, open_created};
 pub use state::DidState;

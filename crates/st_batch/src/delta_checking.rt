@@ -1,14 +1,11 @@
-ghost use Rattle.std.specs.Prelude.{◌≡◌, true, is_some, IfOk, IfSome};
-ghost use Rattle.st_apply.specs.Counting.{counted};
+ghost use Rattle.std.specs.Prelude.{◌≡◌, true, IfOk, IfSome};
 ghost use Rattle.st_batch.specs.Fits.{delta_counts, has_right_delta};
 ghost use Rattle.st_canon.specs.Proper.{IsProper};
 ghost use Rattle.st_ops.specs.Operation.{plain_operation};
 ghost use Rattle.st_ops.specs.RequestText.{delta_there};
 
-use st_apply::counted_delta;
+use st_apply::counts_for;
 use st_base::WantOfMemory;
-use st_canon::PackedJson;
-use st_hash::Hash;
 use st_ops::{Claim, Operation, claim_of};
 use st_params::Params;
 use std::alloc::Global;
@@ -39,29 +36,15 @@ fn delta_counts(
 {
     match (operation, claim) {
         (Operation::Create { suffix_data, delta }, _) => {
-            counts(alloc, &suffix_data.delta_hash, delta, params)
+            counts_for(alloc, params, &suffix_data.delta_hash, delta)
         }
         (Operation::Update { delta, .. }, Some(Claim::Update { delta_hash })) => {
-            counts(alloc, delta_hash, delta, params)
+            counts_for(alloc, params, delta_hash, delta)
         }
         (Operation::Recover { delta, .. }, Some(Claim::Recover { delta_hash, .. })) => {
-            counts(alloc, delta_hash, delta, params)
+            counts_for(alloc, params, delta_hash, delta)
         }
         (Operation::Deactivate { .. }, _) => Ok(true),
         _ => Ok(false),
     }
-}
-
-// Whether the delta counts for the delta hash.
-fn counts(
-    alloc: Global,
-    delta_hash: &Hash,
-    delta: &Option<PackedJson>,
-    params: &Params,
-) -> Result<bool, WantOfMemory>
-    ensures value { IfOk result (λ counts. counts ≡ is_some (counted params.now delta_hash.now delta.now)) }
-    ensures proper { IfOk result (λ counts. counts ≡ true → IfSome delta.now IsProper) }
-{
-    let counted = counted_delta(alloc, params, delta_hash, delta)?;
-    Ok(counted.is_some())
 }

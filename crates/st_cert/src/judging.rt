@@ -11,7 +11,7 @@ ghost use Rattle.st_ops.specs.Operation.{plain_operation};
 ghost use Rattle.st_params.specs.Limits.{Limits};
 
 use crate::verdict::Verdict;
-use st_apply::{StateParts, counted_delta, reveals};
+use st_apply::{StateParts, counts_for, reveals};
 use st_base::WantOfMemory;
 use st_canon::PackedJson;
 use st_hash::Hash;
@@ -138,8 +138,7 @@ fn judge_update(
     if !reveals(reveal, commitment) {
         return Ok(Verdict::WrongReveal);
     }
-    let counted = counted_delta(alloc, params, delta_hash, delta)?;
-    if counted.is_some() {
+    if counts_for(alloc, params, delta_hash, delta)? {
         Ok(Verdict::Updated)
     } else {
         Ok(Verdict::BadDelta)

@@ -1,7 +1,7 @@
 //! Resolution from nothing as a person follows it: by searches over all operations, from the first
 //! create along recovers and deactivates, and then along the updates behind the last of these.
 
-use crate::counting::counted_delta;
+use crate::counting::counts_for;
 use crate::{DidState, StateParts, apply};
 use st_base::{WantOfMemory, Work};
 use st_hash::Hash;
@@ -37,8 +37,8 @@ fn is_update_for(
     let claim = claim_of(alloc, operation, params)?;
     match &claim {
         Some(Claim::Update { delta_hash }) => {
-            let counted = counted_delta(alloc, params, delta_hash, delta)?;
-            Ok(counted.is_some() && meets(reveal, commitment))
+            let counts = counts_for(alloc, params, delta_hash, delta)?;
+            Ok(counts && meets(reveal, commitment))
         }
         _ => Ok(false),
     }
