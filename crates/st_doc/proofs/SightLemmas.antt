@@ -1,6 +1,6 @@
 -- What is seen of a delta that is scanned, part by part, makes it a delta.
 use Rattle.std.proofs.Common.{◌≡◌, ◌∙◌, ℕ, ◌+◌, ◌≤◌, Bool, true, false, nat_le, List, [], ◌∷◌, codes, map, Option, Some, None, Result, Ok, Err, refl, sym, ap, subst, arith}
-use Rattle.std.specs.Prelude.{◌&&◌, ◌||◌, if◌then◌else◌, is_some, ok_or, option_and_then, bytes_eq}
+use Rattle.std.specs.Prelude.{◌&&◌, ◌||◌, if◌then◌else◌, is_some, ok_or, option_and_then}
 use Rattle.std.specs.List.{list_all}
 use Rattle.std.specs.Result.{result_ok}
 use Rattle.std.proofs.lemmas.Bool.{and_from, and_parts}
@@ -44,6 +44,15 @@ object_of (whole z) ms e = absurd cc
 object_of (text t) ms e = absurd cc
 object_of (list ps) ms e = absurd cc
 object_of (object os) ms e = cc
+
+-- the object of these two members, in this order
+abbrev two : List ℕ → Plain → List ℕ → Plain → Plain
+two first one second other = object (member first one (member second other no_members))
+
+two_in_turn : (p one other : Plain) (first second : List ℕ) (all after : Members) → members_in p ≡ Some all
+    → all ≡ member first one after → after ≡ member second other no_members → p ≡ two first one second other
+two_in_turn p one other first second all after of begin end =
+    object_of p all of ∙ ap object (begin ∙ ap (member first one) end)
 
 text_named : (word : List ℕ) (p : Plain) → is_text_of word p ≡ true → p ≡ text word
 text_named word null e = absurd cc
@@ -89,21 +98,21 @@ module _ (limits : Limits) where
       rw (or_true (may_have_names limits.version), are, serve, keys_once, services_once) refl
 
   formed : (ks ss : Items)
-      → has_document_form limits.version (object (member (codes "publicKeys") (list ks) (member (codes "services") (list ss) no_members))) ≡ true
+      → has_document_form limits.version (two (codes "publicKeys") (list ks) (codes "services") (list ss)) ≡ true
   unfolding has_document_form
   formed ks ss = refl
 
   same_json : (ks ss : Items)
       → document_json (record { keys = entries ks; services = entries ss; names = [] })
-      ≡ object (member (codes "publicKeys") (list ks) (member (codes "services") (list ss) no_members))
+      ≡ two (codes "publicKeys") (list ks) (codes "services") (list ss)
   unfolding names_on_literals some_list put_some
   same_json ks ss = rw (items_again ks, items_again ss) refl
 
   document_of_keys : (ks : Items) (services : Plain) → is_some (items_in services) ≡ true
       → list_all is_key (entries ks) ≡ true → list_all is_service (entries_in (Some services)) ≡ true
       → none_twice (map id_of (entries ks)) ≡ true → none_twice (map id_of (entries_in (Some services))) ≡ true
-      → fits limits.max_depth limits.max_document (object (member (codes "publicKeys") (list ks) (member (codes "services") services no_members))) ≡ true
-      → is_some (result_ok (document_of limits (object (member (codes "publicKeys") (list ks) (member (codes "services") services no_members))))) ≡ true
+      → fits limits.max_depth limits.max_document (two (codes "publicKeys") (list ks) (codes "services") services) ≡ true
+      → is_some (result_ok (document_of limits (two (codes "publicKeys") (list ks) (codes "services") services))) ≡ true
   document_of_keys ks null are each serve keys_once services_once small = absurd cc
   document_of_keys ks (boolean b) are each serve keys_once services_once small = absurd cc
   document_of_keys ks (whole z) are each serve keys_once services_once small = absurd cc
@@ -117,8 +126,8 @@ module _ (limits : Limits) where
   document_of_lists : (keys services : Plain) → is_some (items_in keys) ≡ true → is_some (items_in services) ≡ true
       → list_all is_key (entries_in (Some keys)) ≡ true → list_all is_service (entries_in (Some services)) ≡ true
       → none_twice (map id_of (entries_in (Some keys))) ≡ true → none_twice (map id_of (entries_in (Some services))) ≡ true
-      → fits limits.max_depth limits.max_document (object (member (codes "publicKeys") keys (member (codes "services") services no_members))) ≡ true
-      → is_some (result_ok (document_of limits (object (member (codes "publicKeys") keys (member (codes "services") services no_members))))) ≡ true
+      → fits limits.max_depth limits.max_document (two (codes "publicKeys") keys (codes "services") services) ≡ true
+      → is_some (result_ok (document_of limits (two (codes "publicKeys") keys (codes "services") services))) ≡ true
   document_of_lists null services is are each serve keys_once services_once small = absurd cc
   document_of_lists (boolean b) services is are each serve keys_once services_once small = absurd cc
   document_of_lists (whole z) services is are each serve keys_once services_once small = absurd cc
@@ -135,8 +144,7 @@ module _ (limits : Limits) where
       → none_twice (map id_of (entries_in (Some keys))) ≡ true → none_twice (map id_of (entries_in (Some services))) ≡ true
       → is_some (result_ok (document_of limits value)) ≡ true
   whole_document_seen value keys services all after of first second small is are each serve keys_once services_once =
-      let whole : value ≡ object (member (codes "publicKeys") keys (member (codes "services") services no_members)) =
-      object_of value all of ∙ ap object (first ∙ ap (member (codes "publicKeys") keys) second) in
+      let whole = two_in_turn value keys services (codes "publicKeys") (codes "services") all after of first second in
       subst (λ p. is_some (result_ok (document_of limits p)) ≡ true) (sym whole)
       (document_of_lists keys services is are each serve keys_once services_once
       (subst (λ p. fits limits.max_depth limits.max_document p ≡ true) whole small))
@@ -146,7 +154,7 @@ module _ (limits : Limits) where
 module _ (limits : Limits) where
   keys_of_list : (keys : Plain) → is_some (items_in keys) ≡ true → list_all is_key (entries_in (Some keys)) ≡ true
       → none_twice (map id_of (entries_in (Some keys))) ≡ true
-      → is_some (patch_of limits (object (member (codes "action") (text (codes "add-public-keys")) (member (codes "publicKeys") keys no_members)))) ≡ true
+      → is_some (patch_of limits (two (codes "action") (text (codes "add-public-keys")) (codes "publicKeys") keys)) ≡ true
   unfolding patch_of
   keys_of_list null is each once = absurd cc
   keys_of_list (boolean b) is each once = absurd cc
@@ -157,7 +165,7 @@ module _ (limits : Limits) where
 
   services_of_list : (services : Plain) → is_some (items_in services) ≡ true → list_all is_service (entries_in (Some services)) ≡ true
       → none_twice (map id_of (entries_in (Some services))) ≡ true
-      → is_some (patch_of limits (object (member (codes "action") (text (codes "add-services")) (member (codes "services") services no_members)))) ≡ true
+      → is_some (patch_of limits (two (codes "action") (text (codes "add-services")) (codes "services") services)) ≡ true
   unfolding patch_of
   services_of_list null is each once = absurd cc
   services_of_list (boolean b) is each once = absurd cc
@@ -183,7 +191,7 @@ module _ (limits : Limits) where
       rw (object_of patch all of, first, second, text_named (codes "add-services") action named) (services_of_list services is each once)
 
   replaced : (document : Plain) → is_some (result_ok (document_of limits document)) ≡ true
-      → is_some (patch_of limits (object (member (codes "action") (text (codes "replace")) (member (codes "document") document no_members)))) ≡ true
+      → is_some (patch_of limits (two (codes "action") (text (codes "replace")) (codes "document") document)) ≡ true
   unfolding patch_of
   replaced document is = is_replaced (result_ok (document_of limits document)) is
     where
@@ -228,12 +236,12 @@ within n most le = grind (arith, nat_tests)
 
 module _ (limits : Limits) where
   delta_of_members : (patches update : Plain)
-      → size_of (object (member (codes "patches") patches (member (codes "updateCommitment") update no_members))) ≤ limits.max_delta
-      → depth_of (object (member (codes "patches") patches (member (codes "updateCommitment") update no_members))) ≤ 64
+      → size_of (two (codes "patches") patches (codes "updateCommitment") update) ≤ limits.max_delta
+      → depth_of (two (codes "patches") patches (codes "updateCommitment") update) ≤ 64
       → is_some (items_in patches) ≡ true
       → is_some (option_and_then (hash_of_text_at limits.version) (text_in update)) ≡ true
       → list_all (λ patch. is_some (patch_of limits patch)) (entries_in (Some patches)) ≡ true
-      → is_some (result_ok (delta_of limits (object (member (codes "patches") patches (member (codes "updateCommitment") update no_members))))) ≡ true
+      → is_some (result_ok (delta_of limits (two (codes "patches") patches (codes "updateCommitment") update))) ≡ true
   unfolding delta_of
   delta_of_members null update sized shallow is hash each = absurd cc
   delta_of_members (boolean b) update sized shallow is hash each = absurd cc
@@ -253,7 +261,6 @@ module _ (limits : Limits) where
       → list_all (λ patch. is_some (patch_of limits patch)) (entries_in (Some patches)) ≡ true
       → is_some (result_ok (delta_of limits delta)) ≡ true
   delta_seen delta patches update all after of first second sized shallow is hash each =
-      let whole : delta ≡ object (member (codes "patches") patches (member (codes "updateCommitment") update no_members)) =
-      object_of delta all of ∙ ap object (first ∙ ap (member (codes "patches") patches) second) in
+      let whole = two_in_turn delta patches update (codes "patches") (codes "updateCommitment") all after of first second in
       subst (λ p. is_some (result_ok (delta_of limits p)) ≡ true) (sym whole)
       (delta_of_members patches update (subst (λ p. size_of p ≤ limits.max_delta) whole sized) (subst (λ p. depth_of p ≤ 64) whole shallow) is hash each)
