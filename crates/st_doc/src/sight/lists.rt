@@ -5,7 +5,6 @@ ghost use Rattle.st_canon.specs.Shapes.{entries_in};
 ghost use Rattle.st_doc.specs.Alike.{none_twice};
 ghost use Rattle.st_doc.specs.Entries.{id_of, is_key, is_service};
 
-use crate::sight::ids::few_ids_stand_once;
 use crate::sight::key::are_keys_at_sight;
 use crate::sight::service::are_services_at_sight;
 use st_canon::scan::{Scanned, entries_in};
@@ -19,8 +18,7 @@ pub(crate) fn are_new_keys(value: Scanned<'_>) -> bool
     if !value.is_list() {
         return false;
     }
-    let keys = entries_in(Some(value));
-    are_keys_at_sight(keys.again()) && few_ids_stand_once(keys)
+    are_keys_at_sight(entries_in(Some(value)))
 }
 
 // Whether it is a list of services, none with the id of another.
@@ -32,6 +30,5 @@ pub(crate) fn are_new_services(value: Scanned<'_>) -> bool
     if !value.is_list() {
         return false;
     }
-    let services = entries_in(Some(value));
-    are_services_at_sight(services.again()) && few_ids_stand_once(services)
+    are_services_at_sight(entries_in(Some(value)))
 }

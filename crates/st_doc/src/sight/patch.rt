@@ -31,18 +31,20 @@ fn is_patch_at_sight(patch: &Scanned<'_>, params: &Params) -> bool
     let Some(action) = members.next_named("action") else {
         return false;
     };
-    if let Some(keys) = members.next_named("publicKeys") {
-        return members.is_empty() && action.is_text_of("add-public-keys") && are_new_keys(keys);
+    if action.is_text_of("add-public-keys") {
+        return match members.next_named("publicKeys") {
+            Some(keys) => members.is_empty() && are_new_keys(keys),
+            None => false,
+        };
     }
-    if let Some(services) = members.next_named("services") {
-        return members.is_empty()
-            && action.is_text_of("add-services")
-            && are_new_services(services);
+    if action.is_text_of("add-services") {
+        return match members.next_named("services") {
+            Some(services) => members.is_empty() && are_new_services(services),
+            None => false,
+        };
     }
-    if let Some(document) = members.next_named("document") {
-        return members.is_empty()
-            && action.is_text_of("replace")
-            && is_document_at_sight(&document, params);
-    }
-    false
+    let Some(document) = members.next_named("document") else {
+        return false;
+    };
+    members.is_empty() && action.is_text_of("replace") && is_document_at_sight(&document, params)
 }

@@ -1,35 +1,47 @@
-ghost use Rattle.std.specs.Prelude.{◌≡◌, true, codes, IfSome, IsTrue, Some};
+ghost use Rattle.std.specs.Prelude.{◌≡◌, true, codes, map, IfSome, IsTrue, Some};
 ghost use Rattle.std.specs.List.{list_all};
 ghost use Rattle.st_canon.specs.Shapes.{is_object_of, member_in};
-ghost use Rattle.st_doc.specs.Entries.{is_endpoint, is_service, service_names};
+ghost use Rattle.st_doc.specs.Alike.{none_twice};
+ghost use Rattle.st_doc.specs.Entries.{id_of, is_endpoint, is_service, service_names};
 
-use crate::sight::texts::{is_id_at_sight, is_short_at_sight};
+use crate::ids::MANY;
+use crate::sight::ids::may_have_id;
+use crate::sight::texts::{id_at_sight, is_short_at_sight};
 use st_canon::scan::{Entries, Scanned};
 
-// Whether each of these is seen to be a service.
+// Whether each of these is seen to be a service, and none has the id of another. Of more than a few nothing is seen:
+// a set tells it in less time.
 pub(crate) fn are_services_at_sight(services: Entries<'_>) -> bool
-    ensures { IsTrue result → list_all is_service services.entry ≡ true }
+    ensures services { IsTrue result → list_all is_service services.entry ≡ true }
+    ensures ids { IsTrue result → none_twice (map id_of services.entry) ≡ true }
 {
     let mut left = services;
+    let mut room = MANY;
     'services: while let Some(service) = left.next() {
-        if !is_service_at_sight(&service) {
+        let Some(id) = service_at_sight(&service) else {
+            return false;
+        };
+        if room == 0 || may_have_id(left.again(), id) {
             return false;
         }
+        room -= 1;
     }
     true
 }
 
-// Whether it is a service whose members come in turn.
+// The id of a service whose members come in turn.
 #[tactic(auto, unfolding(crate::specs::Entries::is_service))]
-fn is_service_at_sight(service: &Scanned<'_>) -> bool
-    ensures { IsTrue result → is_service service.now ≡ true }
+fn service_at_sight<'a>(service: &Scanned<'a>) -> Option<&'a [u8]>
+    ensures is { IfSome result (λ _. is_service service.now ≡ true) }
+    ensures id { IfSome result (λ id. id_of service.now ≡ id.now) }
 {
-    let Some(parts) = parts_in_turn(service) else {
-        return false;
-    };
-    is_id_at_sight(&parts.id)
-        && is_endpoint_at_sight(&parts.endpoint)
-        && is_short_at_sight(&parts.kind, 30)
+    let ServiceParts { id, endpoint, kind } = parts_in_turn(service)?;
+    let id = id_at_sight(&id)?;
+    if is_endpoint_at_sight(&endpoint) && is_short_at_sight(&kind, 30) {
+        Some(id)
+    } else {
+        None
+    }
 }
 
 #[derive(Drop)]

@@ -1,4 +1,5 @@
-ghost use Rattle.std.specs.Prelude.{◌≡◌, true, IsTrue, Some};
+ghost use Rattle.std.specs.Prelude.{◌≡◌, true, IfSome, IsTrue, Some};
+ghost use Rattle.st_canon.specs.Entries.{text_in};
 ghost use Rattle.st_doc.specs.Entries.{is_id_text, is_short_text};
 
 use crate::forms::{is_id, is_short};
@@ -16,12 +17,11 @@ pub(crate) fn is_short_at_sight(value: &Scanned<'_>, most: usize) -> bool
     }
 }
 
-// Whether it is an id. Of such JSON escapes nothing.
-pub(crate) fn is_id_at_sight(value: &Scanned<'_>) -> bool
-    ensures { IsTrue result → is_id_text (Some value.now) ≡ true }
+// The id that it is. Of such JSON escapes nothing.
+pub(crate) fn id_at_sight<'a>(value: &Scanned<'a>) -> Option<&'a [u8]>
+    ensures is { IfSome result (λ _. is_id_text (Some value.now) ≡ true) }
+    ensures value { IfSome result (λ id. text_in value.now ≡ Some id.now) }
 {
-    match value.bare_text() {
-        Some(bytes) => is_id(bytes),
-        None => false,
-    }
+    let text = value.bare_text()?;
+    if is_id(text) { Some(text) } else { None }
 }
