@@ -3,45 +3,43 @@ use Rattle.std.proofs.Common.{◌≡◌, ℕ, ◌+◌, ◌≤◌, List, [], ◌�
 use Rattle.std.specs.Prelude.{Bool, true, false, cond}
 use Rattle.std.proofs.lemmas.List.Sums.{sum_by-append, sum_by-cons}
 use Rattle.st_canon.specs.Canonical.{canonical, canonical_items, canonical_members, comma, quoted}
-use Rattle.st_canon.specs.Depth.{depth_of, items_depth, members_depth, is_opening, opening_count}
+use Rattle.st_canon.specs.Depth.{depth_of, items_depth, members_depth, opening_count}
 use Rattle.st_canon.specs.Plain.{Plain, null, boolean, whole, text, list, object, Items, no_items, item, Members, no_members, member}
 use Rattle.st_canon.specs.Standing.{IsText, value_of}
-
-counted : ℕ → ℕ
-counted byte = cond (is_opening byte) 1 0
+use Rattle.st_canon.specs.Walk.{opens}
 
 joined : (xs ys : List ℕ) → opening_count (xs ++ ys) ≡ opening_count xs + opening_count ys
-joined xs ys = sum_by-append (λ byte. cond (is_opening byte) 1 0) xs ys
+joined xs ys = sum_by-append (λ byte. cond (opens byte) 1 0) xs ys
 
 behind : (byte : ℕ) (xs : List ℕ) → opening_count xs ≤ opening_count (byte ∷ xs)
-behind byte xs = omega (arith, sum_by-cons (λ byte. cond (is_opening byte) 1 0) byte xs)
+behind byte xs = omega (arith, sum_by-cons (λ byte. cond (opens byte) 1 0) byte xs)
 
 within_list : (xs : List ℕ) → opening_count xs + 1 ≤ opening_count (91 ∷ (xs ++ 93 ∷ []))
-within_list xs = omega (arith, sum_by-cons (λ byte. cond (is_opening byte) 1 0) 91 (xs ++ 93 ∷ []), joined xs (93 ∷ []))
+within_list xs = omega (arith, sum_by-cons (λ byte. cond (opens byte) 1 0) 91 (xs ++ 93 ∷ []), joined xs (93 ∷ []))
 
 within_object : (xs : List ℕ) → opening_count xs + 1 ≤ opening_count (123 ∷ (xs ++ 125 ∷ []))
-within_object xs = omega (arith, sum_by-cons (λ byte. cond (is_opening byte) 1 0) 123 (xs ++ 125 ∷ []), joined xs (125 ∷ []))
+within_object xs = omega (arith, sum_by-cons (λ byte. cond (opens byte) 1 0) 123 (xs ++ 125 ∷ []), joined xs (125 ∷ []))
 
 mutual
-  opens : (p : Plain) → depth_of p ≤ opening_count (canonical p) + 1
-  opens null = omega arith
-  opens (boolean b) = omega arith
-  opens (whole z) = omega arith
-  opens (text t) = omega arith
-  opens (list ps) = omega (arith, items_open false ps, within_list (canonical_items false ps))
-  opens (object ms) = omega (arith, members_open false ms, within_object (canonical_members false ms))
+  value_opens : (p : Plain) → depth_of p ≤ opening_count (canonical p) + 1
+  value_opens null = omega arith
+  value_opens (boolean b) = omega arith
+  value_opens (whole z) = omega arith
+  value_opens (text t) = omega arith
+  value_opens (list ps) = omega (arith, items_open false ps, within_list (canonical_items false ps))
+  value_opens (object ms) = omega (arith, members_open false ms, within_object (canonical_members false ms))
 
   items_open : (b : Bool) (ps : Items) → items_depth ps ≤ opening_count (canonical_items b ps) + 1
   items_open b no_items = omega arith
   items_open b (item p ps) =
-      omega (arith, opens p, items_open true ps, joined (comma b) (canonical p ++ canonical_items true ps), joined (canonical p) (canonical_items true ps))
+      omega (arith, value_opens p, items_open true ps, joined (comma b) (canonical p ++ canonical_items true ps), joined (canonical p) (canonical_items true ps))
 
   members_open : (b : Bool) (ms : Members) → members_depth ms ≤ opening_count (canonical_members b ms) + 1
   members_open b no_members = omega arith
   members_open b (member k p ms) =
       omega (
         arith,
-        opens p,
+        value_opens p,
         members_open true ms,
         joined (comma b) (quoted k ++ (58 ∷ (canonical p ++ canonical_members true ms))),
         joined (quoted k) (58 ∷ (canonical p ++ canonical_members true ms)),
@@ -50,4 +48,4 @@ mutual
       )
 
 pub depth_within : (spelled : List ℕ) → IsText spelled → depth_of (value_of spelled) ≤ opening_count spelled + 1
-depth_within spelled is = subst (λ bytes. depth_of (value_of spelled) ≤ opening_count bytes + 1) is.spelled (opens (value_of spelled))
+depth_within spelled is = subst (λ bytes. depth_of (value_of spelled) ≤ opening_count bytes + 1) is.spelled (value_opens (value_of spelled))

@@ -1,7 +1,8 @@
 -- How deep a plain value nests: a scalar and what is empty have depth 1.
-use Rattle.std.specs.Prelude.{ℕ, ◌+◌, ◌==◌, Bool, ◌||◌, max, List}
+use Rattle.std.specs.Prelude.{ℕ, ◌+◌, max, List}
 use Rattle.std.specs.List.{count_by}
 use Rattle.st_canon.specs.Plain.{Plain, null, boolean, whole, text, list, object, Items, no_items, item, Members, no_members, member}
+use Rattle.st_canon.specs.Walk.{opens}
 
 abbrev mutual
   pub depth_of : Plain → ℕ
@@ -40,10 +41,6 @@ abbrev mutual
 
 -- ---- a bound by the text alone
 
--- the bracket that begins a list, or the one that begins an object
-abbrev pub is_opening : ℕ → Bool
-is_opening byte = (byte == 91) || (byte == 123)
-
--- how many of these stand in a text, those within its texts among them
+-- how many brackets and braces that open stand in a text, those within its texts among them
 abbrev pub opening_count : List ℕ → ℕ
-opening_count bytes = count_by is_opening bytes
+opening_count bytes = count_by opens bytes

@@ -1,7 +1,7 @@
-ghost use Rattle.std.specs.Prelude.{◌≡◌, ◌≢◌, ◌≤◌, ℕ, List, IfOk, IfSome, IfNone, Some, is_some, map};
+ghost use Rattle.std.specs.Prelude.{◌≡◌, ◌≢◌, ◌+◌, ◌≤◌, ℕ, List, IfOk, IfSome, IfNone, Some, is_some, map};
 ghost use Rattle.std.specs.List.{flat_map};
-ghost use Rattle.st_canon.specs.Canonical.{escape};
-ghost use Rattle.st_canon.specs.Depth.{depth_of};
+ghost use Rattle.st_canon.specs.Canonical.{canonical, escape};
+ghost use Rattle.st_canon.specs.Depth.{depth_of, opening_count};
 ghost use Rattle.st_canon.specs.Entries.{items_in, members_in, text_in};
 ghost use Rattle.st_canon.specs.Measure.{size_of};
 ghost use Rattle.st_canon.specs.ObjectsOfLists.{is_object_of_lists};
@@ -176,7 +176,8 @@ impl<'a> Scanned<'a> {
 
     /// How deep it nests at most, counted as by [`depth`](crate::depth), by the brackets that stand in its text.
     pub fn depth_bound(&self) -> usize
-        ensures { depth_of self.now ≤ result }
+        ensures exact { result ≡ opening_count (canonical self.now) + 1 }
+        ensures depth { depth_of self.now ≤ result }
     {
         brackets::depth_bound(self.text)
     }
