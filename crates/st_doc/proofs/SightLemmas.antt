@@ -15,6 +15,7 @@ use Rattle.st_canon.specs.Plain.{Plain, null, boolean, whole, text, list, object
 use Rattle.st_canon.specs.Shapes.{entries_in}
 use Rattle.st_canon.specs.Texts.{is_text_of}
 use Rattle.st_canon.specs.View.{items_of}
+use Rattle.st_canon.proofs.ItemLists.{items_of-entries}
 use Rattle.st_canon.proofs.OnLiterals.{names_on_literals}
 use Rattle.st_hash.specs.Hash.{hash_of_text_at}
 use Rattle.st_params.specs.Limits.{Limits}
@@ -75,10 +76,6 @@ purposes_there (object ms) is each once = absurd cc
 
 -- ---- documents
 
-items_again : (ps : Items) → items_of (entries ps) ≡ ps
-items_again no_items = refl
-items_again (item p ps) = ap (item p) (items_again ps)
-
 chosen : (formed right : Bool) (document : PlainDocument) → formed ≡ true → right ≡ true
     → is_some (result_ok (if formed && right then Ok document else Err NotDocument)) ≡ true
 chosen true true document formed right = refl
@@ -106,7 +103,7 @@ module _ (limits : Limits) where
       → document_json (record { keys = entries ks; services = entries ss; names = [] })
       ≡ two (codes "publicKeys") (list ks) (codes "services") (list ss)
   unfolding names_on_literals some_list put_some
-  same_json ks ss = rw (items_again ks, items_again ss) refl
+  same_json ks ss = rw (items_of-entries ks, items_of-entries ss) refl
 
   document_of_keys : (ks : Items) (services : Plain) → is_some (items_in services) ≡ true
       → list_all is_key (entries ks) ≡ true → list_all is_service (entries_in (Some services)) ≡ true

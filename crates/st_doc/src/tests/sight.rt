@@ -6,7 +6,9 @@ use std::test::Fail;
 
 // Whether a delta is seen at sight, its version, and its patches.
 const CASES: &str = r#"seen  1  []
-seen  1  [{"action":"add-public-keys","publicKeys":[{"controller":"c","id":"k1","publicKeyJwk":{"crv":"Ed25519","kty":"OKP"},"purposes":["keyAgreement","authentication"],"type":"T"},{"id":"k2","publicKeyJwk":{},"type":"T"}]}]
+seen  1  [{"action":"add-public-keys","publicKeys":[{"controller":"c","id":"k1","publicKeyJwk":{"crv":"Ed25519","kty":"OKP"},"type":"T"}]}]
+seen  1  [{"action":"add-public-keys","publicKeys":[{"id":"k1","publicKeyJwk":{},"purposes":["keyAgreement","authentication"],"type":"T"}]}]
+seen  1  [{"action":"add-public-keys","publicKeys":[{"id":"k1","publicKeyJwk":{},"type":"T"},{"id":"k2","publicKeyJwk":{},"type":"T"}]}]
 seen  1  [{"action":"add-services","services":[{"id":"s1","serviceEndpoint":"https://example.com/","type":"T"},{"id":"s2","serviceEndpoint":{},"type":"T"}]}]
 seen  2  [{"action":"replace","document":{"publicKeys":[{"id":"a","publicKeyJwk":{},"type":"T"}],"services":[{"id":"a","serviceEndpoint":"e","type":"T"}]}}]
 right  1  [{"action":"add-services","services":[{"id":"s1","serviceEndpoint":"\"","type":"T"}]}]
