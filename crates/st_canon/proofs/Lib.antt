@@ -15,6 +15,7 @@ mod Kept
 mod KindLemmas
 mod LatestLemmas
 mod ListsLemmas
+mod MarkLanes
 mod MarkLemmas
 mod MemberLemmas
 mod Outcomes

@@ -18,7 +18,7 @@ past_byte b bs other =
     let apart = neither (b == 34) (b == 92) other in
     rw (apart.0, apart.1) refl
 
-past_bytes : (at : ℕ) (bytes : List ℕ) → at ≤ length bytes → ((k : ℕ) → k < at → is_byte2 34 92 (slice_index bytes k) ≡ false)
+pub past_bytes : (at : ℕ) (bytes : List ℕ) → at ≤ length bytes → ((k : ℕ) → k < at → is_byte2 34 92 (slice_index bytes k) ≡ false)
     → behind_text false bytes ≡ behind_text false (drop at bytes)
 past_bytes zero bytes within others = refl
 past_bytes (suc at) [] within others = refl

@@ -3,6 +3,7 @@ ghost use Rattle.std.specs.Str.{IsUtf8};
 ghost use Rattle.st_canon.specs.Canonical.{escape, hex_digit, quoted};
 ghost use Rattle.st_canon.specs.Names.{is_name};
 
+use crate::runs::split_run;
 use crate::scan::cursor::opened;
 
 const CLOSING: &[u8] = b"\"";
@@ -15,14 +16,19 @@ pub(crate) fn is_named(text: &[u8], name: &str) -> bool
     is_quoted(text, name.as_bytes())
 }
 
-// Whether this is the word as JSON writes it. It is compared byte by byte, and not written.
+// Whether this is the word as JSON writes it. What stands in front of the first byte that is escaped is compared at
+// once, what stands behind byte by byte, and none of it is written.
 pub(crate) fn is_quoted(text: &[u8], word: &[u8]) -> bool
     ensures { IsTrue result ↔ (text.now ≡ quoted word.now) }
 {
-    let Some(mut rest) = opened(text, b'"') else {
+    let Some(inside) = opened(text, b'"') else {
         return false;
     };
-    'bytes: for byte in word {
+    let (run, others) = split_run(word);
+    let Some(mut rest) = strip(inside, run) else {
+        return false;
+    };
+    'bytes: for byte in others {
         let Some(behind) = strip_escaped(rest, *byte) else {
             return false;
         };

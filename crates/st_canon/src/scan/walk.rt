@@ -1,8 +1,8 @@
-ghost use Rattle.std.specs.Prelude.{◌≡◌, ◌≤◌, [], false, length, IfNone, IfSome};
-ghost use Rattle.st_canon.specs.Walk.{IsNextMark, Splits, outside, behind_brackets, behind_scalar, behind_text, behind_value, follows};
+ghost use Rattle.std.specs.Prelude.{◌≡◌, ◌≤◌, false, length};
+ghost use Rattle.st_canon.specs.Walk.{Splits, outside, behind_brackets, behind_scalar, behind_text, behind_value, follows};
 
 use crate::scan::cursor::behind_first;
-use memchr::memchr2;
+use crate::scan::marks::next_mark;
 
 // The canonical text in front, and what stands behind it.
 pub(crate) fn split_value(text: &[u8]) -> (&[u8], &[u8])
@@ -42,17 +42,6 @@ fn behind_text(bytes: &[u8]) -> &[u8]
         rest = behind_first(behind);
     }
     &[]
-}
-
-// The first quotation mark or backslash, and what stands behind it.
-fn next_mark(bytes: &[u8]) -> Option<(u8, &[u8])>
-    ensures some { IfSome result (λ found. IsNextMark bytes.now found.0 found.1.now) }
-    ensures none { IfNone result (behind_text false bytes.now ≡ []) }
-{
-    match memchr2(b'"', b'\\', bytes) {
-        Some(at) => Some((bytes[at], &bytes[at + 1..])),
-        None => None,
-    }
 }
 
 // What stands behind the bracket that closes the one before these bytes.

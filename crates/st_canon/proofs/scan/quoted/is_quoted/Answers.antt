@@ -1,16 +1,21 @@
 use Rattle.std.proofs.Common.{drop, ◌≡◌, ◌+◌}
 use Rattle.st_canon.specs.Canonical.{quoted}
 use Rattle.std.proofs.lemmas.List.{drop_more, drop_all}
-use Rattle.st_canon.proofs.QuotedLemmas.{at_the_end, next_byte}
+use Rattle.st_canon.proofs.QuotedLemmas.{at_the_end, first_run, next_byte}
 use Rattle.st_canon.proofs.scan.quoted.is_quoted.Goals as goal
 
 pub bytes-preserved : goal.bytes-preserved
 bytes-preserved c =
-    next_byte (c.args.text.now ≡ quoted c.args.word.now) c.bytes.rest.now c.in-Some-strip_escaped.behind.now (drop (c.bytes.byte-index + 1) c.args.word.now) _
-    (drop c.bytes.byte-index c.args.word.now) (drop_more c.args.word.now c.bytes.byte-index 0 c.bytes-test.true) c.in-Some-strip_escaped.ensures.some
+    next_byte (c.args.text.now ≡ quoted c.args.word.now) c.bytes.rest.now c.in-Some-strip_escaped.behind.now (drop (c.bytes.byte-index + 1) c.split_run.result.1.now) _
+    (drop c.bytes.byte-index c.split_run.result.1.now) (drop_more c.split_run.result.1.now c.bytes.byte-index 0 c.bytes-test.true) c.in-Some-strip_escaped.ensures.some
     c.bytes.invariant
 
 pub returns : goal.returns
 returns c =
-    at_the_end (c.args.text.now ≡ quoted c.args.word.now) c.bytes.rest.now (drop c.bytes.byte-index c.args.word.now) c.eq.result
-    (drop_all c.bytes.byte-index c.args.word.now c.bytes-test.false) c.eq.ensures c.bytes.invariant
+    at_the_end (c.args.text.now ≡ quoted c.args.word.now) c.bytes.rest.now (drop c.bytes.byte-index c.split_run.result.1.now) c.eq.result
+    (drop_all c.bytes.byte-index c.split_run.result.1.now c.bytes-test.false) c.eq.ensures c.bytes.invariant
+
+pub bytes-init : goal.bytes-init
+bytes-init c =
+    first_run c.args.text.now c.in-Some.inside.now c.split_run.result.0.now c.in-Some-strip.rest.now c.args.word.now c.split_run.result.1.now
+    c.in-Some.ensures.some c.in-Some-strip.ensures.some c.split_run.ensures.escaped

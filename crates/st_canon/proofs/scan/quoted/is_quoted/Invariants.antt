@@ -4,4 +4,4 @@ use Rattle.st_canon.specs.Canonical.{escape, quoted}
 use Rattle.st_canon.proofs.scan.quoted.is_quoted.Given as goal
 
 abbrev pub invariant-bytes : goal.invariant-bytes
-invariant-bytes l = (l.text ≡ quoted l.word) ↔ (l.rest ≡ flat_map escape (drop l.byte-index l.word) ++ 34 ∷ [])
+invariant-bytes l = (l.text ≡ quoted l.word) ↔ (l.rest ≡ flat_map escape (drop l.byte-index l.others) ++ 34 ∷ [])
