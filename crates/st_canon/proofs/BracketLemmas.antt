@@ -1,7 +1,10 @@
 -- A value nests no deeper than its canonical text opens lists and objects.
-use Rattle.std.proofs.Common.{◌≡◌, ℕ, ◌+◌, ◌≤◌, List, [], ◌∷◌, ◌++◌, arith, subst}
+use Rattle.std.proofs.Common.{◌≡◌, ◌∙◌, ℕ, ◌+◌, ◌≤◌, List, [], ◌∷◌, ◌++◌, arith, ap, sym, subst, drop}
 use Rattle.std.specs.Prelude.{Bool, true, false, cond}
 use Rattle.std.proofs.lemmas.List.Sums.{sum_by-append, sum_by-cons}
+use Rattle.std.proofs.lemmas.Simd.{chunk-drop}
+use Rattle.std.specs.List.{count_by}
+use lib.Lanes.{chunk}
 use Rattle.st_canon.specs.Canonical.{canonical, canonical_items, canonical_members, comma, quoted}
 use Rattle.st_canon.specs.Depth.{depth_of, items_depth, members_depth, opening_count}
 use Rattle.st_canon.specs.Plain.{Plain, null, boolean, whole, text, list, object, Items, no_items, item, Members, no_members, member}
@@ -10,6 +13,10 @@ use Rattle.st_canon.specs.Walk.{opens}
 
 joined : (xs ys : List ℕ) → opening_count (xs ++ ys) ≡ opening_count xs + opening_count ys
 joined xs ys = sum_by-append (λ byte. cond (opens byte) 1 0) xs ys
+
+-- the next sixteen bytes, and those behind
+pub counted_near : (xs : List ℕ) → count_by opens (chunk 0 16 xs) + opening_count (drop 16 xs) ≡ opening_count xs
+counted_near xs = sym (joined (chunk 0 16 xs) (drop 16 xs)) ∙ ap opening_count (sym (chunk-drop 0 16 xs))
 
 behind : (byte : ℕ) (xs : List ℕ) → opening_count xs ≤ opening_count (byte ∷ xs)
 behind byte xs = omega (arith, sum_by-cons (λ byte. cond (opens byte) 1 0) byte xs)

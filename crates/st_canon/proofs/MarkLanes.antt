@@ -22,17 +22,18 @@ either true false = refl
 either false true = refl
 either false false = refl
 
-each : (xs : List ℕ) → map (top 7) (map (λ x. bit_or (hit x 34) (hit x 92)) xs) ≡ map (is_byte2 34 92) xs
-each [] = refl
-each (x ∷ xs) = λ i. either (x == 34) (x == 92) i ∷ each xs i
+module _ (a b : ℕ) where
+  each : (xs : List ℕ) → map (top 7) (map (λ x. bit_or (hit x a) (hit x b)) xs) ≡ map (is_byte2 a b) xs
+  each [] = refl
+  each (x ∷ xs) = λ i. either (x == a) (x == b) i ∷ each xs i
 
-pub lanes_marked : (step : List ℕ) (n : ℕ) → length step ≡ n → n ≤ 64
-    → mask_l (map (top 7) (zip2 bit_or (zip2 hit step (replicate n 34)) (zip2 hit step (replicate n 92)))) % 2 ^ 64 ≡ mask_l (map (is_byte2 34 92) step)
-lanes_marked step n long few =
-    let lanes = zip2_of_maps bit_or (λ x. hit x 34) (λ x. hit x 92) step (zip2_splat hit step n 34 long) (zip2_splat hit step n 92 long) in
-    ap (λ them. mask_l (map (top 7) them) % 2 ^ 64) lanes
-    ∙ ap (λ them. mask_l them % 2 ^ 64) (each step)
-    ∙ mask_l-mod (map (is_byte2 34 92) step) 64 (omega (arith, length-map step (is_byte2 34 92), long, few))
+  pub lanes_marked : (step : List ℕ) (n : ℕ) → length step ≡ n → n ≤ 64
+      → mask_l (map (top 7) (zip2 bit_or (zip2 hit step (replicate n a)) (zip2 hit step (replicate n b)))) % 2 ^ 64 ≡ mask_l (map (is_byte2 a b) step)
+  lanes_marked step n long few =
+      let lanes = zip2_of_maps bit_or (λ x. hit x a) (λ x. hit x b) step (zip2_splat hit step n a long) (zip2_splat hit step n b long) in
+      ap (λ them. mask_l (map (top 7) them) % 2 ^ 64) lanes
+      ∙ ap (λ them. mask_l them % 2 ^ 64) (each step)
+      ∙ mask_l-mod (map (is_byte2 a b) step) 64 (omega (arith, length-map step (is_byte2 a b), long, few))
 
 -- ---- the first that is set
 

@@ -54,12 +54,11 @@ first_run bytes inside run rest word others opened parts escaped =
       λ same. opened ∙ ap (λ front. 34 ∷ front) (parts ∙ ap (λ behind. run ++ behind) same ∙ sym whole),
     )
 
-pub at_the_end : (all : Type 0) (rest words : List ℕ) (same : Bool) → words ≡ [] → same ≡ bytes_eq rest (34 ∷ []) → (all ↔ IsRest rest words)
+pub at_the_end : (all : Type 0) (rest words : List ℕ) (same : Bool) → words ≡ [] → IsTrue same ↔ (rest ≡ 34 ∷ []) → (all ↔ IsRest rest words)
     → IsTrue same ↔ all
 at_the_end all rest words same none test so_far =
     let closing : flat_map escape words ++ 34 ∷ [] ≡ 34 ∷ [] = ap (λ w. flat_map escape w ++ 34 ∷ []) none in
-    let decides = bytes_eq-Decides rest (34 ∷ []) in
-    (λ yes. so_far.1 (decides.0 (sym test ∙ yes) ∙ sym closing), λ it. test ∙ decides.1 (so_far.0 it ∙ closing))
+    (λ yes. so_far.1 (test.0 yes ∙ sym closing), λ it. test.1 (so_far.0 it ∙ closing))
 
 -- ---- names
 

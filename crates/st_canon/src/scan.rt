@@ -8,6 +8,7 @@ mod cursor;
 mod entries;
 mod items;
 mod kind;
+mod lanes;
 mod marks;
 mod members;
 mod members_left;

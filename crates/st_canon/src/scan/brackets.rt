@@ -1,8 +1,11 @@
-ghost use Rattle.std.specs.Prelude.{◌≡◌, ◌+◌, ◌≤◌};
+ghost use Rattle.std.specs.Prelude.{◌≡◌, ◌+◌, ◌≤◌, drop, length};
 ghost use Rattle.st_canon.specs.Canonical.{canonical};
 ghost use Rattle.st_canon.specs.Depth.{depth_of, opening_count};
 ghost use Rattle.st_canon.specs.Standing.{IsText, value_of};
 ghost use Rattle.st_canon.specs.Walk.{opens};
+
+use crate::scan::lanes::openings_of_16;
+use std::simd::prelude::*;
 
 // A value nests no deeper than its text opens lists and objects.
 
@@ -15,8 +18,31 @@ pub(crate) fn depth_bound(text: &[u8]) -> usize
     opening_count(text).saturating_add(1)
 }
 
+// They are counted sixteen bytes a step.
 fn opening_count(text: &[u8]) -> usize
     ensures { result ≡ opening_count text.now }
+{
+    let mut rest = text;
+    let mut count: usize = 0;
+    'steps: while rest.len() >= 16 {
+        count += near_count(rest);
+        rest = &rest[16..];
+    }
+    count + short_count(rest)
+}
+
+// How many are among the next sixteen bytes.
+fn near_count(bytes: &[u8]) -> usize
+    requires { 16 ≤ length bytes.now }
+    ensures value { result + opening_count (drop 16 bytes.now) ≡ opening_count bytes.now }
+    ensures within { result ≤ 16 }
+{
+    openings_of_16(u8x16::from_slice(bytes))
+}
+
+fn short_count(text: &[u8]) -> usize
+    ensures value { result ≡ opening_count text.now }
+    ensures within { result ≤ length text.now }
 {
     let mut count: usize = 0;
     for byte in text {

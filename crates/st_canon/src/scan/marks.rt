@@ -1,8 +1,8 @@
-ghost use Rattle.std.specs.Prelude.{◌≡◌, ◌≤◌, [], false, drop, length, map, IfNone, IfSome, Some};
-ghost use Rattle.std.specs.Simd.Lanes.{mask_l};
+ghost use Rattle.std.specs.Prelude.{◌≡◌, ◌≤◌, [], false, drop, length, IfNone, IfSome, Some};
 ghost use Rattle.memchr.specs.Find.{IsFirstByte, is_byte2};
 ghost use Rattle.st_canon.specs.Walk.{IsNextMark, behind_text};
 
+use crate::scan::lanes::marks_of_16;
 use memchr::memchr2;
 use std::simd::prelude::*;
 
@@ -48,10 +48,4 @@ fn near_mark(bytes: &[u8]) -> Option<usize>
     } else {
         Some(marks.trailing_zeros() as usize)
     }
-}
-
-fn marks_of_16(step: u8x16) -> u64
-    ensures { result ≡ mask_l (map (is_byte2 34 92) step) }
-{
-    (step.simd_eq(u8x16::splat(b'"')) | step.simd_eq(u8x16::splat(b'\\'))).to_bitmask()
 }

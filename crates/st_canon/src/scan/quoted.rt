@@ -1,12 +1,10 @@
-ghost use Rattle.std.specs.Prelude.{◌≡◌, ◌≢◌, ◌↔◌, ◌++◌, ◌<◌, ℕ, List, IfNone, IfSome, IsTrue};
+ghost use Rattle.std.specs.Prelude.{◌≡◌, ◌≢◌, ◌↔◌, ◌++◌, ◌∷◌, [], ◌<◌, ℕ, List, IfNone, IfSome, IsTrue};
 ghost use Rattle.std.specs.Str.{IsUtf8};
 ghost use Rattle.st_canon.specs.Canonical.{escape, hex_digit, quoted};
 ghost use Rattle.st_canon.specs.Names.{is_name};
 
 use crate::runs::split_run;
 use crate::scan::cursor::opened;
-
-const CLOSING: &[u8] = b"\"";
 
 // Whether the text of a name is that of this one.
 pub(crate) fn is_named(text: &[u8], name: &str) -> bool
@@ -34,7 +32,13 @@ pub(crate) fn is_quoted(text: &[u8], word: &[u8]) -> bool
         };
         rest = behind;
     }
-    rest == CLOSING
+    is_closing(rest)
+}
+
+fn is_closing(text: &[u8]) -> bool
+    ensures { IsTrue result ↔ (text.now ≡ 34 ∷ []) }
+{
+    text.len() == 1 && text[0] == b'"'
 }
 
 // What stands behind the byte as JSON writes it in a text, where that stands in front.

@@ -1,6 +1,12 @@
-use Rattle.std.proofs.Common.{◌≡◌, take, count_by}
-use Rattle.st_canon.specs.Walk.{opens}
+use Rattle.std.proofs.Common.{◌≡◌, ◌+◌, ◌≤◌, length}
+use Rattle.st_canon.specs.Depth.{opening_count}
 use Rattle.st_canon.proofs.scan.brackets.opening_count.Given as goal
 
-abbrev pub invariant-loop-byte : goal.invariant-loop-byte
-invariant-loop-byte l = l.count ≡ count_by opens (take l.byte-index l.text)
+abbrev pub invariant-steps : goal.invariant-steps
+invariant-steps l = record {
+  value : l.count + opening_count l.rest ≡ opening_count l.text;
+  within : l.count + length l.rest ≤ length l.text;
+}
+
+abbrev pub decreases-steps : goal.decreases-steps
+decreases-steps l = length l.rest

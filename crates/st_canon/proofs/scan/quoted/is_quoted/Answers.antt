@@ -12,8 +12,8 @@ bytes-preserved c =
 
 pub returns : goal.returns
 returns c =
-    at_the_end (c.args.text.now ≡ quoted c.args.word.now) c.bytes.rest.now (drop c.bytes.byte-index c.split_run.result.1.now) c.eq.result
-    (drop_all c.bytes.byte-index c.split_run.result.1.now c.bytes-test.false) c.eq.ensures c.bytes.invariant
+    at_the_end (c.args.text.now ≡ quoted c.args.word.now) c.bytes.rest.now (drop c.bytes.byte-index c.split_run.result.1.now) c.is_closing.result
+    (drop_all c.bytes.byte-index c.split_run.result.1.now c.bytes-test.false) c.is_closing.ensures c.bytes.invariant
 
 pub bytes-init : goal.bytes-init
 bytes-init c =

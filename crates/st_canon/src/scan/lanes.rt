@@ -1,0 +1,24 @@
+ghost use Rattle.std.specs.Prelude.{◌≡◌, map};
+ghost use Rattle.std.specs.List.{count_by};
+ghost use Rattle.std.specs.Simd.Lanes.{mask_l};
+ghost use Rattle.memchr.specs.Find.{is_byte2};
+ghost use Rattle.st_canon.specs.Walk.{opens};
+
+use std::simd::prelude::*;
+
+// Sixteen bytes of a text at a time.
+
+// A bit for each that is a quotation mark or a backslash.
+pub(crate) fn marks_of_16(step: u8x16) -> u64
+    ensures { result ≡ mask_l (map (is_byte2 34 92) step) }
+{
+    (step.simd_eq(u8x16::splat(b'"')) | step.simd_eq(u8x16::splat(b'\\'))).to_bitmask()
+}
+
+// How many are brackets or braces that open.
+pub(crate) fn openings_of_16(step: u8x16) -> usize
+    ensures { result ≡ count_by opens step }
+{
+    let marks = (step.simd_eq(u8x16::splat(b'[')) | step.simd_eq(u8x16::splat(b'{'))).to_bitmask();
+    marks.count_ones() as usize
+}
