@@ -20,7 +20,7 @@ pub(crate) fn filed(
     Ok(filed_under(alloc, role, uri, bytes)?)
 }
 
-/// The same of a file whose URI is known.
+/// The same of a file whose URI is known. It was written with room to grow, and is kept without.
 pub(crate) fn filed_under(
     alloc: Global,
     role: Role,
@@ -30,6 +30,7 @@ pub(crate) fn filed_under(
     requires { uri ≡ uri_of bytes }
     ensures { IfOk result (λ files. files ≡ filed role (Some bytes)) }
 {
+    let bytes = Bytes::from_slice(alloc, bytes.as_slice())?;
     let mut files = List::new(alloc);
     files.push(alloc, BatchFile { role, uri, bytes })?;
     Ok(files)
