@@ -39,7 +39,13 @@ mutual
   items_open : (b : Bool) (ps : Items) → items_depth ps ≤ opening_count (canonical_items b ps) + 1
   items_open b no_items = omega arith
   items_open b (item p ps) =
-      omega (arith, value_opens p, items_open true ps, joined (comma b) (canonical p ++ canonical_items true ps), joined (canonical p) (canonical_items true ps))
+      omega (
+        arith,
+        value_opens p,
+        items_open true ps,
+        joined (comma b) (canonical p ++ canonical_items true ps),
+        joined (canonical p) (canonical_items true ps),
+      )
 
   members_open : (b : Bool) (ms : Members) → members_depth ms ≤ opening_count (canonical_members b ms) + 1
   members_open b no_members = omega arith

@@ -57,7 +57,8 @@ first_near bytes n at room some counted =
     ] in
     let passed = run_in_chunk_fails (is_byte2 34 92) bytes 0 n at 0 (omega (arith, room)) counted in
     let here : 0 + at ≡ at = omega arith in
-    let stops = ap (λ k. is_byte2 34 92 (slice_index bytes k)) (sym here) ∙ run_in_chunk_stops (is_byte2 34 92) bytes 0 n at 0 (omega (arith, room)) counted short in (
+    let found = run_in_chunk_stops (is_byte2 34 92) bytes 0 n at 0 (omega (arith, room)) counted short in
+    let stops = ap (λ k. is_byte2 34 92 (slice_index bytes k)) (sym here) ∙ found in (
       record {
         low = omega arith;
         high = omega (arith, short, room);

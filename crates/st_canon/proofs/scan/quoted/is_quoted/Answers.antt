@@ -6,14 +6,17 @@ use Rattle.st_canon.proofs.scan.quoted.is_quoted.Goals as goal
 
 pub bytes-preserved : goal.bytes-preserved
 bytes-preserved c =
-    next_byte (c.args.text.now ≡ quoted c.args.word.now) c.bytes.rest.now c.in-Some-strip_escaped.behind.now (drop (c.bytes.byte-index + 1) c.split_run.result.1.now) _
-    (drop c.bytes.byte-index c.split_run.result.1.now) (drop_more c.split_run.result.1.now c.bytes.byte-index 0 c.bytes-test.true) c.in-Some-strip_escaped.ensures.some
-    c.bytes.invariant
+    let others = c.split_run.result.1.now in
+    let at = c.bytes.byte-index in
+    next_byte (c.args.text.now ≡ quoted c.args.word.now) c.bytes.rest.now c.in-Some-strip_escaped.behind.now (drop (at + 1) others) _
+    (drop at others) (drop_more others at 0 c.bytes-test.true) c.in-Some-strip_escaped.ensures.some c.bytes.invariant
 
 pub returns : goal.returns
 returns c =
-    at_the_end (c.args.text.now ≡ quoted c.args.word.now) c.bytes.rest.now (drop c.bytes.byte-index c.split_run.result.1.now) c.is_closing.result
-    (drop_all c.bytes.byte-index c.split_run.result.1.now c.bytes-test.false) c.is_closing.ensures c.bytes.invariant
+    let others = c.split_run.result.1.now in
+    let at = c.bytes.byte-index in
+    at_the_end (c.args.text.now ≡ quoted c.args.word.now) c.bytes.rest.now (drop at others) c.is_closing.result
+    (drop_all at others c.bytes-test.false) c.is_closing.ensures c.bytes.invariant
 
 pub bytes-init : goal.bytes-init
 bytes-init c =
