@@ -1,6 +1,7 @@
 -- Bytes of a text that are written as they are.
-use Rattle.std.proofs.Common.{◌≡◌, ℕ, ◌⊎◌, inl, inr, zero, suc, ◌≤◌, ◌<◌, List, ◌++◌, true, length, take, drop, sym, ap, ◌∙◌, arith, get_or-take}
+use Rattle.std.proofs.Common.{◌≡◌, ℕ, inl, inr, ◌≤◌, List, ◌++◌, true, length, take, drop, sym, ap, ◌∙◌, arith, get_or-take}
 use Rattle.std.specs.List.{flat_map}
+use Rattle.std.proofs.lemmas.Bool.{cases_lt}
 use Rattle.std.proofs.lemmas.List.{length-take-le, take-append-drop}
 use Rattle.std.proofs.lemmas.List.Concat.{flat_map-append}
 use Rattle.json.specs.Run.{is_plain}
@@ -8,11 +9,6 @@ use Rattle.json.specs.Written.{PlainBetween}
 use Rattle.json.proofs.Printed.Plain.{escape_on_plain}
 use Rattle.st_canon.specs.Canonical.{escape}
 use Rattle.st_canon.proofs.Compact.{same_escapes}
-
-le_or_lt : (s n : ℕ) → (s ≤ n) ⊎ (n < s)
-le_or_lt zero n = inl (omega arith)
-le_or_lt (suc s) zero = inr (omega arith)
-le_or_lt (suc s) (suc n) = elim (le_or_lt s n) [ inl le ↦ inl (omega (arith, le)) | inr lt ↦ inr (omega (arith, lt)) ]
 
 -- a front without a byte that is escaped
 plain_front : (xs : List ℕ) (n : ℕ) → n ≤ length xs → PlainBetween xs 0 n → flat_map escape (take n xs) ≡ take n xs
@@ -33,7 +29,7 @@ run_first xs n within plain =
 -- two runs that meet or overlap are one
 pub joined_runs : (xs : List ℕ) (first second after last : ℕ) → second ≤ first → last ≤ after → PlainBetween xs 0 first → PlainBetween xs second after
     → PlainBetween xs 0 last
-joined_runs xs first second after last over ends front behind k low high = elim (le_or_lt first k) [
-  | inl later ↦ behind k (omega (arith, over, later)) (omega (arith, ends, high))
-  | inr sooner ↦ front k low sooner
+joined_runs xs first second after last over ends front behind k low high = elim (cases_lt k first) [
+  | inl sooner ↦ front k low sooner
+  | inr later ↦ behind k (omega (arith, over, later)) (omega (arith, ends, high))
 ]
