@@ -1,5 +1,5 @@
 -- A core index that was written fails no rule, and says what it was written of.
-use Rattle.std.proofs.Common.{◌≡◌, ◌∙◌, ℕ, ◌+◌, ◌≤◌, true, false, nat_lt, List, [], ◌∷◌, codes, length, map, Option, Some, None, refl, ap, arith}
+use Rattle.std.proofs.Common.{◌≡◌, ◌∙◌, ℕ, ◌+◌, ◌≤◌, true, false, nat_lt, List, ◌∷◌, codes, length, map, Option, Some, None, refl, ap, arith}
 use Rattle.std.specs.Prelude.{◌||◌, is_some, is_none, option_map}
 use Rattle.std.specs.List.{AllByRecursion, filter_map}
 use Rattle.std.proofs.lemmas.List.{length-map}
@@ -17,19 +17,18 @@ use Rattle.st_canon.specs.Plain.{Plain}
 use Rattle.st_canon.specs.Shapes.{entries_in, is_list_if_there, member_in}
 use Rattle.st_canon.proofs.ObjectLemmas.{entries_in-some_list, has_only-some_listed, member_at-some_listed, member_in-some_object}
 use Rattle.st_hash.specs.Hash.{same_hash}
-use Rattle.st_indexfiles.specs.CoreIndex.{core_index_of, core_json, core_operations, operations_of, suffixes_of}
+use Rattle.st_indexfiles.specs.CoreIndex.{core_index_of, core_json, core_lists, core_members, core_operations, operations_of, suffixes_of}
 use Rattle.st_indexfiles.specs.CoreRules.{core_json_rules, core_kinds, core_names, first_failing_core_rule, has_core_entries, has_core_form, has_core_members, has_signed, one_alone, operation_count}
 use Rattle.st_indexfiles.specs.Hashes.{hash_json, is_uri_if_there, uri_in}
 use Rattle.st_indexfiles.specs.SuffixData.{create_json, create_of}
 use Rattle.st_indexfiles.specs.Target.{target_json, target_of}
 use Rattle.st_indexfiles.specs.declared.core_index.CoreIndex.{CoreIndex}
 use Rattle.st_indexfiles.specs.declared.core_rule.CoreRule.TheVariants.{C1, C2}
-use Rattle.st_indexfiles.specs.declared.target.Target.{Target}
 use Rattle.st_params.specs.Limits.{Limits}
-use Rattle.st_batch.proofs.AgainEntryLemmas.{IsAgain, all_again, create_readable, each_again, each_holds, each_map, target_readable, uri_readable, utf8}
-use Rattle.st_batch.proofs.AgainObjectLemmas.{IsReadable, deeper, json_again, list_there, listed_readable, object_readable, object_there}
+use Rattle.st_indexfiles.proofs.ReadableLemmas.{core_readable}
+use Rattle.st_batch.proofs.AgainEntryLemmas.{IsAgain, all_again, each_again}
+use Rattle.st_canon.proofs.ReadableLemmas.{json_again}
 use Rattle.st_batch.proofs.KnownRuleLemmas.{IsUriAgain, both, list_passes, lists_pass, mapped_some, none_failing, not_above, not_failing, uri_passes, uri_read}
-use lib.Utf8.{encode}
 
 -- what is known of a core index that is written at these limits under this count
 pub record IsCoreSound (limits : Limits) (count : ℕ) (index : CoreIndex) : Type 0 where
@@ -43,89 +42,46 @@ pub record IsCoreSound (limits : Limits) (count : ℕ) (index : CoreIndex) : Typ
   pub proved : one_alone (is_some index.core_proof) (nat_lt 0 (length index.recovers) || nat_lt 0 (length index.deactivates)) ≡ false
 
 module _ (index : CoreIndex) where
-  abbrev members : List (List ℕ × Option Plain)
-  members =
-      (codes "coreProofFileUri", option_map hash_json index.core_proof)
-      ∷ (codes "provisionalIndexFileUri", option_map hash_json index.provisional)
-      ∷ (codes "operations", some_object (core_operations index)) ∷ []
-
-  abbrev kinds : List (List ℕ × Option Plain)
-  kinds =
-      (codes "create", some_list (map create_json index.creates))
-      ∷ (codes "recover", some_list (map target_json index.recovers))
-      ∷ (codes "deactivate", some_list (map target_json index.deactivates)) ∷ []
-
-  -- ---- its JSON is readable
-
-  creates_there : AllByRecursion (IsReadable 3) (map create_json index.creates)
-  creates_there =
-      each_map create_json (λ one. IsReadable 3 (create_json one)) (IsReadable 3) (λ one readable. readable) index.creates
-      (each_holds (λ one. IsReadable 3 (create_json one)) create_readable index.creates)
-
-  targets_there : (targets : List Target) → AllByRecursion (IsReadable 3) (map target_json targets)
-  targets_there targets =
-      each_map target_json (λ one. IsReadable 2 (target_json one)) (IsReadable 3) (λ one readable. deeper 2 3 (target_json one) (omega arith) readable) targets
-      (each_holds (λ one. IsReadable 2 (target_json one)) target_readable targets)
-
-  pub core_readable : IsReadable 127 (core_json index)
-  unfolding encode
-  core_readable =
-      let operations = listed_readable 4 kinds (
-        (utf8 (codes "create") (refl, refl), list_there 3 (map create_json index.creates) creates_there),
-        (
-          (utf8 (codes "recover") (refl, refl), list_there 3 (map target_json index.recovers) (targets_there index.recovers)),
-          ((utf8 (codes "deactivate") (refl, refl), list_there 3 (map target_json index.deactivates) (targets_there index.deactivates)), tt),
-        ),
-      ) in
-      let all = listed_readable 5 members (
-        (utf8 (codes "coreProofFileUri") (refl, refl), uri_readable 5 index.core_proof (omega arith)),
-        (
-          (utf8 (codes "provisionalIndexFileUri") (refl, refl), uri_readable 5 index.provisional (omega arith)),
-          ((utf8 (codes "operations") (refl, refl), object_there 4 (core_operations index) operations), tt),
-        ),
-      ) in
-      deeper 6 127 (core_json index) (omega arith) (object_readable 5 _ all)
-
   -- ---- what stands in it
 
   abbrev json : Option Plain
   json = Some (core_json index)
 
   operations_there : member_in (codes "operations") json ≡ some_object (core_operations index)
-  operations_there = member_at-some_listed (codes "operations") members refl
+  operations_there = member_at-some_listed (codes "operations") (core_members index) refl
 
   kind_there : (kind : List ℕ) (entries : List Plain) → member_at kind (core_operations index) ≡ some_list entries → operations_of kind json ≡ entries
   kind_there kind entries there =
       ap entries_in (ap (member_in kind) operations_there ∙ member_in-some_object kind (core_operations index) ∙ there) ∙ entries_in-some_list entries
 
   creates_at : operations_of (codes "create") json ≡ map create_json index.creates
-  creates_at = kind_there (codes "create") _ (member_at-some_listed (codes "create") kinds refl)
+  creates_at = kind_there (codes "create") _ (member_at-some_listed (codes "create") (core_lists index) refl)
 
   recovers_at : operations_of (codes "recover") json ≡ map target_json index.recovers
-  recovers_at = kind_there (codes "recover") _ (member_at-some_listed (codes "recover") kinds refl)
+  recovers_at = kind_there (codes "recover") _ (member_at-some_listed (codes "recover") (core_lists index) refl)
 
   deactivates_at : operations_of (codes "deactivate") json ≡ map target_json index.deactivates
-  deactivates_at = kind_there (codes "deactivate") _ (member_at-some_listed (codes "deactivate") kinds refl)
+  deactivates_at = kind_there (codes "deactivate") _ (member_at-some_listed (codes "deactivate") (core_lists index) refl)
 
   core_proof_at : member_in (codes "coreProofFileUri") json ≡ option_map hash_json index.core_proof
-  core_proof_at = member_at-some_listed (codes "coreProofFileUri") members refl
+  core_proof_at = member_at-some_listed (codes "coreProofFileUri") (core_members index) refl
 
   provisional_at : member_in (codes "provisionalIndexFileUri") json ≡ option_map hash_json index.provisional
-  provisional_at = member_at-some_listed (codes "provisionalIndexFileUri") members refl
+  provisional_at = member_at-some_listed (codes "provisionalIndexFileUri") (core_members index) refl
 
   no_lock : member_in (codes "writerLockId") json ≡ None
-  no_lock = member_at-some_listed (codes "writerLockId") members refl
+  no_lock = member_at-some_listed (codes "writerLockId") (core_members index) refl
 
   -- ---- the rules
 
   form_passes : has_core_form json ≡ true
   unfolding has_core_form
   form_passes =
-      let names = has_only-some_listed core_names members refl in
-      let create = ap is_list_if_there (member_at-some_listed (codes "create") kinds refl) ∙ list_passes (map create_json index.creates) in
-      let recover = ap is_list_if_there (member_at-some_listed (codes "recover") kinds refl) ∙ list_passes (map target_json index.recovers) in
-      let deactivate = ap is_list_if_there (member_at-some_listed (codes "deactivate") kinds refl) ∙ list_passes (map target_json index.deactivates) in
-      let lists = lists_pass core_kinds (core_operations index) (has_only-some_listed core_kinds kinds refl)
+      let names = has_only-some_listed core_names (core_members index) refl in
+      let create = ap is_list_if_there (member_at-some_listed (codes "create") (core_lists index) refl) ∙ list_passes (map create_json index.creates) in
+      let recover = ap is_list_if_there (member_at-some_listed (codes "recover") (core_lists index) refl) ∙ list_passes (map target_json index.recovers) in
+      let deactivate = ap is_list_if_there (member_at-some_listed (codes "deactivate") (core_lists index) refl) ∙ list_passes (map target_json index.deactivates) in
+      let lists = lists_pass core_kinds (core_operations index) (has_only-some_listed core_kinds (core_lists index) refl)
       (both _ _ create (both _ _ recover (both _ _ deactivate refl))) in
       both _ _ names (rw operations_there lists)
 

@@ -30,8 +30,9 @@ use Rattle.st_datafiles.proofs.ProofLemmas.{core_proofs_of-core_proof_json, sign
 use Rattle.st_indexfiles.specs.declared.core_index.CoreIndex.{CoreIndex}
 use Rattle.st_indexfiles.specs.declared.provisional_index.ProvisionalIndex.{ProvisionalIndex}
 use Rattle.st_params.specs.Limits.{Limits}
-use Rattle.st_batch.proofs.AgainEntryLemmas.{IsAgain, each_again, each_holds, each_map, signed_again, signed_readable, utf8}
-use Rattle.st_batch.proofs.AgainObjectLemmas.{IsReadable, MembersAreReadable, deeper, json_again, list_there, listed_readable, object_readable, object_there}
+use Rattle.st_batch.proofs.AgainEntryLemmas.{IsAgain, each_again, signed_again, signed_readable}
+use Rattle.st_indexfiles.proofs.ReadableLemmas.{each_holds, each_map, utf8}
+use Rattle.st_canon.proofs.ReadableLemmas.{IsReadable, MembersAreReadable, deeper, json_again, list_there, listed_readable, object_readable, object_there}
 use Rattle.st_batch.proofs.KnownRuleLemmas.{both, list_is_there, list_passes, none_failing, not_above, not_failing, object_is_there}
 use lib.Utf8.{encode}
 

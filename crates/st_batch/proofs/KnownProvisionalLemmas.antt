@@ -1,6 +1,6 @@
 -- A provisional index that was written fails no rule beside its core index, and says what it was written
 -- of.
-use Rattle.std.proofs.Common.{◌≡◌, ◌∙◌, ℕ, ◌+◌, ◌≤◌, ◌==◌, true, false, nat_lt, List, [], ◌∷◌, codes, length, map, Option, Some, None, refl, ap, arith}
+use Rattle.std.proofs.Common.{◌≡◌, ◌∙◌, ℕ, ◌+◌, ◌≤◌, ◌==◌, true, false, nat_lt, [], ◌∷◌, codes, length, map, Option, Some, None, refl, ap, arith}
 use Rattle.std.specs.Prelude.{is_some, is_none, option_map}
 use Rattle.std.specs.List.{AllByRecursion, filter_map}
 use Rattle.std.proofs.lemmas.Bool.{ne_eqb}
@@ -11,7 +11,7 @@ use Rattle.st_anchor.specs.declared.part.Part.TheVariants.{Is}
 use Rattle.st_base.specs.Each.{each_is}
 use Rattle.st_base.specs.Rules.{first_failing}
 use Rattle.st_canon.specs.Canonical.{canonical}
-use Rattle.st_canon.specs.Objects.{some_list, some_object}
+use Rattle.st_canon.specs.Objects.{some_object}
 use Rattle.st_canon.specs.Plain.{Plain}
 use Rattle.st_canon.specs.Shapes.{entries_in, is_list_if_there, member_in, only_member, only_of}
 use Rattle.st_canon.proofs.ObjectLemmas.{entries_in-some_list, has_only-some_listed, member_at-some_listed, member_in-some_object}
@@ -19,18 +19,17 @@ use Rattle.st_hash.specs.Hash.{hash_of_text, hash_text}
 use Rattle.st_indexfiles.specs.CoreIndex.{operations_of}
 use Rattle.st_indexfiles.specs.CoreRules.{one_alone}
 use Rattle.st_indexfiles.specs.Hashes.{hash_json, is_uri_if_there, uri_in}
-use Rattle.st_indexfiles.specs.ProvisionalIndex.{chunk_in, chunk_json, provisional_index_of, provisional_json, provisional_operations, provisional_with, suffixes_in, updates_in}
+use Rattle.st_indexfiles.specs.ProvisionalIndex.{chunk_in, chunk_json, provisional_index_of, provisional_json, provisional_lists, provisional_members, provisional_operations, provisional_with, suffixes_in, updates_in}
 use Rattle.st_indexfiles.specs.ProvisionalRules.{core_count, first_failing_provisional_rule, has_provisional_entries, has_provisional_form, provisional_json_rules, provisional_names, repeats_suffix, update_count}
 use Rattle.st_indexfiles.specs.Target.{target_json, target_of}
 use Rattle.st_indexfiles.specs.declared.core_index.CoreIndex.{CoreIndex}
 use Rattle.st_indexfiles.specs.declared.provisional_index.ProvisionalIndex.{ProvisionalIndex}
 use Rattle.st_indexfiles.specs.declared.provisional_rule.ProvisionalRule.TheVariants.{P1, P2}
 use Rattle.st_params.specs.Limits.{Limits}
-use Rattle.st_batch.proofs.AgainEntryLemmas.{IsAgain, all_again, each_again, each_holds, each_map, target_readable, uri_readable, utf8}
-use Rattle.st_batch.proofs.AgainHashLemmas.{hash_text_utf8}
-use Rattle.st_batch.proofs.AgainObjectLemmas.{IsReadable, deeper, json_again, list_there, listed_readable, object_readable, object_there}
+use Rattle.st_indexfiles.proofs.ReadableLemmas.{provisional_readable}
+use Rattle.st_batch.proofs.AgainEntryLemmas.{IsAgain, all_again, each_again}
+use Rattle.st_canon.proofs.ReadableLemmas.{json_again}
 use Rattle.st_batch.proofs.KnownRuleLemmas.{IsUriAgain, both, list_passes, lists_pass, mapped_some, none_failing, not_above, not_failing, uri_passes, uri_read}
-use lib.Utf8.{encode}
 
 -- what is known of a provisional index that is written at these limits under this count, beside a core
 -- index
@@ -44,63 +43,29 @@ pub record IsProvisionalSound (limits : Limits) (count : ℕ) (core : CoreIndex)
   pub some : 1 ≤ length core.creates + length core.recovers + length index.updates
 
 module _ (index : ProvisionalIndex) where
-  abbrev members : List (List ℕ × Option Plain)
-  members =
-      (codes "provisionalProofFileUri", option_map hash_json index.proof)
-      ∷ (codes "chunks", some_list (chunk_json index.chunk ∷ []))
-      ∷ (codes "operations", some_object (provisional_operations index)) ∷ []
-
-  abbrev kinds : List (List ℕ × Option Plain)
-  kinds = (codes "update", some_list (map target_json index.updates)) ∷ []
-
-  -- ---- its JSON is readable
-
-  chunk_readable : IsReadable 4 (chunk_json index.chunk)
-  unfolding encode
-  chunk_readable = ((utf8 (codes "chunkFileUri") (refl, refl), tt, hash_text_utf8 index.chunk, tt), omega arith)
-
-  targets_there : AllByRecursion (IsReadable 3) (map target_json index.updates)
-  targets_there =
-      each_map target_json (λ one. IsReadable 2 (target_json one)) (IsReadable 3)
-      (λ one readable. deeper 2 3 (target_json one) (omega arith) readable) index.updates
-      (each_holds (λ one. IsReadable 2 (target_json one)) target_readable index.updates)
-
-  pub provisional_readable : IsReadable 127 (provisional_json index)
-  unfolding encode
-  provisional_readable =
-      let operations = listed_readable 4 kinds ((utf8 (codes "update") (refl, refl), list_there 3 (map target_json index.updates) targets_there), tt) in
-      let all = listed_readable 5 members (
-        (utf8 (codes "provisionalProofFileUri") (refl, refl), uri_readable 5 index.proof (omega arith)),
-        (
-          (utf8 (codes "chunks") (refl, refl), list_there 4 (chunk_json index.chunk ∷ []) (chunk_readable, tt)),
-          ((utf8 (codes "operations") (refl, refl), object_there 4 (provisional_operations index) operations), tt),
-        ),
-      ) in
-      deeper 6 127 (provisional_json index) (omega arith) (object_readable 5 _ all)
-
   -- ---- what stands in it
 
   abbrev json : Option Plain
   json = Some (provisional_json index)
 
   operations_there : member_in (codes "operations") json ≡ some_object (provisional_operations index)
-  operations_there = member_at-some_listed (codes "operations") members refl
+  operations_there = member_at-some_listed (codes "operations") (provisional_members index) refl
 
   updates_at : operations_of (codes "update") json ≡ map target_json index.updates
   updates_at =
       ap entries_in (ap (member_in (codes "update")) operations_there ∙ member_in-some_object (codes "update") (provisional_operations index)
-      ∙ member_at-some_listed (codes "update") kinds refl) ∙ entries_in-some_list (map target_json index.updates)
+      ∙ member_at-some_listed (codes "update") (provisional_lists index) refl) ∙ entries_in-some_list (map target_json index.updates)
 
   updates_long : length (operations_of (codes "update") json) ≡ length index.updates
   updates_long = ap length updates_at ∙ length-map index.updates target_json
 
   proof_at : member_in (codes "provisionalProofFileUri") json ≡ option_map hash_json index.proof
-  proof_at = member_at-some_listed (codes "provisionalProofFileUri") members refl
+  proof_at = member_at-some_listed (codes "provisionalProofFileUri") (provisional_members index) refl
 
   chunk_is : hash_of_text (hash_text index.chunk) ≡ Some index.chunk → chunk_in json ≡ Some index.chunk
   unfolding chunk_in
   chunk_is again =
-      ap (λ there. uri_in (only_member (codes "chunkFileUri") (only_of (entries_in there)))) (member_at-some_listed (codes "chunks") members refl)
+      ap (λ there. uri_in (only_member (codes "chunkFileUri") (only_of (entries_in there)))) (member_at-some_listed (codes "chunks") (provisional_members index) refl)
       ∙ ap (λ entries. uri_in (only_member (codes "chunkFileUri") (only_of entries))) (entries_in-some_list (chunk_json index.chunk ∷ [])) ∙ again
 
   -- ---- the rules
@@ -108,9 +73,9 @@ module _ (index : ProvisionalIndex) where
   form_passes : has_provisional_form json ≡ true
   unfolding has_provisional_form
   form_passes =
-      let names = has_only-some_listed provisional_names members refl in
-      let update = ap is_list_if_there (member_at-some_listed (codes "update") kinds refl) ∙ list_passes (map target_json index.updates) in
-      let lists = lists_pass (codes "update" ∷ []) (provisional_operations index) (has_only-some_listed (codes "update" ∷ []) kinds refl)
+      let names = has_only-some_listed provisional_names (provisional_members index) refl in
+      let update = ap is_list_if_there (member_at-some_listed (codes "update") (provisional_lists index) refl) ∙ list_passes (map target_json index.updates) in
+      let lists = lists_pass (codes "update" ∷ []) (provisional_operations index) (has_only-some_listed (codes "update" ∷ []) (provisional_lists index) refl)
       (both _ _ update refl) in
       both _ _ names (rw operations_there lists)
 

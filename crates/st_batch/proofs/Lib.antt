@@ -5,7 +5,6 @@ mod CountedLemmas
 -- What is written is read again: values, hashes, entries of files.
 mod AgainEntryLemmas
 mod AgainHashLemmas
-mod AgainObjectLemmas
 -- The anchor string of a batch, and what is known by its files.
 mod AnchorTextLemmas
 mod KnownBatchLemmas

@@ -20,7 +20,7 @@ use Rattle.st_batch.specs.Fits.{Fits, delta_counts, has_right_delta}
 use Rattle.st_batch.specs.Groups.{signed_text_in}
 use Rattle.st_batch.specs.Kept.{IsFormed}
 use Rattle.st_batch.specs.ReadBack.{SaysAll}
-use Rattle.st_batch.proofs.AgainObjectLemmas.{IsReadable}
+use Rattle.st_canon.proofs.ReadableLemmas.{IsReadable}
 use Rattle.st_batch.proofs.DeltaLemmas.{counted_depth, right_holds}
 
 -- an operation of which all parts are read again at these limits

@@ -1,4 +1,5 @@
 -- Private: what the answers of this crate cite.
+mod AlreadyLemmas
 mod AsciiNames
 mod BareLemmas
 mod BracketLemmas
@@ -29,6 +30,7 @@ mod RunLemmas
 mod ScalarLemmas
 mod Searching
 mod Sorting
+mod StopLanes
 mod Units
 mod WalkLemmas
 -- For the crates above.
@@ -53,5 +55,7 @@ pub mod NestsLemmas
 pub mod Order
 -- the plain members, where a pair was put among the pairs or is looked up
 pub mod Places
+-- proper values that do not nest too deep to be read again, and what is made of such
+pub mod ReadableLemmas
 -- a canonical text is UTF-8
 pub mod Texts

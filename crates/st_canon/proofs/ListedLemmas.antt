@@ -1,5 +1,6 @@
 -- The canonical text of an object whose members were listed.
 use Rattle.std.proofs.Common.{◌≡◌, ◌∙◌, ℕ, Bool, true, false, List, [], ◌∷◌, ◌++◌, Option, Some, None, Ordering, Less, Equal, Greater, refl, ap, append_assoc}
+use Rattle.std.specs.Prelude.{◌||◌, is_some}
 use Rattle.std.proofs.lemmas.Bool.{and_parts}
 use Rattle.std.specs.Ordering.{match_ordering}
 use Rattle.st_canon.specs.Canonical.{canonical, canonical_members, comma}
@@ -7,7 +8,7 @@ use Rattle.st_canon.specs.Find.{put}
 use Rattle.st_canon.specs.Names.{name_cmp}
 use Rattle.st_canon.specs.Objects.{object_of_some, put_some, with_some}
 use Rattle.st_canon.specs.Plain.{Plain, Members, member}
-use Rattle.st_canon.specs.Listed.{all_fit, fits, inserted, is_below, listed_text, members_some, name_text, some_first, sorted_among, texts_before, texts_behind}
+use Rattle.st_canon.specs.Listed.{all_fit, fits, inserted, is_below, listed_text, member_text, members_some, members_text, name_text, some_first, sorted_among, texts_before, texts_behind}
 
 -- what is below all is below the first and below the rest
 below_parts : (o : Ordering) (rest : Bool) → match_ordering o rest false false ≡ true → (o ≡ Less) × (rest ≡ true)
@@ -100,3 +101,24 @@ canonical-listed pairs before name value behind fit sorted =
     let last = name_text name ++ (canonical value ++ texts_behind behind (125 ∷ [])) in
     ap (λ ms. 123 ∷ (canonical_members false ms ++ 125 ∷ [])) (with_some-fits pairs [] fit ∙ ap members_some sorted)
     ∙ ap (λ text. 123 ∷ text) (text-before before false name value behind (125 ∷ []) last (text-always name value behind (125 ∷ [])))
+
+-- ---- members that may all be left out
+
+text-there : (due : Bool) (name : List ℕ) (there : Option Plain) (others : Members)
+    → canonical_members due (some_first name there others) ≡ member_text due name there ++ canonical_members (due || is_some there) others
+text-there true name None others = refl
+text-there false name None others = refl
+text-there true name (Some value) others = simp append_assoc
+text-there false name (Some value) others = simp append_assoc
+
+text-each : (due : Bool) (pairs : List (List ℕ × Option Plain)) → canonical_members due (members_some pairs) ≡ members_text due pairs
+text-each due [] = refl
+text-each due (pair ∷ pairs) =
+    text-there due pair.0 pair.1 (members_some pairs) ∙ ap (λ text. member_text due pair.0 pair.1 ++ text) (text-each (due || is_some pair.1) pairs)
+
+-- The text of an object of which each member may be left out. Both premises are `refl` at literals.
+pub canonical-sorted : (pairs sorted : List (List ℕ × Option Plain)) → all_fit pairs [] ≡ true → sorted_among pairs [] ≡ sorted
+    → canonical (object_of_some pairs) ≡ 123 ∷ (members_text false sorted ++ 125 ∷ [])
+canonical-sorted pairs sorted fit is =
+    ap (λ ms. 123 ∷ (canonical_members false ms ++ 125 ∷ [])) (with_some-fits pairs [] fit ∙ ap members_some is)
+    ∙ ap (λ text. 123 ∷ (text ++ 125 ∷ [])) (text-each false sorted)

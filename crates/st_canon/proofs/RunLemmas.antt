@@ -11,7 +11,7 @@ use Rattle.st_canon.specs.Canonical.{escape}
 use Rattle.st_canon.proofs.Compact.{same_escapes}
 
 -- a front without a byte that is escaped
-plain_front : (xs : List ℕ) (n : ℕ) → n ≤ length xs → PlainBetween xs 0 n → flat_map escape (take n xs) ≡ take n xs
+pub plain_front : (xs : List ℕ) (n : ℕ) → n ≤ length xs → PlainBetween xs 0 n → flat_map escape (take n xs) ≡ take n xs
 plain_front xs n within plain =
     let long = length-take-le n xs within in
     let front : PlainBetween (take n xs) 0 (length (take n xs)) = λ k low high. ap is_plain (get_or-take n xs k 0 (omega (arith, long)))

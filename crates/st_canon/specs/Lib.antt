@@ -4,6 +4,7 @@ pub mod Direct
 pub mod Entries
 pub mod Find
 pub mod Held
+pub mod InFront
 pub mod InOrder
 pub mod KeptText
 pub mod Lends

@@ -2,6 +2,7 @@
 //! text of RFC 8785, and kept in little memory as that text, or as a part of a file that is kept anyway.
 #![tactic(auto)]
 
+mod already;
 mod comparing;
 mod convert;
 mod copied;

@@ -8,6 +8,7 @@ ghost use Rattle.st_canon.specs.Reading.{json_of, refusal_of};
 ghost use Rattle.st_canon.specs.declared.refused.ReadRefused.TheVariants.{NotJson, NotWhole};
 ghost use Rattle.st_canon.specs.Respelled.{IsNoJson, IsNumberWritten, IsRespelled, ItemsAreRespelled, MembersAreGathered, MembersAreRespelled, ObjectIsGathered, TextIsRespelled};
 
+use crate::already::is_canonical;
 use crate::direct::{MAX_DEPTH, ReadStopped};
 use crate::escape::append_text;
 use crate::gathered::{append_gathered, append_object, begin, cut_back, end};
@@ -34,6 +35,9 @@ pub fn canonical_text(alloc: Global, bytes: &[u8]) -> Result<Bytes, ReadRefused>
     let Ok(text) = simdutf8::compat::from_utf8(bytes) else {
         return Err(ReadRefused::NotJson);
     };
+    if is_canonical(text) {
+        return Ok(Bytes::from_slice(alloc, bytes)?);
+    }
     let mut scratch = Scratch::new(alloc);
     match rewrite_text(alloc, text, &mut scratch) {
         Ok(written) => Ok(written),

@@ -104,7 +104,7 @@ fn rewrite_members<'a>(
 }
 
 // Whether a name is above the one before it, where there is one.
-fn is_above(last: Option<&str>, name: &str) -> bool
+pub(crate) fn is_above(last: Option<&str>, name: &str) -> bool
     ensures { IsTrue result → IfSome last.entry (λ last. name_cmp last.now name.now ≡ Less) }
 {
     match last {

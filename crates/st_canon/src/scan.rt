@@ -4,11 +4,11 @@
 mod bare;
 mod brackets;
 mod content;
-mod cursor;
+pub(crate) mod cursor;
 mod entries;
 mod items;
 mod kind;
-mod lanes;
+pub(crate) mod lanes;
 mod marks;
 mod members;
 mod members_left;

@@ -3,8 +3,12 @@ pub mod BareLemmas
 pub mod CoreLemmas
 -- a text of which JSON escapes a byte is no hash text
 pub mod EscapedLemmas
+-- their canonical text, a member after another
+pub mod MemberLemmas
 pub mod ProvisionalLemmas
 pub mod ReadLemmas
+-- what they are written as is read again
+pub mod ReadableLemmas
 -- what base64 takes
 pub mod TakenLemmas
 pub mod TwiceLemmas

@@ -35,16 +35,24 @@ suffixes_of index =
 
 -- ---- written
 
+-- the lists of a core index file by the kinds of its operations; a kind without any has none
+abbrev pub core_lists : CoreIndex → List (List ℕ × Option Plain)
+core_lists index =
+    (codes "create", some_list (map create_json index.creates))
+    ∷ (codes "recover", some_list (map target_json index.recovers))
+    ∷ (codes "deactivate", some_list (map target_json index.deactivates)) ∷ []
+
 -- the operations of a core index file by their kinds; a kind without any is left out
 abbrev pub core_operations : CoreIndex → Members
-core_operations index = some_listed
-    ((codes "create", some_list (map create_json index.creates))
-    ∷ (codes "recover", some_list (map target_json index.recovers))
-    ∷ (codes "deactivate", some_list (map target_json index.deactivates)) ∷ [])
+core_operations index = some_listed (core_lists index)
+
+-- the members of a core index file, each where there is something to say
+abbrev pub core_members : CoreIndex → List (List ℕ × Option Plain)
+core_members index =
+    (codes "coreProofFileUri", option_map hash_json index.core_proof)
+    ∷ (codes "provisionalIndexFileUri", option_map hash_json index.provisional)
+    ∷ (codes "operations", some_object (core_operations index)) ∷ []
 
 -- the JSON of an index, without empty lists and without an empty `operations`
 abbrev pub core_json : CoreIndex → Plain
-core_json index = object_of_some
-    ((codes "coreProofFileUri", option_map hash_json index.core_proof)
-    ∷ (codes "provisionalIndexFileUri", option_map hash_json index.provisional)
-    ∷ (codes "operations", some_object (core_operations index)) ∷ [])
+core_json index = object_of_some (core_members index)

@@ -44,13 +44,21 @@ suffixes_in updates = map (λ update. update.suffix) updates
 abbrev pub chunk_json : HashValue → Plain
 chunk_json uri = object_of ((codes "chunkFileUri", hash_json uri) ∷ [])
 
+-- the list of updates of a provisional index file, where there are any
+abbrev pub provisional_lists : ProvisionalIndex → List (List ℕ × Option Plain)
+provisional_lists index = (codes "update", some_list (map target_json index.updates)) ∷ []
+
 -- the updates of a provisional index file; without any the list is left out
 abbrev pub provisional_operations : ProvisionalIndex → Members
-provisional_operations index = some_listed ((codes "update", some_list (map target_json index.updates)) ∷ [])
+provisional_operations index = some_listed (provisional_lists index)
+
+-- the members of a provisional index file, each where there is something to say
+abbrev pub provisional_members : ProvisionalIndex → List (List ℕ × Option Plain)
+provisional_members index =
+    (codes "provisionalProofFileUri", option_map hash_json index.proof)
+    ∷ (codes "chunks", some_list (chunk_json index.chunk ∷ []))
+    ∷ (codes "operations", some_object (provisional_operations index)) ∷ []
 
 -- the JSON of an index, without an empty list and without an empty `operations`
 abbrev pub provisional_json : ProvisionalIndex → Plain
-provisional_json index = object_of_some
-    ((codes "provisionalProofFileUri", option_map hash_json index.proof)
-    ∷ (codes "chunks", some_list (chunk_json index.chunk ∷ []))
-    ∷ (codes "operations", some_object (provisional_operations index)) ∷ [])
+provisional_json index = object_of_some (provisional_members index)

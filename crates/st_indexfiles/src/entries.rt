@@ -1,13 +1,12 @@
-ghost use Rattle.std.specs.Prelude.{◌≡◌, ◌≤◌, ℕ, Option, Some, IfOk, OnOk, map};
+ghost use Rattle.std.specs.Prelude.{◌≡◌, ◌≤◌, ◌++◌, ℕ, Option, Some, IfOk, OnOk};
 ghost use Rattle.std.specs.Option.{option_copied};
 ghost use Rattle.st_base.specs.Each.{each_of};
+ghost use Rattle.st_canon.specs.Canonical.{canonical};
 ghost use Rattle.st_canon.specs.Plain.{Plain};
 ghost use Rattle.st_canon.specs.Shapes.{entries_in, member_in};
-ghost use Rattle.st_canon.specs.View.{plain};
-ghost use Rattle.st_indexfiles.specs.Written.{AreReadAgain, ReadsAs};
+ghost use Rattle.st_indexfiles.specs.Written.{ReadsAs};
 
-use st_base::{List, WantOfMemory};
-use st_canon::Json;
+use st_base::{Bytes, List, WantOfMemory};
 use st_canon::scan::{Entries, Scanned, entries_in};
 use std::alloc::Global;
 
@@ -23,9 +22,9 @@ pub(crate) trait Entry: Drop {
         requires last { version ≤ 2 }
         ensures { result ≡ of version entry.now };
 
-    /// The entry that says this. In whatever version it is read, it is read as this.
-    fn write(&self, alloc: Global) -> Result<Json, WantOfMemory>
-        ensures value { IfOk result (λ entry. plain entry ≡ json self.now) }
+    /// Appends the canonical text of the entry that says this. In whatever version it is read, it is read as this.
+    fn append(&self, alloc: Global, out: &mut Bytes) -> Result<(), WantOfMemory>
+        ensures text { OnOk result (out.new ≡ out.old ++ canonical (json self.now)) }
         ensures read { OnOk result ((version : ℕ) → ReadsAs (of version (json self.now)) self.now) };
 }
 
@@ -58,16 +57,4 @@ pub(crate) fn read_entries<T: Entry>(
         said.push(alloc, one)?;
     }
     Ok(Some(said))
-}
-
-/// The entries that say these.
-pub(crate) fn write_entries<T: Entry>(alloc: Global, said: &[T]) -> Result<List<Json>, WantOfMemory>
-    ensures value { IfOk result (λ entries. map plain entries ≡ map T.json said.now) }
-    ensures read { OnOk result (AreReadAgain T.of T.json said.now) }
-{
-    let mut entries = List::new(alloc);
-    for one in said {
-        entries.push(alloc, one.write(alloc)?)?;
-    }
-    Ok(entries)
 }

@@ -3,7 +3,7 @@ ghost use Rattle.std.specs.Option.{option_copied};
 ghost use Rattle.st_canon.specs.View.{plain};
 ghost use Rattle.st_hash.specs.Hash.{hash_of_text, hash_of_text_at};
 ghost use Rattle.st_indexfiles.specs.Hashes.{hash_in, hash_json, is_uri_if_there, uri_in};
-ghost use Rattle.st_indexfiles.specs.Written.{IsHashReadAgain, IsUriReadAgain};
+ghost use Rattle.st_indexfiles.specs.Written.{IsHashReadAgain};
 
 use st_base::WantOfMemory;
 use st_canon::Json;
@@ -86,15 +86,4 @@ pub fn hash_json(alloc: Global, hash: &Hash) -> Result<Json, WantOfMemory>
     ensures read { OnOk result (IsHashReadAgain hash.now) }
 {
     Ok(Json::Text(hash_text(alloc, hash)?))
-}
-
-/// The URI as JSON, where there is one.
-pub(crate) fn uri_json(alloc: Global, uri: &Option<Hash>) -> Result<Option<Json>, WantOfMemory>
-    ensures value { IfOk result (λ json. option_map plain json ≡ option_map hash_json uri.now) }
-    ensures read { OnOk result (IsUriReadAgain uri.now) }
-{
-    match uri {
-        Some(uri) => Ok(Some(hash_json(alloc, uri)?)),
-        None => Ok(None),
-    }
 }

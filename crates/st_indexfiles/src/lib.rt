@@ -11,6 +11,7 @@ mod core_rule;
 mod core_writing;
 mod entries;
 mod hashes;
+mod members;
 mod provisional_index;
 mod provisional_reading;
 mod provisional_rule;

@@ -7,6 +7,7 @@ ghost use Rattle.st_indexfiles.specs.Written.{IsHashReadAgain};
 
 use crate::entries::Entry;
 use crate::hashes::{hash_in, hash_json};
+use crate::members::append_hash;
 use st_base::{Bytes, Copied, WantOfMemory};
 use st_canon::scan::Scanned;
 use st_canon::{Json, Object};
@@ -130,10 +131,11 @@ impl Entry for SuffixData {
         SuffixData::read(&suffix_data, version)
     }
 
-    fn write(&self, alloc: Global) -> Result<Json, WantOfMemory> {
-        let mut entry = Object::new(alloc);
-        let suffix_data = self.json(alloc)?;
-        entry.set(alloc, "suffixData", suffix_data)?;
-        Ok(Json::Object(entry))
+    fn append(&self, alloc: Global, out: &mut Bytes) -> Result<(), WantOfMemory> {
+        out.push_all(alloc, b"{\"suffixData\":{\"deltaHash\":")?;
+        append_hash(alloc, out, &self.delta_hash)?;
+        out.push_all(alloc, b",\"recoveryCommitment\":")?;
+        append_hash(alloc, out, &self.recovery_commitment)?;
+        Ok(out.push_all(alloc, b"}}")?)
     }
 }

@@ -1,8 +1,8 @@
 use crate::entries::Entry;
-use crate::hashes::{hash_in, hash_json};
-use st_base::{Copied, WantOfMemory};
+use crate::hashes::hash_in;
+use crate::members::append_hash;
+use st_base::{Bytes, Copied, WantOfMemory};
 use st_canon::scan::Scanned;
-use st_canon::{Json, Object};
 use st_hash::Hash;
 use std::alloc::Global;
 
@@ -34,13 +34,11 @@ impl Entry for Target {
         Some(Target { suffix, reveal })
     }
 
-    #[tactic(auto, unfolding(st_canon::proofs::OnLiterals::names_on_literals))]
-    fn write(&self, alloc: Global) -> Result<Json, WantOfMemory> {
-        let mut entry = Object::new(alloc);
-        let suffix = hash_json(alloc, &self.suffix)?;
-        entry.set(alloc, "didSuffix", suffix)?;
-        let reveal = hash_json(alloc, &self.reveal)?;
-        entry.set(alloc, "revealValue", reveal)?;
-        Ok(Json::Object(entry))
+    fn append(&self, alloc: Global, out: &mut Bytes) -> Result<(), WantOfMemory> {
+        out.push_all(alloc, b"{\"didSuffix\":")?;
+        append_hash(alloc, out, &self.suffix)?;
+        out.push_all(alloc, b",\"revealValue\":")?;
+        append_hash(alloc, out, &self.reveal)?;
+        Ok(out.push_all(alloc, b"}")?)
     }
 }

@@ -1,0 +1,189 @@
+-- The canonical text of index files, a member after another.
+use Rattle.std.proofs.Common.{◌≡◌, ◌∙◌, ℕ, Bool, true, false, List, [], ◌∷◌, ◌++◌, codes, map, Option, Some, None, option_map, refl, sym, ap, append_assoc}
+use Rattle.std.proofs.Common.{◌≤◌, ◌<◌, length, nat_lt, arith}
+use Rattle.std.proofs.lemmas.Bool.Decides.{nat_tests}
+use Rattle.std.specs.Prelude.{◌||◌, is_some}
+use Rattle.std.proofs.lemmas.List.{append-nil}
+use Rattle.std.specs.Str.{chars}
+use Rattle.st_canon.specs.Canonical.{canonical, comma, escape}
+use Rattle.st_canon.specs.Listed.{member_text, name_text}
+use Rattle.st_canon.specs.Objects.{put_some, some_list, some_listed, some_object}
+use Rattle.st_canon.specs.Plain.{Plain, list, object, Members, no_members, member}
+use Rattle.st_canon.specs.View.{items_of}
+use Rattle.st_canon.proofs.ListedLemmas.{canonical-sorted}
+use Rattle.st_canon.proofs.OnLiterals.{names_on_literals}
+use Rattle.st_indexfiles.specs.CoreIndex.{core_json, core_lists, core_members, core_operations}
+use Rattle.st_indexfiles.specs.Hashes.{hash_json}
+use Rattle.st_indexfiles.specs.ProvisionalIndex.{chunk_json, provisional_json, provisional_lists, provisional_members, provisional_operations}
+use Rattle.st_indexfiles.specs.SuffixData.{create_json, create_of}
+use Rattle.st_indexfiles.specs.Target.{target_json, target_of}
+use Rattle.st_indexfiles.specs.Written.{AreReadAgain}
+use Rattle.st_indexfiles.specs.declared.core_index.CoreIndex.{CoreIndex}
+use Rattle.st_indexfiles.specs.declared.provisional_index.ProvisionalIndex.{ProvisionalIndex}
+use Rattle.st_indexfiles.specs.declared.suffix_data.SuffixData.{SuffixData}
+use Rattle.st_indexfiles.specs.declared.target.Target.{Target}
+
+-- ---- pieces that went out one after another
+
+pub in_three : (old one two new a b c whole : List ℕ) → one ≡ old ++ a → two ≡ one ++ b → new ≡ two ++ c → whole ≡ a ++ (b ++ c) → new ≡ old ++ whole
+in_three old one two new a b c whole first second third is = third ∙ rw (second, first, is) (simp append_assoc)
+
+pub in_five : (old one two three four new a b c d e whole : List ℕ) → one ≡ old ++ a → two ≡ one ++ b → three ≡ two ++ c → four ≡ three ++ d
+    → new ≡ four ++ e → whole ≡ a ++ (b ++ (c ++ (d ++ e))) → new ≡ old ++ whole
+in_five old one two three four new a b c d e whole first second third fourth fifth is =
+    fifth ∙ rw (fourth, third, second, first, is) (simp append_assoc)
+
+pub in_six : (old one two three four five new a b c d e f whole : List ℕ) → one ≡ old ++ a → two ≡ one ++ b → three ≡ two ++ c → four ≡ three ++ d
+    → five ≡ four ++ e → new ≡ five ++ f → whole ≡ a ++ (b ++ (c ++ (d ++ (e ++ f)))) → new ≡ old ++ whole
+in_six old one two three four five new a b c d e f whole first second third fourth fifth sixth is =
+    sixth ∙ rw (fifth, fourth, third, second, first, is) (simp append_assoc)
+
+-- ---- entries
+
+pub create_text : (create : SuffixData) → canonical (create_json create)
+    ≡ codes "{\"suffixData\":{\"deltaHash\":" ++ (canonical (hash_json create.delta_hash)
+    ++ (codes ",\"recoveryCommitment\":" ++ (canonical (hash_json create.recovery_commitment) ++ codes "}}")))
+unfolding names_on_literals escape
+create_text create = simp append_assoc
+
+pub target_text : (target : Target) → canonical (target_json target)
+    ≡ codes "{\"didSuffix\":" ++ (canonical (hash_json target.suffix) ++ (codes ",\"revealValue\":" ++ (canonical (hash_json target.reveal) ++ codes "}")))
+unfolding names_on_literals escape
+target_text target = simp append_assoc
+
+-- ---- members that may be left out
+
+-- nothing is due later but what is due already, where there is nothing
+pub still_due : (due : Bool) (there : Option Plain) → there ≡ None → due ≡ (due || is_some there)
+still_due true there none = refl
+still_due false there none = sym (ap is_some none)
+
+pub now_due : (due : Bool) (there : Option Plain) (value : Plain) → there ≡ Some value → true ≡ (due || is_some there)
+now_due true there value some = refl
+now_due false there value some = sym (ap is_some some)
+
+pub nothing_there : (out name : List ℕ) (due : Bool) (there : Option Plain) → there ≡ None → out ≡ out ++ member_text due name there
+nothing_there out name due there none = sym (append-nil out) ∙ ap (λ value. out ++ member_text due name value) (sym none)
+
+pub something_there : (old named new name : List ℕ) (due : Bool) (there : Option Plain) (value : Plain) → there ≡ Some value
+    → named ≡ old ++ (comma due ++ name_text name) → new ≡ named ++ canonical value → new ≡ old ++ member_text due name there
+something_there old named new name due there value some begun all =
+    all ∙ ap (λ text. text ++ canonical value) begun ∙ append_assoc old (comma due ++ name_text name) (canonical value)
+    ∙ ap (λ text. old ++ text) (append_assoc (comma due) (name_text name) (canonical value))
+    ∙ ap (λ other. old ++ member_text due name other) (sym some)
+
+-- ---- lists and objects that are left out where they are empty
+
+module _ {Said : Type 0} (json : Said → Plain) where
+  pub none_said : (said : List Said) → length said ≡ 0 → some_list (map json said) ≡ None
+  unfolding some_list
+  none_said [] none = refl
+  none_said (one ∷ more) none = absurd (omega (arith, none))
+
+  pub some_said : (said : List Said) → 1 ≤ length said → some_list (map json said) ≡ Some (list (items_of (map json said)))
+  unfolding some_list
+  some_said [] some = absurd (omega (arith, some))
+  some_said (one ∷ more) some = refl
+
+  pub said_there : (said : List Said) → is_some (some_list (map json said)) ≡ nat_lt 0 (length said)
+  unfolding some_list
+  said_there [] = refl
+  said_there (one ∷ more) = grind (arith, nat_tests)
+
+none_read : {Said : Type 0} (read : ℕ → Plain → Option Said) (json : Said → Plain) (said : List Said) → nat_lt 0 (length said) ≡ false
+    → AreReadAgain read json said
+none_read read json [] none = tt
+none_read read json (one ∷ more) none = absurd (let some : 0 < length (one ∷ more) = omega arith in grind (arith, nat_tests))
+
+pub no_object : (ms : Members) → is_some (some_object ms) ≡ false → some_object ms ≡ None
+unfolding some_object
+no_object no_members none = refl
+no_object (member name value ms) none = cc
+
+pub an_object : (ms : Members) → is_some (some_object ms) ≡ true → some_object ms ≡ Some (object ms)
+unfolding some_object
+an_object no_members some = cc
+an_object (member name value ms) some = refl
+
+-- ---- the objects
+
+-- which operations there are
+of_kinds : (creates recovers deactivates : Option Plain)
+    → is_some (some_object (some_listed ((codes "create", creates) ∷ (codes "recover", recovers) ∷ (codes "deactivate", deactivates) ∷ [])))
+    ≡ ((is_some creates || is_some recovers) || is_some deactivates)
+unfolding some_object put_some names_on_literals
+of_kinds None None None = refl
+of_kinds None None (Some d) = refl
+of_kinds None (Some r) None = refl
+of_kinds None (Some r) (Some d) = refl
+of_kinds (Some c) None None = refl
+of_kinds (Some c) None (Some d) = refl
+of_kinds (Some c) (Some r) None = refl
+of_kinds (Some c) (Some r) (Some d) = refl
+
+pub operations_there : (index : CoreIndex) → is_some (some_object (core_operations index))
+    ≡ ((nat_lt 0 (length index.creates) || nat_lt 0 (length index.recovers)) || nat_lt 0 (length index.deactivates))
+operations_there index =
+    of_kinds (some_list (map create_json index.creates)) (some_list (map target_json index.recovers)) (some_list (map target_json index.deactivates))
+    ∙ (λ i. (said_there create_json index.creates i || said_there target_json index.recovers i) || said_there target_json index.deactivates i)
+
+neither : (x y z : Bool) → ((x || y) || z) ≡ false → (x ≡ false) × (y ≡ false) × (z ≡ false)
+neither true y z none = cc
+neither false true z none = cc
+neither false false true none = cc
+neither false false false none = (refl, refl, refl)
+
+-- where there are none, there is none of any kind
+pub no_operations : (index : CoreIndex) → is_some (some_object (core_operations index)) ≡ false
+    → AreReadAgain create_of create_json index.creates × AreReadAgain target_of target_json index.recovers × AreReadAgain target_of target_json index.deactivates
+no_operations index none =
+    let parts = neither _ _ _ (sym (operations_there index) ∙ none) in (
+      none_read create_of create_json index.creates parts.0,
+      none_read target_of target_json index.recovers parts.1,
+      none_read target_of target_json index.deactivates parts.2,
+    )
+
+pub updates_there : (updates : Option Plain) → is_some (some_object (some_listed ((codes "update", updates) ∷ []))) ≡ is_some updates
+unfolding some_object put_some
+updates_there None = refl
+updates_there (Some there) = refl
+
+module _ (index : CoreIndex) where
+  pub core_text : canonical (core_json index)
+      ≡ codes "{" ++ (member_text false (codes "coreProofFileUri") (option_map hash_json index.core_proof)
+      ++ (member_text (false || is_some (option_map hash_json index.core_proof)) (codes "operations") (some_object (core_operations index))
+      ++ (member_text ((false || is_some (option_map hash_json index.core_proof)) || is_some (some_object (core_operations index)))
+      (codes "provisionalIndexFileUri") (option_map hash_json index.provisional) ++ codes "}")))
+  unfolding chars
+  core_text =
+      canonical-sorted (core_members index) ((codes "coreProofFileUri", option_map hash_json index.core_proof)
+      ∷ (codes "operations", some_object (core_operations index)) ∷ (codes "provisionalIndexFileUri", option_map hash_json index.provisional) ∷ []) refl refl
+      ∙ simp append_assoc
+
+  pub core_operations_text : canonical (object (core_operations index))
+      ≡ codes "{" ++ (member_text false (codes "create") (some_list (map create_json index.creates))
+      ++ (member_text (false || is_some (some_list (map create_json index.creates))) (codes "deactivate") (some_list (map target_json index.deactivates))
+      ++ (member_text ((false || is_some (some_list (map create_json index.creates))) || is_some (some_list (map target_json index.deactivates)))
+      (codes "recover") (some_list (map target_json index.recovers)) ++ codes "}")))
+  unfolding chars
+  core_operations_text =
+      canonical-sorted (core_lists index) ((codes "create", some_list (map create_json index.creates))
+      ∷ (codes "deactivate", some_list (map target_json index.deactivates)) ∷ (codes "recover", some_list (map target_json index.recovers)) ∷ []) refl refl
+      ∙ simp append_assoc
+
+module _ (index : ProvisionalIndex) where
+  pub provisional_text : canonical (provisional_json index)
+      ≡ codes "{\"chunks\":[{\"chunkFileUri\":" ++ (canonical (hash_json index.chunk)
+      ++ (codes "}]" ++ (member_text true (codes "operations") (some_object (provisional_operations index))
+      ++ (member_text true (codes "provisionalProofFileUri") (option_map hash_json index.proof) ++ codes "}"))))
+  unfolding chars escape some_list
+  provisional_text =
+      canonical-sorted (provisional_members index) ((codes "chunks", some_list (chunk_json index.chunk ∷ []))
+      ∷ (codes "operations", some_object (provisional_operations index)) ∷ (codes "provisionalProofFileUri", option_map hash_json index.proof) ∷ []) refl refl
+      ∙ simp append_assoc
+
+  pub provisional_operations_text : canonical (object (provisional_operations index))
+      ≡ codes "{" ++ (member_text false (codes "update") (some_list (map target_json index.updates)) ++ codes "}")
+  unfolding chars
+  provisional_operations_text =
+      canonical-sorted (provisional_lists index) ((codes "update", some_list (map target_json index.updates)) ∷ []) refl refl ∙ simp append_assoc

@@ -1,0 +1,168 @@
+-- What index files are written as is proper and does not nest too deep, so its canonical text is read again.
+use Rattle.std.proofs.Common.{◌≡◌, ℕ, zero, suc, ◌+◌, ◌*◌, ◌/◌, ◌%◌, ◌<◌, ◌≤◌, ◌++◌, true, List, [], ◌∷◌, codes, map, slice_index, nat_lt, Option, Some, None, refl, arith}
+use Rattle.std.specs.Prelude.{option_map}
+use Rattle.std.specs.List.{AllByRecursion, list_all}
+use Rattle.std.specs.Str.{IsAscii, IsUtf8}
+use Rattle.std.proofs.lemmas.Bool.{and_parts}
+use Rattle.std.proofs.lemmas.Bool.Decides.{nat_tests}
+use Rattle.std.proofs.lemmas.Str.{IsUtf8-from_ascii}
+use Rattle.base64.specs.Engines.{url_safe_no_pad}
+use Rattle.base64.specs.Rfc4648.{encode_symbols}
+use Rattle.st_canon.proofs.OnLiterals.{names_on_literals}
+use Rattle.st_canon.proofs.ReadableLemmas.{IsReadable, IsReadableThere, deeper, list_there, listed_readable, object_readable, object_there}
+use Rattle.st_hash.specs.Base64url.{base64url}
+use Rattle.st_hash.specs.Hash.{HashValue, hash_text}
+use Rattle.st_indexfiles.specs.CoreIndex.{core_json, core_lists, core_members, core_operations}
+use Rattle.st_indexfiles.specs.Hashes.{hash_json}
+use Rattle.st_indexfiles.specs.ProvisionalIndex.{chunk_json, provisional_json, provisional_lists, provisional_members, provisional_operations}
+use Rattle.st_indexfiles.specs.SuffixData.{create_json}
+use Rattle.st_indexfiles.specs.Target.{target_json}
+use Rattle.st_indexfiles.specs.declared.core_index.CoreIndex.{CoreIndex}
+use Rattle.st_indexfiles.specs.declared.provisional_index.ProvisionalIndex.{ProvisionalIndex}
+use Rattle.st_indexfiles.specs.declared.suffix_data.SuffixData.{SuffixData}
+use Rattle.st_indexfiles.specs.declared.target.Target.{Target}
+use lib.Utf8.{encode, encodes, scalars}
+
+-- ---- hash texts
+
+abbrev pub AreBelow : ℕ → List ℕ → Type 0
+AreBelow most bytes = AllByRecursion (λ byte. byte < most) bytes
+
+pub below_both : (most : ℕ) (xs ys : List ℕ) → AreBelow most xs → AreBelow most ys → AreBelow most (xs ++ ys)
+below_both most [] ys first second = second
+below_both most (x ∷ xs) ys first second = (first.0, below_both most xs ys first.1 second)
+
+pub below_at : (most : ℕ) (xs : List ℕ) → 0 < most → AreBelow most xs → (i : ℕ) → slice_index xs i < most
+below_at most [] some all i = some
+below_at most (x ∷ xs) some all zero = all.0
+below_at most (x ∷ xs) some all (suc i) = below_at most xs some all.1 i
+
+tested_at : (symbols : List ℕ) → list_all (λ symbol. nat_lt symbol 128) symbols ≡ true → (i : ℕ) → slice_index symbols i < 128
+tested_at [] all i = omega arith
+tested_at (x ∷ xs) all zero = let first = (and_parts (nat_lt x 128) (list_all (λ symbol. nat_lt symbol 128) xs) all).0 in grind (arith, nat_tests)
+tested_at (x ∷ xs) all (suc i) = tested_at xs (and_parts (nat_lt x 128) (list_all (λ symbol. nat_lt symbol 128) xs) all).1 i
+
+below_in : (symbols bytes : List ℕ) → ((i : ℕ) → slice_index symbols i < 128) → AreBelow 128 (encode_symbols symbols bytes)
+unfolding encode_symbols
+below_in symbols [] low = tt
+below_in symbols (a ∷ []) low = (low (a / 4), (low (a % 4 * 16), tt))
+below_in symbols (a ∷ b ∷ []) low = (low (a / 4), (low (a % 4 * 16 + b / 16), (low (b % 16 * 4), tt)))
+below_in symbols (a ∷ b ∷ c ∷ rest) low =
+    (low (a / 4), (low (a % 4 * 16 + b / 16), (low (b % 16 * 4 + c / 64), (low (c % 64), below_in symbols rest low))))
+
+base64url_ascii : (bytes : List ℕ) → IsAscii (base64url bytes)
+base64url_ascii bytes =
+    let symbols = url_safe_no_pad.encode_table in
+    below_at 128 (encode_symbols symbols bytes ++ []) (omega arith)
+    (below_both 128 (encode_symbols symbols bytes) [] (below_in symbols bytes (tested_at symbols refl)) tt)
+
+-- a hash text is UTF-8
+pub hash_text_utf8 : (hash : HashValue) → IsUtf8 (hash_text hash)
+hash_text_utf8 hash = IsUtf8-from_ascii (hash_text hash) (base64url_ascii _)
+
+-- so a hash as JSON is readable
+pub hash_readable : (hash : HashValue) → IsReadable 1 (hash_json hash)
+hash_readable hash = (hash_text_utf8 hash, omega arith)
+
+-- ---- lists
+
+pub each_map : {Item Said : Type 0} (write : Said → Item) (P : Said → Type 0) (Q : Item → Type 0) → ((one : Said) → P one → Q (write one))
+    → (said : List Said) → AllByRecursion P said → AllByRecursion Q (map write said)
+each_map write P Q follows [] all = tt
+each_map write P Q follows (one ∷ more) all = (follows one all.0, each_map write P Q follows more all.1)
+
+pub each_holds : {Item : Type 0} (P : Item → Type 0) → ((one : Item) → P one) → (items : List Item) → AllByRecursion P items
+each_holds P holds [] = tt
+each_holds P holds (one ∷ more) = (holds one, each_holds P holds more)
+
+-- ---- entries
+
+-- a name that is a literal
+pub utf8 : (literal : List ℕ) → (scalars literal ≡ true) × (encodes literal ≡ literal) → IsUtf8 literal
+utf8 literal is = (literal, is)
+
+pub target_readable : (target : Target) → IsReadable 2 (target_json target)
+unfolding names_on_literals encode
+target_readable target = (
+  (
+    utf8 (codes "didSuffix") (refl, refl),
+    (refl, tt),
+    hash_text_utf8 target.suffix,
+    (utf8 (codes "revealValue") (refl, refl), tt, hash_text_utf8 target.reveal, tt),
+  ),
+  omega arith,
+)
+
+pub create_readable : (create : SuffixData) → IsReadable 3 (create_json create)
+unfolding names_on_literals encode
+create_readable create = (
+  (
+    utf8 (codes "suffixData") (refl, refl),
+    tt,
+    (
+      utf8 (codes "deltaHash") (refl, refl),
+      (refl, tt),
+      hash_text_utf8 create.delta_hash,
+      (utf8 (codes "recoveryCommitment") (refl, refl), tt, hash_text_utf8 create.recovery_commitment, tt),
+    ),
+    tt,
+  ),
+  omega arith,
+)
+
+targets_readable : (targets : List Target) → AllByRecursion (IsReadable 3) (map target_json targets)
+targets_readable targets =
+    each_map target_json (λ one. IsReadable 2 (target_json one)) (IsReadable 3) (λ one readable. deeper 2 3 (target_json one) (omega arith) readable) targets
+    (each_holds (λ one. IsReadable 2 (target_json one)) target_readable targets)
+
+creates_readable : (creates : List SuffixData) → AllByRecursion (IsReadable 3) (map create_json creates)
+creates_readable creates =
+    each_map create_json (λ one. IsReadable 3 (create_json one)) (IsReadable 3) (λ one readable. readable) creates
+    (each_holds (λ one. IsReadable 3 (create_json one)) create_readable creates)
+
+-- a URI that may be there
+pub uri_readable : (most : ℕ) (uri : Option HashValue) → 1 ≤ most → IsReadableThere most (option_map hash_json uri)
+uri_readable most None some = tt
+uri_readable most (Some uri) some = deeper 1 most (hash_json uri) some (hash_readable uri)
+
+-- ---- a core index
+
+module _ (index : CoreIndex) where
+  pub core_readable : IsReadable 127 (core_json index)
+  unfolding encode
+  core_readable =
+      let operations = listed_readable 4 (core_lists index) (
+        (utf8 (codes "create") (refl, refl), list_there 3 (map create_json index.creates) (creates_readable index.creates)),
+        (
+          (utf8 (codes "recover") (refl, refl), list_there 3 (map target_json index.recovers) (targets_readable index.recovers)),
+          ((utf8 (codes "deactivate") (refl, refl), list_there 3 (map target_json index.deactivates) (targets_readable index.deactivates)), tt),
+        ),
+      ) in
+      let all = listed_readable 5 (core_members index) (
+        (utf8 (codes "coreProofFileUri") (refl, refl), uri_readable 5 index.core_proof (omega arith)),
+        (
+          (utf8 (codes "provisionalIndexFileUri") (refl, refl), uri_readable 5 index.provisional (omega arith)),
+          ((utf8 (codes "operations") (refl, refl), object_there 4 (core_operations index) operations), tt),
+        ),
+      ) in
+      deeper 6 127 (core_json index) (omega arith) (object_readable 5 _ all)
+
+-- ---- a provisional index
+
+module _ (index : ProvisionalIndex) where
+  chunk_readable : IsReadable 4 (chunk_json index.chunk)
+  unfolding encode
+  chunk_readable = ((utf8 (codes "chunkFileUri") (refl, refl), tt, hash_text_utf8 index.chunk, tt), omega arith)
+
+  pub provisional_readable : IsReadable 127 (provisional_json index)
+  unfolding encode
+  provisional_readable =
+      let operations = listed_readable 4 (provisional_lists index) ((utf8 (codes "update") (refl, refl), list_there 3 (map target_json index.updates) (targets_readable index.updates)), tt) in
+      let all = listed_readable 5 (provisional_members index) (
+        (utf8 (codes "provisionalProofFileUri") (refl, refl), uri_readable 5 index.proof (omega arith)),
+        (
+          (utf8 (codes "chunks") (refl, refl), list_there 4 (chunk_json index.chunk ∷ []) (chunk_readable, tt)),
+          ((utf8 (codes "operations") (refl, refl), object_there 4 (provisional_operations index) operations), tt),
+        ),
+      ) in
+      deeper 6 127 (provisional_json index) (omega arith) (object_readable 5 _ all)
