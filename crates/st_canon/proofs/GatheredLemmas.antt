@@ -1,7 +1,7 @@
 -- Members that are gathered by name as they come, in whatever order and more than once.
 use Rattle.std.proofs.Common.{◌≡◌, ℕ, ◌<◌, List, [], ◌∷◌, ◌++◌, length, map, Bool, true, false, Option, Some, None, option_map, option_and_then}
 use Rattle.std.proofs.Common.{Ordering, Less, Equal, Greater, nat_cmp, is_eq, IfSome, refl, sym, ap, ◌∙◌, subst, arith, append_assoc}
-use Rattle.std.specs.Prelude.{⊤, if◌then◌else◌, reverse, take}
+use Rattle.std.specs.Prelude.{⊤, if◌then◌else◌, drop, reverse, take}
 use Rattle.std.specs.Cmp.Lexicographic.{slice_cmp, nat_list_cmp_total}
 use Rattle.std.specs.List.{AllByRecursion}
 use Rattle.std.specs.List.Sorted.{IsStrictlySortedBy}
@@ -9,7 +9,7 @@ use Rattle.std.specs.Map.{keys_of}
 use Rattle.std.specs.Ordering.{match_ordering, ordering_reverse}
 use Rattle.std.specs.Str.{IsUtf8}
 use Rattle.std.proofs.lemmas.Cmp.{tied_itself}
-use Rattle.std.proofs.lemmas.List.{append-nil, reverse-append, take_at}
+use Rattle.std.proofs.lemmas.List.{append-nil, reverse-append, take-append-drop, take_at}
 use Rattle.std.proofs.lemmas.Map.Text.{is_eq-slice_cmp}
 use Rattle.std.proofs.lemmas.Slice.Eq.{bytes_eq-Decides}
 use Rattle.serde_json.specs.Data as data'
@@ -17,6 +17,7 @@ use Rattle.st_base.specs.Words.{HasNo}
 use Rattle.st_canon.specs.Canonical.{canonical, canonical_members, comma, quoted}
 use Rattle.st_canon.specs.Find.{put}
 use Rattle.st_canon.specs.Held.{IsHeld, entry_at, mark, some_text}
+use Rattle.st_canon.specs.Settled.{AreKept, RunsStand, run_entries}
 use Rattle.st_canon.specs.InOrder.{in_order, placed}
 use Rattle.st_canon.specs.Names.{name_cmp, NamesAscend}
 use Rattle.st_canon.specs.Plain.{Plain, object, Members, no_members, member}
@@ -26,6 +27,7 @@ use Rattle.st_canon.specs.Respelled.{AreGathered, IsWritten, Texts, members_text
 use Rattle.st_canon.proofs.FrontLemmas.{some_canonical}
 use Rattle.st_canon.proofs.HeldLemmas.{all_stay, entries_stay, entry_held, no_mark}
 use Rattle.st_canon.proofs.Order.{by_order, name_total, greater_from_less, less_from_greater, same_from_tied}
+use Rattle.st_canon.proofs.SettledLemmas.{entries_of_runs_stay, grown_behind, runs_stay}
 use Rattle.st_canon.proofs.Sorting.{all_placed, ascend_placed}
 use Rattle.st_canon.proofs.Texts.{IsUtf8-canonical}
 
@@ -277,17 +279,29 @@ all_proper (e ∷ es) s h = proper_with e.0 e.1 (all_whole es) h.0.0 h.0.1 (all_
 
 -- ---- what is gathered of data
 
-pub record IsGathered (ds : data'.Members) (front bytes places : List ℕ) : Type 0 where
+pub record IsGathered (ds : data'.Members) (front bytes : List ℕ) (from to : ℕ) (runs places : List ℕ) : Type 0 where
   pub behind : (added : List ℕ) × (bytes ≡ front ++ added)
-  pub are : texts_in bytes places ≡ texts_of (outcomes ds)
+  pub begin : from ≡ length front
+  pub stand : RunsStand bytes from to (reverse runs)
+  pub are : texts_in bytes to (reverse runs) places ≡ texts_of (outcomes ds)
   pub held : AllByRecursion (IsHeld bytes) (reverse places)
   pub ascend : BytesAscend ds
   pub utf8 : AreUtf8 ds
   pub proper : AreProper (outcomes ds)
 
-pub none_gathered : (bytes places : List ℕ) → places ≡ [] → IsGathered data'.no_members bytes bytes places
-none_gathered bytes places none =
-    rw none (record { behind = ([], sym (append-nil bytes)); are = refl; held = tt; ascend = tt; utf8 = tt; proper = tt })
+pub none_gathered : (bytes : List ℕ) (from to : ℕ) (runs places : List ℕ) → from ≡ length bytes → to ≡ length bytes → runs ≡ [] → places ≡ []
+    → IsGathered data'.no_members bytes bytes from to runs places
+none_gathered bytes from to runs places begin end first second =
+    rw (begin, end, first, second) (record {
+      behind = ([], sym (append-nil bytes));
+      begin = refl;
+      stand = (refl, omega arith);
+      are = refl;
+      held = tt;
+      ascend = tt;
+      utf8 = tt;
+      proper = tt;
+    })
 
 -- a member that came: where it stands, and that what was held before still is
 record HasCome (k : List ℕ) (there : Option Plain) (old new places news : List ℕ) : Type 0 where
@@ -358,16 +372,24 @@ proper_given : (there : Option Plain) (told : Bool) (before after : List ℕ) �
 proper_given None told before after h = tt
 proper_given (Some p) told before after h = h.1.0
 
-one_more_come : (ds : data'.Members) (front old new places news : List ℕ) (k : List ℕ) (d : data'.Data) → IsGathered ds front old places → IsUtf8 k
-    → IfSome (whole_value d) IsProper → HasCome k (whole_value d) old new places news → IsGathered (data'.put k d ds) front new news
-one_more_come ds front old new places news k d are u proper come =
+one_more_come : (ds : data'.Members) (front old new : List ℕ) (from to : ℕ) (runs places news : List ℕ) (k : List ℕ) (d : data'.Data)
+    → IsGathered ds front old from to runs places → IsUtf8 k
+    → IfSome (whole_value d) IsProper → HasCome k (whole_value d) old new places news → IsGathered (data'.put k d ds) front new from to runs news
+one_more_come ds front old new from to runs places news k d are u proper come =
     let there = whole_value d in
+    let older = run_entries old to (reverse runs) in
     let more = outcomes_put k d ds u are.utf8 in
+    let behind = grown_behind old new come.more to come.grown in
     let all : reverse news ≡ come.place ∷ reverse places = ap reverse come.among ∙ reverse-append places (come.place ∷ []) in
-    let stay = ap in_order (entries_stay old new come.more come.grown (reverse places) are.held) ∙ are.are in
+    let stay = ap (λ es. in_order (es ++ older)) (entries_stay old new come.more come.grown (reverse places) are.held) ∙ are.are in
     record {
       behind = (are.behind.0 ++ come.more, come.grown ∙ ap (λ t. t ++ come.more) are.behind.1 ∙ append_assoc front are.behind.0 come.more);
-      are = ap (λ ps. in_order (map (entry_at new) ps)) all ∙ ap (λ e. placed e (in_order (map (entry_at new) (reverse places)))) come.entry
+      begin = are.begin;
+      stand = runs_stay old new from to (reverse runs) (drop to old ++ come.more) behind are.stand;
+      are = ap (λ es. in_order (map (entry_at new) (reverse news) ++ es))
+          (entries_of_runs_stay old new from to (reverse runs) (drop to old ++ come.more) behind are.stand)
+          ∙ ap (λ ps. in_order (map (entry_at new) ps ++ older)) all
+          ∙ ap (λ e. placed e (in_order (map (entry_at new) (reverse places) ++ older))) come.entry
           ∙ ap (with_name k (option_map canonical there)) stay ∙ sym (values_with (option_map canonical) k there (outcomes ds)) ∙ ap texts_of (sym more);
       held = subst (AllByRecursion (IsHeld new)) (sym all) (come.held, all_stay old new come.more come.grown (reverse places) are.held);
       ascend = ascend_put k d ds are.ascend;
@@ -375,22 +397,46 @@ one_more_come ds front old new places news k d are u proper come =
       proper = subst AreProper (sym more) (all_values IsUtf8 (λ there. IfSome there IsProper) k there (outcomes ds) u proper are.proper);
     }
 
-pub one_more_gathered : (ds : data'.Members) (front old first second third places news : List ℕ) (k : List ℕ) (d : data'.Data) (told : Bool)
-    (place value : ℕ) → IsGathered ds front old places → IsUtf8 k → first ≡ old ++ (k ++ mark ∷ []) → place ≡ length old → value ≡ length first
-    → IsWritten IsProper canonical (whole_value d) told first second → third ≡ (if told then second else take value second) ++ mark ∷ []
-    → news ≡ places ++ place ∷ [] → IsGathered (data'.put k d ds) front third news
-one_more_gathered ds front old first second third places news k d told place value are u begun at from written ended among =
-    one_more_come ds front old third places news k d are u (proper_given (whole_value d) told first second written)
-    (has_come k old first second third places news place u begun at among (whole_value d) told value from written ended)
+pub one_more_gathered : (ds : data'.Members) (front old first second third : List ℕ) (from to : ℕ) (runs places news : List ℕ) (k : List ℕ)
+    (d : data'.Data) (told : Bool) (place value begin end : ℕ) (same : List ℕ) → IsGathered ds front old from to runs places → IsUtf8 k
+    → first ≡ old ++ (k ++ mark ∷ []) → place ≡ length old → value ≡ length first → IsWritten IsProper canonical (whole_value d) told first second
+    → third ≡ (if told then second else take value second) ++ mark ∷ []
+    → begin ≡ from → end ≡ to → same ≡ runs → news ≡ places ++ place ∷ [] → IsGathered (data'.put k d ds) front third begin end same news
+one_more_gathered ds front old first second third from to runs places news k d told place value begin end same
+    are u begun at start written ended begins ends stays among =
+    rw (begins, ends, stays)
+    (one_more_come ds front old third from to runs places news k d are u (proper_given (whole_value d) told first second written)
+    (has_come k old first second third places news place u begun at among (whole_value d) told value start written ended))
 
-pub all_gathered : (ds : data'.Members) (front bytes places : List ℕ) → IsGathered ds front bytes places → AreGathered ds bytes places
-all_gathered ds front bytes places are =
+pub all_gathered : (ds : data'.Members) (front bytes : List ℕ) (from to : ℕ) (runs places : List ℕ) → IsGathered ds front bytes from to runs places
+    → AreGathered ds bytes from to runs places
+all_gathered ds front bytes from to runs places are =
     let es = outcomes ds in
     let all = whole_members_are ds are.utf8 are.ascend in
     record {
+      stand = are.stand;
       held = are.held;
       text = ap (members_text false) are.are ∙ text_of_members false es ∙ ap (option_map (canonical_members false)) (sym all);
       proper = subst (λ there. IfSome there MembersAreProper) (sym all) (all_proper es (ascend_outcomes ds) are.proper);
+    }
+
+-- they were settled
+pub settled_gathered : (ds : data'.Members) (front old new : List ℕ) (from to : ℕ) (runs places : List ℕ) (begin end : ℕ) (anew none : List ℕ)
+    → IsGathered ds front old from to runs places
+    → AreKept old to (reverse runs) (map (entry_at old) (reverse places)) new begin end (reverse anew) → none ≡ [] → begin ≡ from
+    → IsGathered ds front new begin end anew none
+settled_gathered ds front old new from to runs places begin end anew none are kept gone begins =
+    let begin' = begins ∙ are.begin in
+    let back = kept.front ∙ ap (take begin) are.behind.1 ∙ take_at front are.behind.0 begin (sym begin') in
+    record {
+      behind = (drop begin new, sym (take-append-drop begin new) ∙ ap (λ t. t ++ drop begin new) back);
+      begin = begin';
+      stand = kept.stand;
+      are = ap (λ ps. in_order (map (entry_at new) (reverse ps) ++ run_entries new end (reverse anew))) gone ∙ kept.entries ∙ are.are;
+      held = rw gone tt;
+      ascend = are.ascend;
+      utf8 = are.utf8;
+      proper = are.proper;
     }
 
 -- ---- their text
@@ -401,10 +447,11 @@ members_given : (there : Option Members) (told : Bool) (before after : List ℕ)
 members_given None told before after p h = h
 members_given (Some ms) told before after p h = (h.0, (p, h.1.1))
 
-pub members_written : (ds : data'.Members) (bytes places : List ℕ) (told : Bool) (before after : List ℕ) → AreGathered ds bytes places
-    → IsWritten (λ t. ⊤) (λ t. t) (members_text false (texts_in bytes places)) told before after
+pub members_written : (ds : data'.Members) (bytes : List ℕ) (from to : ℕ) (runs places : List ℕ) (told : Bool) (before after : List ℕ)
+    → AreGathered ds bytes from to runs places
+    → IsWritten (λ t. ⊤) (λ t. t) (members_text false (texts_in bytes to (reverse runs) places)) told before after
     → IsWritten MembersAreProper (canonical_members false) (whole_members ds) told before after
-members_written ds bytes places told before after are written =
+members_written ds bytes from to runs places told before after are written =
     members_given (whole_members ds) told before after are.proper
     (subst (λ there. IsWritten (λ t. ⊤) (λ t. t) there told before after) are.text written)
 
@@ -414,10 +461,11 @@ object_given : (there : Option Members) (told : Bool) (before after : List ℕ) 
 object_given None told before after p h = h
 object_given (Some ms) told before after p h = (h.0, (p, h.1.1))
 
-pub object_gathered : (ds : data'.Members) (bytes places : List ℕ) (told : Bool) (before after : List ℕ) → AreGathered ds bytes places
-    → IsWritten (λ t. ⊤) (λ t. 123 ∷ (t ++ 125 ∷ [])) (members_text false (texts_in bytes places)) told before after
+pub object_gathered : (ds : data'.Members) (bytes : List ℕ) (from to : ℕ) (runs places : List ℕ) (told : Bool) (before after : List ℕ)
+    → AreGathered ds bytes from to runs places
+    → IsWritten (λ t. ⊤) (λ t. 123 ∷ (t ++ 125 ∷ [])) (members_text false (texts_in bytes to (reverse runs) places)) told before after
     → IsWritten IsProper canonical (option_map object (whole_members ds)) told before after
-object_gathered ds bytes places told before after are written =
+object_gathered ds bytes from to runs places told before after are written =
     object_given (whole_members ds) told before after are.proper
     (subst (λ there. IsWritten (λ t. ⊤) (λ t. 123 ∷ (t ++ 125 ∷ [])) there told before after) are.text written)
 

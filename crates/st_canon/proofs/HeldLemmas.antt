@@ -12,7 +12,7 @@ use Rattle.std.proofs.lemmas.List.{drop_at}
 use Rattle.std.proofs.lemmas.Str.{IsUtf8-from_is_utf8, is_utf8-from_IsUtf8}
 use Rattle.st_base.specs.Words.{HasNo}
 use Rattle.st_base.proofs.Cuts.{cut_at-append}
-use Rattle.st_canon.specs.Held.{IsHeld, entry_at, mark, name_at, parted, rank, ranks, ranks_cmp, some_text, utf8_of, value_at}
+use Rattle.st_canon.specs.Held.{IsHeld, entry_at, entry_of, mark, parted, rank, ranks, ranks_cmp, some_text, utf8_of}
 use Rattle.st_canon.specs.Names.{name_cmp}
 use Rattle.st_canon.proofs.RankLemmas.{names_ranked}
 use lib.Utf8.{encode, encodes, next, scalar, scalars, scalar_cases}
@@ -60,28 +60,15 @@ no_mark text utf8 = subst (HasNo mark) utf8.1.1 (none_all utf8.0 utf8.1.0)
 
 -- ---- what bytes hold
 
-parted_at : (before behind : List ℕ) → HasNo mark before → parted (before ++ mark ∷ behind) ≡ (before, behind)
+pub parted_at : (before behind : List ℕ) → HasNo mark before → parted (before ++ mark ∷ behind) ≡ (before, behind)
 parted_at before behind none = ap (λ cut. unwrap_or cut (before ++ mark ∷ behind, [])) (cut_at-append mark before behind none)
 
-utf8_stays : (name : List ℕ) → IsUtf8 name → utf8_of name ≡ name
+pub utf8_stays : (name : List ℕ) → IsUtf8 name → utf8_of name ≡ name
 utf8_stays name utf8 = ap (λ b. cond b name []) (is_utf8-from_IsUtf8 name utf8)
 
-utf8_goes : (bytes : List ℕ) → (IsUtf8 bytes → ⊥) → utf8_of bytes ≡ []
+pub utf8_goes : (bytes : List ℕ) → (IsUtf8 bytes → ⊥) → utf8_of bytes ≡ []
 utf8_goes bytes none =
     ap (λ b. cond b bytes []) (false_from_ne_true (is_utf8 bytes) (λ utf8. none (IsUtf8-from_is_utf8 bytes utf8)))
-
--- what is found there in parts
-pub name_stands : (bytes : List ℕ) (place : ℕ) (behind front rest name : List ℕ) → behind ≡ drop place bytes → (front, rest) ≡ parted behind
-    → name ≡ front → IsUtf8 front → name ≡ name_at bytes place
-unfolding name_at
-name_stands bytes place behind front rest name is parts same utf8 =
-    same ∙ sym (utf8_stays front utf8) ∙ ap (λ p. utf8_of p.0) (parts ∙ ap parted is)
-
-pub no_name_stands : (bytes : List ℕ) (place : ℕ) (behind front rest : List ℕ) → behind ≡ drop place bytes → (front, rest) ≡ parted behind
-    → (IsUtf8 front → ⊥) → [] ≡ name_at bytes place
-unfolding name_at
-no_name_stands bytes place behind front rest is parts none =
-    sym (utf8_goes front none) ∙ ap (λ p. utf8_of p.0) (parts ∙ ap parted is)
 
 behind_held : (bytes : List ℕ) (place : ℕ) (held : IsHeld bytes place)
     → drop place bytes ≡ held.name ++ (mark ∷ (held.text ++ mark ∷ held.rest))
@@ -91,7 +78,7 @@ behind_held bytes place held =
     ∙ drop_at held.front (held.name ++ mark ∷ behind) (length held.front) refl
 
 pub entry_held : (bytes : List ℕ) (place : ℕ) (held : IsHeld bytes place) → entry_at bytes place ≡ (held.name, some_text held.text)
-unfolding name_at value_at
+unfolding entry_of
 entry_held bytes place held =
     let behind = held.text ++ mark ∷ held.rest in
     let here = behind_held bytes place held in
@@ -101,7 +88,7 @@ entry_held bytes place held =
 
 -- ---- the order of names that bytes hold
 
-ranks_of_name : (name rest : List ℕ) → HasNo mark name → ranks (name ++ mark ∷ rest) ≡ map rank name
+pub ranks_of_name : (name rest : List ℕ) → HasNo mark name → ranks (name ++ mark ∷ rest) ≡ map rank name
 ranks_of_name [] rest none = refl
 ranks_of_name (b ∷ bs) rest none =
     ap₂ (λ t l. cond t [] (rank b ∷ l)) none.0 (ranks_of_name bs rest none.1)
@@ -111,7 +98,7 @@ ranks_held bytes place held =
     ap ranks (behind_held bytes place held) ∙ ranks_of_name held.name (held.text ++ mark ∷ held.rest) (no_mark held.name held.utf8)
 
 pub held_order : (bytes : List ℕ) (first second : ℕ) → IsHeld bytes first → IsHeld bytes second
-    → ranks_cmp (drop first bytes) (drop second bytes) ≡ name_cmp (name_at bytes first) (name_at bytes second)
+    → ranks_cmp (drop first bytes) (drop second bytes) ≡ name_cmp (entry_at bytes first).0 (entry_at bytes second).0
 held_order bytes first second a b =
     ap₂ (slice_cmp nat_cmp) (ranks_held bytes first a) (ranks_held bytes second b) ∙ sym (names_ranked a.name b.name a.utf8 b.utf8)
     ∙ sym (ap₂ (λ e f. name_cmp e.0 f.0) (entry_held bytes first a) (entry_held bytes second b))

@@ -12,6 +12,8 @@ mod EntryLemmas
 mod FrontLemmas
 mod GatheredLemmas
 mod HeldLemmas
+mod JoinedLemmas
+mod JoiningLemmas
 mod Kept
 mod KindLemmas
 mod LatestLemmas
@@ -29,6 +31,7 @@ mod RewritingLemmas
 mod RunLemmas
 mod ScalarLemmas
 mod Searching
+mod SettledLemmas
 mod Sorting
 mod StopLanes
 mod Units

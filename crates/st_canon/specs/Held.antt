@@ -1,6 +1,6 @@
--- Names, each with the text of a value, that bytes hold at places: behind each of the two stands a byte that is
--- in no text.
-use Rattle.std.specs.Prelude.{◌≡◌, ℕ, ◌+◌, nat_lt, ◌==◌, List, [], ◌∷◌, ◌++◌, drop, length, Option, Some, None, if◌then◌else◌, unwrap_or}
+-- Names, each with the text of a value, that bytes hold at places or behind one another: behind each of the two
+-- stands a byte that is in no text.
+use Rattle.std.specs.Prelude.{◌≡◌, ℕ, zero, suc, ◌+◌, nat_lt, ◌==◌, List, [], ◌∷◌, ◌++◌, drop, take, length, Option, Some, None, if◌then◌else◌, unwrap_or}
 use Rattle.std.specs.Cmp.Lexicographic.{slice_cmp}
 use Rattle.std.specs.Ordering.{nat_cmp}
 use Rattle.std.specs.Str.{IsUtf8, is_utf8}
@@ -24,17 +24,35 @@ abbrev pub some_text : List ℕ → Option (List ℕ)
 some_text [] = None
 some_text (b ∷ bs) = Some (b ∷ bs)
 
--- the name that stands at a place
-unfoldable pub name_at : List ℕ → ℕ → List ℕ
-name_at bytes place = utf8_of (parted (drop place bytes)).0
+-- a name with a text, where that is there
+abbrev pub Entry : Type 0
+Entry = List ℕ × Option (List ℕ)
 
--- the text behind it
-unfoldable pub value_at : List ℕ → ℕ → List ℕ
-value_at bytes place = (parted (parted (drop place bytes)).1).0
+-- the name and the text that bytes begin with
+unfoldable pub entry_of : List ℕ → Entry
+entry_of bytes = (utf8_of (parted bytes).0, some_text (parted (parted bytes).1).0)
 
--- both, where the text is not empty
-abbrev pub entry_at : List ℕ → ℕ → List ℕ × Option (List ℕ)
-entry_at bytes place = (name_at bytes place, some_text (value_at bytes place))
+-- those that stand at a place
+abbrev pub entry_at : List ℕ → ℕ → Entry
+entry_at bytes place = entry_of (drop place bytes)
+
+-- what stands behind both
+abbrev pub behind_entry : List ℕ → List ℕ
+behind_entry bytes = (parted (parted bytes).1).1
+
+-- as many as this, or all that the bytes are made of
+abbrev pub entries_in : ℕ → List ℕ → List Entry
+entries_in zero bytes = []
+entries_in (suc n) [] = []
+entries_in (suc n) (b ∷ bs) = entry_of (b ∷ bs) ∷ entries_in n (behind_entry (b ∷ bs))
+
+-- all
+unfoldable pub entries_of : List ℕ → List Entry
+entries_of bytes = entries_in (length bytes) bytes
+
+-- those that stand behind one another from the first place to the second
+abbrev pub entries_between : List ℕ → ℕ → ℕ → List Entry
+entries_between bytes from to = entries_of (drop from (take to bytes))
 
 -- a name and a text stand there, each with the mark behind it
 pub record IsHeld (bytes : List ℕ) (place : ℕ) : Type 0 where

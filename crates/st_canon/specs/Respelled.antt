@@ -6,7 +6,8 @@ use Rattle.json.specs.Token.{Token}
 use Rattle.serde_json.specs.Data.{Data, Num, Items, Members, no_members}
 use Rattle.serde_json.specs.Read.{converted, number_of, of_items, of_json, of_members}
 use Rattle.st_canon.specs.Canonical.{canonical, canonical_items, canonical_members, comma, quoted}
-use Rattle.st_canon.specs.Held.{IsHeld, entry_at}
+use Rattle.st_canon.specs.Held.{Entry, IsHeld, entry_at}
+use Rattle.st_canon.specs.Settled.{RunsStand, run_entries}
 use Rattle.st_canon.specs.InOrder.{in_order}
 use Rattle.st_canon.specs.Plain.{IsWhole, object, whole}
 use Rattle.st_canon.specs.Proper.{IsProper, ItemsAreProper, MembersAreProper}
@@ -40,11 +41,12 @@ pub record IsNumberWritten (digits : List ℕ) (told : Bool) (before after : Lis
 
 -- Names with the canonical text of the value of each, where that is whole.
 abbrev pub Texts : Type 0
-Texts = List (List ℕ × Option (List ℕ))
+Texts = List Entry
 
--- what bytes hold at these places, in the order of the names, each once: of several with one name the last
-abbrev pub texts_in : List ℕ → List ℕ → Texts
-texts_in bytes places = in_order (map (entry_at bytes) (reverse places))
+-- What the runs hold that begin at these places, the last of which ends there, and what came later and stands at these
+-- places, in the order of the names, each once: of several with one name the last.
+abbrev pub texts_in : List ℕ → ℕ → List ℕ → List ℕ → Texts
+texts_in bytes to runs places = in_order (map (entry_at bytes) (reverse places) ++ run_entries bytes to runs)
 
 -- the text of the members, where each value has one
 abbrev pub members_text : Bool → Texts → Option (List ℕ)
@@ -53,16 +55,17 @@ members_text b (e ∷ es) =
     option_and_then (λ t. option_map (λ rest. comma b ++ (quoted e.0 ++ (58 ∷ (t ++ rest)))) (members_text true es)) e.1
 
 -- These members stand there.
-pub record AreGathered (are : Members) (bytes places : List ℕ) : Type 0 where
+pub record AreGathered (are : Members) (bytes : List ℕ) (from to : ℕ) (runs places : List ℕ) : Type 0 where
+  pub stand : RunsStand bytes from to (reverse runs)
   pub held : AllByRecursion (IsHeld bytes) (reverse places)
-  pub text : members_text false (texts_in bytes places) ≡ option_map (canonical_members false) (whole_members are)
+  pub text : members_text false (texts_in bytes to (reverse runs) places) ≡ option_map (canonical_members false) (whole_members are)
   pub proper : IfSome (whole_members are) MembersAreProper
 
 -- The bytes are the text of an object, whose members stand there.
-pub record ObjectIsGathered (object_text bytes places : List ℕ) : Type 0 where
+pub record ObjectIsGathered (object_text bytes : List ℕ) (from to : ℕ) (runs places : List ℕ) : Type 0 where
   pub are : Members
   pub is : json_of object_text ≡ ok_or (option_map object (whole_members are)) NotWhole
-  pub gathered : AreGathered are bytes places
+  pub gathered : AreGathered are bytes from to runs places
 
 -- ---- a value and its parts
 
@@ -94,8 +97,9 @@ pub record TextIsRespelled (text : List ℕ) (told : Bool) (before after : List 
   pub written : IsWritten IsProper canonical (whole_value is) told before after
 
 -- The members of an object and the brace that closes it were read, and stand behind what was there before.
-pub record MembersAreGathered (depth : ℕ) (old new : List Token) (before after places : List ℕ) : Type 0 where
+pub record MembersAreGathered (depth : ℕ) (old new : List Token) (before after : List ℕ) (from to : ℕ) (runs places : List ℕ) : Type 0 where
   pub are : Members
   pub read : converted (λ ms. of_members ms no_members) (members (value depth) (length old) old) ≡ Some (are, new)
+  pub begin : from ≡ length before
   pub behind : (added : List ℕ) × (after ≡ before ++ added)
-  pub gathered : AreGathered are after places
+  pub gathered : AreGathered are after from to runs places

@@ -12,6 +12,8 @@ mod escape;
 mod fitting;
 mod gathered;
 mod held;
+mod in_turn;
+mod joining;
 mod kept_text;
 mod members;
 mod names;
@@ -29,6 +31,7 @@ mod rewriting;
 mod room;
 mod runs;
 pub mod scan;
+mod settling;
 mod shapes;
 mod some;
 #[cfg(test)]

@@ -6,13 +6,14 @@ use std::cmp::Ordering;
 
 // The order of the names that bytes hold at two places, by UTF-16 code units (RFC 8785, section 3.2.3). It
 // looks at no byte behind the first that differs, so a long name is no burden where many are sorted.
-pub(crate) fn compare_at(bytes: &[u8], first: u32, second: u32) -> Ordering
+pub(crate) fn compare_at(bytes: &[u8], first: usize, second: usize) -> Ordering
     ensures { result ≡ ranks_cmp (drop first bytes.now) (drop second bytes.now) }
 {
     compare_ranks(behind(bytes, first), behind(bytes, second))
 }
 
-fn compare_ranks(first: &[u8], second: &[u8]) -> Ordering
+// The same of the names that two runs of bytes begin with.
+pub(crate) fn compare_ranks(first: &[u8], second: &[u8]) -> Ordering
     ensures { result ≡ ranks_cmp first.now second.now }
 {
     let mut left = first;

@@ -1,4 +1,4 @@
-ghost use Rattle.std.specs.Prelude.{◌≡◌, ◌<◌, [], if◌then◌else◌, length, Err, Ok, None, IfErr, IfNone, IfOk, IfSome, OnOk};
+ghost use Rattle.std.specs.Prelude.{◌≡◌, ◌<◌, if◌then◌else◌, length, Err, Ok, None, IfErr, IfNone, IfOk, IfSome, OnOk};
 ghost use Rattle.json.specs.Json.{items, members, value};
 ghost use Rattle.serde_json.specs.Data.{no_members};
 ghost use Rattle.serde_json.specs.Read.{converted, number_of, of_items, of_json, of_members};
@@ -11,17 +11,15 @@ ghost use Rattle.st_canon.specs.Respelled.{IsNoJson, IsNumberWritten, IsRespelle
 use crate::already::is_canonical;
 use crate::direct::{MAX_DEPTH, ReadStopped};
 use crate::escape::append_text;
-use crate::gathered::{append_gathered, append_object, begin, cut_back, end};
+use crate::gathered::{Gathered, append_gathered, append_object, begin, cut_back, end};
 use crate::numbers::number_in;
 use crate::refused::ReadRefused;
 use crate::rewriting::rewrite;
+use crate::settling::settle;
 use crate::writing::{append_bool, append_comma, append_whole};
 use json::{Reader, Scratch, Token};
 use st_base::{Bytes, WantOfMemory};
 use std::alloc::Global;
-
-// So many bytes has the shortest member, its comma among them: `"":1,`.
-const SHORTEST_MEMBER: usize = 5;
 
 /// The canonical text (RFC 8785) of the JSON that bytes of any spelling are. A member whose name stands twice
 /// has its last value.
@@ -72,9 +70,9 @@ fn respell_text(alloc: Global, text: &str, scratch: Scratch) -> Result<Bytes, Re
     let mut out = Bytes::with_room(alloc, text.len())?;
     let mut side = Bytes::with_room(alloc, text.len())?;
     match gather_text(alloc, text, &mut out, &mut side, &mut scratch)? {
-        Some(places) => {
+        Some(gathered) => {
             drop(scratch);
-            let whole = append_object(alloc, &mut out, side.as_slice(), places)?;
+            let whole = append_object(alloc, &mut out, &mut side, gathered)?;
             if_whole(out, whole)
         }
         None => {
@@ -94,7 +92,7 @@ fn if_whole(text: Bytes, whole: bool) -> Result<Bytes, ReadRefused>
     }
 }
 
-// Gathers the members of a text that is an object in `side`, and gives their places. Where the text begins
+// Gathers the members of a text that is an object in `side`, and gives where they stand. Where the text begins
 // otherwise, there are none.
 fn gather_text(
     alloc: Global,
@@ -102,8 +100,8 @@ fn gather_text(
     out: &mut Bytes,
     side: &mut Bytes,
     scratch: &mut Scratch,
-) -> Result<Option<Vec<u32>>, ReadRefused>
-    ensures object { IfOk result (λ there. IfSome there (λ places. ObjectIsGathered text.now side.new places.items)) }
+) -> Result<Option<Gathered>, ReadRefused>
+    ensures object { IfOk result (λ there. IfSome there (λ g. ObjectIsGathered text.now side.new g.from g.to g.runs.items g.places.items)) }
     ensures none { IfErr result (IsNoJson (json_of text.now ≡ Err NotJson)) }
     ensures out { OnOk result (out.new ≡ out.old) }
     ensures side { IfOk result (λ there. IfNone there (side.new ≡ side.old)) }
@@ -114,14 +112,11 @@ fn gather_text(
     let Some(Token::BeginObject) = reader.next() else {
         return Ok(None);
     };
-    let Ok(room) = Vec::with_capacity(alloc, text.len() / SHORTEST_MEMBER) else {
-        return Err(ReadRefused::WantOfMemory);
-    };
-    let places = gather_members(alloc, out, side, &mut reader, MAX_DEPTH - 1, room)?;
+    let gathered = gather_members(alloc, out, side, &mut reader, MAX_DEPTH - 1)?;
     if reader.next().is_some() {
         return Err(ReadRefused::NotJson);
     }
-    Ok(Some(places))
+    Ok(Some(gathered))
 }
 
 // Appends the canonical text of a value that is all of a text, and gives whether all numbers in it are whole.
@@ -254,14 +249,14 @@ fn respell_members(
     ensures shorter { OnOk result (length reader.new < length reader.old) }
 {
     let length = side.as_slice().len();
-    let mut places = gather_members(alloc, out, side, reader, depth, Vec::new(alloc))?;
-    let whole = append_gathered(alloc, out, side.as_slice(), &mut places)?;
+    let gathered = gather_members(alloc, out, side, reader, depth)?;
+    let whole = append_gathered(alloc, out, side, gathered)?;
     cut_back(alloc, side, length);
     Ok(whole)
 }
 
-// Gathers the members of an object behind what `side` has, and gives their places in the vector, which has
-// none yet. Objects among their values are gathered in `out`.
+// Gathers the members of an object behind what `side` has, and gives where they stand. Objects among their values are
+// gathered in `out`.
 #[cycle(respell)]
 fn gather_members(
     alloc: Global,
@@ -269,24 +264,25 @@ fn gather_members(
     side: &mut Bytes,
     reader: &mut Reader<'_>,
     depth: usize,
-    places: Vec<u32>,
-) -> Result<Vec<u32>, ReadRefused>
-    requires { places.items ≡ [] }
-    ensures members { IfOk result (λ places. MembersAreGathered depth reader.old reader.new side.old side.new places.items) }
+) -> Result<Gathered, ReadRefused>
+    ensures members { IfOk result (λ g. MembersAreGathered depth reader.old reader.new side.old side.new g.from g.to g.runs.items g.places.items) }
     ensures none { IfErr result (IsNoJson (converted (λ ms. of_members ms no_members) (members (value depth) (length reader.old) reader.old) ≡ None)) }
     ensures out { OnOk result (out.new ≡ out.old) }
     ensures shorter { OnOk result (length reader.new < length reader.old) }
 {
-    let mut places = places;
+    let mut gathered = Gathered::none(alloc, side);
     'members: loop {
         let Ok(key) = reader.next_key() else {
             return Err(ReadRefused::NotJson);
         };
         let Some(key) = key else {
-            return Ok(places);
+            return Ok(gathered);
         };
         let begun = begin(alloc, side, key)?;
         let whole = respell(alloc, side, out, reader, depth)?;
-        end(alloc, side, &mut places, begun, whole)?;
+        end(alloc, side, &mut gathered, begun, whole)?;
+        if gathered.are_many() {
+            settle(alloc, side, out, &mut gathered)?;
+        }
     }
 }

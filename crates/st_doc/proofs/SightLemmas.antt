@@ -11,10 +11,9 @@ use Rattle.st_canon.specs.Depth.{depth_of}
 use Rattle.st_canon.specs.Entries.{entries, items_in, members_in, text_in}
 use Rattle.st_canon.specs.Measure.{fits, size_of}
 use Rattle.st_canon.specs.Objects.{put_some, some_list}
-use Rattle.st_canon.specs.Plain.{Plain, null, boolean, whole, text, list, object, Items, no_items, item, Members, no_members, member}
+use Rattle.st_canon.specs.Plain.{Plain, null, boolean, whole, text, list, object, Items, Members, no_members, member}
 use Rattle.st_canon.specs.Shapes.{entries_in}
 use Rattle.st_canon.specs.Texts.{is_text_of}
-use Rattle.st_canon.specs.View.{items_of}
 use Rattle.st_canon.proofs.ItemLists.{items_of-entries}
 use Rattle.st_canon.proofs.OnLiterals.{names_on_literals}
 use Rattle.st_hash.specs.Hash.{hash_of_text_at}

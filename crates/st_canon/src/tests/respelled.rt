@@ -1,3 +1,4 @@
+use super::tokens::numbered;
 use crate::{ReadRefused, canonical_text};
 use st_base::{Bytes, WantOfMemory};
 use std::alloc::Global;
@@ -105,6 +106,15 @@ fn ends_at_127(alloc: Global) -> Result<bool, WantOfMemory> {
 #[test]
 fn what_is_out_of_order_nests_127_deep_at_most(rt: HostRuntime) -> Result<(), Fail> {
     assert!(rt; ends_at_127(rt.alloc())?);
+    Ok(())
+}
+
+// So many are settled twice while they come.
+#[test]
+fn names_may_come_out_of_order_by_the_thousand(rt: HostRuntime) -> Result<(), Fail> {
+    let given = numbered(&rt, 20_000, true)?;
+    let wanted = numbered(&rt, 20_000, false)?;
+    assert!(rt; is_given(rt.alloc(), given.as_str().as_bytes(), wanted.as_str()));
     Ok(())
 }
 

@@ -80,7 +80,7 @@ fn values_go_out_as_they_come(rt: HostRuntime) -> Result<(), Fail> {
 }
 
 // An object of so many members that are named by numbers of five digits, up or down.
-fn numbered(rt: &HostRuntime, count: u64, down: bool) -> Result<String, Fail> {
+pub(crate) fn numbered(rt: &HostRuntime, count: u64, down: bool) -> Result<String, Fail> {
     let mut text = String::from_str(rt.alloc(), "{")?;
     for at in 0..count {
         let number = if down { count - 1 - at } else { at };

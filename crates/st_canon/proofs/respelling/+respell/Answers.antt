@@ -1,4 +1,4 @@
-use Rattle.std.proofs.Common.{◌≡◌, ◌-◌, ◌<◌, ◌∷◌, [], ◌++◌, length, Some, None, ap, refl, ◌∙◌, arith, rules}
+use Rattle.std.proofs.Common.{◌≡◌, ◌-◌, ◌<◌, ◌∷◌, [], ◌++◌, length, Some, None, ap, refl, sym, ◌∙◌, arith, rules}
 use Rattle.std.specs.Prelude.{take}
 use Rattle.std.proofs.lemmas.List.{take_at}
 use Rattle.json.specs.Json.{after_end_array, read_key, value}
@@ -6,7 +6,7 @@ use Rattle.json.specs.Reads.{token_of}
 use Rattle.json.proofs.Grammar.{read_key-shorter, value_is}
 use Rattle.serde_json.specs.Data as data'
 use Rattle.serde_json.specs.Read.{converted, of_json}
-use Rattle.st_canon.proofs.GatheredLemmas.{all_gathered, members_written, none_gathered, one_more_gathered}
+use Rattle.st_canon.proofs.GatheredLemmas.{all_gathered, members_written, none_gathered, one_more_gathered, settled_gathered}
 use Rattle.st_canon.proofs.RespellingLemmas.{array_data, boolean_data, handed_on, item_refused, items_before, items_data_over, items_written}
 use Rattle.st_canon.proofs.RespellingLemmas.{items_written_more, key_refused, list_written, member_refused, members_data_over, next_item_data}
 use Rattle.st_canon.proofs.RespellingLemmas.{next_member_data, no_tokens, none_before, null_data, number_data, number_written, object_data}
@@ -155,30 +155,32 @@ respell_items-returns-clause-items t c =
 
 -- ---- members
 
-pub respell_members-returns-in_err-places-clause-none : goal.respell_members-returns-in_err-places-clause-none
-respell_members-returns-in_err-places-clause-none t c =
-    handed_on _ _ _ c.in_err-places.field-0.0 (grind arith) c.in_err-places.ensures.none (λ none. none)
+pub respell_members-returns-in_err-gathered-clause-none : goal.respell_members-returns-in_err-gathered-clause-none
+respell_members-returns-in_err-gathered-clause-none t c =
+    handed_on _ _ _ c.in_err-gathered.field-0.0 (grind arith) c.in_err-gathered.ensures.none (λ none. none)
 
 pub respell_members-returns-clause-members : goal.respell_members-returns-clause-members
 respell_members-returns-clause-members t c =
-    let found = c.in_ok-places.ensures in
+    let found = c.in_ok-gathered.ensures in
     let members = found.members in
     record {
       are = members.are;
       read = members.read;
-      written = members_written members.are _ _ _ c.args.out.now _ members.gathered (rw (found.out, c.as_slice.ensures) at c.in_ok-whole.ensures);
+      written = members_written members.are _ _ _ _ _ _ c.args.out.now _ members.gathered (rw found.out at c.in_ok-whole.ensures.members);
     }
 
 pub respell_members-returns-clause-side : goal.respell_members-returns-clause-side
 respell_members-returns-clause-side t c =
-    let behind = c.in_ok-places.ensures.members.behind in
-    c.cut_back.ensures ∙ ap (take _) behind.1 ∙ take_at c.args.side.now behind.0 _ (search rules)
+    let members = c.in_ok-gathered.ensures.members in
+    let from = c.in_ok-gathered.gathered.from in
+    c.cut_back.ensures ∙ ap (λ n. take n c.append_gathered.new.texts) (ap length c.as_slice-length.ensures ∙ sym members.begin)
+    ∙ c.in_ok-whole.ensures.front ∙ ap (take from) members.behind.1 ∙ take_at c.args.side.now members.behind.0 from (sym members.begin)
 
 -- ---- members, as they come
 
 pub gather_members-members-init : goal.gather_members-members-init
 gather_members-members-init t c =
-    (data'.no_members, length c.args.reader.now, omega arith, refl, omega arith, none_gathered _ _ c.requires, refl)
+    (data'.no_members, length c.args.reader.now, omega arith, refl, omega arith, none_gathered _ _ _ _ _ c.none-gathered.ensures.from c.none-gathered.ensures.to c.none-gathered.ensures.runs c.none-gathered.ensures.places, refl)
 
 pub gather_members-returns-in_default-clause-none : goal.gather_members-returns-in_default-clause-none
 gather_members-returns-in_default-clause-none t c =
@@ -194,7 +196,8 @@ gather_members-returns-in_default-key-clause-members t c =
       are = ds;
       read = l.invariant.3 ∙ members_data_over ds (value c.args.depth) l.invariant.1 l.reader c.next_key.new.self l.invariant.2 (grind arith);
       behind = are.behind;
-      gathered = all_gathered ds c.args.side.now l.side l.places.items are;
+      gathered = all_gathered ds c.args.side.now l.side _ _ _ l.gathered.places.items are;
+      begin = are.begin;
     }
 
 pub gather_members-returns-in_err-whole-clause-none : goal.gather_members-returns-in_err-whole-clause-none
@@ -205,6 +208,30 @@ gather_members-returns-in_err-whole-clause-none t c =
     let named : read_key l.reader ≡ Some (Some k, s) = grind arith in
     handed_on _ _ _ c.in_err-whole.field-0.0 (grind arith) c.in_err-whole.ensures.none
     (λ none. l.invariant.3 ∙ member_refused l.invariant.0 (value c.args.depth) l.invariant.1 l.reader s k named none)
+
+pub gather_members-settle-requires-clause-runs : goal.gather_members-settle-requires-clause-runs
+gather_members-settle-requires-clause-runs t c =
+    let l = c.members in
+    let ds = l.invariant.0 in
+    let k = c.in-Some.key.now in
+    let next = c.in_ok-whole.ensures.next in
+    let begun = c.in_ok-begun.ensures in
+    let ended = c.in_ok-end.ensures in
+    (all_gathered (data'.put k next.is ds) c.args.side.now _ _ _ _ _ (one_more_gathered ds c.args.side.now l.side _ _ _ l.gathered.from l.gathered.to l.gathered.runs.items l.gathered.places.items _ k next.is c.in_ok-whole.whole
+    c.in_ok-begun.begun.place c.in_ok-begun.begun.value c.end.new.gathered.from c.end.new.gathered.to c.end.new.gathered.runs.items l.invariant.5 begun.utf8 begun.texts begun.place
+    begun.value next.written ended.texts ended.from ended.to (ap (λ runs. runs.items) ended.runs) ended.places)).stand
+
+pub gather_members-settle-requires-clause-held : goal.gather_members-settle-requires-clause-held
+gather_members-settle-requires-clause-held t c =
+    let l = c.members in
+    let ds = l.invariant.0 in
+    let k = c.in-Some.key.now in
+    let next = c.in_ok-whole.ensures.next in
+    let begun = c.in_ok-begun.ensures in
+    let ended = c.in_ok-end.ensures in
+    (all_gathered (data'.put k next.is ds) c.args.side.now _ _ _ _ _ (one_more_gathered ds c.args.side.now l.side _ _ _ l.gathered.from l.gathered.to l.gathered.runs.items l.gathered.places.items _ k next.is c.in_ok-whole.whole
+    c.in_ok-begun.begun.place c.in_ok-begun.begun.value c.end.new.gathered.from c.end.new.gathered.to c.end.new.gathered.runs.items l.invariant.5 begun.utf8 begun.texts begun.place
+    begun.value next.written ended.texts ended.from ended.to (ap (λ runs. runs.items) ended.runs) ended.places)).held
 
 pub gather_members-members-preserved : goal.gather_members-members-preserved
 gather_members-members-preserved t c =
@@ -219,6 +246,9 @@ gather_members-members-preserved t c =
     let next = done.next in
     let begun = c.in_ok-begun.ensures in
     let ended = c.in_ok-end.ensures in
+    let more = one_more_gathered ds c.args.side.now l.side _ _ _ l.gathered.from l.gathered.to l.gathered.runs.items l.gathered.places.items _ k next.is c.in_ok-whole.whole
+    c.in_ok-begun.begun.place c.in_ok-begun.begun.value c.end.new.gathered.from c.end.new.gathered.to c.end.new.gathered.runs.items l.invariant.5 begun.utf8 begun.texts begun.place
+    begun.value next.written ended.texts ended.from ended.to (ap (λ runs. runs.items) ended.runs) ended.places in
     let less = read_key-shorter l.reader (Some k) s named in
     let lesser = done.shorter in (
       data'.put k next.is ds,
@@ -226,7 +256,34 @@ gather_members-members-preserved t c =
       omega (arith, l.invariant.2),
       l.invariant.3 ∙ next_member_data ds (value c.args.depth) n l.reader s r k next.is (omega (arith, l.invariant.2)) named next.read,
       omega (arith, l.invariant.4),
-      one_more_gathered ds c.args.side.now l.side _ _ _ l.places.items _ k next.is c.in_ok-whole.whole c.in_ok-begun.begun.place
-          c.in_ok-begun.begun.value l.invariant.5 begun.utf8 begun.texts begun.place begun.value next.written ended.texts ended.places,
+      more,
       done.side ∙ l.invariant.6,
+    )
+
+pub gather_members-members-preserved-in-Continue-branch-4 : goal.gather_members-members-preserved-in-Continue-branch-4
+gather_members-members-preserved-in-Continue-branch-4 t c =
+    let l = c.members in
+    let ds = l.invariant.0 in
+    let n = l.invariant.1 in
+    let k = c.in-Some.key.now in
+    let s = c.next_key.new.self in
+    let r = c.respell.new.reader in
+    let named : read_key l.reader ≡ Some (Some k, s) = grind arith in
+    let done = c.in_ok-whole.ensures in
+    let next = done.next in
+    let begun = c.in_ok-begun.ensures in
+    let ended = c.in_ok-end.ensures in
+    let more = one_more_gathered ds c.args.side.now l.side _ _ _ l.gathered.from l.gathered.to l.gathered.runs.items l.gathered.places.items _ k next.is c.in_ok-whole.whole
+    c.in_ok-begun.begun.place c.in_ok-begun.begun.value c.end.new.gathered.from c.end.new.gathered.to c.end.new.gathered.runs.items l.invariant.5 begun.utf8 begun.texts begun.place
+    begun.value next.written ended.texts ended.from ended.to (ap (λ runs. runs.items) ended.runs) ended.places in
+    let settled = c.in_ok-settle.ensures in
+    let less = read_key-shorter l.reader (Some k) s named in
+    let lesser = done.shorter in (
+      data'.put k next.is ds,
+      n - 1,
+      omega (arith, l.invariant.2),
+      l.invariant.3 ∙ next_member_data ds (value c.args.depth) n l.reader s r k next.is (omega (arith, l.invariant.2)) named next.read,
+      omega (arith, l.invariant.4),
+      settled_gathered (data'.put k next.is ds) c.args.side.now _ _ _ _ _ _ _ _ _ _ more settled.kept settled.places settled.from,
+      settled.out ∙ done.side ∙ l.invariant.6,
     )

@@ -38,7 +38,7 @@ invariant-gather_members-members l =
     × (converted (λ ms. of_members ms no_members) (members (value l.depth) (length l.initial.reader) l.initial.reader)
     ≡ converted (λ ms. of_members ms ds) (members (value l.depth) n l.reader))
     × (length l.reader ≤ length l.initial.reader)
-    × IsGathered ds l.initial.side l.side l.places.items × (l.out ≡ l.initial.out)
+    × IsGathered ds l.initial.side l.side l.gathered.from l.gathered.to l.gathered.runs.items l.gathered.places.items × (l.out ≡ l.initial.out)
 
 abbrev pub decreases-gather_members-members : goal.decreases-gather_members-members
 decreases-gather_members-members l = length l.reader

@@ -6,12 +6,12 @@ use Rattle.std.proofs.lemmas.Fn.{always_returns_same}
 use Rattle.std.proofs.lemmas.List.Elements.{All-from_recursion, recursion_from_All}
 use Rattle.std.proofs.lemmas.List.MinMax.{ranks_by}
 use Rattle.std.proofs.lemmas.List.Sorted.{All-permutation}
-use Rattle.st_canon.specs.Held.{IsHeld, entry_at, name_at, ranks, ranks_cmp, some_text, value_at}
+use Rattle.st_canon.specs.Held.{IsHeld, entry_at, ranks, ranks_cmp}
 use Rattle.st_canon.specs.InOrder.{in_order}
 use Rattle.st_canon.proofs.LatestLemmas.{firsts_from_sort}
 use Rattle.st_canon.proofs.HeldLemmas.{held_order}
 use Rattle.st_canon.proofs.Sorting.{never_fall}
-use Rattle.st_canon.proofs.gathered.sort.Goals as goal
+use Rattle.st_canon.proofs.settling.sort.Goals as goal
 
 pub returns : goal.returns
 returns c =
@@ -26,6 +26,6 @@ returns c =
     let held = subst (AllByRecursion (IsHeld texts)) (sym c.reverse.ensures.items) c.requires in
     let still = recursion_from_All (IsHeld texts) new
     (All-permutation (IsHeld texts) old new c.sort_by.ensures.permutation (All-from_recursion (IsHeld texts) old held)) in
-    firsts_from_sort (name_at texts) (λ place. some_text (value_at texts place)) (IsHeld texts) lt
+    firsts_from_sort (λ place. (entry_at texts place).0) (λ place. (entry_at texts place).1) (IsHeld texts) lt
     (λ first second a b. ap is_lt (held_order texts first second a b)) old new held still (never_fall lt order new sorted) stable
     ∙ ap (λ ps. in_order (map (entry_at texts) ps)) c.reverse.ensures.items
