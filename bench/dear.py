@@ -82,6 +82,7 @@ LINES = {
     "submit, the same and no end": submit(LISTS, LINE, b"[", b"1"),
     "submit, names out of order alone": ["submit {" + names(LINE - 9).decode() + "}"],
     "submit, names out of order in a list": ["submit [{" + names(LINE - 11).decode() + "}]"],
+    "submit, the same two objects deep": ['submit {"b":1,"a":{"b":1,"a":{' + names(LINE - 40).decode() + "}}}"],
     "submit, one name 4,799,998 times": submit(b'"":1,', LINE, b"{", b'"":1}'),
     "submit, numbers under names out of order 100 deep": submit(b"1,", LINE, b'{"b":1,"a":' * 100 + b"[", b"1]" + b"}" * 100),
     "submit, a delta of lists in lists": submit(LISTS, LINE, CREATE, b"1]}}"),
