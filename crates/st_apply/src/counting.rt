@@ -1,11 +1,11 @@
-ghost use Rattle.std.specs.Prelude.{◌≡◌, ◌≤◌, true, false, is_some, IfOk, IfSome, IsTrue, None, OnOk, Some, option_map};
+ghost use Rattle.std.specs.Prelude.{◌≡◌, true, false, is_some, IfOk, IfSome, None, OnOk, Some, option_map};
 ghost use Rattle.std.specs.Result.{result_ok};
 ghost use Rattle.st_apply.specs.Counting.{change_by, counted};
 ghost use Rattle.st_apply.specs.Step.{changed};
+ghost use Rattle.st_base.specs.Answers.{GivesAs};
 ghost use Rattle.st_canon.specs.Canonical.{canonical};
-ghost use Rattle.st_canon.specs.Measure.{size_of};
 ghost use Rattle.st_canon.specs.Proper.{IsProper};
-ghost use Rattle.st_doc.specs.Delta.{delta_of, plain_delta};
+ghost use Rattle.st_doc.specs.Delta.{delta_of, plain_delta, refusal_of};
 ghost use Rattle.st_doc.specs.Document.{empty_document};
 ghost use Rattle.st_hash.specs.Hash.{IsCode, hash_of_with};
 
@@ -13,7 +13,7 @@ use crate::document::KeptDocument;
 use st_base::{Copied, WantOfMemory};
 use st_canon::{PackedJson, write};
 use st_doc::{
-    Delta, DeltaRefused, Document, PatchRefused, apply_all, check_short_delta, is_delta_at_sight,
+    Delta, DeltaRefused, Document, PatchRefused, apply_all, check_delta, is_delta, read_delta,
 };
 use st_hash::{Hash, hash_with};
 use st_params::Params;
@@ -36,12 +36,11 @@ pub(crate) fn counted_delta(
     if !may_count(alloc, params, delta_hash, delta)? {
         return Ok(None);
     }
-    read_short(alloc, params, delta)
+    read(alloc, params, delta)
 }
 
 /// Whether the delta counts for the delta hash: one is there, its hash is the delta hash, and it is a delta at
 /// these limits. That is after DIF Sidetree v1.0.0, "Operation Compilation"; the rules are this project's own.
-/// One that is seen to be a delta in its text isn't read.
 pub fn counts_for(
     alloc: Global,
     params: &Params,
@@ -57,11 +56,7 @@ pub fn counts_for(
     if !may_count(alloc, params, delta_hash, delta)? {
         return Ok(false);
     }
-    if is_seen(params, delta) {
-        return Ok(true);
-    }
-    let read = read_short(alloc, params, delta)?;
-    Ok(read.is_some())
+    is_one(alloc, params, delta)
 }
 
 // Whether the delta is no longer than one may be and has this delta hash, so that it counts where it is one.
@@ -73,11 +68,8 @@ fn may_count(
 ) -> Result<bool, WantOfMemory>
     ensures no { IfOk result (λ may. may ≡ false → counted params.now delta_hash.now (Some delta.now) ≡ None) }
     ensures yes { IfOk result (λ may. may ≡ true → counted params.now delta_hash.now (Some delta.now) ≡ result_ok (delta_of params.now delta.now)) }
-    ensures short { IfOk result (λ may. may ≡ true → size_of delta.now ≤ params.now.max_delta) }
     ensures proper { IfOk result (λ may. may ≡ true → IsProper delta.now) }
 {
-    // For proofs: the limits are those of their version.
-    let _version = params.version();
     // Its text is there, so one that is too long is neither hashed nor read.
     if delta.size() > params.max_delta() {
         return Ok(false);
@@ -88,32 +80,39 @@ fn may_count(
     Ok(true)
 }
 
-// Whether it is seen in its text that it is a delta.
-fn is_seen(params: &Params, delta: &PackedJson) -> bool
-    ensures { IsTrue result → is_some (result_ok (delta_of params.now delta.now)) ≡ true }
+// Whether it is a delta.
+fn is_one(alloc: Global, params: &Params, delta: &PackedJson) -> Result<bool, WantOfMemory>
+    ensures { IfOk result (λ is. is ≡ is_some (result_ok (delta_of params.now delta.now))) }
 {
-    match delta.scanned() {
-        Some(scanned) => is_delta_at_sight(&scanned, params),
-        None => false,
+    if let Some(text) = delta.scanned() {
+        return is_delta(alloc, &text, params);
     }
+    let read = read(alloc, params, delta)?;
+    Ok(read.is_some())
 }
 
 // The delta that it is.
-fn read_short(
-    alloc: Global,
-    params: &Params,
-    delta: &PackedJson,
-) -> Result<Option<Delta>, WantOfMemory>
-    requires { size_of delta.now ≤ params.now.max_delta }
+fn read(alloc: Global, params: &Params, delta: &PackedJson) -> Result<Option<Delta>, WantOfMemory>
     ensures { IfOk result (λ found. option_map plain_delta found ≡ result_ok (delta_of params.now delta.now)) }
 {
-    let value = delta.unpack(alloc)?;
-    match check_short_delta(alloc, value, params) {
+    match read_or_refuse(alloc, params, delta) {
         Ok(delta) => Ok(Some(delta)),
         Err(DeltaRefused::TooLong) => Ok(None),
         Err(DeltaRefused::BadDelta) => Ok(None),
         Err(DeltaRefused::BadPatch(_)) => Ok(None),
         Err(DeltaRefused::WantOfMemory) => Err(WantOfMemory),
+    }
+}
+
+fn read_or_refuse(alloc: Global, params: &Params, delta: &PackedJson) -> Result<Delta, DeltaRefused>
+    ensures { GivesAs plain_delta refusal_of (delta_of params.now delta.now) result }
+{
+    match delta.scanned() {
+        Some(text) => read_delta(alloc, &text, params),
+        None => {
+            let value = delta.unpack(alloc)?;
+            check_delta(alloc, &value, params)
+        }
     }
 }
 

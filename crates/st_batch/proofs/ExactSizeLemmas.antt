@@ -6,7 +6,7 @@ use Rattle.st_canon.specs.Measure.{size_of}
 use Rattle.st_canon.specs.Objects.{some_list, some_object}
 use Rattle.st_canon.specs.Plain.{Plain, list, object, Members, no_members, member}
 use Rattle.st_canon.specs.View.{items_of}
-use Rattle.st_batch.specs.FileSizes.{in_brackets, member_size}
+use Rattle.st_batch.proofs.Sizes.{in_brackets, member_size}
 use Rattle.st_batch.proofs.FirstSizeLemmas.{weight, weight_there}
 
 -- ---- objects

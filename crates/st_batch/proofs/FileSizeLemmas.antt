@@ -1,10 +1,7 @@
 -- How long the files of operations are, by the sums of their entries.
-use Rattle.std.proofs.Common.{◌≡◌, ◌≢◌, ◌∙◌, ℕ, ◌+◌, ◌≤◌, ◌&&◌, Bool, true, nat_le, List, [], ◌∷◌, ◌++◌, codes, length, map, Option, Some, None, option_map, refl, ap, sym, arith}
-use Rattle.std.specs.List.{filter_map, list_all}
-use Rattle.std.proofs.Math.Bool.{and-true}
+use Rattle.std.proofs.Common.{◌≡◌, ◌≢◌, ◌∙◌, ℕ, ◌+◌, ◌≤◌, List, [], ◌∷◌, codes, length, map, Option, option_map, refl, ap, sym, arith}
+use Rattle.std.specs.List.{filter_map}
 use Rattle.std.proofs.lemmas.Bool.{ne_eqb}
-use Rattle.std.proofs.lemmas.Bool.Decides.{nat_tests}
-use Rattle.std.proofs.lemmas.List.Folds.{list_all-append}
 use Rattle.st_canon.specs.Canonical.{canonical, escape}
 use Rattle.st_canon.specs.Measure.{size_of}
 use Rattle.st_canon.specs.Objects.{some_list, some_listed, some_object}
@@ -21,13 +18,9 @@ use Rattle.st_indexfiles.specs.Target.{target_json}
 use Rattle.st_indexfiles.specs.declared.core_index.CoreIndex.{CoreIndex}
 use Rattle.st_ops.specs.Operation.{PlainOperation}
 use Rattle.st_ops.specs.RequestText.{delta_there}
-use Rattle.st_params.specs.Limits.{Limits}
-use Rattle.st_batch.specs.BatchFiles.{bytes_there, chunk_text, core_file, core_index, core_proof_file, file_in, filed, files_of, if_any, provisional_file, provisional_index, provisional_proof_file}
-use Rattle.st_batch.specs.FileSizes.{are_sizes_small, chunk_size, core_proof_size, core_size, file_size, in_brackets, member_size, provisional_proof_size, provisional_size, uri_size, where_any, with_core_proof_size, with_delta_size}
+use Rattle.st_batch.specs.BatchFiles.{bytes_there, chunk_text, core_file, core_index, core_proof_file, file_in, if_any, provisional_file, provisional_index, provisional_proof_file}
 use Rattle.st_batch.specs.Groups.{Grouped, grouped, is_deactivate, is_recover, is_update, signed_text_in, with_core_proof, with_delta}
-use Rattle.st_batch.specs.OperationSizes.{sizes_of}
-use Rattle.st_batch.specs.declared.sizes.Sizes.{Sizes}
-use Rattle.st_batch.specs.Prefix.{are_files_small, is_small, most_bytes}
+use Rattle.st_batch.proofs.Sizes.{Sizes, chunk_size, core_proof_size, core_size, file_size, in_brackets, member_size, provisional_proof_size, provisional_size, sizes_of, uri_size, where_any, with_core_proof_size, with_delta_size}
 use Rattle.st_batch.proofs.AgainHashLemmas.{uri_is_hash}
 use Rattle.st_batch.proofs.ExactSizeLemmas.{IsBare, entries_weight, list_there, object_size, object_there}
 use Rattle.st_batch.proofs.FirstSizeLemmas.{member_weight, weight, weight_there}
@@ -54,30 +47,11 @@ list_of : (name : List ℕ) (entries : List Plain) (size : ℕ) → IsBare name 
     → weight_there name (some_list entries) ≡ member_size name size
 list_of name entries size bare is = list_there name entries bare ∙ ap (member_size name) is
 
-zero_passes : (most : ℕ) → nat_le 0 most ≡ true
-zero_passes most = grind (arith, nat_tests)
-
--- whether a file is small
-filed_test : (limits : Limits) (role : Role) (file : Option (List ℕ))
-    → list_all (is_small limits) (filed role file) ≡ nat_le (bytes_there file) (most_bytes limits role)
-filed_test limits role None = sym (zero_passes (most_bytes limits role))
-filed_test limits role (Some bytes) = and-true (nat_le (length bytes) (most_bytes limits role))
-
 -- how long a file is that is there where there are operations
 there_long : (operations : List PlainOperation) (entries size : ℕ) (said : List ℕ) → IsAnyBy operations entries → length said ≡ size
     → bytes_there (if_any operations said) ≡ where_any entries size
 there_long [] entries size said any long = rw any refl
 there_long (operation ∷ operations) entries size said any long = long ∙ sym (any_some entries size any)
-
--- ---- all of several lists
-
-five_tests : {Item : Type 0} (test : Item → Bool) (a b c d e : List Item)
-    → list_all test (a ++ b ++ c ++ d ++ e) ≡ (list_all test a && list_all test b && list_all test c && list_all test d && list_all test e)
-five_tests test a b c d e =
-    rw (list_all-append test (a ++ b ++ c ++ d) e, list_all-append test (a ++ b ++ c) d, list_all-append test (a ++ b) c, list_all-append test a b) refl
-
-five_same : {a b c d e f g h i j : Bool} → a ≡ f → b ≡ g → c ≡ h → d ≡ i → e ≡ j → (a && b && c && d && e) ≡ (f && g && h && i && j)
-five_same one two three four five = cc
 
 -- ---- files
 
@@ -208,17 +182,3 @@ module _ (operations : List PlainOperation) where
       (any_kind is_update operations) provisional_proof_long
   file_long Chunk =
       there_long (with_delta groups) (with_delta_size sizes) _ (chunk_text groups) (any_with_delta operations) chunk_long
-
-  -- whether it is small
-  file_test : (limits : Limits) (role : Role)
-      → list_all (is_small limits) (filed role (file_in role groups)) ≡ nat_le (file_size role sizes) (most_bytes limits role)
-  file_test limits role = filed_test limits role (file_in role groups) ∙ ap (λ n. nat_le n (most_bytes limits role)) (file_long role)
-
-  -- no file of the operations is longer than it may be, if and only if the sums of their entries are so small
-  pub files_small : (limits : Limits) → are_files_small limits operations ≡ are_sizes_small limits sizes
-  unfolding are_files_small files_of
-  files_small limits =
-      five_tests (is_small limits) (filed Core (file_in Core groups)) (filed CoreProof (file_in CoreProof groups))
-      (filed Provisional (file_in Provisional groups)) (filed ProvisionalProof (file_in ProvisionalProof groups)) (filed Chunk (file_in Chunk groups))
-      ∙ five_same (file_test limits Core) (file_test limits CoreProof) (file_test limits Provisional) (file_test limits ProvisionalProof)
-      (file_test limits Chunk)

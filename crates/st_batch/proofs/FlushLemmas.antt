@@ -1,17 +1,15 @@
 -- What is flushed of a queue that is kept, and that what stays is kept.
-use Rattle.std.proofs.Common.{◌≡◌, ◌∙◌, ℕ, zero, suc, ◌<◌, ◌≤◌, ◌^◌, List, [], ◌∷◌, length, map, take, drop, refl, sym, ap, subst, arith}
+use Rattle.std.proofs.Common.{◌≡◌, ◌∙◌, ℕ, zero, suc, ◌<◌, ◌≤◌, ◌^◌, List, [], ◌∷◌, length, map, drop, sym, ap, subst, arith}
 use Rattle.std.specs.Prelude.{min}
 use Rattle.std.specs.List.{IsDistinct}
-use Rattle.std.proofs.lemmas.List.{drop-map, length-take-le, take-map}
+use Rattle.std.proofs.lemmas.List.{drop-map}
 use Rattle.st_base.proofs.Quantifiers.{each-weaker}
 use Rattle.st_hash.specs.Hash.{same_hash}
 use Rattle.st_ops.specs.Operation.{plain_operation}
 use Rattle.st_params.specs.Limits.{Limits, limits_of}
-use Rattle.st_batch.specs.BatchFiles.{batch_of_groups, batch_with}
 use Rattle.st_batch.specs.BatchLaws.{AreBatched}
 use Rattle.st_batch.specs.Fits.{Fits}
 use Rattle.st_batch.specs.Flushed.{IsFlushed}
-use Rattle.st_batch.specs.Groups.{Grouped, grouped}
 use Rattle.st_batch.specs.Kept.{IsFormed, IsKept, IsQueued, operations_of}
 use Rattle.st_batch.specs.Prefix.{batch_count, batch_of, batched}
 use Rattle.st_batch.specs.ReadBack.{AreNamed, AscendFrom, IsReadBack}
@@ -22,9 +20,6 @@ use Rattle.st_batch.proofs.ReadBackLemmas.{batch_is_read_back}
 use Rattle.st_batch.proofs.ThousandLemmas.{takes_a_thousand, takes_the_first}
 
 -- ---- parts of entries
-
-taken_operations : (count : ℕ) (entries : List Entry) → operations_of (take count entries) ≡ take count (operations_of entries)
-taken_operations count entries = sym (take-map (λ entry. plain_operation entry.1) count entries)
 
 left_operations : (count : ℕ) (entries : List Entry) → operations_of (drop count entries) ≡ drop count (operations_of entries)
 left_operations count entries = sym (drop-map (λ entry. plain_operation entry.1) count entries)
@@ -57,7 +52,7 @@ count_within limits entries =
     let within = (batch_longest limits (operations_of entries)).within in
     omega (arith, within, length_operations entries)
 
-some_taken : (limits : Limits) (entries : List Entry) → MayFlush limits entries → 1 ≤ batch_count limits (operations_of entries)
+pub some_taken : (limits : Limits) (entries : List Entry) → MayFlush limits entries → 1 ≤ batch_count limits (operations_of entries)
 some_taken limits [] may = absurd (omega (arith, may.some))
 some_taken limits (entry ∷ entries) may =
     let first = may.kept.queued.0 in
@@ -77,27 +72,12 @@ these_batched limits entries may =
     prefix_batched limits (operations_of entries) (different entries may.kept may.apart)
     (each-weaker IsQueued IsFormed (λ operation is. is.formed) (operations_of entries) may.kept.queued) (few_operations entries may.kept)
 
--- the batch of the first entries, so many as a batch takes, is that of the queue
-batch_is : (limits : Limits) (entries : List Entry)
-    → batch_of_groups (batch_count limits (operations_of entries)) (grouped (operations_of (take (batch_count limits (operations_of entries)) entries)))
-    ≡ batch_of limits (operations_of entries)
-unfolding batch_with
-batch_is limits entries =
-    let count = batch_count limits (operations_of entries) in
-    let taken : length (take count (operations_of entries)) ≡ count =
-    length-take-le count (operations_of entries) (batch_longest limits (operations_of entries)).within in
-    rw (taken_operations count entries, taken) refl
-
--- the first entries, so many as a batch takes, are made a batch of, and the others are left
+-- the batch of the queue is made, and the entries behind those that it takes are left
 pub flushed : (limits : Limits) (entries : List Entry) → MayFlush limits entries
-    → {count : ℕ} {taken left : List Entry} {groups : Grouped} {made : Batch} → count ≡ batch_count limits (operations_of entries)
-    → taken ≡ take count entries → left ≡ drop count entries → groups ≡ grouped (operations_of taken) → made ≡ batch_of_groups count groups
-    → IsFlushed limits (operations_of entries) (operations_of left) made
-flushed limits entries may {count} {taken} {left} {groups} {made} counted first others by_kind written =
+    → {count : ℕ} {left : List Entry} {made : Batch} → count ≡ batch_count limits (operations_of entries) → left ≡ drop count entries
+    → made ≡ batch_of limits (operations_of entries) → IsFlushed limits (operations_of entries) (operations_of left) made
+flushed limits entries may {count} {left} {made} counted others is =
     let are = these_batched limits entries may in
-    let is : made ≡ batch_of limits (operations_of entries) =
-    written ∙ (ap (batch_of_groups count) (by_kind ∙ ap (λ these. grouped (operations_of these)) first)
-    ∙ (ap (λ many. batch_of_groups many (grouped (operations_of (take many entries)))) counted ∙ batch_is limits entries)) in
     record {
       batch = is;
       rest = ap operations_of (others ∙ ap (λ many. drop many entries) counted) ∙ left_operations (batch_count limits (operations_of entries)) entries;

@@ -1,38 +1,36 @@
 -- Operations that are put into groups one after the other are in groups by their kinds.
-use Rattle.std.proofs.Common.{◌≡◌, List, [], ◌∷◌, ◌++◌, map, refl, ap, append_assoc}
-use Rattle.std.proofs.lemmas.List.{append-nil}
-use Rattle.std.specs.Map.{values_of}
+use Rattle.std.proofs.Common.{◌≡◌, ◌∙◌, ℕ, ◌+◌, List, [], ◌∷◌, ◌++◌, take, Some, option_map, sym, ap}
+use Rattle.std.specs.List.{slice_get}
+use Rattle.std.proofs.lemmas.List.{append-nil, take_more}
+use Rattle.std.proofs.lemmas.List.Elements.{filter-append}
+use Rattle.std.proofs.lemmas.Option.{get_or_from_slice_get, slice_get-map, slice_get_within}
 use Rattle.st_hash.specs.Hash.{HashValue}
 use Rattle.st_ops.specs.Operation.{PlainOperation, creating, updating, recovering, deactivating, plain_operation}
 use Rattle.st_ops.specs.declared.operation.Operation.{Operation}
 use Rattle.st_batch.specs.Grouping.{with_operation}
 use Rattle.st_batch.specs.Groups.{Grouped, grouped}
 use Rattle.st_batch.specs.Kept.{operations_of}
+use Rattle.st_batch.proofs.QueueLemmas.{Entry}
 
--- groups with more groups behind them
-abbrev pub joined : Grouped → Grouped → Grouped
-joined groups more = record {
-  creates = groups.creates ++ more.creates;
-  recovers = groups.recovers ++ more.recovers;
-  deactivates = groups.deactivates ++ more.deactivates;
-  updates = groups.updates ++ more.updates;
-}
-
--- the next operation may be put in first, and the others behind it
-pub next_put : (groups : Grouped) (operation : PlainOperation) (operations : List PlainOperation)
-    → joined (with_operation groups operation) (grouped operations) ≡ joined groups (grouped (operation ∷ operations))
+-- one operation more is the last of its kind
+put_last : (operations : List PlainOperation) (operation : PlainOperation)
+    → with_operation (grouped operations) operation ≡ grouped (operations ++ operation ∷ [])
 unfolding grouped
-next_put groups (creating suffix_data delta) operations = rw append_assoc refl
-next_put groups (updating target proof delta) operations = rw append_assoc refl
-next_put groups (recovering target proof delta) operations = rw append_assoc refl
-next_put groups (deactivating target proof) operations = rw append_assoc refl
+put_last operations (creating suffix_data delta) = simp (filter-append, append-nil)
+put_last operations (updating target proof delta) = simp (filter-append, append-nil)
+put_last operations (recovering target proof delta) = simp (filter-append, append-nil)
+put_last operations (deactivating target proof) = simp (filter-append, append-nil)
 
--- the operations of entries are those of their values
-pub of_values : (entries : List (HashValue × Operation)) → map plain_operation (values_of entries) ≡ operations_of entries
-of_values [] = refl
-of_values (entry ∷ entries) = ap (λ operations. plain_operation entry.1 ∷ operations) (of_values entries)
-
--- groups with nothing behind them
-pub none_behind : (groups : Grouped) → joined groups (grouped []) ≡ groups
-unfolding grouped
-none_behind groups = simp append-nil
+module _ (entries : List Entry) (n : ℕ) where
+  -- the operation of an entry that stands next
+  pub next_put : {suffix : HashValue} {operation : Operation} {groups : Grouped} → Some (suffix, operation) ≡ slice_get entries n
+      → groups ≡ with_operation (grouped (take n (operations_of entries))) (plain_operation operation)
+      → groups ≡ grouped (take (n + 1) (operations_of entries))
+  next_put {suffix} {operation} {groups} found put =
+      let all = operations_of entries in
+      let one = plain_operation operation in
+      let there : slice_get all n ≡ Some one =
+      slice_get-map (λ entry. plain_operation entry.1) entries n ∙ ap (option_map (λ entry. plain_operation entry.1)) (sym found) in
+      let more = take_more all n one (slice_get_within all n one there) in
+      put ∙ (put_last (take n all) one
+      ∙ ap grouped (sym (more ∙ ap (λ last. take n all ++ last ∷ []) (get_or_from_slice_get all n one one there))))

@@ -24,7 +24,7 @@ mod FlushLemmas
 mod GatheredLemmas
 mod GroupingLemmas
 mod WrittenLemmas
--- How long files are, by what stands in them, and how many operations go into a batch by that.
+-- How long files are, by what stands in them, and how many operations go into a batch.
 mod FirstSizeLemmas
 mod ExactSizeLemmas
 mod HashSizeLemmas
@@ -34,9 +34,9 @@ mod OperationSizeLemmas
 mod FileSizeLemmas
 mod MoreSizeLemmas
 mod PrefixSizeLemmas
-mod CountingLemmas
+mod Sizes
+mod SmallLemmas
 -- Up to 1,000 operations always go into one batch of version 1.
-mod DecodedLemmas
 mod SignedSizeLemmas
 mod LowSizeLemmas
 mod ThousandLemmas

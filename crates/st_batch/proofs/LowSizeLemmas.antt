@@ -1,13 +1,10 @@
 -- How long the entries are that one operation puts into lists, where it fits the limits of some version;
 -- and the sums over many of them.
-use Rattle.std.proofs.Common.{◌≡◌, ℕ, ◌+◌, ◌*◌, ◌≤◌, ◌<◌, ◌^◌, Bool, true, false, if◌then◌else◌, Option, Some, None, option_map, List, [], ◌∷◌, length, subst, arith}
-use Rattle.std.specs.Prelude.{is_some, IfSome}
+use Rattle.std.proofs.Common.{◌≡◌, ℕ, ◌+◌, ◌*◌, ◌≤◌, Bool, true, false, if◌then◌else◌, Option, Some, None, option_map, List, [], ◌∷◌, length, subst, arith}
+use Rattle.std.specs.Prelude.{◌==◌, is_some, IfSome}
 use Rattle.std.specs.List.{AllByRecursion, sum_by}
-use Rattle.std.specs.Str.{IsUtf8}
 use Rattle.std.proofs.lemmas.List.Sums.{sum_by-cons}
 use Rattle.st_apply.specs.Counting.{counted}
-use Rattle.st_apply.proofs.LongLemmas.{longest_delta}
-use Rattle.st_base.proofs.Quantifiers.{each-weaker}
 use Rattle.st_canon.specs.Measure.{size_of}
 use Rattle.st_canon.specs.Plain.{Plain}
 use Rattle.st_datafiles.specs.ProofFiles.{signed_json}
@@ -21,20 +18,27 @@ use Rattle.st_ops.specs.RequestText.{delta_there, request_text}
 use Rattle.st_ops.proofs.AcceptedLemmas.{accepted}
 use Rattle.st_params.specs.Limits.{Limits, in_version, limits_of}
 use Rattle.st_batch.specs.Fits.{Fits}
-use Rattle.st_batch.specs.Groups.{is_create, is_deactivate, is_recover, is_update, signed_text_in}
+use Rattle.st_batch.specs.Groups.{is_deactivate, is_recover, signed_text_in}
 use Rattle.st_batch.specs.Kept.{IsQueued}
-use Rattle.st_batch.specs.OperationSizes.{IsBare, IsShort, delta_size, entry_size, index_size, of_kind, proof_size, sizes_of}
-use Rattle.st_batch.specs.Sums.{all_bytes}
+use Rattle.st_batch.proofs.Sizes.{delta_size, entry_size, index_size, of_kind, proof_size}
 use Rattle.st_batch.proofs.DeltaLemmas.{counted_size, right_holds}
 use Rattle.st_batch.proofs.EntrySizeLemmas.{create_long, target_long, text_short}
-use Rattle.st_batch.proofs.SignedSizeLemmas.{Opens, opened_bare, opened_bare_within, opened_within}
+use Rattle.st_batch.proofs.SignedSizeLemmas.{Opens, opened_within}
 
 -- ---- one operation
 
--- each of its entries is short, and that of its signed text has no more bytes than this
-pub record IsLow (most : ℕ) (operation : PlainOperation) : Type 0 where
+-- no version lets a delta be longer than this
+longest_delta : (version : ℕ) → (limits_of version).max_delta ≤ 2000
+longest_delta version = most (version == 1)
+  where
+    most : (first : Bool) → (if first then 1000 else 2000) ≤ 2000
+    most true = omega (arith)
+    most false = omega (arith)
+
+-- each of its entries is short
+pub record IsLow (operation : PlainOperation) : Type 0 where
   pub index : index_size operation ≤ 300
-  pub proof : proof_size operation ≤ most
+  pub proof : proof_size operation ≤ 15000
   pub delta : delta_size operation ≤ 5000
 
 target_low : (target : Target) → IsHash target.suffix × IsHash target.reveal → size_of (target_json target) + 1 ≤ 300
@@ -61,17 +65,9 @@ signed_opens limits (recovering target (Some proof) delta) right = (proof, right
 signed_opens limits (deactivating target None) right = tt
 signed_opens limits (deactivating target (Some proof)) right = (proof, right.opens)
 
-any_low : (there : Option (List ℕ)) → IfSome there (Opens 13000) → entry_size (option_map signed_json there) ≤ 80000
-any_low None opens = omega arith
-any_low (Some signed) opens = omega (arith, opened_within 13000 signed opens)
-
-utf8_low : (there : Option (List ℕ)) → IfSome there (Opens 13000) → IfSome there IsUtf8 → entry_size (option_map signed_json there) ≤ 15000
-utf8_low None opens utf8 = omega arith
-utf8_low (Some signed) opens utf8 = omega (arith, opened_bare_within 13000 signed opens utf8)
-
-bare_there : (there : Option (List ℕ)) → IfSome there (Opens 13000) → IfSome there IsUtf8 → IfSome there IsBare
-bare_there None opens utf8 = tt
-bare_there (Some signed) opens utf8 = opened_bare 13000 signed opens utf8
+signed_low : (there : Option (List ℕ)) → IfSome there (Opens 13000) → entry_size (option_map signed_json there) ≤ 15000
+signed_low None opens = omega arith
+signed_low (Some signed) opens = omega (arith, opened_within 13000 signed opens)
 
 -- ---- of an operation that fits
 
@@ -97,11 +93,10 @@ module _ (version : ℕ) where
   opens_there operation are fits =
       signed_opens (limits_of version) operation (accepted (limits_of version) (request_text operation) operation fits.request are)
 
-  -- whatever bytes its signed text has
-  pub one_low : (operation : PlainOperation) → HasHashes operation → Fits (limits_of version) operation → IsLow 80000 operation
+  pub one_low : (operation : PlainOperation) → HasHashes operation → Fits (limits_of version) operation → IsLow operation
   one_low operation are fits = record {
     index = index_low operation are;
-    proof = any_low (signed_text_in operation) (opens_there operation are fits);
+    proof = signed_low (signed_text_in operation) (opens_there operation are fits);
     delta = delta_low operation fits;
   }
 
@@ -110,32 +105,18 @@ module _ (operation : PlainOperation) (is : IsQueued operation) where
   fitted : Fits (limits_of is.limits.version) operation
   fitted = subst (λ limits. Fits limits operation) is.versioned is.fitted
 
-  opens : IfSome (signed_text_in operation) (Opens 13000)
-  opens = opens_there is.limits.version operation is.formed.hashes fitted
-
-  pub queued_low : IsLow 15000 operation
-  queued_low = record {
-    index = index_low operation is.formed.hashes;
-    proof = utf8_low (signed_text_in operation) opens is.formed.signed;
-    delta = delta_low is.limits.version operation fitted;
-  }
-
-  pub queued_short : IsShort operation
-  queued_short = record {
-    bare = bare_there (signed_text_in operation) opens is.formed.signed;
-    proof = queued_low.proof;
-    delta = queued_low.delta;
-  }
+  pub queued_low : IsLow operation
+  queued_low = one_low is.limits.version operation is.formed.hashes fitted
 
 -- ---- sums
 
 -- what operations put into files, by how many they are
-sums_by : (most : ℕ) (operations : List PlainOperation) → AllByRecursion (IsLow most) operations
-    → (sum_by index_size operations ≤ length operations * 300) × (sum_by proof_size operations ≤ length operations * most)
+sums_by : (operations : List PlainOperation) → AllByRecursion IsLow operations
+    → (sum_by index_size operations ≤ length operations * 300) × (sum_by proof_size operations ≤ length operations * 15000)
     × (sum_by delta_size operations ≤ length operations * 5000)
-sums_by most [] all = (omega arith, omega arith, omega arith)
-sums_by most (operation ∷ operations) all =
-    let later = sums_by most operations all.1 in (
+sums_by [] all = (omega arith, omega arith, omega arith)
+sums_by (operation ∷ operations) all =
+    let later = sums_by operations all.1 in (
       omega (arith, all.0.index, later.0, sum_by-cons index_size operation operations),
       omega (arith, all.0.proof, later.1, sum_by-cons proof_size operation operations),
       omega (arith, all.0.delta, later.2, sum_by-cons delta_size operation operations),
@@ -147,19 +128,11 @@ pub record AreLow (operations : List PlainOperation) : Type 0 where
   pub proofs : sum_by proof_size operations ≤ 15000000
   pub deltas : sum_by delta_size operations ≤ 5000000
 
-within : (a b c : ℕ) → a ≤ b → b ≤ c → a ≤ c
-within a b c first second = omega (arith, first, second)
-
--- up to 1,000 operations, whose signed texts have no more than 15,000,000 bytes together
-pub sums_low : (most : ℕ) (operations : List PlainOperation) → AllByRecursion (IsLow most) operations → length operations ≤ 1000
-    → length operations * most ≤ 15000000 → AreLow operations
-sums_low most operations all few texts =
-    let sums = sums_by most operations all in
-    record {
-      index = omega (arith, few, sums.0);
-      proofs = within _ _ _ sums.1 texts;
-      deltas = omega (arith, few, sums.2);
-    }
+-- up to 1,000 operations
+pub sums_low : (operations : List PlainOperation) → AllByRecursion IsLow operations → length operations ≤ 1000 → AreLow operations
+sums_low operations all few =
+    let sums = sums_by operations all in
+    record { index = omega (arith, few, sums.0); proofs = omega (arith, few, sums.1); deltas = omega (arith, few, sums.2) }
 
 -- operations of one kind put no more into a list than all would
 pub kind_within : (is_kind : PlainOperation → Bool) (size : PlainOperation → ℕ) (operations : List PlainOperation)
@@ -197,22 +170,3 @@ both_within size (operation ∷ operations) =
     one (updating target proof delta) = omega arith
     one (recovering target proof delta) = omega arith
     one (deactivating target proof) = omega arith
-
--- all lists of as many operations as may be queued together
-pub all_low : (operations : List PlainOperation) → AllByRecursion IsQueued operations → length operations ≤ 10000
-    → all_bytes (sizes_of operations) < 2 ^ 40
-all_low operations are few =
-    let sums = sums_by 15000 operations (each-weaker IsQueued (IsLow 15000) queued_low operations are) in
-    omega (
-      arith,
-      few,
-      sums.0,
-      sums.1,
-      sums.2,
-      kind_within is_create index_size operations,
-      kind_within is_recover index_size operations,
-      kind_within is_deactivate index_size operations,
-      kind_within is_update index_size operations,
-      both_within proof_size operations,
-      kind_within is_update proof_size operations,
-    )

@@ -1,15 +1,11 @@
 -- More entries make no file shorter.
-use Rattle.std.proofs.Common.{◌≡◌, ℕ, ◌+◌, ◌≤◌, ◌&&◌, Bool, true, List, length, codes, nat_le, refl, arith}
-use Rattle.std.proofs.lemmas.Bool.{and_parts}
+use Rattle.std.proofs.Common.{ℕ, ◌+◌, ◌≤◌, Bool, List, length, codes, arith}
 use Rattle.std.proofs.lemmas.Bool.Decides.{nat_tests}
 use Rattle.st_datafiles.specs.declared.role.Role.{Role}
 use Rattle.st_datafiles.specs.declared.role.Role.TheVariants.{Core, CoreProof, Provisional, ProvisionalProof, Chunk}
 use Rattle.st_ops.specs.Operation.{PlainOperation}
-use Rattle.st_params.specs.Limits.{Limits}
-use Rattle.st_batch.specs.FileSizes.{are_sizes_small, chunk_size, core_proof_size, core_size, file_size, member_size, provisional_proof_size, provisional_size, uri_size, where_any, with_core_proof_size, with_delta_size}
 use Rattle.st_batch.specs.Groups.{is_create, is_deactivate, is_recover, is_update}
-use Rattle.st_batch.specs.OperationSizes.{delta_size, index_size, of_kind, proof_size, sizes_by}
-use Rattle.st_batch.specs.declared.sizes.Sizes.{Sizes}
+use Rattle.st_batch.proofs.Sizes.{Sizes, chunk_size, core_proof_size, core_size, delta_size, file_size, index_size, member_size, of_kind, proof_size, provisional_proof_size, provisional_size, sizes_by, uri_size, where_any, with_core_proof_size, with_delta_size}
 
 -- ---- parts of files
 
@@ -97,23 +93,3 @@ module _ (fewer more : (PlainOperation → ℕ) → ℕ) (within : (size : Plain
   file_more Provisional = provisional_more
   file_more ProvisionalProof = provisional_proof_more
   file_more Chunk = chunk_more
-
-  still_passes : (a b limit : ℕ) → a ≤ b → nat_le b limit ≡ true → nat_le a limit ≡ true
-  still_passes a b limit less passes = grind (arith, nat_tests)
-
-  all_five : (a b c d e : Bool) → a ≡ true → b ≡ true → c ≡ true → d ≡ true → e ≡ true → (a && b && c && d && e) ≡ true
-  all_five a b c d e is_a is_b is_c is_d is_e = rw (is_a, is_b, is_c, is_d, is_e) refl
-
-  -- with fewer entries no file is too long where none was
-  pub fewer_small : (limits : Limits) → are_sizes_small limits many ≡ true → are_sizes_small limits few ≡ true
-  fewer_small limits small =
-      let four = and_parts _ _ small in
-      let three = and_parts _ _ four.0 in
-      let two = and_parts _ _ three.0 in
-      let one = and_parts _ _ two.0 in
-      all_five _ _ _ _ _
-      (still_passes (core_size few) (core_size many) limits.max_index core_more one.0)
-      (still_passes (core_proof_size few) (core_proof_size many) limits.max_proofs core_proof_more one.1)
-      (still_passes (provisional_size few) (provisional_size many) limits.max_index provisional_more two.1)
-      (still_passes (provisional_proof_size few) (provisional_proof_size many) limits.max_proofs provisional_proof_more three.1)
-      (still_passes (chunk_size few) (chunk_size many) limits.max_chunk chunk_more four.1)

@@ -12,7 +12,7 @@ use Rattle.st_indexfiles.specs.Target.{target_json}
 use Rattle.st_ops.specs.Operation.{PlainOperation, creating, updating, recovering, deactivating}
 use Rattle.st_ops.specs.RequestText.{delta_there}
 use Rattle.st_batch.specs.Groups.{grouped, is_create, is_deactivate, is_recover, is_update, signed_text_in, suffix_data_in, target_in, with_core_proof, with_delta}
-use Rattle.st_batch.specs.OperationSizes.{delta_size, entry_size, index_size, of_kind, proof_size}
+use Rattle.st_batch.proofs.Sizes.{delta_size, entry_size, index_size, of_kind, proof_size}
 use Rattle.st_batch.proofs.ExactSizeLemmas.{entries_weight}
 
 -- ---- entries of one kind

@@ -1,21 +1,23 @@
--- More operations make no file shorter, so a batch that stops at the first operation which makes one too
--- long is the longest.
-use Rattle.std.proofs.Common.{◌≡◌, ◌∙◌, ℕ, zero, suc, ◌+◌, ◌<◌, ◌≤◌, true, false, nat_le, List, [], ◌∷◌, length, take, get_or, sym, arith}
+-- More operations make no file shorter, so a batch that stops where one more makes one too long is the longest.
+use Rattle.std.proofs.Common.{◌≡◌, ◌∙◌, ℕ, zero, suc, ◌+◌, ◌<◌, ◌≤◌, ◌&&◌, Bool, true, false, nat_le, List, [], ◌∷◌, length, take, Some, None, refl, sym, ap, arith}
+use Rattle.std.specs.Prelude.{min}
 use Rattle.std.specs.List.{sum_by}
 use Rattle.std.proofs.lemmas.Bool.{and_parts}
-use Rattle.std.proofs.lemmas.Bool.Decides.{nat_tests}
 use Rattle.std.proofs.lemmas.List.{length-take-le}
-use Rattle.std.proofs.lemmas.List.Sums.{sum_by-cons, sum_by_more}
+use Rattle.std.proofs.lemmas.List.Sums.{sum_by-cons}
+use Rattle.std.proofs.lemmas.Option.{cond_some}
 use Rattle.st_ops.specs.Operation.{PlainOperation}
 use Rattle.st_params.specs.Limits.{Limits}
+use Rattle.st_batch.specs.BatchFiles.{batch_of_groups, batch_with}
 use Rattle.st_batch.specs.BatchLaws.{NeverShorter}
-use Rattle.st_batch.specs.OperationSizes.{sizes_by, sizes_in, sizes_of}
-use Rattle.st_batch.specs.Prefix.{are_files_small, batch_count, is_batch}
-use Rattle.st_batch.specs.Sums.{both_sizes}
-use Rattle.st_batch.proofs.FileSizeLemmas.{file_long, files_small}
+use Rattle.st_batch.specs.Groups.{grouped}
+use Rattle.st_batch.specs.Prefix.{are_files_small, batch_count, batch_of, batch_where_small, is_batch}
+use Rattle.st_batch.specs.declared.batch.Batch.{Batch}
+use Rattle.st_batch.proofs.FileSizeLemmas.{file_long}
 use Rattle.st_batch.proofs.GivenPrefixLemmas.{batch_longest}
 use Rattle.st_batch.proofs.KnownRuleLemmas.{below, both}
-use Rattle.st_batch.proofs.MoreSizeLemmas.{fewer_small, file_more}
+use Rattle.st_batch.proofs.MoreSizeLemmas.{file_more}
+use Rattle.st_batch.proofs.SmallLemmas.{none_fails, over, passes_below, short_small, small_all, small_each, small_short}
 
 -- ---- sums over a prefix
 
@@ -40,19 +42,17 @@ never_shorter role queue fewer more less =
     let within = file_more (λ size. sum_by size (take fewer queue)) (λ size. sum_by size (take more queue)) (λ size. sum_within size fewer more queue less) role in
     rw (few, many) within
 
--- ---- one operation more
-
--- the sizes with one operation more are those before and what it adds
-pub one_more : (operations : List PlainOperation) (n : ℕ) (default : PlainOperation) → n < length operations
-    → both_sizes (sizes_of (take n operations)) (sizes_in (get_or operations n default)) ≡ sizes_of (take (n + 1) operations)
-unfolding sizes_in
-one_more operations n default within = λ i. sizes_by (λ size. sym (sum_by_more size operations n default within) i)
-
 -- ---- batches
 
--- the test of a bound passes
-pub passes_below : (n most : ℕ) → n ≤ most → nat_le n most ≡ true
-passes_below n most within = grind (arith, nat_tests)
+-- nor is a file too long with fewer operations where none was
+fewer_small : (limits : Limits) (few many : ℕ) (operations : List PlainOperation) → few ≤ many
+    → are_files_small limits (take many operations) ≡ true → are_files_small limits (take few operations) ≡ true
+unfolding are_files_small
+fewer_small limits few many operations less small =
+    let before = grouped (take few operations) in
+    let after = grouped (take many operations) in
+    small_all limits before (λ role. short_small limits before role
+    (omega (arith, never_shorter role operations few many less, small_short limits after role (small_each limits after small role))))
 
 -- what goes into a batch does so with fewer operations
 fewer_go : (limits : Limits) (few many : ℕ) (operations : List PlainOperation) → few ≤ many → many ≤ length operations
@@ -60,21 +60,19 @@ fewer_go : (limits : Limits) (few many : ℕ) (operations : List PlainOperation)
 fewer_go limits few many operations less within go =
     let parts = and_parts (nat_le (length (take many operations)) limits.max_operations) (are_files_small limits (take many operations)) go in
     let most = below (length (take many operations)) limits.max_operations parts.0 in
-    let small = sym (files_small (take many operations) limits) ∙ parts.1 in
-    let fewer = fewer_small (λ size. sum_by size (take few operations)) (λ size. sum_by size (take many operations)) (λ size. sum_within size few many operations less) limits small in
     let count = passes_below (length (take few operations)) limits.max_operations
     (omega (arith, less, within, most, length-take-le few operations, length-take-le many operations)) in
     both (nat_le (length (take few operations)) limits.max_operations) (are_files_small limits (take few operations)) count
-    (files_small (take few operations) limits ∙ fewer)
+    (fewer_small limits few many operations less parts.1)
 
 -- so many first operations go, and either there are no more or one more does not
-pub record IsLast (limits : Limits) (operations : List PlainOperation) (n : ℕ) : Type 0 where
-  pub within : n ≤ length operations
-  pub goes : 1 ≤ n → is_batch limits (take n operations) ≡ true
-  pub stops : n < length operations → is_batch limits (take (n + 1) operations) ≡ false
+record IsLast (limits : Limits) (operations : List PlainOperation) (n : ℕ) : Type 0 where
+  within : n ≤ length operations
+  goes : 1 ≤ n → is_batch limits (take n operations) ≡ true
+  stops : n < length operations → is_batch limits (take (n + 1) operations) ≡ false
 
 -- these are as many as a batch takes
-pub last_is_count : (limits : Limits) (operations : List PlainOperation) (n : ℕ) → IsLast limits operations n → n ≡ batch_count limits operations
+last_is_count : (limits : Limits) (operations : List PlainOperation) (n : ℕ) → IsLast limits operations n → n ≡ batch_count limits operations
 last_is_count limits operations n last =
     let found = batch_count limits operations in
     let longest = batch_longest limits operations in
@@ -87,3 +85,129 @@ last_is_count limits operations n last =
     let stop = longest.longest n above last.within in
     cc) in
     omega (arith, none_below, none_above)
+
+-- ---- how many a batch takes
+
+first_fails : (a b : Bool) → a ≡ false → (a && b) ≡ false
+first_fails a b fails = rw fails refl
+
+second_fails : (a b : Bool) → b ≡ false → (a && b) ≡ false
+second_fails true b fails = rw fails refl
+second_fails false b fails = refl
+
+-- so many are no more than a batch may declare, and no file of theirs is too long
+goes_by : (limits : Limits) (operations : List PlainOperation) (n : ℕ) → n ≤ length operations → n ≤ limits.max_operations
+    → are_files_small limits (take n operations) ≡ true → is_batch limits (take n operations) ≡ true
+goes_by limits operations n within few small =
+    both (nat_le (length (take n operations)) limits.max_operations) (are_files_small limits (take n operations))
+    (passes_below (length (take n operations)) limits.max_operations (omega (arith, few, length-take-le n operations within))) small
+
+-- as many as a batch may declare, or all, where no file of these is too long
+pub most_go : (limits : Limits) (operations : List PlainOperation)
+    → are_files_small limits (take (min (length operations) limits.max_operations) operations) ≡ true
+    → min (length operations) limits.max_operations ≡ batch_count limits operations
+most_go limits operations small =
+    let most : ℕ = min (length operations) limits.max_operations in
+    last_is_count limits operations most (record {
+      within = omega arith;
+      goes = λ some. goes_by limits operations most (omega arith) (omega arith) small;
+      stops = λ more. first_fails (nat_le (length (take (most + 1) operations)) limits.max_operations) (are_files_small limits (take (most + 1) operations))
+          (over (length (take (most + 1) operations)) limits.max_operations (omega (arith, more, length-take-le (most + 1) operations)));
+    })
+
+-- those that it takes are no more than it may declare, and no file of theirs is too long
+record Taken (limits : Limits) (operations : List PlainOperation) : Type 0 where
+  few : batch_count limits operations ≤ limits.max_operations
+  small : are_files_small limits (take (batch_count limits operations) operations) ≡ true
+
+taken_of : (limits : Limits) (operations : List PlainOperation) → 1 ≤ batch_count limits operations → Taken limits operations
+taken_of limits operations some =
+    let count = batch_count limits operations in
+    let longest = batch_longest limits operations in
+    let parts = and_parts (nat_le (length (take count operations)) limits.max_operations) (are_files_small limits (take count operations)) (longest.goes some) in
+    let few = below (length (take count operations)) limits.max_operations parts.0 in
+    record { few = omega (arith, few, length-take-le count operations longest.within); small = parts.1 }
+
+-- ---- halving
+
+-- no file is too long of so many first operations, and one is of so many more
+pub record IsBetween (limits : Limits) (operations : List PlainOperation) (goes stops : ℕ) : Type 0 where
+  pub less : goes < stops
+  pub within : stops ≤ length operations
+  pub few : stops ≤ limits.max_operations
+  pub small : 1 ≤ goes → are_files_small limits (take goes operations) ≡ true
+  pub long : are_files_small limits (take stops operations) ≡ false
+
+module _ (limits : Limits) (operations : List PlainOperation) where
+  pub at_first : 1 ≤ batch_count limits operations → {most : ℕ} → most ≡ min (length operations) limits.max_operations
+      → are_files_small limits (take most operations) ≡ false → IsBetween limits operations 0 most
+  at_first some {most} is long =
+      let taken = taken_of limits operations some in
+      let longest = batch_longest limits operations in
+      record {
+        less = omega (arith, some, is, taken.few, longest.within);
+        within = omega (arith, is);
+        few = omega (arith, is);
+        small = λ none. absurd (omega (arith, none));
+        long = long;
+      }
+
+  module _ {goes stops : ℕ} (between : IsBetween limits operations goes stops) where
+    pub more_go : (middle : ℕ) → middle < stops → are_files_small limits (take middle operations) ≡ true
+        → IsBetween limits operations middle stops
+    more_go middle less small = record { less = less; within = between.within; few = between.few; small = λ some. small; long = between.long }
+
+    pub fewer_stop : (middle : ℕ) → goes < middle → middle < stops → are_files_small limits (take middle operations) ≡ false
+        → IsBetween limits operations goes middle
+    fewer_stop middle less below long = record {
+      less = less;
+      within = omega (arith, below, between.within);
+      few = omega (arith, below, between.few);
+      small = between.small;
+      long = long;
+    }
+
+    -- as the numbers are named behind a turn
+    pub turned : {before behind : ℕ} → before ≡ goes → behind ≡ stops → IsBetween limits operations before behind
+    turned first second = rw (first, second) between
+
+    pub nothing_between : stops ≤ goes + 1 → goes ≡ batch_count limits operations
+    nothing_between next =
+        let is : stops ≡ goes + 1 = omega (arith, next, between.less) in
+        last_is_count limits operations goes (record {
+          within = omega (arith, between.less, between.within);
+          goes = λ some. goes_by limits operations goes (omega (arith, between.less, between.within)) (omega (arith, between.less, between.few)) (between.small some);
+          stops = λ more. second_fails (nat_le (length (take (goes + 1) operations)) limits.max_operations) (are_files_small limits (take (goes + 1) operations))
+              (ap (λ n. are_files_small limits (take n operations)) (sym is) ∙ between.long);
+        })
+
+-- ---- what is written
+
+-- of so many first operations, no file is too long, or one is
+pub written_small : (limits : Limits) (operations : List PlainOperation) (n : ℕ) (batch : Batch)
+    → batch_where_small limits n (grouped (take n operations)) ≡ Some batch → are_files_small limits (take n operations) ≡ true
+unfolding are_files_small
+written_small limits operations n batch written = (cond_some _ _ batch written).0
+
+pub written_long : (limits : Limits) (operations : List PlainOperation) (n : ℕ)
+    → batch_where_small limits n (grouped (take n operations)) ≡ None → are_files_small limits (take n operations) ≡ false
+unfolding are_files_small
+written_long limits operations n none = none_fails _ _ none
+
+-- of as many as a batch takes it is written
+pub is_written : (limits : Limits) (operations : List PlainOperation) (n : ℕ) → 1 ≤ batch_count limits operations → n ≡ batch_count limits operations
+    → batch_where_small limits n (grouped (take n operations)) ≡ None → ⊥
+is_written limits operations n some is none =
+    let long = ap (λ m. are_files_small limits (take m operations)) (sym is) ∙ written_long limits operations n none in
+    let small = (taken_of limits operations some).small in
+    cc
+
+-- and it is that of the queue
+pub written_of : (limits : Limits) (operations : List PlainOperation) (n : ℕ) (batch : Batch) → n ≡ batch_count limits operations
+    → batch_where_small limits n (grouped (take n operations)) ≡ Some batch → batch ≡ batch_of limits operations
+unfolding batch_with
+written_of limits operations n batch is written =
+    let long : length (take n operations) ≡ n = length-take-le n operations (omega (arith, is, (batch_longest limits operations).within)) in
+    sym (cond_some _ _ batch written).1
+    ∙ (ap (λ m. batch_of_groups m (grouped (take n operations))) (sym long)
+    ∙ ap (λ m. batch_of_groups (length (take m operations)) (grouped (take m operations))) is)

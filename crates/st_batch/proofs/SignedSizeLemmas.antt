@@ -1,14 +1,11 @@
 -- How long a signed text is as JSON, where it can be opened. Nothing in it is escaped: it is three texts in
 -- base64url with dots between them.
-use Rattle.std.proofs.Common.{◌≡◌, ◌∙◌, ℕ, suc, ◌+◌, ◌*◌, ◌≤◌, ◌==◌, Bool, true, false, nat_le, List, [], ◌∷◌, ◌++◌, length, take, drop, position, Option, Some, None, option_map, option_and_then, Result, Ok, Err, refl, sym, ap, subst, length-append, arith}
+use Rattle.std.proofs.Common.{◌≡◌, ◌∙◌, ℕ, ◌+◌, ◌≤◌, ◌==◌, Bool, true, false, nat_le, List, [], ◌∷◌, ◌++◌, length, take, drop, position, Option, Some, None, option_map, option_and_then, Result, Ok, Err, refl, sym, ap, subst, length-append, arith}
 use Rattle.std.specs.List.{flat_map}
 use Rattle.std.specs.Option.{ok_or}
 use Rattle.std.specs.Result.{result_ok}
-use Rattle.std.specs.Str.{IsUtf8}
 use Rattle.std.proofs.lemmas.List.Concat.{flat_map-append}
 use Rattle.std.proofs.lemmas.Option.{same_Some}
-use Rattle.base64.specs.GeneralPurpose.{IsBytes}
-use Rattle.base64.proofs.EngineFacts.{front_bytes}
 use Rattle.st_base.specs.Answers.{◌>>=◌, ◌>>◌, holds_or}
 use Rattle.st_base.specs.Words.{cut_at}
 use Rattle.st_base.proofs.Cuts.{around}
@@ -16,17 +13,14 @@ use Rattle.st_canon.specs.Canonical.{escape}
 use Rattle.st_canon.specs.Measure.{size_of}
 use Rattle.st_datafiles.specs.ProofFiles.{signed_json}
 use Rattle.st_hash.specs.Base64url.{bytes_of_text}
-use Rattle.st_hash.proofs.Spelling.{spelled}
-use Rattle.st_hash.proofs.Utf8Bytes.{IsBytes-IsUtf8}
-use Rattle.st_indexfiles.proofs.BareLemmas.{IsBare, base64url_bare}
+use Rattle.st_hash.proofs.Symbols.{decoded_apart}
+use Rattle.st_indexfiles.proofs.BareLemmas.{IsBare, apart_bare}
 use Rattle.st_jws.specs.Opening.{Opened, opened}
 use Rattle.st_jws.specs.Texts.{Texts, dot, texts_of}
 use Rattle.st_jws.specs.declared.refused.SignedRefused.TheVariants.{BadForm}
 use Rattle.st_ops.specs.Operation.{Proof}
 use Rattle.st_ops.specs.SignedPart.{proof_of}
-use Rattle.st_batch.proofs.DecodedLemmas.{bytes_of_text-bytes}
 use Rattle.st_batch.proofs.EntrySizeLemmas.{signed_long}
-use Rattle.st_batch.proofs.FirstSizeLemmas.{quoted_within}
 use Rattle.st_batch.proofs.KnownRuleLemmas.{below}
 
 -- ---- steps that gave a value
@@ -90,26 +84,9 @@ bare_joined header payload signature first second third =
     bare_both header (dot ∷ (payload ++ dot ∷ signature)) first
     (bare_dot (payload ++ dot ∷ signature) (bare_both payload (dot ∷ signature) second (bare_dot signature third)))
 
--- nor is anything in a text that is the base64url of bytes
-decoded_bare : (text bytes : List ℕ) → IsBytes text → bytes_of_text text ≡ Some bytes → IsBare text
-decoded_bare text bytes are found =
-    subst IsBare (sym (spelled text bytes are found)) (base64url_bare bytes (bytes_of_text-bytes text bytes found))
-
-back_bytes : (front back : List ℕ) → IsBytes (front ++ back) → IsBytes back
-back_bytes [] back are = are
-back_bytes (byte ∷ front) back are = back_bytes front back (λ i. are (suc i))
-
-joined_bare : (texts : Texts) (header payload signature : List ℕ) → IsBytes (joined texts.header texts.payload texts.signature)
-    → bytes_of_text texts.header ≡ Some header → bytes_of_text texts.payload ≡ Some payload → bytes_of_text texts.signature ≡ Some signature
-    → IsBare (joined texts.header texts.payload texts.signature)
-joined_bare texts header payload signature are first second third =
-    let rest = texts.payload ++ dot ∷ texts.signature in
-    let later : IsBytes rest = λ i. back_bytes texts.header (dot ∷ rest) are (suc i) in
-    let last : IsBytes texts.signature = λ i. back_bytes texts.payload (dot ∷ texts.signature) later (suc i) in
-    bare_joined texts.header texts.payload texts.signature
-    (decoded_bare texts.header header (front_bytes texts.header (dot ∷ rest) are) first)
-    (decoded_bare texts.payload payload (front_bytes texts.payload (dot ∷ texts.signature) later) second)
-    (decoded_bare texts.signature signature last third)
+-- nor is anything in a text that is decoded
+decoded_bare : (text bytes : List ℕ) → bytes_of_text text ≡ Some bytes → IsBare text
+decoded_bare text bytes found = apart_bare text (decoded_apart text bytes found)
 
 -- ---- what is opened
 
@@ -129,32 +106,28 @@ opened_short limit signed opens =
     let opening = opening_of limit signed opens in
     below (length signed) limit (held (nat_le (length signed) limit) BadForm _ opening.0 opening.1).0
 
--- and nothing in it is escaped where it is UTF-8
-pub opened_bare : (limit : ℕ) (signed : List ℕ) → Opens limit signed → IsUtf8 signed → IsBare signed
-opened_bare limit signed opens utf8 =
+-- and nothing in it is escaped
+pub opened_bare : (limit : ℕ) (signed : List ℕ) → Opens limit signed → IsBare signed
+opened_bare limit signed opens =
     let opening = opening_of limit signed opens in
     let short = held (nat_le (length signed) limit) BadForm _ opening.0 opening.1 in
     let texts = was_there (texts_of signed) BadForm _ opening.0 short.1 in
     let header = was_there (bytes_of_text texts.0.header) BadForm _ opening.0 texts.2 in
     let payload = was_there (bytes_of_text texts.0.payload) BadForm _ opening.0 header.2 in
     let signature = was_there (bytes_of_text texts.0.signature) BadForm _ opening.0 payload.2 in
-    let whole = texts_joined signed texts.0 texts.1 in
-    subst IsBare (sym whole)
-    (joined_bare texts.0 header.0 payload.0 signature.0 (subst IsBytes whole (IsBytes-IsUtf8 signed utf8)) header.1 payload.1 signature.1)
+    subst IsBare (sym (texts_joined signed texts.0 texts.1))
+    (bare_joined texts.0.header texts.0.payload texts.0.signature (decoded_bare texts.0.header header.0 header.1)
+    (decoded_bare texts.0.payload payload.0 payload.1) (decoded_bare texts.0.signature signature.0 signature.1))
 
 -- ---- as JSON
 
 -- a text that is opened has so many bytes as JSON at most
-pub opened_within : (limit : ℕ) (signed : List ℕ) → Opens limit signed → size_of (signed_json signed) ≤ 6 * limit + 17
-opened_within limit signed opens = omega (arith, opened_short limit signed opens, signed_long signed, quoted_within signed)
-
--- and fewer where it is UTF-8
-pub opened_bare_within : (limit : ℕ) (signed : List ℕ) → Opens limit signed → IsUtf8 signed → size_of (signed_json signed) ≤ limit + 17
-opened_bare_within limit signed opens utf8 =
+pub opened_within : (limit : ℕ) (signed : List ℕ) → Opens limit signed → size_of (signed_json signed) ≤ limit + 17
+opened_within limit signed opens =
     omega (
       arith,
       opened_short limit signed opens,
       signed_long signed,
-      ap length (opened_bare limit signed opens utf8),
+      ap length (opened_bare limit signed opens),
       length-append (flat_map escape signed) (34 ∷ []),
     )

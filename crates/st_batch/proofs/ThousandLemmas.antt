@@ -1,28 +1,27 @@
 -- Up to 1,000 operations that fit the limits of some version go into files at the limits of each version.
 -- So in version 1 a batch takes the first 1,000 of a queue, and always the first one.
-use Rattle.std.proofs.Common.{◌≡◌, ◌∙◌, ℕ, ◌+◌, ◌<◌, ◌≤◌, ◌==◌, Bool, true, false, nat_le, if◌then◌else◌, List, [], ◌∷◌, codes, length, take, refl, sym, arith}
+use Rattle.std.proofs.Common.{◌≡◌, ◌∙◌, ℕ, ◌+◌, ◌<◌, ◌≤◌, ◌==◌, Bool, true, false, nat_le, if◌then◌else◌, List, [], ◌∷◌, codes, length, take, sym, arith}
 use Rattle.std.specs.Prelude.{min}
-use Rattle.std.specs.List.{AllByRecursion}
 use Rattle.std.proofs.lemmas.Bool.Decides.{nat_tests}
 use Rattle.std.proofs.lemmas.List.{length-take-le}
 use Rattle.st_base.proofs.Quantifiers.{each-take, each-weaker}
+use Rattle.st_datafiles.specs.declared.role.Role.{Role}
+use Rattle.st_datafiles.specs.declared.role.Role.TheVariants.{Core, CoreProof, Provisional, ProvisionalProof, Chunk}
 use Rattle.st_ops.specs.KnownHashes.{HasHashes}
 use Rattle.st_ops.specs.Operation.{PlainOperation}
 use Rattle.st_params.specs.Limits.{in_version, limits_of}
 use Rattle.st_batch.specs.BatchLaws.{TakesAThousand, TakesTheFirst, ThousandFit}
-use Rattle.st_batch.specs.FileSizes.{are_sizes_small, chunk_size, core_proof_size, core_size, member_size, provisional_proof_size, provisional_size, uri_size, where_any, with_core_proof_size, with_delta_size}
 use Rattle.st_batch.specs.Fits.{Fits}
 use Rattle.st_batch.specs.Kept.{IsQueued}
-use Rattle.st_batch.specs.Groups.{is_create, is_deactivate, is_recover, is_update}
-use Rattle.st_batch.specs.OperationSizes.{index_size, proof_size, sizes_of}
-use Rattle.st_batch.specs.Prefix.{are_files_small, batch_count, is_batch}
-use Rattle.st_batch.specs.declared.sizes.Sizes.{Sizes}
-use Rattle.st_batch.proofs.CountingLemmas.{IsCounted, full}
-use Rattle.st_batch.proofs.FileSizeLemmas.{files_small}
+use Rattle.st_batch.specs.Groups.{grouped, is_create, is_deactivate, is_recover, is_update}
+use Rattle.st_batch.specs.Prefix.{are_files_small, batch_count, is_batch, most_bytes}
+use Rattle.st_batch.proofs.FileSizeLemmas.{file_long}
 use Rattle.st_batch.proofs.GivenPrefixLemmas.{batch_longest}
 use Rattle.st_batch.proofs.KnownRuleLemmas.{both}
 use Rattle.st_batch.proofs.LowSizeLemmas.{AreLow, IsLow, both_within, kind_within, one_low, queued_low, sums_low}
-use Rattle.st_batch.proofs.PrefixSizeLemmas.{passes_below}
+use Rattle.st_batch.proofs.PrefixSizeLemmas.{most_go}
+use Rattle.st_batch.proofs.Sizes.{Sizes, chunk_size, core_proof_size, core_size, file_size, index_size, member_size, proof_size, provisional_proof_size, provisional_size, sizes_of, uri_size, where_any, with_core_proof_size, with_delta_size}
+use Rattle.st_batch.proofs.SmallLemmas.{passes_below, short_small, small_all}
 
 -- ---- files of so few bytes
 
@@ -85,35 +84,32 @@ module _ (operations : List PlainOperation) (low : AreLow operations) where
   unfolding chunk_size
   chunk_low = any_below (with_delta_size sizes) _ 10000000 (omega (arith, low.deltas, member_within (codes "deltas") sizes.deltas))
 
-  sizes_low : (version : ℕ) → are_sizes_small (limits_of version) sizes ≡ true
-  sizes_low version =
-      both _ _ (both _ _ (both _ _ (both _ _ (passes_below _ _ core_low) (passes_below _ _ core_proof_low)) (passes_below _ _ provisional_low))
-      (passes_below _ _ provisional_proof_low)) (passes_below _ _ chunk_low)
+  file_low : (version : ℕ) (role : Role) → file_size role sizes ≤ most_bytes (limits_of version) role
+  file_low version Core = core_low
+  file_low version CoreProof = core_proof_low
+  file_low version Provisional = provisional_low
+  file_low version ProvisionalProof = provisional_proof_low
+  file_low version Chunk = chunk_low
+
+  low_small : (version : ℕ) → are_files_small (limits_of version) operations ≡ true
+  unfolding are_files_small
+  low_small version =
+      small_all (limits_of version) (grouped operations) (λ role. short_small (limits_of version) (grouped operations) role
+      (omega (arith, file_long operations role, file_low version role)))
 
 -- ---- operations that fit
 
 pub thousand_fit : ThousandFit
-thousand_fit version operations are few =
-    files_small operations (limits_of version)
-    ∙ sizes_low operations
-    (sums_low 15000 operations (each-weaker IsQueued (IsLow 15000) queued_low operations are) few (omega (arith, few))) version
+thousand_fit version operations are few = low_small operations (sums_low operations (each-weaker IsQueued IsLow queued_low operations are) few) version
 
--- the first 1,000, or all, go into one batch of version 1
-thousand_go : (queue : List PlainOperation) → AllByRecursion IsQueued queue → is_batch (limits_of 1) (take (min 1000 (length queue)) queue) ≡ true
-thousand_go queue are =
-    let count = min 1000 (length queue) in
-    let long : length (take count queue) ≡ count = length-take-le count queue (omega arith) in
-    both (nat_le (length (take count queue)) 1000) (are_files_small (limits_of 1) (take count queue))
-    (passes_below (length (take count queue)) 1000 (omega (arith, long)))
-    (thousand_fit 1 (take count queue) (each-take IsQueued count queue are) (omega (arith, long)))
-
+-- in version 1 the first 1,000 go into one batch, or all
 pub takes_a_thousand : TakesAThousand
 takes_a_thousand queue are =
-    let count = min 1000 (length queue) in
-    let counted : IsCounted (limits_of 1) queue count (sizes_of (take count queue)) =
-    record { within = omega arith; goes = λ some. thousand_go queue are; summed = refl } in
-    let is : count ≡ min (length queue) 1000 = omega arith in
-    sym (full counted is)
+    let count : ℕ = min (length queue) 1000 in
+    let long : length (take count queue) ≡ count = length-take-le count queue (omega arith) in
+    let small = thousand_fit 1 (take count queue) (each-take IsQueued count queue are) (omega (arith, long)) in
+    let same : count ≡ min 1000 (length queue) = omega arith in
+    sym (most_go (limits_of 1) queue small) ∙ same
 
 -- ---- the first operation
 
@@ -127,8 +123,7 @@ goes_alone : (first second : ℕ) (operation : PlainOperation) → HasHashes ope
 goes_alone first second operation are fits =
     both (nat_le 1 (in_version second 1000 5000)) (are_files_small (limits_of second) (operation ∷ []))
     (passes_below 1 (in_version second 1000 5000) (many (second == 1)))
-    (files_small (operation ∷ []) (limits_of second)
-    ∙ sizes_low (operation ∷ []) (sums_low 80000 (operation ∷ []) (one_low first operation are fits, tt) (omega arith) (omega arith)) second)
+    (low_small (operation ∷ []) (sums_low (operation ∷ []) (one_low first operation are fits, tt) (omega arith)) second)
 
 pub takes_the_first : TakesTheFirst
 takes_the_first first second operation waiting are fits =

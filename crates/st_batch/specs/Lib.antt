@@ -10,6 +10,3 @@ pub mod Counted
 pub mod Kept
 pub mod ReadBack
 pub mod BatchLaws
-pub mod FileSizes
-pub mod Sums
-pub mod OperationSizes

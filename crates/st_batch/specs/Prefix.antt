@@ -1,12 +1,12 @@
 -- Which of the queued operations a batch takes.
-use Rattle.std.specs.Prelude.{◌≡◌, ℕ, zero, suc, ◌≤◌, ◌<◌, Bool, true, false, ◌&&◌, nat_le, if◌then◌else◌, List, length, take, drop}
+use Rattle.std.specs.Prelude.{◌≡◌, ℕ, zero, suc, ◌≤◌, ◌<◌, Bool, true, false, ◌&&◌, nat_le, if◌then◌else◌, List, length, take, drop, Option, Some, None}
 use Rattle.std.specs.List.{list_all}
 use Rattle.st_datafiles.specs.declared.role.Role.{Role}
 use Rattle.st_datafiles.specs.declared.role.Role.TheVariants.{Core, CoreProof, Provisional, ProvisionalProof, Chunk}
 use Rattle.st_ops.specs.Operation.{PlainOperation}
 use Rattle.st_params.specs.Limits.{Limits}
-use Rattle.st_batch.specs.BatchFiles.{batch_with, files_of}
-use Rattle.st_batch.specs.Groups.{grouped}
+use Rattle.st_batch.specs.BatchFiles.{batch_of_groups, batch_with, files_of}
+use Rattle.st_batch.specs.Groups.{Grouped, grouped}
 use Rattle.st_batch.specs.declared.batch.Batch.{Batch}
 use Rattle.st_batch.specs.declared.batch.BatchFile.{BatchFile}
 
@@ -25,6 +25,15 @@ is_small limits file = nat_le (length file.bytes) (most_bytes limits file.role)
 -- all files of these operations are so small
 unfoldable pub are_files_small : Limits → List PlainOperation → Bool
 are_files_small limits operations = list_all (is_small limits) (files_of (grouped operations))
+
+-- these files, where all of them are so small
+abbrev pub where_small : Limits → List BatchFile → Option (List BatchFile)
+where_small limits files = if list_all (is_small limits) files then Some files else None
+
+-- the batch of so many operations by kind, where all of its files are
+abbrev pub batch_where_small : Limits → ℕ → Grouped → Option Batch
+batch_where_small limits count groups =
+    if list_all (is_small limits) (files_of groups) then Some (batch_of_groups count groups) else None
 
 -- these operations go into one batch: they are no more than a batch may declare, and none of their
 -- files has too many bytes

@@ -1,34 +1,37 @@
 ghost use Rattle.std.specs.Prelude.{◌≡◌, length, nat_lt, IfOk};
 ghost use Rattle.std.specs.List.{filter_map};
+ghost use Rattle.std.specs.Result.{result_ok};
 ghost use Rattle.st_batch.specs.BatchFiles.{chunk_file, core_proof_file, filed, provisional_proof_file};
 ghost use Rattle.st_batch.specs.Grouping.{plain_groups};
 ghost use Rattle.st_batch.specs.Groups.{signed_text_in, with_core_proof, with_delta};
+ghost use Rattle.st_batch.specs.Prefix.{where_small};
 ghost use Rattle.st_datafiles.specs.declared.role.Role.TheVariants.{Chunk, CoreProof, ProvisionalProof};
 ghost use Rattle.st_ops.specs.RequestText.{delta_there};
 
-use crate::batch::BatchFile;
 use crate::chunk_text::chunk_text;
-use crate::files::filed;
+use crate::files::{Fitting, filed};
 use crate::gathering::{push_deltas, signed_texts_of};
 use crate::grouping::Groups;
 use st_base::{List, WantOfMemory};
 use st_canon::PackedJson;
 use st_datafiles::{CoreProofs, Role, write_core_proof, write_provisional_proof};
+use st_params::Params;
 use std::alloc::Global;
 
 /// The core proof file, where there is a recover or a deactivate.
 pub(crate) fn core_proof_file(
     alloc: Global,
     groups: &Groups,
-) -> Result<List<BatchFile>, WantOfMemory>
-    ensures { IfOk result (λ files. files ≡ filed CoreProof (core_proof_file (plain_groups groups.now))) }
+    params: &Params,
+) -> Result<Fitting, WantOfMemory>
+    ensures { IfOk result (λ files. result_ok files ≡ where_small params.now (filed CoreProof (core_proof_file (plain_groups groups.now)))) }
 {
     if !has_core_proof(groups) {
-        return Ok(List::new(alloc));
+        return Ok(Ok(List::new(alloc)));
     }
     let proofs = core_proofs(alloc, groups)?;
     let bytes = write_core_proof(alloc, &proofs)?;
-    Ok(filed(alloc, Role::CoreProof, bytes)?)
+    Ok(filed(alloc, Role::CoreProof, bytes, params)?)
 }
 
 // Whether there is a recover or a deactivate.
@@ -59,27 +62,32 @@ fn core_proofs(alloc: Global, groups: &Groups) -> Result<CoreProofs, WantOfMemor
 pub(crate) fn provisional_proof_file(
     alloc: Global,
     groups: &Groups,
-) -> Result<List<BatchFile>, WantOfMemory>
-    ensures { IfOk result (λ files. files ≡ filed ProvisionalProof (provisional_proof_file (plain_groups groups.now))) }
+    params: &Params,
+) -> Result<Fitting, WantOfMemory>
+    ensures { IfOk result (λ files. result_ok files ≡ where_small params.now (filed ProvisionalProof (provisional_proof_file (plain_groups groups.now)))) }
 {
     if groups.updates.len() == 0 {
-        return Ok(List::new(alloc));
+        return Ok(Ok(List::new(alloc)));
     }
     let proofs = signed_texts_of(alloc, groups.updates.as_slice())?;
     let bytes = write_provisional_proof(alloc, proofs.as_slice())?;
-    Ok(filed(alloc, Role::ProvisionalProof, bytes)?)
+    Ok(filed(alloc, Role::ProvisionalProof, bytes, params)?)
 }
 
 /// The chunk file, where there is a create, a recover or an update.
-pub(crate) fn chunk_file(alloc: Global, groups: &Groups) -> Result<List<BatchFile>, WantOfMemory>
-    ensures { IfOk result (λ files. files ≡ filed Chunk (chunk_file (plain_groups groups.now))) }
+pub(crate) fn chunk_file(
+    alloc: Global,
+    groups: &Groups,
+    params: &Params,
+) -> Result<Fitting, WantOfMemory>
+    ensures { IfOk result (λ files. result_ok files ≡ where_small params.now (filed Chunk (chunk_file (plain_groups groups.now)))) }
 {
     if !has_chunk(groups) {
-        return Ok(List::new(alloc));
+        return Ok(Ok(List::new(alloc)));
     }
     let deltas = deltas(alloc, groups)?;
     let bytes = chunk_text(alloc, deltas.as_slice())?;
-    Ok(filed(alloc, Role::Chunk, bytes)?)
+    Ok(filed(alloc, Role::Chunk, bytes, params)?)
 }
 
 // Whether there is an operation with a delta.

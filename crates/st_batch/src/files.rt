@@ -1,26 +1,59 @@
 ghost use Rattle.std.specs.Prelude.{◌≡◌, ◌++◌, Some, slice_get, option_map, IfOk, OnOk};
+ghost use Rattle.std.specs.Result.{result_ok};
 ghost use Rattle.st_batch.specs.BatchFiles.{filed};
+ghost use Rattle.st_batch.specs.Prefix.{most_bytes, where_small};
 ghost use Rattle.st_hash.specs.Hash.{uri_of};
 
 use crate::batch::BatchFile;
 use st_base::{Bytes, List, WantOfMemory};
 use st_datafiles::Role;
 use st_hash::{Hash, uri_of};
+use st_params::Params;
 use std::alloc::Global;
 
-/// A list of the one file, under its URI.
+/// That a file is too long: how many bytes it has, and how many it may have.
+#[derive(Clone, Copy, Debug)]
+pub(crate) struct TooLong {
+    pub long: usize,
+    pub most: usize,
+}
+
+/// Files, or that one is too long.
+pub(crate) type Fitting = Result<List<BatchFile>, TooLong>;
+
+/// A list of the one file, under its URI. Where it is too long it is not hashed.
 pub(crate) fn filed(
     alloc: Global,
     role: Role,
     bytes: Bytes,
-) -> Result<List<BatchFile>, WantOfMemory>
-    ensures { IfOk result (λ files. files ≡ filed role (Some bytes)) }
+    params: &Params,
+) -> Result<Fitting, WantOfMemory>
+    ensures { IfOk result (λ files. result_ok files ≡ where_small params.now (filed role (Some bytes))) }
 {
+    let long = bytes.as_slice().len();
+    let most = most_bytes(role, params);
+    if long > most {
+        return Ok(Err(TooLong { long, most }));
+    }
     let uri = uri_of(bytes.as_slice());
-    Ok(filed_under(alloc, role, uri, bytes)?)
+    let files = filed_under(alloc, role, uri, bytes)?;
+    Ok(Ok(files))
 }
 
-/// The same of a file whose URI is known. It was written with room to grow, and is kept without.
+/// How many bytes a file of this role may have.
+pub(crate) fn most_bytes(role: Role, params: &Params) -> usize
+    ensures { result ≡ most_bytes params.now role }
+{
+    match role {
+        Role::Core => params.max_index(),
+        Role::CoreProof => params.max_proofs(),
+        Role::Provisional => params.max_index(),
+        Role::ProvisionalProof => params.max_proofs(),
+        Role::Chunk => params.max_chunk(),
+    }
+}
+
+/// A list of the one file, whose URI is known. It was written with room to grow, and is kept without.
 pub(crate) fn filed_under(
     alloc: Global,
     role: Role,

@@ -1,12 +1,10 @@
-ghost use Rattle.std.specs.Prelude.{◌≡◌, ◌≤◌, length, take, drop, IfOk};
+ghost use Rattle.std.specs.Prelude.{◌≡◌, ◌≤◌, length, drop, IfOk};
 ghost use Rattle.st_batch.specs.Flushed.{IsFlushed};
 ghost use Rattle.st_batch.specs.Kept.{IsKept, operations_of};
 
 use crate::batch::Batch;
-use crate::counting::batch_count;
 use crate::entries::Entries;
-use crate::grouping::groups_of;
-use crate::writing::write_batch;
+use crate::longest::longest_batch;
 use st_base::WantOfMemory;
 use st_params::Params;
 use std::alloc::Global;
@@ -25,20 +23,16 @@ pub(crate) fn flush(
     // For proofs: the limits are those of their version, and no suffix stands twice.
     let _version = params.version();
     let _length = queued.len();
-    let count = batch_count(&queued, params);
-    let (taken, rest) = split(queued, count)?;
-    let groups = groups_of(alloc, taken)?;
-    let batch = write_batch(alloc, count, &groups)?;
+    let (count, batch) = longest_batch(alloc, &queued, params)?;
+    let rest = behind(queued, count)?;
     Ok((rest, batch))
 }
 
-// The first entries, so many, and the others.
-fn split(entries: Entries, count: usize) -> Result<(Entries, Entries), WantOfMemory>
+// The entries behind so many first ones.
+fn behind(entries: Entries, count: usize) -> Result<Entries, WantOfMemory>
     requires { count ≤ length entries.entries }
-    ensures first { IfOk result (λ parts. parts.0.entries ≡ take count entries.entries) }
-    ensures others { IfOk result (λ parts. parts.1.entries ≡ drop count entries.entries) }
+    ensures { IfOk result (λ rest. rest.entries ≡ drop count entries.entries) }
 {
     let mut first = entries;
-    let others = first.split_off(count)?;
-    Ok((first, others))
+    Ok(first.split_off(count)?)
 }

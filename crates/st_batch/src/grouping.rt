@@ -1,11 +1,11 @@
-ghost use Rattle.std.specs.Prelude.{◌≡◌, IfOk, OnOk};
+ghost use Rattle.std.specs.Prelude.{◌≡◌, take, IfOk, OnOk};
 ghost use Rattle.st_batch.specs.Grouping.{no_groups, plain_groups, with_operation};
 ghost use Rattle.st_batch.specs.Groups.{grouped};
 ghost use Rattle.st_batch.specs.Kept.{operations_of};
 ghost use Rattle.st_ops.specs.Operation.{plain_operation};
 
 use crate::entries::Entries;
-use st_base::{List, WantOfMemory};
+use st_base::{Copied, List, WantOfMemory};
 use st_ops::Operation;
 use std::alloc::Global;
 
@@ -44,12 +44,20 @@ impl Groups {
     }
 }
 
-/// The operations of entries by kind.
-pub(crate) fn groups_of(alloc: Global, entries: Entries) -> Result<Groups, WantOfMemory>
-    ensures { IfOk result (λ groups. plain_groups groups ≡ grouped (operations_of entries.entries)) }
+/// The first operations of entries, so many, by kind. They share their proofs and deltas with these.
+pub(crate) fn groups_of(
+    alloc: Global,
+    entries: &Entries,
+    count: usize,
+) -> Result<Groups, WantOfMemory>
+    ensures { IfOk result (λ groups. plain_groups groups ≡ grouped (take count (operations_of entries.now.entries))) }
 {
     let mut groups = Groups::new(alloc);
-    'operations: for operation in entries.into_values() {
+    'operations: for place in 0..count {
+        let Some((_, operation)) = entries.get_index(place) else {
+            return Ok(groups);
+        };
+        let operation = operation.copy(alloc)?;
         groups.push(alloc, operation)?;
     }
     Ok(groups)

@@ -1,18 +1,21 @@
 ghost use Rattle.std.specs.Prelude.{◌≡◌, IfOk, Some};
 ghost use Rattle.std.specs.List.{filter_map};
+ghost use Rattle.std.specs.Result.{result_ok};
 ghost use Rattle.st_batch.specs.BatchFiles.{chunk_file, core_file, core_proof_file, filed, provisional_file, provisional_proof_file};
 ghost use Rattle.st_batch.specs.Grouping.{plain_groups};
 ghost use Rattle.st_batch.specs.Groups.{suffix_data_in, target_in};
+ghost use Rattle.st_batch.specs.Prefix.{where_small};
 ghost use Rattle.st_datafiles.specs.declared.role.Role.TheVariants.{Chunk, CoreProof, Provisional, ProvisionalProof};
 
 use crate::batch::BatchFile;
-use crate::files::{filed, first_uri};
+use crate::files::{Fitting, filed, first_uri};
 use crate::gathering::{suffix_data_of, targets_of};
 use crate::grouping::Groups;
 use st_base::{Bytes, List, WantOfMemory};
 use st_datafiles::Role;
 use st_hash::Hash;
 use st_indexfiles::{CoreIndex, ProvisionalIndex, write_core, write_provisional};
+use st_params::Params;
 use std::alloc::Global;
 
 /// The provisional index file, where there is a create, a recover or an update: it names the two files
@@ -22,17 +25,18 @@ pub(crate) fn provisional_file(
     groups: &Groups,
     proof: &List<BatchFile>,
     chunk: &List<BatchFile>,
-) -> Result<List<BatchFile>, WantOfMemory>
+    params: &Params,
+) -> Result<Fitting, WantOfMemory>
     requires proof { proof.now ≡ filed ProvisionalProof (provisional_proof_file (plain_groups groups.now)) }
     requires chunk { chunk.now ≡ filed Chunk (chunk_file (plain_groups groups.now)) }
-    ensures { IfOk result (λ files. files ≡ filed Provisional (provisional_file (plain_groups groups.now))) }
+    ensures { IfOk result (λ files. result_ok files ≡ where_small params.now (filed Provisional (provisional_file (plain_groups groups.now)))) }
 {
     let Some(chunk) = first_uri(chunk) else {
-        return Ok(List::new(alloc));
+        return Ok(Ok(List::new(alloc)));
     };
     let index = provisional_index(alloc, groups, first_uri(proof), chunk)?;
     let bytes = write_provisional(alloc, &index)?;
-    Ok(filed(alloc, Role::Provisional, bytes)?)
+    Ok(filed(alloc, Role::Provisional, bytes, params)?)
 }
 
 fn provisional_index(

@@ -6,11 +6,9 @@
 mod asking;
 mod batch;
 mod chunk_text;
-mod counting;
 mod data_files;
 mod delta_checking;
 mod entries;
-mod file_sizes;
 mod files;
 mod flushing;
 mod gathering;
@@ -19,11 +17,10 @@ mod in_files;
 mod index_files;
 mod knowing;
 mod laws;
-mod operation_sizes;
+mod longest;
 mod parts;
 mod queue;
 mod refused;
-mod sizes;
 #[cfg(test)]
 mod tests;
 mod writing;

@@ -1,23 +1,30 @@
 -- A text that is canonical already, gone through from the front.
 use Rattle.std.proofs.Common.{◌≡◌, ◌∙◌, ℕ, ◌-◌, ◌<◌, ◌≤◌, Bool, true, List, [], ◌∷◌, ◌++◌, Option, Some, None, option_map, is_some, Ok, IfSome, refl, sym, ap, arith}
-use Rattle.std.proofs.Common.{append_assoc, length, take, drop}
+use Rattle.std.proofs.Common.{append_assoc}
 use Rattle.std.specs.List.{flat_map}
-use Rattle.std.specs.Prelude.{false}
+use Rattle.std.specs.Prelude.{ℤ, false, nat_lt}
 use Rattle.std.specs.Str.{IsUtf8}
 use Rattle.std.specs.declared.cmp.Ordering.TheVariants.{Less}
-use Rattle.std.proofs.lemmas.List.{append-nil, take-append-drop}
-use Rattle.json.specs.Written.{PlainBetween}
+use Rattle.std.specs.Fmt.{signed_decimal}
+use Rattle.std.proofs.Common.{codes}
+use Rattle.std.proofs.lemmas.Bool.Decides.{nat_tests}
+use Rattle.std.proofs.lemmas.List.{append-nil}
+use Rattle.std.proofs.lemmas.List.Concat.{flat_map-append}
+use Rattle.std.proofs.lemmas.Str.{IsUtf8-append, IsUtf8-nil}
+use Rattle.json.proofs.Printed.Utf8.{IsUtf8-are_ascii}
 use Rattle.st_canon.specs.Canonical.{canonical, canonical_items, canonical_members, comma, escape, quoted}
 use Rattle.st_canon.specs.Depth.{items_nest, members_nest}
-use Rattle.st_canon.specs.InFront.{IsInFront, ItemsAreInFront, MembersAreInFront}
+use Rattle.st_canon.specs.Held.{ranks_cmp}
+use Rattle.st_canon.specs.InFront.{IsEscapeInFront, IsInFront, IsTextInFront, ItemsAreInFront, MembersAreInFront, name_of}
 use Rattle.st_canon.specs.Names.{name_cmp}
 use Rattle.st_canon.specs.Packed.{IsReadAgain}
-use Rattle.st_canon.specs.Plain.{text, list, object, Items, no_items, item, Members, no_members, member}
+use Rattle.st_canon.specs.Plain.{IsWhole, null, boolean, whole, text, list, object, Items, no_items, item, Members, no_members, member}
 use Rattle.st_canon.specs.Proper.{AllAbove, ItemsAreProper, MembersAreProper}
 use Rattle.st_canon.specs.Reading.{json_of}
+use Rattle.st_canon.proofs.HeldLemmas.{name_is}
 use Rattle.st_canon.proofs.NestsLemmas.{back_within}
 use Rattle.st_canon.proofs.Order.{name_total}
-use Rattle.st_canon.proofs.RunLemmas.{plain_front}
+use Rattle.st_canon.proofs.RankLemmas.{names_ranked}
 
 -- ---- all of a text
 
@@ -32,14 +39,70 @@ all_read_again bytes front =
 pub text_in_front : (depth : ℕ) (bytes word rest : List ℕ) → IsUtf8 word → bytes ≡ quoted word ++ rest → IsInFront depth bytes rest
 text_in_front depth bytes word rest utf8 spelled = record { is = text word; proper = utf8; shallow = omega arith; spelled = spelled }
 
--- the word stands before the mark that closes it, and none of its bytes is escaped
-pub word_in_front : (bytes inside word behind rest : List ℕ) (n : ℕ) → bytes ≡ 34 ∷ inside → n ≤ length inside → PlainBetween inside 0 n
-    → word ≡ take n inside → behind ≡ drop n inside → behind ≡ 34 ∷ rest → bytes ≡ quoted word ++ rest
-word_in_front bytes inside word behind rest n begins within plain front back closes =
-    let same : flat_map escape word ≡ word = ap (flat_map escape) front ∙ plain_front inside n within plain ∙ sym front in
-    let parts : inside ≡ word ++ behind = sym (take-append-drop n inside) ∙ ap (λ them. them ++ drop n inside) (sym front) ∙ ap (λ them. word ++ them) (sym back) in
-    begins ∙ ap (λ them. 34 ∷ them)
-    (parts ∙ ap (λ them. word ++ them) closes ∙ ap (λ them. them ++ 34 ∷ rest) (sym same) ∙ sym (append_assoc (flat_map escape word) (34 ∷ []) rest))
+pub deeper : (depth : ℕ) (bytes rest : List ℕ) → IsInFront 0 bytes rest → IsInFront depth bytes rest
+deeper depth bytes rest front =
+    let flat = front.shallow in
+    record { is = front.is; proper = front.proper; shallow = omega (arith, flat); spelled = front.spelled }
+
+pub null_in_front : (bytes rest : List ℕ) → bytes ≡ codes "null" ++ rest → IsInFront 0 bytes rest
+null_in_front bytes rest spelled = record { is = null; proper = tt; shallow = omega arith; spelled = spelled }
+
+pub true_in_front : (bytes rest : List ℕ) → bytes ≡ codes "true" ++ rest → IsInFront 0 bytes rest
+true_in_front bytes rest spelled = record { is = boolean true; proper = tt; shallow = omega arith; spelled = spelled }
+
+pub false_in_front : (bytes rest : List ℕ) → bytes ≡ codes "false" ++ rest → IsInFront 0 bytes rest
+false_in_front bytes rest spelled = record { is = boolean false; proper = tt; shallow = omega arith; spelled = spelled }
+
+pub number_in_front : (bytes digits rest : List ℕ) (z : ℤ) → IsWhole z → bytes ≡ digits ++ rest → digits ≡ signed_decimal z → IsInFront 0 bytes rest
+number_in_front bytes digits rest z proper parted is =
+    record { is = whole z; proper = proper; shallow = omega arith; spelled = parted ∙ ap (λ them. them ++ rest) is }
+
+-- ---- a text, a run and an escaped byte at a time
+
+-- so far this word was gone through
+pub record TextGoesOn (bytes rest : List ℕ) : Type 0 where
+  pub word : List ℕ
+  pub utf8 : IsUtf8 word
+  pub spelled : bytes ≡ 34 ∷ (flat_map escape word ++ rest)
+
+pub text_begins : (bytes rest : List ℕ) → bytes ≡ 34 ∷ rest → TextGoesOn bytes rest
+text_begins bytes rest is = record { word = []; utf8 = IsUtf8-nil; spelled = is }
+
+pub one_run_more : (bytes rest run behind : List ℕ) → TextGoesOn bytes rest → flat_map escape run ≡ run → rest ≡ run ++ behind → IsUtf8 run
+    → TextGoesOn bytes behind
+one_run_more bytes rest run behind go plain parted utf8 = record {
+  word = go.word ++ run;
+  utf8 = IsUtf8-append go.word run go.utf8 utf8;
+  spelled = go.spelled ∙ ap (λ them. 34 ∷ (flat_map escape go.word ++ them)) (parted ∙ ap (λ them. them ++ behind) (sym plain))
+      ∙ ap (λ them. 34 ∷ them) (sym (append_assoc (flat_map escape go.word) (flat_map escape run) behind)
+      ∙ ap (λ them. them ++ behind) (sym (flat_map-append escape go.word run)));
+}
+
+one_byte : (b : ℕ) → flat_map escape (b ∷ []) ≡ escape b
+one_byte b = append-nil (escape b)
+
+pub one_byte_more : (bytes rest behind : List ℕ) → TextGoesOn bytes rest → IsEscapeInFront rest behind → TextGoesOn bytes behind
+one_byte_more bytes rest behind go first =
+    let ascii : nat_lt first.byte 128 ≡ true = (let small = first.ascii in grind (arith, nat_tests)) in
+    let utf8 = IsUtf8-are_ascii (first.byte ∷ []) (rw ascii refl) in record {
+      word = go.word ++ first.byte ∷ [];
+      utf8 = IsUtf8-append go.word (first.byte ∷ []) go.utf8 utf8;
+      spelled = go.spelled ∙ ap (λ them. 34 ∷ (flat_map escape go.word ++ them)) (first.spelled ∙ ap (λ them. them ++ behind) (sym (one_byte first.byte)))
+          ∙ ap (λ them. 34 ∷ them) (sym (append_assoc (flat_map escape go.word) (flat_map escape (first.byte ∷ [])) behind)
+          ∙ ap (λ them. them ++ behind) (sym (flat_map-append escape go.word (first.byte ∷ []))));
+    }
+
+pub text_ends : (bytes rest behind : List ℕ) → TextGoesOn bytes rest → rest ≡ 34 ∷ behind → IsTextInFront bytes behind
+text_ends bytes rest behind go closes = record {
+  word = go.word;
+  utf8 = go.utf8;
+  spelled = go.spelled ∙ ap (λ them. 34 ∷ (flat_map escape go.word ++ them)) closes
+      ∙ ap (λ them. 34 ∷ them) (sym (append_assoc (flat_map escape go.word) (34 ∷ []) behind));
+}
+
+pub named : (bytes rest : List ℕ) (front : IsTextInFront bytes rest) → name_of bytes ≡ front.word
+named bytes rest front =
+    ap name_of (front.spelled ∙ append_assoc (34 ∷ flat_map escape front.word) (34 ∷ []) rest) ∙ name_is front.word rest
 
 -- a body between brackets
 closed : (bytes inside body rest : List ℕ) (left right : ℕ) → bytes ≡ left ∷ inside → inside ≡ body ++ right ∷ rest
@@ -112,6 +175,12 @@ above_last : (last : Option (List ℕ)) (name : List ℕ) (ms : Members) → IfS
     → IfSome last (λ low. (name_cmp low name ≡ Less) × AllAbove low ms)
 above_last None name ms less all = tt
 above_last (Some low) name ms less all = (less, all_above low name ms less all)
+
+-- names of UTF-8 by their ranks
+pub both_named : (name : List ℕ) → IsUtf8 name → (last : Option (List ℕ)) → IfSome last IsUtf8 → IfSome last (λ low. ranks_cmp low name ≡ Less)
+    → IfSome last (λ low. name_cmp low name ≡ Less)
+both_named name utf8 None u less = tt
+both_named name utf8 (Some low) u less = names_ranked low name u utf8 ∙ less
 
 pub still_there : {A B : Type 0} (f : A → B) (there : Option A) → is_some there ≡ is_some (option_map f there)
 still_there f None = refl

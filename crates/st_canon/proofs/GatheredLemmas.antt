@@ -1,7 +1,8 @@
 -- Members that are gathered by name as they come, in whatever order and more than once.
-use Rattle.std.proofs.Common.{◌≡◌, ℕ, ◌<◌, List, [], ◌∷◌, ◌++◌, length, map, Bool, true, false, Option, Some, None, option_map, option_and_then}
-use Rattle.std.proofs.Common.{Ordering, Less, Equal, Greater, nat_cmp, is_eq, IfSome, refl, sym, ap, ◌∙◌, subst, arith, append_assoc}
-use Rattle.std.specs.Prelude.{⊤, if◌then◌else◌, drop, reverse, take}
+use Rattle.std.proofs.Common.{◌≡◌, ℕ, List, [], ◌∷◌, ◌++◌, length, map, Bool, true, false, Option, Some, None, option_map, option_and_then}
+use Rattle.std.proofs.Common.{Ordering, Less, Equal, Greater, nat_cmp, is_eq, IfSome, refl, sym, ap, ap₂, ◌∙◌, subst, append_assoc, length-append}
+use Rattle.std.specs.Prelude.{⊤, ◌&&◌, is_some, reverse, take}
+use Rattle.std.proofs.lemmas.Bool.{and_parts}
 use Rattle.std.specs.Cmp.Lexicographic.{slice_cmp, nat_list_cmp_total}
 use Rattle.std.specs.List.{AllByRecursion}
 use Rattle.std.specs.List.Sorted.{IsStrictlySortedBy}
@@ -9,27 +10,23 @@ use Rattle.std.specs.Map.{keys_of}
 use Rattle.std.specs.Ordering.{match_ordering, ordering_reverse}
 use Rattle.std.specs.Str.{IsUtf8}
 use Rattle.std.proofs.lemmas.Cmp.{tied_itself}
-use Rattle.std.proofs.lemmas.List.{append-nil, reverse-append, take-append-drop, take_at}
+use Rattle.std.proofs.lemmas.List.{append-nil, reverse-append, take_at}
 use Rattle.std.proofs.lemmas.Map.Text.{is_eq-slice_cmp}
 use Rattle.std.proofs.lemmas.Slice.Eq.{bytes_eq-Decides}
 use Rattle.serde_json.specs.Data as data'
-use Rattle.st_base.specs.Words.{HasNo}
 use Rattle.st_canon.specs.Canonical.{canonical, canonical_members, comma, quoted}
 use Rattle.st_canon.specs.Find.{put}
-use Rattle.st_canon.specs.Held.{IsHeld, entry_at, mark, some_text}
-use Rattle.st_canon.specs.Settled.{AreKept, RunsStand, run_entries}
+use Rattle.st_canon.specs.Held.{IsHeld, entries_in, entry_at, joined}
 use Rattle.st_canon.specs.InOrder.{in_order, placed}
 use Rattle.st_canon.specs.Names.{name_cmp, NamesAscend}
-use Rattle.st_canon.specs.Plain.{Plain, object, Members, no_members, member}
+use Rattle.st_canon.specs.Plain.{Plain, Members, no_members, member}
 use Rattle.st_canon.specs.Proper.{AllAbove, IsProper, MembersAreProper}
 use Rattle.st_canon.specs.Reading.{whole_value, whole_members}
-use Rattle.st_canon.specs.Respelled.{AreGathered, IsWritten, Texts, members_text, texts_in}
-use Rattle.st_canon.proofs.FrontLemmas.{some_canonical}
-use Rattle.st_canon.proofs.HeldLemmas.{all_stay, entries_stay, entry_held, no_mark}
+use Rattle.st_canon.specs.Respelled.{IsWritten, Spells}
+use Rattle.st_canon.proofs.HeldLemmas.{all_stay, entries_stay, entry_held, has_no_left, has_no_right}
 use Rattle.st_canon.proofs.Order.{by_order, name_total, greater_from_less, less_from_greater, same_from_tied}
-use Rattle.st_canon.proofs.SettledLemmas.{entries_of_runs_stay, grown_behind, runs_stay}
+use Rattle.st_canon.proofs.RewritingLemmas.{IsLast, after, after_more, after_true, next_last, placed_last}
 use Rattle.st_canon.proofs.Sorting.{all_placed, ascend_placed}
-use Rattle.st_canon.proofs.Texts.{IsUtf8-canonical}
 
 -- ---- a name that goes in among others
 
@@ -72,13 +69,6 @@ module _ {X : Type 0} where
   swapped_by k l x y es Less is apart = lower_first k l x y es is
   swapped_by k l x y es Equal is apart = absurd (apart refl)
   swapped_by k l x y es Greater is apart = sym (lower_first l k y x es (less_from_greater k l is))
-
-  all_values : (P : List ℕ → Type 0) (Q : X → Type 0) (k : List ℕ) (x : X) (es : List (List ℕ × X)) → P k → Q x
-      → AllByRecursion (λ e. P e.0 × Q e.1) es → AllByRecursion (λ e. P e.0 × Q e.1) (with_name k x es)
-  all_values P Q k x [] p q h = ((p, q), tt)
-  all_values P Q k x (e ∷ es) p q h =
-      by_order (AllByRecursion (λ e. P e.0 × Q e.1)) (name_cmp k e.0) ((k, x) ∷ e ∷ es) ((k, x) ∷ es) (e ∷ with_name k x es)
-      (λ is. ((p, q), h)) (λ is. ((p, q), h.1)) (λ is. (h.0, all_values P Q k x es p q h.1))
 
 -- values under a function
 values_with : {X Y : Type 0} (f : X → Y) (k : List ℕ) (x : X) (es : List (List ℕ × X))
@@ -227,24 +217,6 @@ whole_members_are (data'.member k d ds) u h =
     ap (λ rest. option_and_then (λ p. option_map (put k p) rest) (whole_value d)) (whole_members_are ds u.1 h.1)
     ∙ sym (all_whole_with k (whole_value d) (outcomes ds) (apart_from_above k ds u.0 u.1 h.0))
 
--- ---- the texts of the values
-
-abbrev texts_of : Outcomes → Texts
-texts_of es = map (λ e. (e.0, option_map canonical e.1)) es
-
-one_text : (b : Bool) (k : List ℕ) (there : Option Plain) (rest : Option Members)
-    → option_and_then (λ t. option_map (λ r. comma b ++ (quoted k ++ (58 ∷ (t ++ r)))) (option_map (canonical_members true) rest)) (option_map canonical there)
-    ≡ option_map (canonical_members b) (option_and_then (λ p. option_map (member k p) rest) there)
-one_text b k None rest = refl
-one_text b k (Some p) None = refl
-one_text b k (Some p) (Some ms) = refl
-
-text_of_members : (b : Bool) (es : Outcomes) → members_text b (texts_of es) ≡ option_map (canonical_members b) (all_whole es)
-text_of_members b [] = refl
-text_of_members b (e ∷ es) =
-    ap (λ rest. option_and_then (λ t. option_map (λ r. comma b ++ (quoted e.0 ++ (58 ∷ (t ++ r)))) rest) (option_map canonical e.1)) (text_of_members true es)
-    ∙ one_text b e.0 e.1 (all_whole es)
-
 -- ---- what is proper
 
 abbrev AreProper : Outcomes → Type 0
@@ -277,200 +249,226 @@ unfolding IsStrictlySortedBy
 all_proper [] s h = tt
 all_proper (e ∷ es) s h = proper_with e.0 e.1 (all_whole es) h.0.0 h.0.1 (all_above e.0 es s.0) (all_proper es s.1 h.1)
 
--- ---- what is gathered of data
+-- ---- members as they come
 
-pub record IsGathered (ds : data'.Members) (front bytes : List ℕ) (from to : ℕ) (runs places : List ℕ) : Type 0 where
-  pub behind : (added : List ℕ) × (bytes ≡ front ++ added)
-  pub begin : from ≡ length front
-  pub stand : RunsStand bytes from to (reverse runs)
-  pub are : texts_in bytes to (reverse runs) places ≡ texts_of (outcomes ds)
-  pub held : AllByRecursion (IsHeld bytes) (reverse places)
-  pub ascend : BytesAscend ds
-  pub utf8 : AreUtf8 ds
-  pub proper : AreProper (outcomes ds)
+-- a name, the value where it is whole, and the text of the member
+abbrev pub Coming : Type 0
+Coming = List (List ℕ × (Option Plain × List ℕ))
 
-pub none_gathered : (bytes : List ℕ) (from to : ℕ) (runs places : List ℕ) → from ≡ length bytes → to ≡ length bytes → runs ≡ [] → places ≡ []
-    → IsGathered data'.no_members bytes bytes from to runs places
-none_gathered bytes from to runs places begin end first second =
-    rw (begin, end, first, second) (record {
-      behind = ([], sym (append-nil bytes));
-      begin = refl;
-      stand = (refl, omega arith);
-      are = refl;
-      held = tt;
-      ascend = tt;
-      utf8 = tt;
-      proper = tt;
-    })
+abbrev pub outcome_of : List ℕ × (Option Plain × List ℕ) → List ℕ × Option Plain
+outcome_of e = (e.0, e.1.0)
 
--- a member that came: where it stands, and that what was held before still is
-record HasCome (k : List ℕ) (there : Option Plain) (old new places news : List ℕ) : Type 0 where
-  place : ℕ
-  more : List ℕ
-  grown : new ≡ old ++ more
-  among : news ≡ places ++ place ∷ []
-  held : IsHeld new place
-  entry : entry_at new place ≡ (k, option_map canonical there)
+abbrev pub spelled_of : List ℕ × (Option Plain × List ℕ) → List ℕ × List ℕ
+spelled_of e = (e.0, e.1.1)
 
--- a name and a text behind others
-one_held : (front k text new : List ℕ) → IsUtf8 k → HasNo mark text → new ≡ front ++ (k ++ (mark ∷ (text ++ mark ∷ []))) → IsHeld new (length front)
-one_held front k text new u bare is = record { front = front; name = k; text = text; rest = []; is = is; at = refl; utf8 = u; bare = bare }
+abbrev pub texts_of : Coming → List (List ℕ)
+texts_of es = map (λ e. e.1.1) es
 
-text_there : (p : Plain) → IsProper p → some_text (canonical p) ≡ Some (canonical p)
-text_there p proper = at (canonical p) (some_canonical p proper)
-  where
-    at : (text : List ℕ) → 0 < length text → some_text text ≡ Some text
-    at [] some = absurd (omega (arith, some))
-    at (b ∷ bs) some = refl
+-- in the order of their names, of several with one name the last alone
+abbrev pub settled : Coming → Coming
+settled come = in_order (reverse come)
 
-module _ (k old first second third places news : List ℕ) (place : ℕ) (u : IsUtf8 k) (begun : first ≡ old ++ (k ++ mark ∷ [])) (at : place ≡ length old)
-    (among : news ≡ places ++ place ∷ []) where
-  whole_came : (p : Plain) → IsProper p → second ≡ first ++ canonical p → third ≡ second ++ mark ∷ [] → HasCome k (Some p) old third places news
-  unfolding one_held
-  whole_came p proper written ended =
-      let text = canonical p in
-      let grown : third ≡ old ++ (k ++ (mark ∷ (text ++ mark ∷ []))) =
-      ended ∙ ap (λ t. t ++ mark ∷ []) (written ∙ ap (λ t. t ++ text) begun)
-      ∙ append_assoc (old ++ (k ++ mark ∷ [])) text (mark ∷ []) ∙ append_assoc old (k ++ mark ∷ []) (text ++ mark ∷ [])
-      ∙ ap (λ t. old ++ t) (append_assoc k (mark ∷ []) (text ++ mark ∷ [])) in
-      let held = one_held old k text third u (no_mark text (IsUtf8-canonical p proper)) grown in
-      record {
-        place = length old;
-        more = k ++ (mark ∷ (text ++ mark ∷ []));
-        grown = grown;
-        among = among ∙ ap (λ n. places ++ n ∷ []) at;
-        held = held;
-        entry = entry_held third (length old) held ∙ ap (λ t. (k, t)) (text_there p proper);
-      }
-
-  other_came : third ≡ first ++ mark ∷ [] → HasCome k None old third places news
-  unfolding one_held
-  other_came ended =
-      let grown : third ≡ old ++ (k ++ (mark ∷ mark ∷ [])) =
-      ended ∙ ap (λ t. t ++ mark ∷ []) begun ∙ append_assoc old (k ++ mark ∷ []) (mark ∷ [])
-      ∙ ap (λ t. old ++ t) (append_assoc k (mark ∷ []) (mark ∷ [])) in
-      let held = one_held old k [] third u tt grown in
-      record {
-        place = length old;
-        more = k ++ (mark ∷ mark ∷ []);
-        grown = grown;
-        among = among ∙ ap (λ n. places ++ n ∷ []) at;
-        held = held;
-        entry = entry_held third (length old) held;
-      }
-
-  -- what the value of a member left, where it was cut back unless that is whole
-  has_come : (there : Option Plain) (told : Bool) (value : ℕ) → value ≡ length first → IsWritten IsProper canonical there told first second
-      → third ≡ (if told then second else take value second) ++ mark ∷ [] → HasCome k there old third places news
-  has_come None told value from written ended =
-      let back = ap (take value) written.1.1 ∙ take_at first written.1.0 value (sym from) in
-      other_came (subst (λ t. third ≡ (if t then second else take value second) ++ mark ∷ []) written.0 ended ∙ ap (λ t. t ++ mark ∷ []) back)
-  has_come (Some p) told value from written ended =
-      whole_came p written.1.0 written.1.1 (subst (λ t. third ≡ (if t then second else take value second) ++ mark ∷ []) written.0 ended)
-
-proper_given : (there : Option Plain) (told : Bool) (before after : List ℕ) → IsWritten IsProper canonical there told before after → IfSome there IsProper
-proper_given None told before after h = tt
-proper_given (Some p) told before after h = h.1.0
-
-one_more_come : (ds : data'.Members) (front old new : List ℕ) (from to : ℕ) (runs places news : List ℕ) (k : List ℕ) (d : data'.Data)
-    → IsGathered ds front old from to runs places → IsUtf8 k
-    → IfSome (whole_value d) IsProper → HasCome k (whole_value d) old new places news → IsGathered (data'.put k d ds) front new from to runs news
-one_more_come ds front old new from to runs places news k d are u proper come =
-    let there = whole_value d in
-    let older = run_entries old to (reverse runs) in
-    let more = outcomes_put k d ds u are.utf8 in
-    let behind = grown_behind old new come.more to come.grown in
-    let all : reverse news ≡ come.place ∷ reverse places = ap reverse come.among ∙ reverse-append places (come.place ∷ []) in
-    let stay = ap (λ es. in_order (es ++ older)) (entries_stay old new come.more come.grown (reverse places) are.held) ∙ are.are in
-    record {
-      behind = (are.behind.0 ++ come.more, come.grown ∙ ap (λ t. t ++ come.more) are.behind.1 ∙ append_assoc front are.behind.0 come.more);
-      begin = are.begin;
-      stand = runs_stay old new from to (reverse runs) (drop to old ++ come.more) behind are.stand;
-      are = ap (λ es. in_order (map (entry_at new) (reverse news) ++ es))
-          (entries_of_runs_stay old new from to (reverse runs) (drop to old ++ come.more) behind are.stand)
-          ∙ ap (λ ps. in_order (map (entry_at new) ps ++ older)) all
-          ∙ ap (λ e. placed e (in_order (map (entry_at new) (reverse places) ++ older))) come.entry
-          ∙ ap (with_name k (option_map canonical there)) stay ∙ sym (values_with (option_map canonical) k there (outcomes ds)) ∙ ap texts_of (sym more);
-      held = subst (AllByRecursion (IsHeld new)) (sym all) (come.held, all_stay old new come.more come.grown (reverse places) are.held);
-      ascend = ascend_put k d ds are.ascend;
-      utf8 = utf8_put k d ds u are.utf8;
-      proper = subst AreProper (sym more) (all_values IsUtf8 (λ there. IfSome there IsProper) k there (outcomes ds) u proper are.proper);
-    }
-
-pub one_more_gathered : (ds : data'.Members) (front old first second third : List ℕ) (from to : ℕ) (runs places news : List ℕ) (k : List ℕ)
-    (d : data'.Data) (told : Bool) (place value begin end : ℕ) (same : List ℕ) → IsGathered ds front old from to runs places → IsUtf8 k
-    → first ≡ old ++ (k ++ mark ∷ []) → place ≡ length old → value ≡ length first → IsWritten IsProper canonical (whole_value d) told first second
-    → third ≡ (if told then second else take value second) ++ mark ∷ []
-    → begin ≡ from → end ≡ to → same ≡ runs → news ≡ places ++ place ∷ [] → IsGathered (data'.put k d ds) front third begin end same news
-one_more_gathered ds front old first second third from to runs places news k d told place value begin end same
-    are u begun at start written ended begins ends stays among =
-    rw (begins, ends, stays)
-    (one_more_come ds front old third from to runs places news k d are u (proper_given (whole_value d) told first second written)
-    (has_come k old first second third places news place u begun at among (whole_value d) told value start written ended))
-
-pub all_gathered : (ds : data'.Members) (front bytes : List ℕ) (from to : ℕ) (runs places : List ℕ) → IsGathered ds front bytes from to runs places
-    → AreGathered ds bytes from to runs places
-all_gathered ds front bytes from to runs places are =
-    let es = outcomes ds in
-    let all = whole_members_are ds are.utf8 are.ascend in
-    record {
-      stand = are.stand;
-      held = are.held;
-      text = ap (members_text false) are.are ∙ text_of_members false es ∙ ap (option_map (canonical_members false)) (sym all);
-      proper = subst (λ there. IfSome there MembersAreProper) (sym all) (all_proper es (ascend_outcomes ds) are.proper);
-    }
-
--- they were settled
-pub settled_gathered : (ds : data'.Members) (front old new : List ℕ) (from to : ℕ) (runs places : List ℕ) (begin end : ℕ) (anew none : List ℕ)
-    → IsGathered ds front old from to runs places
-    → AreKept old to (reverse runs) (map (entry_at old) (reverse places)) new begin end (reverse anew) → none ≡ [] → begin ≡ from
-    → IsGathered ds front new begin end anew none
-settled_gathered ds front old new from to runs places begin end anew none are kept gone begins =
-    let begin' = begins ∙ are.begin in
-    let back = kept.front ∙ ap (take begin) are.behind.1 ∙ take_at front are.behind.0 begin (sym begin') in
-    record {
-      behind = (drop begin new, sym (take-append-drop begin new) ∙ ap (λ t. t ++ drop begin new) back);
-      begin = begin';
-      stand = kept.stand;
-      are = ap (λ ps. in_order (map (entry_at new) (reverse ps) ++ run_entries new end (reverse anew))) gone ∙ kept.entries ∙ are.are;
-      held = rw gone tt;
-      ascend = are.ascend;
-      utf8 = are.utf8;
-      proper = are.proper;
-    }
+abbrev pub IsSpelled : List ℕ × (Option Plain × List ℕ) → Type 0
+IsSpelled e = IsUtf8 e.0 × (t : List ℕ) × (e.1.1 ≡ quoted e.0 ++ (58 ∷ t)) × Spells IsProper canonical e.1.0 t
 
 -- ---- their text
 
-members_given : (there : Option Members) (told : Bool) (before after : List ℕ) → IfSome there MembersAreProper
-    → IsWritten (λ t. ⊤) (λ t. t) (option_map (canonical_members false) there) told before after
-    → IsWritten MembersAreProper (canonical_members false) there told before after
-members_given None told before after p h = h
-members_given (Some ms) told before after p h = (h.0, (p, h.1.1))
+abbrev Any : {P : Type 0} → P → Type 0
+Any p = ⊤
 
-pub members_written : (ds : data'.Members) (bytes : List ℕ) (from to : ℕ) (runs places : List ℕ) (told : Bool) (before after : List ℕ)
-    → AreGathered ds bytes from to runs places
-    → IsWritten (λ t. ⊤) (λ t. t) (members_text false (texts_in bytes to (reverse runs) places)) told before after
-    → IsWritten MembersAreProper (canonical_members false) (whole_members ds) told before after
-members_written ds bytes from to runs places told before after are written =
-    members_given (whole_members ds) told before after are.proper
-    (subst (λ there. IsWritten (λ t. ⊤) (λ t. t) there told before after) are.text written)
+spelled_at : (b : Bool) (k : List ℕ) (there : Option Plain) (rest : Option Members) (t more : List ℕ) → Spells IsProper canonical there t
+    → Spells Any (canonical_members true) rest more
+    → Spells Any (canonical_members b) (option_and_then (λ p. option_map (member k p) rest) there) (comma b ++ ((quoted k ++ (58 ∷ t)) ++ more))
+spelled_at b k None rest t more h g = λ none.
+    h (has_no_right (58 ∷ []) t (has_no_right (quoted k) (58 ∷ t) (has_no_left (quoted k ++ (58 ∷ t)) more (has_no_right (comma b) _ none))))
+spelled_at b k (Some p) None t more h g = λ none. g (has_no_right (quoted k ++ (58 ∷ t)) more (has_no_right (comma b) _ none))
+spelled_at b k (Some p) (Some ms) t more h g =
+    (tt, ap (λ l. comma b ++ l) (append_assoc (quoted k) (58 ∷ t) more) ∙ ap₂ (λ x y. comma b ++ (quoted k ++ (58 ∷ (x ++ y)))) h.1 g.1)
 
-object_given : (there : Option Members) (told : Bool) (before after : List ℕ) → IfSome there MembersAreProper
-    → IsWritten (λ t. ⊤) (λ t. 123 ∷ (t ++ 125 ∷ [])) (option_map (canonical_members false) there) told before after
-    → IsWritten IsProper canonical (option_map object there) told before after
-object_given None told before after p h = h
-object_given (Some ms) told before after p h = (h.0, (p, h.1.1))
+all_spelled : (b : Bool) (es : Coming) → AllByRecursion IsSpelled es
+    → Spells Any (canonical_members b) (all_whole (map outcome_of es)) (joined b (texts_of es))
+all_spelled b [] h = (tt, refl)
+all_spelled b (e ∷ es) h =
+    subst (λ t. Spells Any (canonical_members b) (all_whole (map outcome_of (e ∷ es))) (comma b ++ (t ++ joined true (texts_of es)))) (sym h.0.2)
+    (spelled_at b e.0 e.1.0 (all_whole (map outcome_of es)) h.0.1 (joined true (texts_of es)) h.0.3 (all_spelled true es h.1))
 
-pub object_gathered : (ds : data'.Members) (bytes : List ℕ) (from to : ℕ) (runs places : List ℕ) (told : Bool) (before after : List ℕ)
-    → AreGathered ds bytes from to runs places
-    → IsWritten (λ t. ⊤) (λ t. 123 ∷ (t ++ 125 ∷ [])) (members_text false (texts_in bytes to (reverse runs) places)) told before after
-    → IsWritten IsProper canonical (option_map object (whole_members ds)) told before after
-object_gathered ds bytes from to runs places told before after are written =
-    object_given (whole_members ds) told before after are.proper
-    (subst (λ there. IsWritten (λ t. ⊤) (λ t. 123 ∷ (t ++ 125 ∷ [])) there told before after) are.text written)
+proper_given : (there : Option Plain) (t : List ℕ) → Spells IsProper canonical there t → IfSome there IsProper
+proper_given None t h = tt
+proper_given (Some p) t h = h.0
 
--- ---- what goes out of them, one after another
+proper_spelled : (es : Coming) → AllByRecursion IsSpelled es → AreProper (map outcome_of es)
+proper_spelled [] h = tt
+proper_spelled (e ∷ es) h = ((h.0.0, proper_given e.1.0 h.0.1 h.0.3), proper_spelled es h.1)
 
--- all that goes out, where this went out and these are left
-abbrev pub all_of : List ℕ → Bool → Texts → Option (List ℕ)
-all_of done b es = option_map (λ r. done ++ r) (members_text b es)
+with_proper : {P : Type 0} (proper : P → Type 0) (text : P → List ℕ) (there : Option P) (t : List ℕ) → IfSome there proper → Spells Any text there t
+    → Spells proper text there t
+with_proper proper text None t p h = h
+with_proper proper text (Some q) t p h = (p, h.1)
+
+-- ---- what is gathered of data
+
+-- the last name is above all others, where names ascend, and they are in order
+abbrev pub AreUp : Option (List ℕ) → Coming → Type 0
+AreUp last come = IsLast last come × (settled come ≡ come)
+
+pub record IsGathered (ds : data'.Members) (front text : List ℕ) (places : List (ℕ × ℕ)) (up : Bool) (last : Option (List ℕ)) : Type 0 where
+  pub come : Coming
+  pub is : text ≡ front ++ joined false (texts_of come)
+  pub outcomes_are : outcomes ds ≡ map outcome_of (settled come)
+  pub entries_are : map (entry_at text) (reverse places) ≡ map spelled_of (reverse come)
+  pub held : AllByRecursion (IsHeld text) (reverse places)
+  pub spelled : AllByRecursion IsSpelled (settled come)
+  pub ascend : BytesAscend ds
+  pub utf8 : AreUtf8 ds
+  pub rising : up ≡ true → AreUp last come
+  pub some : is_some last ≡ after false come
+
+pub none_gathered : (text : List ℕ) (places : List (ℕ × ℕ)) → places ≡ [] → IsGathered data'.no_members text text places true None
+none_gathered text places none =
+    rw none (record {
+      come = [];
+      is = sym (append-nil text);
+      outcomes_are = refl;
+      entries_are = refl;
+      held = tt;
+      spelled = tt;
+      ascend = tt;
+      utf8 = tt;
+      rising = λ _. ((λ k less. tt), refl);
+      some = refl;
+    })
+
+joined_more : (b : Bool) (ts : List (List ℕ)) (t : List ℕ) → joined b (ts ++ t ∷ []) ≡ joined b ts ++ (comma (after b ts) ++ t)
+joined_more b [] t = ap (λ l. comma b ++ l) (append-nil t)
+joined_more b (u ∷ ts) t =
+    ap (λ l. comma b ++ (u ++ l)) (joined_more true ts t ∙ ap (λ c. joined true ts ++ (comma c ++ t)) (after_true ts))
+    ∙ ap (λ l. comma b ++ l) (sym (append_assoc u (joined true ts) (comma true ++ t)))
+    ∙ sym (append_assoc (comma b) (u ++ joined true ts) (comma true ++ t))
+
+texts_more : (come : Coming) (e : List ℕ × (Option Plain × List ℕ)) → texts_of (come ++ e ∷ []) ≡ texts_of come ++ e.1.1 ∷ []
+texts_more [] e = refl
+texts_more (f ∷ come) e = ap (λ l. f.1.1 ∷ l) (texts_more come e)
+
+after_texts : (come : Coming) → after false (texts_of come) ≡ after false come
+after_texts [] = refl
+after_texts (e ∷ come) = refl
+
+all_placed_too : {X : Type 0} (P : List ℕ × X → Type 0) (e : List ℕ × X) (es : List (List ℕ × X)) → P e → AllByRecursion P es → AllByRecursion P (placed e es)
+all_placed_too P e [] p h = (p, tt)
+all_placed_too P e (f ∷ es) p h =
+    by_order (AllByRecursion P) (name_cmp e.0 f.0) (e ∷ f ∷ es) (e ∷ es) (f ∷ placed e es)
+    (λ is. (p, h)) (λ is. (p, h.1)) (λ is. (h.0, all_placed_too P e es p h.1))
+
+both_up : (s t : Bool) → (s && t) ≡ true → (s ≡ true) × (t ≡ true)
+both_up s t e = and_parts s t e
+
+up_more : (last : Option (List ℕ)) (come : Coming) (k : List ℕ) (x : Option Plain × List ℕ) → AreUp last come → IfSome last (λ l. name_cmp l k ≡ Less)
+    → settled (come ++ (k, x) ∷ []) ≡ placed (k, x) (settled come) → AreUp (Some k) (come ++ (k, x) ∷ [])
+up_more last come k x up above one =
+    let below = up.0 k above in
+    (next_last k x come below, one ∙ ap (placed (k, x)) up.1 ∙ placed_last k x come below)
+
+module _ (ds : data'.Members) (front old : List ℕ) (places : List (ℕ × ℕ)) (up : Bool) (last : Option (List ℕ))
+    (are : IsGathered ds front old places up last)
+    (k : List ℕ) (d : data'.Data) (named new : List ℕ) (place : ℕ) (news : List (ℕ × ℕ)) (above : Bool) (u : IsUtf8 k)
+    (higher : above ≡ true → IfSome last (λ l. name_cmp l k ≡ Less))
+    (begun : named ≡ (old ++ comma (is_some last)) ++ (quoted k ++ 58 ∷ []))
+    (at : place ≡ length (old ++ comma (is_some last)))
+    (written : IsWritten IsProper canonical (whole_value d) named new)
+    (among : news ≡ places ++ (place, length new) ∷ []) where
+  t : List ℕ
+  t = written.0
+
+  inside : List ℕ
+  inside = 58 ∷ t
+
+  one : List ℕ × (Option Plain × List ℕ)
+  one = (k, (whole_value d, quoted k ++ inside))
+
+  grown_behind : new ≡ (old ++ comma (is_some last)) ++ (quoted k ++ inside)
+  unfolding t inside
+  grown_behind =
+      written.1 ∙ ap (λ l. l ++ t) begun ∙ append_assoc (old ++ comma (is_some last)) (quoted k ++ 58 ∷ []) t
+      ∙ ap (λ l. (old ++ comma (is_some last)) ++ l) (append_assoc (quoted k) (58 ∷ []) t)
+
+  grown : new ≡ old ++ (comma (is_some last) ++ (quoted k ++ inside))
+  grown = grown_behind ∙ append_assoc old (comma (is_some last)) (quoted k ++ inside)
+
+  held_new : IsHeld new (place, length new)
+  held_new = record {
+    front = old ++ comma (is_some last);
+    name = k;
+    inside = inside;
+    rest = [];
+    is = grown_behind ∙ ap (λ l. (old ++ comma (is_some last)) ++ l) (sym (append-nil (quoted k ++ inside)));
+    begins = at;
+    ends = ap length grown_behind ∙ length-append (old ++ comma (is_some last)) (quoted k ++ inside);
+    utf8 = u;
+  }
+
+  pub one_more : IsGathered (data'.put k d ds) front new news (up && above) (Some k)
+  unfolding t inside one held_new
+  one_more =
+      let come = are.come in
+      let back : reverse (come ++ one ∷ []) ≡ one ∷ reverse come = reverse-append come (one ∷ []) in
+      let settles : settled (come ++ one ∷ []) ≡ placed one (settled come) = ap in_order back in
+      let all : reverse news ≡ (place, length new) ∷ reverse places = ap reverse among ∙ reverse-append places ((place, length new) ∷ []) in
+      record {
+        come = come ++ one ∷ [];
+        is = grown ∙ ap (λ l. l ++ (comma (is_some last) ++ one.1.1)) are.is
+            ∙ append_assoc front (joined false (texts_of come)) (comma (is_some last) ++ one.1.1)
+            ∙ ap (λ c. front ++ (joined false (texts_of come) ++ (comma c ++ one.1.1))) (are.some ∙ sym (after_texts come))
+            ∙ ap (λ l. front ++ l) (sym (joined_more false (texts_of come) one.1.1) ∙ ap (joined false) (sym (texts_more come one)));
+        outcomes_are = outcomes_put k d ds u are.utf8 ∙ ap (with_name k (whole_value d)) are.outcomes_are
+            ∙ sym (values_with (λ x. x.0) k one.1 (settled come)) ∙ ap (map outcome_of) (sym settles);
+        entries_are = ap (map (entry_at new)) all
+            ∙ ap₂ (λ e es. e ∷ es) (entry_held new (place, length new) held_new)
+            (entries_stay old new (comma (is_some last) ++ (quoted k ++ inside)) grown (reverse places) are.held ∙ are.entries_are)
+            ∙ ap (map spelled_of) (sym back);
+        held = subst (AllByRecursion (IsHeld new)) (sym all)
+            (held_new, all_stay old new (comma (is_some last) ++ (quoted k ++ inside)) grown (reverse places) are.held);
+        spelled = subst (AllByRecursion IsSpelled) (sym settles) (all_placed_too IsSpelled one (settled come) (u, t, refl, written.2) are.spelled);
+        ascend = ascend_put k d ds are.ascend;
+        utf8 = utf8_put k d ds u are.utf8;
+        rising = λ e. let both = both_up up above e in up_more last come k one.1 (are.rising both.0) (higher both.1) settles;
+        some = after_more come one;
+      }
+
+-- ---- all of them
+
+settled_spelled : (es : Coming) → in_order (map spelled_of es) ≡ map spelled_of (in_order es)
+settled_spelled [] = refl
+settled_spelled (e ∷ es) = ap (placed (spelled_of e)) (settled_spelled es) ∙ sym (values_with (λ x. x.1) e.0 e.1 (in_order es))
+
+texts_spelled : (es : Coming) → map (λ e. e.1) (map spelled_of es) ≡ texts_of es
+texts_spelled [] = refl
+texts_spelled (e ∷ es) = ap (λ l. e.1.1 ∷ l) (texts_spelled es)
+
+module _ (ds : data'.Members) (front text : List ℕ) (places : List (ℕ × ℕ)) (up : Bool) (last : Option (List ℕ))
+    (are : IsGathered ds front text places up last) where
+  went_out : (out : List ℕ) → out ≡ front ++ joined false (texts_of (settled are.come))
+      → IsWritten MembersAreProper (canonical_members false) (whole_members ds) front out
+  went_out out is =
+      let es = settled are.come in
+      let all : whole_members ds ≡ all_whole (map outcome_of es) = whole_members_are ds are.utf8 are.ascend ∙ ap all_whole are.outcomes_are in
+      let proper : IfSome (all_whole (map outcome_of es)) MembersAreProper =
+      all_proper (map outcome_of es) (subst (λ l. IsStrictlySortedBy name_cmp (keys_of l)) are.outcomes_are (ascend_outcomes ds)) (proper_spelled es are.spelled) in
+      subst (λ there. IsWritten MembersAreProper (canonical_members false) there front out) (sym all) (
+        joined false (texts_of es),
+        is,
+        with_proper MembersAreProper (canonical_members false) (all_whole (map outcome_of es)) (joined false (texts_of es)) proper
+            (all_spelled false es are.spelled),
+      )
+
+  -- as they came
+  pub came_up : up ≡ true → IsWritten MembersAreProper (canonical_members false) (whole_members ds) front text
+  came_up is = went_out text (are.is ∙ ap (λ es. front ++ joined false (texts_of es)) (sym (are.rising is).1))
+
+  -- put in order
+  pub were_put : (out : List ℕ) (from : ℕ) → from ≡ length front
+      → out ≡ take from text ++ joined false (map (λ e. e.1) (entries_in text places))
+      → IsWritten MembersAreProper (canonical_members false) (whole_members ds) front out
+  were_put out from at is =
+      let begins = ap (take from) are.is ∙ take_at front (joined false (texts_of are.come)) from (sym at) in
+      let texts = ap (λ es. map (λ e. e.1) (in_order es)) are.entries_are ∙ ap (map (λ e. e.1)) (settled_spelled (reverse are.come)) ∙ texts_spelled (settled are.come) in
+      went_out out (is ∙ ap₂ (λ x ts. x ++ joined false ts) begins texts)

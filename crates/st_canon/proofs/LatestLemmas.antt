@@ -30,13 +30,13 @@ module _ {X : Type 0} where
       (λ is. rw is (ap (λ l. e ∷ l) (sym (firsts_tied e.0 f.0 is fs))))
       (λ is. let low = ap is_lt (less_from_greater e.0 f.0 is) in let up = none.0 in cc)
 
-  pub firsts_are : (es : List (List ℕ × X)) → NeverFall named_below es → firsts None es ≡ in_order es
+  firsts_are : (es : List (List ℕ × X)) → NeverFall named_below es → firsts None es ≡ in_order es
   firsts_are [] up = refl
   firsts_are (e ∷ es) up = sym (first_placed e es up.0 up.1)
 
   -- ---- of the pairs that tie the first goes out alone
 
-  abbrev pub alone : List (List ℕ × X) → List (List ℕ × X)
+  abbrev alone : List (List ℕ × X) → List (List ℕ × X)
   alone [] = []
   alone (e ∷ es) = e ∷ []
 
@@ -87,7 +87,7 @@ module _ {X : Type 0} where
   taken true e es = refl
   taken false e es = refl
 
-  pub one_of_ties : (x : List ℕ × X) (es : List (List ℕ × X)) → filter (tie x) (in_order es) ≡ alone (filter (tie x) es)
+  one_of_ties : (x : List ℕ × X) (es : List (List ℕ × X)) → filter (tie x) (in_order es) ≡ alone (filter (tie x) es)
   one_of_ties x [] = refl
   one_of_ties x (e ∷ es) =
       ties_placed x e (in_order es) (ascend_in_order es) ∙ ap (cond (tie x e) (e ∷ [])) (one_of_ties x es) ∙ taken (tie x e) e (filter (tie x) es)
@@ -96,7 +96,7 @@ module _ {X : Type 0} where
   none_below e [] above = tt
   none_below e (f ∷ fs) above = (ap is_lt (greater_from_less e.0 f.0 above.0), none_below e fs above.1)
 
-  pub ascending : (es : List (List ℕ × X)) → NamesAscend es → NeverFall named_below es
+  ascending : (es : List (List ℕ × X)) → NamesAscend es → NeverFall named_below es
   unfolding IsStrictlySortedBy
   ascending [] ascend = tt
   ascending (e ∷ es) ascend = (none_below e es ascend.0, ascending es ascend.1)

@@ -1,6 +1,5 @@
 -- Private: what the answers of this crate cite.
 mod AlreadyLemmas
-mod AsciiNames
 mod BareLemmas
 mod BracketLemmas
 mod Compact
@@ -12,8 +11,6 @@ mod EntryLemmas
 mod FrontLemmas
 mod GatheredLemmas
 mod HeldLemmas
-mod JoinedLemmas
-mod JoiningLemmas
 mod Kept
 mod KindLemmas
 mod LatestLemmas
@@ -31,10 +28,8 @@ mod RewritingLemmas
 mod RunLemmas
 mod ScalarLemmas
 mod Searching
-mod SettledLemmas
 mod Sorting
 mod StopLanes
-mod Units
 mod WalkLemmas
 -- For the crates above.
 -- a canonical text is read again, and no two values have one text

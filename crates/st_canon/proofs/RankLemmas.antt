@@ -1,5 +1,5 @@
 -- The order of names by their UTF-16 code units is that of the ranks of their bytes in UTF-8.
-use Rattle.std.proofs.Common.{◌≡◌, ℕ, ◌+◌, ◌-◌, ◌/◌, ◌%◌, ◌<◌, ◌≤◌, ◌⊎◌, inl, inr, nat_lt, Bool, true, false, cond, ◌==◌, List, [], ◌∷◌, ◌++◌, drop, map}
+use Rattle.std.proofs.Common.{◌≡◌, ℕ, ◌+◌, ◌-◌, ◌/◌, ◌%◌, ◌<◌, ◌≤◌, ◌⊎◌, inl, inr, nat_lt, Bool, true, false, cond, List, [], ◌∷◌, ◌++◌, map}
 use Rattle.std.proofs.Common.{Ordering, Less, Equal, Greater, refl, sym, ap, ap₂, ◌∙◌, arith}
 use Rattle.std.specs.Char.Escape.{encode_utf16}
 use Rattle.std.specs.Cmp.{nat_cmp_is, ranked}
@@ -11,7 +11,7 @@ use Rattle.std.proofs.lemmas.Bool.{and_parts}
 use Rattle.std.proofs.lemmas.Bool.Decides.{nat_tests}
 use Rattle.std.proofs.lemmas.List.{map-append}
 use Rattle.std.proofs.lemmas.Str.{encodes-chars, scalars-chars}
-use Rattle.st_canon.specs.Held.{mark, rank, rank_of, ranks, ranks_cmp}
+use Rattle.st_canon.specs.Held.{rank}
 use Rattle.st_canon.specs.Names.{name_cmp}
 use lib.Utf8.{encode, encodes, next, scalar, scalars, scalar_cases}
 
@@ -345,52 +345,3 @@ pub names_ranked : (a b : List ℕ) → IsUtf8 a → IsUtf8 b → name_cmp a b �
 names_ranked a b u v =
     texts_ranked (chars a) (chars b) (scalars-chars a u) (scalars-chars b v)
     ∙ ap₂ (λ x y. slice_cmp nat_cmp (map rank x) (map rank y)) (encodes-chars a u) (encodes-chars b v)
-
--- ---- byte by byte
-
-more_first : (a b : ℕ) (x y : List ℕ) → b < a → slice_cmp nat_cmp (a ∷ x) (b ∷ y) ≡ Greater
-more_first a b x y gt = ap (λ o. ordering_then o (slice_cmp nat_cmp x y)) (sym (nat_cmp_is a b Greater gt))
-
-at_heads : (s t : Bool) (r q : ℕ) (xs ys : List ℕ) → (cond s 0 (r + 1) ≡ cond t 0 (q + 1) → ⊥)
-    → nat_cmp (cond s 0 (r + 1)) (cond t 0 (q + 1)) ≡ slice_cmp nat_cmp (cond s [] (r ∷ xs)) (cond t [] (q ∷ ys))
-at_heads true true r q xs ys apart = absurd (apart refl)
-at_heads true false r q xs ys apart = sym (nat_cmp_is 0 (q + 1) Less (omega arith))
-at_heads false true r q xs ys apart = sym (nat_cmp_is (r + 1) 0 Greater (omega arith))
-at_heads false false r q xs ys apart = at (nat_cmp r q) (ranked r q (nat_cmp r q) refl)
-  where
-    at : (o : Ordering) → MatchOrdering o (r < q) (r ≡ q) (q < r) → nat_cmp (r + 1) (q + 1) ≡ slice_cmp nat_cmp (r ∷ xs) (q ∷ ys)
-    at Less lt = sym (nat_cmp_is (r + 1) (q + 1) Less (omega (arith, lt))) ∙ sym (less_first r q xs ys lt)
-    at Equal is = absurd (apart (ap (λ n. n + 1) is))
-    at Greater gt = sym (nat_cmp_is (r + 1) (q + 1) Greater (omega (arith, gt))) ∙ sym (more_first r q xs ys gt)
-
--- the first bytes tell the names apart
-pub ranks_apart : (x y : List ℕ) → (rank_of x ≡ rank_of y → ⊥) → nat_cmp (rank_of x) (rank_of y) ≡ ranks_cmp x y
-ranks_apart [] [] apart = absurd (apart refl)
-ranks_apart [] (c ∷ y) apart = at_heads true (c == mark) 0 (rank c) [] (ranks y) apart
-ranks_apart (b ∷ x) [] apart = at_heads (b == mark) true (rank b) 0 (ranks x) [] apart
-ranks_apart (b ∷ x) (c ∷ y) apart = at_heads (b == mark) (c == mark) (rank b) (rank c) (ranks x) (ranks y) apart
-
-at_ends : (s t : Bool) (r q : ℕ) (xs ys : List ℕ) → cond s 0 (r + 1) ≡ 0 → cond t 0 (q + 1) ≡ 0
-    → Equal ≡ slice_cmp nat_cmp (cond s [] (r ∷ xs)) (cond t [] (q ∷ ys))
-at_ends true true r q xs ys a b = refl
-at_ends true false r q xs ys a b = absurd (omega (arith, b))
-at_ends false t r q xs ys a b = absurd (omega (arith, a))
-
--- both names end here
-pub ranks_end : (x y : List ℕ) → rank_of x ≡ 0 → rank_of y ≡ 0 → Equal ≡ ranks_cmp x y
-ranks_end [] [] a b = refl
-ranks_end [] (c ∷ y) a b = at_ends true (c == mark) 0 (rank c) [] (ranks y) a b
-ranks_end (b ∷ x) [] a e = at_ends (b == mark) true (rank b) 0 (ranks x) [] a e
-ranks_end (b ∷ x) (c ∷ y) a e = at_ends (b == mark) (c == mark) (rank b) (rank c) (ranks x) (ranks y) a e
-
-at_next : (s t : Bool) (r q : ℕ) (xs ys : List ℕ) → cond s 0 (r + 1) ≡ cond t 0 (q + 1) → (cond s 0 (r + 1) ≡ 0 → ⊥)
-    → slice_cmp nat_cmp (cond s [] (r ∷ xs)) (cond t [] (q ∷ ys)) ≡ slice_cmp nat_cmp xs ys
-at_next true t r q xs ys is some = absurd (some refl)
-at_next false true r q xs ys is some = absurd (some is)
-at_next false false r q xs ys is some = same_first r q xs ys (omega (arith, is))
-
--- what stands behind the first bytes decides
-pub ranks_next : (x y : List ℕ) → rank_of x ≡ rank_of y → (rank_of x ≡ 0 → ⊥) → ranks_cmp x y ≡ ranks_cmp (drop 1 x) (drop 1 y)
-ranks_next [] y is some = absurd (some refl)
-ranks_next (b ∷ x) [] is some = absurd (some is)
-ranks_next (b ∷ x) (c ∷ y) is some = at_next (b == mark) (c == mark) (rank b) (rank c) (ranks x) (ranks y) is some

@@ -1,7 +1,7 @@
 -- Data that is read over its tokens, and its canonical text, which goes out an item at a time.
 use Rattle.std.proofs.Common.{◌≡◌, ℕ, ℤ, zero, suc, ◌-◌, ◌<◌, ◌≤◌, List, [], ◌∷◌, ◌++◌, length, Bool, true, false, Option, Some, None, option_map}
-use Rattle.std.proofs.Common.{arith, option_and_then, IfSome, IfErr, Result, Ok, Err, refl, sym, ap, ◌∙◌, subst, append_assoc}
-use Rattle.std.specs.Prelude.{◌&&◌, if◌then◌else◌, ok_or, IfOk}
+use Rattle.std.proofs.Common.{option_and_then, IfErr, Result, Ok, Err, refl, sym, ap, ap₂, ◌∙◌, subst, append_assoc}
+use Rattle.std.specs.Prelude.{ok_or}
 use Rattle.std.specs.Str.{IsUtf8}
 use Rattle.std.proofs.lemmas.List.{append-nil}
 use Rattle.json.specs.Json as json
@@ -12,20 +12,23 @@ use Rattle.json.proofs.Grammar.{value_is, value-begin_array, value-begin_object,
 use Rattle.serde_json.specs.Data as data'
 use Rattle.serde_json.specs.Data.{Data, Num}
 use Rattle.serde_json.specs.Read.{converted, number_of, of_json, of_items, of_members, read}
-use Rattle.st_base.specs.Answers.{GivesAs}
+use Rattle.st_base.specs.Words.{HasNo}
 use Rattle.st_canon.specs.Canonical.{canonical, canonical_items, canonical_members, comma}
 use Rattle.st_canon.specs.Packed.{IsReadAgain, value_read}
 use Rattle.st_canon.specs.Plain.{Plain, IsWhole, whole, list, object, Items, item, Members}
 use Rattle.st_canon.specs.Proper.{IsProper, ItemsAreProper, MembersAreProper}
-use Rattle.st_canon.specs.Reading.{json_of, refusal_of, whole_value, whole_items, whole_members}
-use Rattle.st_canon.specs.Respelled.{IsNoJson, IsWritten, WasAdded}
+use Rattle.st_canon.specs.Reading.{json_of, whole_value, whole_items}
+use Rattle.st_canon.specs.Respelled.{IsNoJson, IsRespelled, IsWritten, Spells, mark}
+use Rattle.st_canon.specs.Rewritten.{IsNext}
 use Rattle.st_canon.specs.View.{items_of}
 use Rattle.st_canon.specs.declared.refused.ReadRefused.{ReadRefused}
 use Rattle.st_canon.specs.declared.refused.ReadRefused.TheVariants.{NotJson, NotWhole, WantOfMemory}
 use Rattle.st_canon.proofs.DirectLemmas.{Tokens, with_rest, was_read}
-use Rattle.st_canon.proofs.NestsLemmas.{read_again}
+use Rattle.st_canon.proofs.HeldLemmas.{has_no_left, has_no_right, no_mark}
+use Rattle.st_canon.proofs.NestsLemmas.{nests_of_tokens, read_again}
 use Rattle.st_canon.proofs.Outcomes.{json_of-utf8, json_of_data}
 use Rattle.st_canon.proofs.RewritingLemmas.{after, after_more, after_true, in_brackets}
+use Rattle.st_canon.proofs.Texts.{IsUtf8-canonical}
 
 -- ---- a value
 
@@ -86,26 +89,32 @@ no_tokens depth old is = ap (converted of_json) (ap (value depth) is ∙ value_i
 
 -- ---- the text of a value
 
-pub number_written : (there : Option ℤ) (told : Bool) (before after : List ℕ) → IsWritten IsWhole (λ z. canonical (whole z)) there told before after
-    → IsWritten IsProper canonical (option_map whole there) told before after
-number_written None told before after h = h
-number_written (Some z) told before after h = h
+pub number_written : (there : Option ℤ) (before after : List ℕ) → IsWritten IsWhole (λ z. canonical (whole z)) there before after
+    → IsWritten IsProper canonical (option_map whole there) before after
+number_written None before after h = h
+number_written (Some z) before after h = h
 
-pub list_written : (there : Option Items) (told : Bool) (before one two three : List ℕ) → one ≡ before ++ 91 ∷ []
-    → IsWritten ItemsAreProper (canonical_items false) there told one two → three ≡ two ++ 93 ∷ []
-    → IsWritten IsProper canonical (option_map list there) told before three
-list_written None told before one two three first h third =
-    (h.0, (91 ∷ (h.1.0 ++ 93 ∷ []), in_brackets before h.1.0 one two three 91 93 first h.1.1 third))
-list_written (Some ps) told before one two three first h third =
-    (h.0, (h.1.0, in_brackets before (canonical_items false ps) one two three 91 93 first h.1.1 third))
+list_spelled : (there : Option Items) (t : List ℕ) → Spells ItemsAreProper (canonical_items false) there t
+    → Spells IsProper canonical (option_map list there) (91 ∷ (t ++ 93 ∷ []))
+list_spelled None t h = λ none. h (has_no_left t (93 ∷ []) none.1)
+list_spelled (Some ps) t h = (h.0, ap (λ t. 91 ∷ (t ++ 93 ∷ [])) h.1)
 
-pub object_written : (there : Option Members) (told : Bool) (before one two three : List ℕ) → one ≡ before ++ 123 ∷ []
-    → IsWritten MembersAreProper (canonical_members false) there told one two → three ≡ two ++ 125 ∷ []
-    → IsWritten IsProper canonical (option_map object there) told before three
-object_written None told before one two three first h third =
-    (h.0, (123 ∷ (h.1.0 ++ 125 ∷ []), in_brackets before h.1.0 one two three 123 125 first h.1.1 third))
-object_written (Some ms) told before one two three first h third =
-    (h.0, (h.1.0, in_brackets before (canonical_members false ms) one two three 123 125 first h.1.1 third))
+pub list_written : (there : Option Items) (before one two three : List ℕ) → one ≡ before ++ 91 ∷ []
+    → IsWritten ItemsAreProper (canonical_items false) there one two → three ≡ two ++ 93 ∷ []
+    → IsWritten IsProper canonical (option_map list there) before three
+list_written there before one two three first h third =
+    (91 ∷ (h.0 ++ 93 ∷ []), in_brackets before h.0 one two three 91 93 first h.1 third, list_spelled there h.0 h.2)
+
+object_spelled : (there : Option Members) (t : List ℕ) → Spells MembersAreProper (canonical_members false) there t
+    → Spells IsProper canonical (option_map object there) (123 ∷ (t ++ 125 ∷ []))
+object_spelled None t h = λ none. h (has_no_left t (125 ∷ []) none.1)
+object_spelled (Some ms) t h = (h.0, ap (λ t. 123 ∷ (t ++ 125 ∷ [])) h.1)
+
+pub object_written : (there : Option Members) (before one two three : List ℕ) → one ≡ before ++ 123 ∷ []
+    → IsWritten MembersAreProper (canonical_members false) there one two → three ≡ two ++ 125 ∷ []
+    → IsWritten IsProper canonical (option_map object there) before three
+object_written there before one two three first h third =
+    (123 ∷ (h.0 ++ 125 ∷ []), in_brackets before h.0 one two three 123 125 first h.1 third, object_spelled there h.0 h.2)
 
 -- ---- items
 
@@ -227,51 +236,37 @@ ItemsStand c ps = ItemsAreProper (items_of ps) × (c ≡ after false ps)
 abbrev pub items_text : List Plain → List ℕ
 items_text ps = canonical_items false (items_of ps)
 
-was_added : {P : Type 0} (proper : P → Type 0) (text : P → List ℕ) (there : Option P) (before after : List ℕ)
-    → WasAdded proper text there before after → (added : List ℕ) × (after ≡ before ++ added)
-was_added proper text None before after h = h
-was_added proper text (Some p) before after h = (text p, h.1)
-
-module _ (before out first last : List ℕ) (c told next : Bool) (one : first ≡ out ++ comma c) where
+module _ (before out first last : List ℕ) (c : Bool) (one : first ≡ out ++ comma c) where
   added_more : (added more : List ℕ) → out ≡ before ++ added → last ≡ first ++ more → last ≡ before ++ (added ++ (comma c ++ more))
   added_more added more was new =
       new ∙ ap (λ text. text ++ more) (one ∙ ap (λ text. text ++ comma c) was)
       ∙ append_assoc (before ++ added) (comma c) more ∙ append_assoc before added (comma c ++ more)
 
-  more_at : (rest : Option (List Plain)) (there : Option Plain) → IsWritten (ItemsStand c) items_text rest told before out
-      → IsWritten IsProper canonical there next first last → IsWritten (ItemsStand true) items_text (with_last there rest) (told && next) before last
-  more_at None there h g =
-      let more = was_added IsProper canonical there first last g.1 in
-      (rw h.0 refl, (h.1.0 ++ (comma c ++ more.0), added_more h.1.0 more.0 h.1.1 more.1))
-  more_at (Some ps) None h g =
-      (rw (h.0, g.0) refl, (items_text ps ++ (comma c ++ g.1.0), added_more (items_text ps) g.1.0 h.1.1 g.1.1))
-  more_at (Some ps) (Some p) h g = (
-    rw (h.0, g.0) refl,
-    (
-      (proper_more ps p h.1.0.0 g.1.0, after_more ps p),
-      g.1.1 ∙ ap (λ text. text ++ canonical p) (one ∙ ap (λ text. text ++ comma c) h.1.1)
-          ∙ append_assoc (before ++ items_text ps) (comma c) (canonical p) ∙ append_assoc before (items_text ps) (comma c ++ canonical p)
-          ∙ ap (λ d. before ++ (items_text ps ++ (comma d ++ canonical p))) h.1.0.1 ∙ ap (λ text. before ++ text) (sym (text_more false ps p)),
-    ),
+  more_spelled : (rest : Option (List Plain)) (there : Option Plain) (xs ys : List ℕ) → Spells (ItemsStand c) items_text rest xs
+      → Spells IsProper canonical there ys → Spells (ItemsStand true) items_text (with_last there rest) (xs ++ (comma c ++ ys))
+  more_spelled None there xs ys h g = λ none. h (has_no_left xs (comma c ++ ys) none)
+  more_spelled (Some ps) None xs ys h g = λ none. g (has_no_right (comma c) ys (has_no_right xs (comma c ++ ys) none))
+  more_spelled (Some ps) (Some p) xs ys h g = (
+    (proper_more ps p h.0.0 g.0, after_more ps p),
+    ap₂ (λ x y. x ++ (comma c ++ y)) h.1 g.1 ∙ ap (λ d. items_text ps ++ (comma d ++ canonical p)) h.0.1 ∙ sym (text_more false ps p),
   )
 
   -- where a comma and the next item went out
-  pub items_written_more : (ds : List Data) (d : Data) → IsWritten (ItemsStand c) items_text (wholes ds) told before out
-      → IsWritten IsProper canonical (whole_value d) next first last
-      → IsWritten (ItemsStand true) items_text (wholes (ds ++ d ∷ [])) (told && next) before last
+  pub items_written_more : (ds : List Data) (d : Data) → IsWritten (ItemsStand c) items_text (wholes ds) before out
+      → IsWritten IsProper canonical (whole_value d) first last → IsWritten (ItemsStand true) items_text (wholes (ds ++ d ∷ [])) before last
   items_written_more ds d h g =
-      subst (λ there. IsWritten (ItemsStand true) items_text there (told && next) before last) (sym (wholes_more ds d))
-      (more_at (wholes ds) (whole_value d) h g)
+      subst (λ there. IsWritten (ItemsStand true) items_text there before last) (sym (wholes_more ds d))
+      (h.0 ++ (comma c ++ g.0), added_more h.0 g.0 h.1 g.1, more_spelled (wholes ds) (whole_value d) h.0 g.0 h.2 g.2)
 
-all_at : (there : Option (List Plain)) (c told : Bool) (before out : List ℕ) → IsWritten (ItemsStand c) items_text there told before out
-    → IsWritten ItemsAreProper (canonical_items false) (option_map items_of there) told before out
-all_at None c told before out h = h
-all_at (Some ps) c told before out h = (h.0, (h.1.0.0, h.1.1))
+all_at : (there : Option (List Plain)) (c : Bool) (before out : List ℕ) → IsWritten (ItemsStand c) items_text there before out
+    → IsWritten ItemsAreProper (canonical_items false) (option_map items_of there) before out
+all_at None c before out h = h
+all_at (Some ps) c before out h = (h.0, h.1, (h.2.0.0, h.2.1))
 
-pub items_written : (ds : List Data) (c told : Bool) (before out : List ℕ) → IsWritten (ItemsStand c) items_text (wholes ds) told before out
-    → IsWritten ItemsAreProper (canonical_items false) (whole_items (items_before ds data'.no_items)) told before out
-items_written ds c told before out h =
-    subst (λ there. IsWritten ItemsAreProper (canonical_items false) there told before out) (sym (whole_items_are ds)) (all_at (wholes ds) c told before out h)
+pub items_written : (ds : List Data) (c : Bool) (before out : List ℕ) → IsWritten (ItemsStand c) items_text (wholes ds) before out
+    → IsWritten ItemsAreProper (canonical_items false) (whole_items (items_before ds data'.no_items)) before out
+items_written ds c before out h =
+    subst (λ there. IsWritten ItemsAreProper (canonical_items false) there before out) (sym (whole_items_are ds)) (all_at (wholes ds) c before out h)
 
 -- ---- members
 
@@ -321,12 +316,6 @@ pub handed_on : {A : Type 0} (X Y : Type 0) (result : Result A ReadRefused) (ref
     → IsNoJson X refused → (X → Y) → IfErr result (IsNoJson Y)
 handed_on {A} X Y result refused is h further = subst (λ (r : Result A ReadRefused). IfErr r (IsNoJson Y)) (sym is) (said_further X Y refused h further)
 
-given_further : (says : Result Plain ReadRefused) (refused : ReadRefused) → IsNoJson (says ≡ Err NotJson) refused
-    → IfSome (refusal_of refused) (λ refusal. says ≡ Err refusal)
-given_further says NotJson h = h
-given_further says NotWhole h = absurd h
-given_further says WantOfMemory h = tt
-
 -- ---- the whole text
 
 -- what the value of a text and the tokens behind it are as data
@@ -339,47 +328,33 @@ text_is_data bytes d utf8 e =
     let all = was_read of_json (value 127 (tokens bytes)) d [] e in
     json_of-utf8 bytes utf8 ∙ ap json_of_data (ap data_at_end all.is ∙ all.gives)
 
-refused_at : (there : Option (json.Json × Tokens)) → converted of_json there ≡ None → data_at_end there ≡ None
-refused_at None e = refl
-refused_at (Some (j, [])) e = none_converted [] (of_json j) e
-refused_at (Some (j, t ∷ ts)) e = refl
+-- no number in it is not whole
+pub text_is_whole : (bytes out : List ℕ) (there : Option Plain) → json_of bytes ≡ ok_or there NotWhole → IsWritten IsProper canonical there [] out
+    → HasNo mark out → IsReadAgain out × (json_of bytes ≡ Ok (value_read (json_of out)))
+text_is_whole bytes out None read h none = absurd (h.2 (subst (HasNo mark) h.1 none))
+text_is_whole bytes out (Some p) read h none = read_again bytes out p h.2.0 read (h.1 ∙ h.2.1)
 
-pub text_refused : (bytes : List ℕ) → IsUtf8 bytes → converted of_json (value 127 (tokens bytes)) ≡ None → json_of bytes ≡ Err NotJson
-text_refused bytes utf8 e = json_of-utf8 bytes utf8 ∙ ap json_of_data (refused_at (value 127 (tokens bytes)) e)
+-- one is
+pub text_is_not_whole : (bytes out : List ℕ) (there : Option Plain) → json_of bytes ≡ ok_or there NotWhole → IsWritten IsProper canonical there [] out
+    → (HasNo mark out → ⊥) → json_of bytes ≡ Err NotWhole
+text_is_not_whole bytes out None read h some = read
+text_is_not_whole bytes out (Some p) read h some =
+    absurd (some (subst (HasNo mark) (sym (h.1 ∙ h.2.1)) (no_mark (canonical p) (IsUtf8-canonical p h.2.0))))
 
--- nothing could be read
-pub text_given : (bytes : List ℕ) (result : Result (List ℕ) ReadRefused) (refused : ReadRefused) → IsUtf8 bytes → result ≡ Err refused
-    → IsNoJson (converted of_json (value 127 (tokens bytes)) ≡ None) refused → GivesAs (λ text. value_read (json_of text)) refusal_of (json_of bytes) result
-text_given bytes result refused utf8 is h =
-    subst (λ (r : Result (List ℕ) ReadRefused). GivesAs (λ text. value_read (json_of text)) refusal_of (json_of bytes) r) (sym is)
-    (given_further (json_of bytes) refused (said_further _ _ refused h (text_refused bytes utf8)))
-
--- something came behind the value
-pub text_goes_on : (bytes : List ℕ) (d : Data) (r : Tokens) → IsUtf8 bytes → converted of_json (value 127 (tokens bytes)) ≡ Some (d, r)
-    → (r ≡ [] → ⊥) → json_of bytes ≡ Err NotJson
-text_goes_on bytes d r utf8 e some =
-    let all = was_read of_json (value 127 (tokens bytes)) d r e in
-    json_of-utf8 bytes utf8 ∙ ap json_of_data (ap data_at_end all.is ∙ at all.spelled r some)
+-- what comes next, where no number in it is not whole
+pub is_next : (depth : ℕ) (old new : Tokens) (before behind : List ℕ) (next : IsRespelled depth old new before behind) → HasNo mark behind
+    → IsNext depth old new before behind
+is_next depth old new before behind next none =
+    at (whole_value next.is) refl next.written.2
   where
-    at : (j : json.Json) (r : Tokens) → (r ≡ [] → ⊥) → data_at_end (Some (j, r)) ≡ None
-    at j [] some = absurd (some refl)
-    at j (t ∷ ts) some = refl
-
--- where nothing came behind a text's object
-pub object_is_data : (bytes : List ℕ) (ts : Tokens) (are : data'.Members) → IsUtf8 bytes → tokens bytes ≡ Token.begin_object ∷ ts
-    → converted (λ ms. of_members ms data'.no_members) (members (value 126) (length ts) ts) ≡ Some (are, [])
-    → json_of bytes ≡ ok_or (option_map object (whole_members are)) NotWhole
-object_is_data bytes ts are utf8 is read =
-    text_is_data bytes (data'.object are) utf8 (object_data 127 (tokens bytes) ts (Some (are, [])) is (omega arith) read)
-
--- What a text is was written of it, or is refused, where numbers are not whole.
-pub text_told : (bytes out : List ℕ) (there : Option Plain) (told : Bool) (result : Result (List ℕ) ReadRefused) → json_of bytes ≡ ok_or there NotWhole
-    → IsWritten IsProper canonical there told [] out → result ≡ (if told then Ok out else Err NotWhole)
-    → GivesAs (λ text. value_read (json_of text)) refusal_of (json_of bytes) result × IfOk result IsReadAgain
-text_told bytes out None told result read h is =
-    let refused : result ≡ Err NotWhole = is ∙ ap (λ t. if t then Ok out else Err NotWhole) h.0 in
-    subst (λ r. GivesAs (λ text. value_read (json_of text)) refusal_of (json_of bytes) r × IfOk r IsReadAgain) (sym refused) (read, tt)
-text_told bytes out (Some p) told result read h is =
-    let given : result ≡ Ok out = is ∙ ap (λ t. if t then Ok out else Err NotWhole) h.0 in
-    let again = read_again bytes out p h.1.0 read h.1.1 in
-    subst (λ r. GivesAs (λ text. value_read (json_of text)) refusal_of (json_of bytes) r × IfOk r IsReadAgain) (sym given) (again.1, again.0)
+    at : (there : Option Plain) → whole_value next.is ≡ there → Spells IsProper canonical there next.written.0 → IsNext depth old new before behind
+    at None is h = absurd (h (has_no_right before next.written.0 (subst (HasNo mark) next.written.1 none)))
+    at (Some p) is h =
+        let first = was_read of_json (value depth old) next.is new next.read in
+        record {
+          is = p;
+          read = rw (first.is, first.gives, is) refl;
+          proper = h.0;
+          shallow = nests_of_tokens depth old new first.spelled next.is p first.is first.gives is;
+          text = next.written.1 ∙ ap (λ t. before ++ t) h.1;
+        }

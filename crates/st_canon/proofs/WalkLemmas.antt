@@ -19,7 +19,7 @@ pub data IsEscape : ℕ → List ℕ → Type 0 where
   short : (b c : ℕ) → IsEscape b (92 ∷ c ∷ [])
   long : (b h l : ℕ) → ((h == 34) ≡ false) × ((h == 92) ≡ false) → ((l == 34) ≡ false) × ((l == 92) ≡ false) → IsEscape b (92 ∷ 117 ∷ 48 ∷ 48 ∷ h ∷ l ∷ [])
 
-either_way : (P : List ℕ → Type 0) (t : Bool) (x y : List ℕ) → (t ≡ true → P x) → (t ≡ false → P y) → P (cond t x y)
+pub either_way : (P : List ℕ → Type 0) (t : Bool) (x y : List ℕ) → (t ≡ true → P x) → (t ≡ false → P y) → P (cond t x y)
 either_way P true x y first second = first refl
 either_way P false x y first second = second refl
 

@@ -1,7 +1,9 @@
 -- A canonical text (RFC 8785) that stands in front of other text.
-use Rattle.std.specs.Prelude.{◌≡◌, ℕ, ◌≤◌, List, ◌∷◌, ◌++◌, false}
-use Rattle.st_canon.specs.Canonical.{canonical, canonical_items, canonical_members}
+use Rattle.std.specs.Prelude.{◌≡◌, ℕ, ◌≤◌, ◌<◌, List, ◌∷◌, ◌++◌, drop, false}
+use Rattle.std.specs.Str.{IsUtf8}
+use Rattle.st_canon.specs.Canonical.{canonical, canonical_items, canonical_members, escape, quoted}
 use Rattle.st_canon.specs.Depth.{nests, items_nest, members_nest}
+use Rattle.st_canon.specs.Held.{name_in}
 use Rattle.st_canon.specs.Plain.{Plain, Items, Members}
 use Rattle.st_canon.specs.Proper.{IsProper, ItemsAreProper, MembersAreProper}
 
@@ -27,3 +29,19 @@ module _ (depth : ℕ) (text rest : List ℕ) where
     pub proper : MembersAreProper are
     pub shallow : members_nest are ≤ depth
     pub spelled : text ≡ canonical_members false are ++ 125 ∷ rest
+
+-- a byte of ASCII as it is escaped
+pub record IsEscapeInFront (text rest : List ℕ) : Type 0 where
+  pub byte : ℕ
+  pub ascii : byte < 128
+  pub spelled : text ≡ escape byte ++ rest
+
+-- a text between quotation marks
+pub record IsTextInFront (text rest : List ℕ) : Type 0 where
+  pub word : List ℕ
+  pub utf8 : IsUtf8 word
+  pub spelled : text ≡ quoted word ++ rest
+
+-- the text that stands in front, behind its quotation mark
+abbrev pub name_of : List ℕ → List ℕ
+name_of text = name_in (drop 1 text)

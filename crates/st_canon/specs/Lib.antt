@@ -23,7 +23,6 @@ pub mod Proper
 pub mod Reading
 pub mod Respelled
 pub mod Rewritten
-pub mod Settled
 pub mod Shapes
 pub mod Standing
 pub mod Texts

@@ -1,16 +1,13 @@
-ghost use Rattle.std.specs.Prelude.{◌≡◌, [], true, IfOk, OnOk, OnErr};
+ghost use Rattle.std.specs.Prelude.{◌≡◌, [], IfOk, OnOk, OnErr};
 ghost use Rattle.std.specs.Str.{IsUtf8};
 ghost use Rattle.st_canon.specs.Names.{NamesAscend};
-ghost use Rattle.st_canon.specs.InOrder.{in_order, placed, IsApart, NamesDiffer};
+ghost use Rattle.st_canon.specs.InOrder.{in_order, placed, NamesDiffer};
 
 use crate::names::compare;
 use crate::place::place_of;
 use st_base::{Text, WantOfMemory};
 use std::alloc::Global;
 use std::marker::Model;
-
-// How many members `add` moves at most.
-const FEW: usize = 64;
 
 /// Named values, each name once. Contracts see them as their pairs of a name and a value, whose
 /// names ascend strictly as UTF-16 code units.
@@ -90,25 +87,6 @@ impl<T: Drop> Members<T> {
     {
         pairs.sort_by(|first, second| compare(first.0.as_str(), second.0.as_str()))?;
         Ok(Members { pairs })
-    }
-
-    // Adds the member, where none of its name is there and at most 64 names are above it, and gives
-    // whether it did. So no order of names makes more than 64 members move for each.
-    pub(crate) fn add(&mut self, name: Text, value: T) -> Result<bool, WantOfMemory>
-        ensures added { IfOk result (λ added. added ≡ true → self.new ≡ placed (name, value) self.old) }
-        ensures apart { IfOk result (λ added. added ≡ true → IsApart name self.old) }
-        ensures utf8 { OnOk result (IsUtf8 name) }
-    {
-        match place_of(self.pairs.as_slice(), name.as_str()) {
-            Ok(_) => Ok(false),
-            Err(at) => {
-                if self.pairs.len() - at > FEW {
-                    return Ok(false);
-                }
-                self.pairs.insert(at, (name, value))?;
-                Ok(true)
-            }
-        }
     }
 
     // Adds the member, or replaces the one of its name.

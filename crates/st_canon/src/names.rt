@@ -1,50 +1,48 @@
-ghost use Rattle.std.specs.Prelude.{◌≡◌, IfSome};
-ghost use Rattle.std.specs.Str.{IsUtf8};
-ghost use Rattle.std.specs.declared.cmp.Ordering.TheVariants.{Equal};
+ghost use Rattle.std.specs.Prelude.{◌≡◌, IfSome, IsTrue};
+ghost use Rattle.std.specs.declared.cmp.Ordering.TheVariants.{Equal, Less};
+ghost use Rattle.st_canon.specs.Held.{ranks_cmp};
 ghost use Rattle.st_canon.specs.Names.{name_cmp};
 
+use crate::ranks::rank;
 use std::cmp::Ordering;
 
-// The order of two names by their UTF-16 code units (RFC 8785, section 3.2.3). The units of ASCII are
-// its bytes, which tell most names apart.
+// The order of two names by their UTF-16 code units (RFC 8785, section 3.2.3).
 pub(crate) fn compare(first: &str, second: &str) -> Ordering
     ensures order { result ≡ name_cmp first.now second.now }
     ensures same { result ≡ Equal → first.now ≡ second.now }
 {
-    match compare_ascii(first.as_bytes(), second.as_bytes()) {
-        Some(order) => order,
-        None => compare_units(first, second),
-    }
+    compare_bytes(first.as_bytes(), second.as_bytes())
 }
 
-// The order, where it shows before any character that is not ASCII, or both names end there.
-fn compare_ascii(first: &[u8], second: &[u8]) -> Option<Ordering>
-    requires first { IsUtf8 first.now }
-    requires second { IsUtf8 second.now }
-    ensures order { IfSome result (λ order. order ≡ name_cmp first.now second.now) }
+fn compare_bytes(first: &[u8], second: &[u8]) -> Ordering
+    ensures { result ≡ ranks_cmp first.now second.now }
 {
-    let mut at = 0;
-    while at < first.len() && at < second.len() {
-        let a = first[at];
-        let b = second[at];
-        if a >= 128 || b >= 128 {
-            return None;
-        }
+    let mut left = first;
+    let mut right = second;
+    'bytes: while let Some((a, behind_a)) = left.split_first() {
+        let Some((b, behind_b)) = right.split_first() else {
+            return Ordering::Greater;
+        };
+        let (a, b) = (rank(*a), rank(*b));
         if a != b {
-            return Some(a.cmp(&b));
+            return a.cmp(&b);
         }
-        at += 1;
+        left = behind_a;
+        right = behind_b;
     }
-    if first.len() == second.len() {
-        Some(Ordering::Equal)
+    if right.is_empty() {
+        Ordering::Equal
     } else {
-        None
+        Ordering::Less
     }
 }
 
-fn compare_units(first: &str, second: &str) -> Ordering
-    ensures order { result ≡ name_cmp first.now second.now }
-    ensures same { result ≡ Equal → first.now ≡ second.now }
+// Whether a name is above the one before it, where there is one.
+pub(crate) fn is_above(last: Option<&str>, name: &str) -> bool
+    ensures { IsTrue result → IfSome last.entry (λ last. name_cmp last.now name.now ≡ Less) }
 {
-    first.encode_utf16().cmp(second.encode_utf16())
+    match last {
+        Some(last) => compare(last, name) == Ordering::Less,
+        None => true,
+    }
 }

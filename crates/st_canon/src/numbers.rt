@@ -1,8 +1,7 @@
-ghost use Rattle.std.specs.Prelude.{◌≡◌, true, false, option_map, pos};
+ghost use Rattle.std.specs.Prelude.{◌≡◌, ◌<◌, ◌==◌, true, false, length, option_map, pos, slice_index, IsTrue};
 ghost use Rattle.serde_json.specs.Read.{float_of, number_from, number_of};
 ghost use Rattle.st_canon.specs.Reading.{whole_integer, whole_number};
 
-use crate::direct::has_minus;
 use crate::whole::Whole;
 use fast_float::Numeral;
 
@@ -17,6 +16,13 @@ pub(crate) fn number_in(text: &str) -> Option<Option<Whole>>
     } else {
         number_from(&Numeral::scan(bytes))
     }
+}
+
+fn has_minus(bytes: &[u8]) -> bool
+    ensures value { result ≡ (slice_index bytes.now 0 == 45) }
+    ensures some { IsTrue result → 0 < length bytes.now }
+{
+    !bytes.is_empty() && bytes[0] == b'-'
 }
 
 // The same behind a minus.

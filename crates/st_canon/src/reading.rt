@@ -6,7 +6,6 @@ ghost use Rattle.st_canon.specs.Shapes.{json_in};
 ghost use Rattle.st_canon.specs.View.{plain};
 
 use crate::convert::convert;
-use crate::direct::read_directly;
 use crate::refused::ReadRefused;
 use crate::value::Json;
 use serde_json::Value;
@@ -18,17 +17,6 @@ use std::alloc::Global;
 /// `NotJson` comes exactly where `serde_json` refuses the bytes, `NotWhole` exactly where they are
 /// JSON with a number that no `Whole` holds or that is written as a float.
 pub fn read(alloc: Global, bytes: &[u8]) -> Result<Json, ReadRefused>
-    ensures value { GivesAs plain refusal_of (json_of bytes.now) result }
-    ensures proper { IfOk result (λ json. IsProper (plain json)) }
-{
-    match read_directly(alloc, bytes)? {
-        Some(json) => Ok(json),
-        None => read_any(alloc, bytes),
-    }
-}
-
-// The same for whatever bytes. It makes a tree of `serde_json` first, which takes more time and memory.
-fn read_any(alloc: Global, bytes: &[u8]) -> Result<Json, ReadRefused>
     ensures value { GivesAs plain refusal_of (json_of bytes.now) result }
     ensures proper { IfOk result (λ json. IsProper (plain json)) }
 {

@@ -13,7 +13,7 @@ mod marks;
 mod members;
 mod members_left;
 mod object;
-mod quoted;
+pub(crate) mod quoted;
 mod root;
 mod scanned;
 mod spelled;

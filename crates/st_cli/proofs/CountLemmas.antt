@@ -1,17 +1,18 @@
 -- What a run of a node has counted, by its table.
-use Rattle.std.proofs.Common.{◌≡◌, ◌∙◌, ⊎_elim, ℕ, ◌+◌, Option, Some, None, List, ◌++◌, take, drop, refl, sym, subst, arith, length-append, take-append-drop}
+use Rattle.std.proofs.Common.{◌≡◌, ◌∙◌, ⊎_elim, ℕ, ◌+◌, Option, Some, None, List, [], ◌∷◌, ◌++◌, refl, ap, sym, subst, arith, append_assoc, length-append}
 use Rattle.std.proofs.lemmas.List.Sums.{sum_by-append}
 use Rattle.std.specs.Prelude.{IfSome}
 use Rattle.std.specs.Io.KnownBytes.{Consumes}
 use Rattle.st_base.proofs.Cuts.{same_cut}
 use Rattle.st_base.specs.Work.{Counts}
 use Rattle.st_drive.specs.Lines.{all_lines}
+use Rattle.st_drive.specs.Streams.{Streams}
+use Rattle.st_drive.specs.Tables.{AnsweredFirst, RunTable}
 use Rattle.st_node.proofs.RunLemmas.{entries-append, run_counts}
 use Rattle.st_node.specs.Machine.{Machine, after}
 use Rattle.st_node.specs.Work.{DueOver, RunCounts, declared_count, entries_of, submitted_by_line, submitted_in}
 use Rattle.st_cli.specs.declared.form.NodeOptions.{NodeOptions}
-use Rattle.st_cli.specs.Node.{InputCounts, LinesCount, new_node, node_command}
-use Rattle.st_status.specs.Answered.{HasAnsweredFirst, RunTable, Streams}
+use Rattle.st_cli.specs.Node.{InputCounts, LinesCount, new_node, node_course}
 
 -- what is bounded over some lines is bounded over more
 over_more : (schedule : Option ℕ) (machine : Machine) (lines more : List (List ℕ)) (old new : Counts)
@@ -40,16 +41,15 @@ module _ (options : NodeOptions) (work counted : Counts) where
   pub from_beginning : (lines : List (List ℕ)) → DueOver (new_node options) lines work counted → Within lines
   from_beginning lines due = run_counts options.schedule lines work counted due
 
-  -- what was due over the first of these lines is within the bound over all
-  within_all : (count : ℕ) (lines : List (List ℕ)) → DueOver (new_node options) (take count lines) work counted → Within lines
-  within_all count lines due =
-      subst Within (take-append-drop count lines)
-      (within_more (take count lines) (drop count lines) (from_beginning (take count lines) due))
-
   -- however the run ended, the counters went over the first lines of what was taken, or also over the next one
-  of_first : {written : List ℕ} (lines : List (List ℕ))
-      → HasAnsweredFirst (node_command options work counted) written lines → Within lines
-  of_first lines first = ⊎_elim (within_all first.count lines) (within_all (first.count + 1) lines) first.counted
+  of_first : {written : List ℕ} (lines : List (List ℕ)) → AnsweredFirst (node_course options work counted) written lines → Within lines
+  of_first lines first = ⊎_elim
+      (λ ran. subst Within first.all (within_more first.answered first.later (from_beginning first.answered ran.0)))
+      (λ gave.
+      let over = first.answered ++ gave.0 ∷ [] in
+      subst Within (append_assoc first.answered (gave.0 ∷ []) gave.1 ∙ ap (λ ls. first.answered ++ ls) (sym gave.2) ∙ first.all)
+      (within_more over gave.1 (from_beginning over gave.3.0)))
+      first.context
 
 -- what was taken follows from what was there and what is left
 taken_is : (input : List ℕ) (left : Option (List ℕ)) (taken other : List ℕ) → Consumes (Some input) left taken
@@ -67,9 +67,9 @@ of_any_taken P (Some input) left taken takes holds =
 
 -- what was counted is within the bound over what was taken, however the run ended
 pub counts_of_table : (options : NodeOptions) (work counted : Counts) {limit : ℕ} {io : Streams} {status : ℕ}
-    → RunTable (node_command options work counted) limit io status
+    → RunTable (node_course options work counted) limit io status
     → IfSome io.had (λ input. (taken : List ℕ) → Consumes (Some input) io.left taken
     → InputCounts options taken work counted)
 counts_of_table options work counted {io = io} table =
-    of_any_taken (λ taken. InputCounts options taken work counted) io.had io.left table.taken table.takes
-    (of_first options work counted (all_lines table.taken) table.of_taken)
+    of_any_taken (λ taken. InputCounts options taken work counted) io.had io.left table.took.taken table.took.takes
+    (of_first options work counted (all_lines table.took.taken) table.so_far.of_taken)

@@ -3,13 +3,15 @@
 use Rattle.std.specs.Prelude.{ℕ, List, ◌++◌}
 use Rattle.st_base.specs.Work.{Counts}
 use Rattle.st_drive.specs.Lines.{all_lines}
+use Rattle.st_drive.specs.Runs.{Course}
+use Rattle.st_drive.specs.Tables.{replying}
 use Rattle.st_io.specs.Past.{Past}
+use Rattle.st_journal.specs.Coming.{StandFrom}
 use Rattle.st_journal_lines.specs.Answering.{Answering}
-use Rattle.st_journal_lines.specs.Journalled.{KeepsLines}
+use Rattle.st_journal_lines.specs.Journalled.{KeepsFirstLines, KeepsLines}
 use Rattle.st_node.specs.Changing.{is_changing}
 use Rattle.st_node.specs.Machine.{Machine, after, answered, replies}
 use Rattle.st_node.specs.Work.{DueOver}
-use Rattle.st_status.specs.Answered.{Command}
 use Rattle.st_cli.specs.declared.form.NodeOptions.{NodeOptions}
 use Rattle.st_cli.specs.Node.{LinesCount, new_node}
 use Rattle.st_cli.specs.NodeLines.{RanLines}
@@ -30,15 +32,21 @@ node_answering = record {
 abbrev pub node_from : NodeOptions → (r : List (List ℕ)) → Machine
 node_from options r = after (new_node options) r
 
--- what such a node means, from these counters of work to those: its replies to lines, and a bound on the work, in
--- which the records count as the lines do
-abbrev pub journal_command : NodeOptions → (r : List (List ℕ)) → (work counted : Counts) → Command
-journal_command options r work counted = record {
-  replies = replies (node_from options r);
-  counted = λ lines. LinesCount options (r ++ lines) work counted;
-}
+-- What such a node does over lines, from these counters of work to those: its replies, and a bound on the work, in which
+-- the records count as the lines do.
+abbrev pub journal_course : NodeOptions → (r : List (List ℕ)) → (work counted : Counts) → Course
+journal_course options r work counted = replying (replies (node_from options r)) (λ lines. LinesCount options (r ++ lines) work counted)
 
--- What the run leaves of its disk over an input: the records r, and then those of the input's lines that change
+-- the work is bounded by the first records of an image, whatever stands behind them
+abbrev pub FirstRecordsCount : NodeOptions → (image : List ℕ) → (work counted : Counts) → Type 0
+FirstRecordsCount options image work counted =
+    (first : List (List ℕ)) × (end : ℕ) × StandFrom 0 first end image × LinesCount options first work counted
+
+-- What the run leaves of its disk at each moment.
+abbrev pub KeepsFirst : NodeOptions → (r : List (List ℕ)) → (input : List ℕ) → (old new : Past) → Type 0
+KeepsFirst options r input old new = KeepsFirstLines node_answering (node_from options r) r (all_lines input) old new
+
+-- What the run leaves of its disk over an input at its end: the records r, and then those of the input's lines that change
 -- the machine.
 abbrev pub KeepsRecords : NodeOptions → (r : List (List ℕ)) → (input written : List ℕ) → (old new : Past) → Type 0
 KeepsRecords options r input written old new =

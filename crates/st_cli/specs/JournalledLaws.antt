@@ -1,9 +1,12 @@
 -- What is promised of a node as a machine that lines bring back.
 use Rattle.std.proofs.Common.{ap, arith}
-use Rattle.st_journal_lines.specs.Answering.{AnsweringLaws}
+use Rattle.st_journal_lines.specs.Answering.{AnsweringLaws, Idles}
 use Rattle.st_node.proofs.ChangingLemmas.{changing_short}
+use Rattle.st_node.proofs.IdleLemmas.{line_keeps}
 use Rattle.st_node.proofs.LineLemmas.{cut_answered}
+use Rattle.st_node.specs.Changed.{HasFew}
 use Rattle.st_node.specs.Changing.{is_changing}
+use Rattle.st_node.specs.Machine.{new_machine}
 use Rattle.st_cli.specs.Journalled.{node_answering}
 use Rattle.st_cli.specs.NodeLaws.{node_laws}
 use Rattle.st_cli.specs.NodeLines.{kept_of_line}
@@ -23,4 +26,12 @@ answering_laws = record {
     gave_up_more = λ m n c d e lines more first then. node_laws.gave_up_more m n (c, tt) (d, tt) (e, tt) lines more first then;
   };
   gave_up_behind = λ m n c d line ran. ran.due;
+}
+
+-- a line whose reply has not the form of a change leaves each machine that lines bring back
+pub node_idles : Idles node_answering new_machine HasFew
+node_idles = record {
+  starts = λ schedule. omega arith;
+  stays = λ machine line few. (line_keeps machine line).few few;
+  idle = λ machine line few none. (line_keeps machine line).idle few none;
 }

@@ -1,10 +1,11 @@
--- A run of a node: what it means as a command, and a bound on the work that is counted.
+-- A run of a node: what it replies to lines, and a bound on the work that is counted.
 use Rattle.std.specs.Prelude.{ℕ, List}
 use Rattle.st_base.specs.Work.{Counts}
 use Rattle.st_drive.specs.Lines.{all_lines}
+use Rattle.st_drive.specs.Runs.{Course}
+use Rattle.st_drive.specs.Tables.{replying}
 use Rattle.st_node.specs.Machine.{Machine, new_machine, replies}
 use Rattle.st_node.specs.Work.{DueOver, RunCounts, entries_of, submitted_in}
-use Rattle.st_status.specs.Answered.{Command}
 use Rattle.st_cli.specs.declared.form.NodeOptions.{NodeOptions}
 
 -- the reference machine under the schedule of these options, before anything has come
@@ -19,13 +20,9 @@ node_replies options lines = replies (new_node options) lines
 abbrev pub replies_to : NodeOptions → List ℕ → List ℕ
 replies_to options input = node_replies options (all_lines input)
 
--- what a node means, from these counters of work to those: its replies to lines, and that no more was counted over
--- lines than was due
-abbrev pub node_command : NodeOptions → (work counted : Counts) → Command
-node_command options work counted = record {
-  replies = node_replies options;
-  counted = λ lines. DueOver (new_node options) lines work counted;
-}
+-- what a node does over lines, from these counters of work to those: its replies, and no more was counted than was due
+abbrev pub node_course : NodeOptions → (work counted : Counts) → Course
+node_course options work counted = replying (node_replies options) (λ lines. DueOver (new_node options) lines work counted)
 
 -- what a run over these lines may count, from the beginning on: by the entries that come of them, and by
 -- how many of them are `submit` lines

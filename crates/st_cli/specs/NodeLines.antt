@@ -24,4 +24,5 @@ node_meaning = record {
   told = λ work. ⊤;
   ran = RanLines;
   gave_up = λ machine work lines counted. DueOver machine lines work.0 counted.0;
+  prompt = ⊥;
 }

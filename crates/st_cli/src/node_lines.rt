@@ -1,6 +1,7 @@
-ghost use Rattle.std.specs.Prelude.{◌≡◌, ⊤};
+ghost use Rattle.std.specs.Prelude.{◌≡◌, ⊤, false};
 ghost use Rattle.st_cli.specs.Journalled.{node_answering};
-ghost use Rattle.st_cli.specs.JournalledLaws.{answering_laws};
+ghost use Rattle.st_cli.specs.JournalledLaws.{answering_laws, node_idles};
+ghost use Rattle.st_node.specs.Changed.{HasFew};
 ghost use Rattle.st_node.specs.Machine.{new_machine};
 ghost use Rattle.st_cli.specs.NodeLaws.{node_laws};
 ghost use Rattle.st_cli.specs.NodeLines.{kept_of_line, node_meaning};
@@ -51,6 +52,10 @@ impl Machine for NodeLines {
 
     const CAP: usize = LONGEST_LINE + 1;
 
+    ghost PROMPT = { false };
+
+    const PROMPT: bool = false;
+
     ghost fits = { λ _ _ _. ⊤ };
 
     ghost faults = { λ _. 0 };
@@ -70,6 +75,8 @@ impl Machine for NodeLines {
 
     ghost fewer = { λ m c many few le fits. fits };
 
+    ghost prompt = { λ never. absurd never };
+
     ghost laws = { node_laws };
 }
 
@@ -81,6 +88,8 @@ impl Replayable for NodeLines {
     ghost start = { new_machine };
 
     ghost answering = { node_answering };
+
+    ghost good = { HasFew };
 
     ghost CAP = { kept_of_line };
 
@@ -105,6 +114,8 @@ impl Replayable for NodeLines {
             Err(want) => Err(want),
         }
     }
+
+    ghost idles = { node_idles };
 
     ghost laws = { answering_laws };
 }

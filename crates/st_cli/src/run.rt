@@ -1,10 +1,9 @@
-ghost use Rattle.std.specs.Prelude.{◌≡◌, ◌≢◌, ◌↔◌, ◌≤◌, None, true, IsTrue};
+ghost use Rattle.std.specs.Prelude.{◌≡◌, ◌↔◌, ◌≤◌, None, IsTrue};
 ghost use Rattle.st_io.specs.Causes.{Rose};
-ghost use Rattle.st_io.specs.Sinks.{FinishesNothing};
-ghost use Rattle.st_status.specs.Answered.{RunTable};
-ghost use Rattle.st_status.specs.Status.{is_end};
+ghost use Rattle.st_drive.specs.Streams.{storage, streams};
+ghost use Rattle.st_drive.specs.Tables.{AnswersLines, Ends};
 ghost use Rattle.st_cli.specs.Form.{form_of, max_input};
-ghost use Rattle.st_cli.specs.Node.{node_command};
+ghost use Rattle.st_cli.specs.Node.{node_course};
 ghost use Rattle.st_cli.specs.Runs.{Promised};
 ghost use Rattle.st_cli.specs.Status.{is_status};
 
@@ -12,12 +11,12 @@ use crate::form::{Form, MAX_INPUT, NodeOptions};
 use crate::node_lines::NodeLines;
 use crate::reading::read_form;
 use st_base::{Text, Work};
+use st_drive::run_machine;
 use st_generate::run_generate;
 use st_io::{Disk, Sink, Source};
 use st_journal_lines::run_journalled;
 use st_network::run_exchange;
 use st_node::Node;
-use st_status::run_machine;
 use st_wallet_lines::run_wallet;
 use std::alloc::Global;
 
@@ -62,44 +61,22 @@ pub fn run<S: Source, K: Sink, D: Disk>(
     disk: &mut D,
     work: &mut Work,
 ) -> u8
-    // Words of no form, and only they, are refused, and then nothing is touched.
+    // Words of no form, and only they, are refused.
     ensures words { (result ≡ 1) ↔ (form_of words.now ≡ None) }
-    ensures untouched { result ≡ 1
-        → (source.new ≡ source.old) × (sink.new ≡ sink.old) × (disk.new ≡ disk.old) × (work.new ≡ work.old) }
 
-    // The sink is finished at status 0, and under every other status only where it was before.
-    ensures finished { result ≡ 0 → K.is_finished sink.new ≡ true }
-    ensures unfinished { result ≢ 0
-        → FinishesNothing (K.is_finished sink.old) (K.is_finished sink.new) }
-
-    // A fault has its cause, and there is no other status.
-    ensures read_fault { result ≡ 2 → Rose (S.faults source.old) (S.faults source.new) }
-    ensures write_fault { result ≡ 3 → Rose (K.faults sink.old) (K.faults sink.new) }
-    ensures disk_fault { result ≡ 4 → Rose (D.faults disk.old) (D.faults disk.new) }
+    // The sink is finished at status 0, and under every other only where it was before; a fault has its cause, and
+    // there is no other status.
+    ensures ends { Ends (streams S.left S.faults source.old source.new K.written K.is_finished K.faults sink.old sink.new)
+        (Rose (D.faults disk.old) (D.faults disk.new)) result }
     ensures statuses { IsTrue (is_status result) }
 
-    // What the command that the words ask for promises of this run: `NodeRun`, `JournalRun`, `WalletRun`,
-    // `ExchangeRun` or `GenerateRun` of `specs/Runs.antt`.
+    // What the command that the words ask for promises of this run: `NodeRun`, `JournalRun`, `IsWalletRun`,
+    // `ExchangeRun` or `GenerateRun` of `specs/Runs.antt`; words of no form leave all as it was, `IsRefused`.
     ensures promised { Promised (form_of words.now) (record {
-      io = record {
-        had = S.left source.old;
-        left = S.left source.new;
-        held = K.written sink.old;
-        holds = K.written sink.new;
-        read_failed = Rose (S.faults source.old) (S.faults source.new);
-        write_failed = Rose (K.faults sink.old) (K.faults sink.new);
-      };
-      disk = record {
-        reads = D.reads disk.old;
-        before = D.past disk.old;
-        behind = D.past disk.new;
-        failed = Rose (D.faults disk.old) (D.faults disk.new);
-      };
-      work = work.old;
-      counted = work.new;
-      source_kept = source.new ≡ source.old;
-      sink_kept = sink.new ≡ sink.old;
-      disk_kept = disk.new ≡ disk.old;
+      io = streams S.left S.faults source.old source.new K.written K.is_finished K.faults sink.old sink.new;
+      disk = storage D.reads D.past D.faults disk.old disk.new;
+      context = work.old;
+      context_now = work.new;
       status = result;
     }) }
 {
@@ -130,20 +107,8 @@ fn run_node<S: Source, K: Sink>(
     work: &mut Work,
 ) -> u8
     requires { options.limit ≤ max_input }
-    ensures table { RunTable (node_command options work.old work.new) options.limit (record {
-      had = S.left source.old;
-      left = S.left source.new;
-      held = K.written sink.old;
-      holds = K.written sink.new;
-      read_failed = Rose (S.faults source.old) (S.faults source.new);
-      write_failed = Rose (K.faults sink.old) (K.faults sink.new);
-    }) result }
-    ensures finished { result ≡ 0 → K.is_finished sink.new ≡ true }
-    ensures unfinished { result ≢ 0
-        → FinishesNothing (K.is_finished sink.old) (K.is_finished sink.new) }
-    ensures read_fault { result ≡ 2 → Rose (S.faults source.old) (S.faults source.new) }
-    ensures write_fault { result ≡ 3 → Rose (K.faults sink.old) (K.faults sink.new) }
-    ensures statuses { IsTrue (is_end result) × (result ≢ 4) }
+    ensures { AnswersLines (node_course options work.old work.new) options.limit
+        (streams S.left S.faults source.old source.new K.written K.is_finished K.faults sink.old sink.new) ⊥ result }
 {
     match Node::new(alloc, options.schedule) {
         Ok(node) => {

@@ -14,9 +14,9 @@ use Rattle.st_canon.specs.Plain.{Plain, list}
 use Rattle.st_canon.specs.Reading.{json_of}
 use Rattle.st_canon.specs.Rewritten.{IsNext}
 use Rattle.st_canon.specs.Shapes.{json_in}
-use Rattle.st_canon.specs.View.{items_of, plain}
-use Rattle.st_canon.proofs.Back.{reads_back}
+use Rattle.st_canon.specs.View.{items_of}
 use Rattle.st_canon.proofs.DirectLemmas.{list_value, one_member, text_read, was_read}
+use Rattle.st_canon.proofs.NestsLemmas.{back_within}
 use Rattle.st_datafiles.specs.OnlyList.{ends, object_of_list, opens_list}
 use Rattle.st_canon.specs.Packed.{IsReadAgain, value_read}
 
@@ -38,8 +38,8 @@ module _ (name : List ℕ) (entries : List Plain) (inside : List Token)
 
 -- the canonical text of the next value is read again as that value
 pub next_read_again : (old new : List Token) (text : List ℕ) (next : IsNext 125 old new [] text)
-    → IsReadAgain text × (value_read (json_of text) ≡ plain next.is)
+    → IsReadAgain text × (value_read (json_of text) ≡ next.is)
 next_read_again old new text next =
     let shallow = next.shallow in
-    let is : json_of text ≡ Ok (plain next.is) = ap json_of next.text ∙ reads_back (plain next.is) next.proper (omega (arith, shallow)) in
+    let is : json_of text ≡ Ok next.is = ap json_of next.text ∙ back_within next.is next.proper (omega (arith, shallow)) in
     rw is ((next.proper, refl, sym next.text), refl)

@@ -19,8 +19,7 @@ const USUAL: usize = 1_000;
 
 /// The entries of the list that is the only member, of this name, of the object that the file is, at most so
 /// many. Each is packed as soon as it was read, and shares its text with the file where that is canonical.
-/// `None` says nothing of the file: it is to be read whole. It comes where some names do not ascend, and
-/// where there are more entries.
+/// `None` says nothing of the file: it is to be read whole. It comes where there are more entries.
 pub(crate) fn read_entries(
     alloc: Global,
     file: &Shared<Bytes>,

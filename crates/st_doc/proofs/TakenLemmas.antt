@@ -9,7 +9,7 @@ use Rattle.st_canon.specs.View.{items_of}
 use Rattle.st_canon.proofs.ItemLists.{entries-items_of}
 use Rattle.st_canon.proofs.ObjectLemmas.{entries_in-some_list, member_at-some_listed}
 use Rattle.st_params.specs.Limits.{Limits}
-use Rattle.st_doc.specs.Document.{PlainDocument, document_in, document_json, if_document, keeps_rules}
+use Rattle.st_doc.specs.Document.{PlainDocument, document_in, document_json, if_document, is_document, keeps_rules}
 use Rattle.st_doc.specs.Entries.{texts_of}
 
 texts_of-text : (texts : List (List ℕ)) → texts_of (map text texts) ≡ texts
@@ -37,17 +37,38 @@ document_in-json document =
     (ap (λ there. texts_of (entries_in there)) (member_at-some_listed (codes "alsoKnownAs") (members document) refl)
     ∙ ap texts_of (entries_in-some_list (map text document.names)) ∙ texts_of-text document.names)
 
-both : (first second : Bool) (document : Option PlainDocument) → first ≡ true → second ≡ true
-    → (if first && second then document else None) ≡ document
-both true true document p q = refl
-both true false document p q = cc
-both false second document p q = cc
+swapped : (first second : Bool) → (first && second) ≡ (second && first)
+swapped true true = refl
+swapped true false = refl
+swapped false true = refl
+swapped false false = refl
 
--- what keeps the rules and the bounds, and was taken back out of its JSON, is the document
+-- what is judged by its JSON is judged
+right_is : (limits : Limits) (document : PlainDocument) (json : Plain) → json ≡ document_json document
+    → (fits limits.max_depth limits.max_document json && keeps_rules limits.version (document_in json)) ≡ is_document limits document
+right_is limits document json is =
+    ap (λ j. fits limits.max_depth limits.max_document j && keeps_rules limits.version (document_in j)) is
+    ∙ ap (λ d. fits limits.max_depth limits.max_document (document_json document) && keeps_rules limits.version d) (document_in-json document)
+    ∙ swapped (fits limits.max_depth limits.max_document (document_json document)) (keeps_rules limits.version document)
+
+given : (right : Bool) (document : PlainDocument) → right ≡ true → Some document ≡ (if right then Some document else None)
+given true document is = refl
+given false document is = absurd cc
+
+none : (right : Bool) (document : PlainDocument) → right ≡ false → None ≡ (if right then Some document else None)
+none true document is = absurd cc
+none false document is = refl
+
+-- what is right, and was taken back out of its JSON, is the document
 pub taken_is : (limits : Limits) (document taken : PlainDocument) (json : Plain)
-    → keeps_rules limits.version document ≡ true → fits limits.max_depth limits.max_document json ≡ true
+    → (fits limits.max_depth limits.max_document json && keeps_rules limits.version (document_in json)) ≡ true
     → json ≡ document_json document → taken ≡ document_in json → Some taken ≡ if_document limits document
-taken_is limits document taken json rules bounds is from =
+taken_is limits document taken json right is from =
     ap Some (from ∙ ap document_in is ∙ document_in-json document)
-    ∙ sym (both (keeps_rules limits.version document) (fits limits.max_depth limits.max_document (document_json document)) (Some document)
-    rules (ap (fits limits.max_depth limits.max_document) (sym is) ∙ bounds))
+    ∙ given (is_document limits document) document (sym (right_is limits document json is) ∙ right)
+
+-- what is not, is no document
+pub none_is : (limits : Limits) (document : PlainDocument) (json : Plain)
+    → (fits limits.max_depth limits.max_document json && keeps_rules limits.version (document_in json)) ≡ false
+    → json ≡ document_json document → None ≡ if_document limits document
+none_is limits document json wrong is = none (is_document limits document) document (sym (right_is limits document json is) ∙ wrong)

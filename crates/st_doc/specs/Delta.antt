@@ -3,9 +3,10 @@
 use Rattle.std.specs.Prelude.{ℕ, ◌+◌, nat_le, List, [], ◌∷◌, map, codes, Option, Some, None, ok_or, option_and_then, Result, Ok}
 use Rattle.st_base.specs.Answers.{◌>>=◌, ◌>>◌, holds_or}
 use Rattle.st_canon.specs.Depth.{depth_of}
+use Rattle.st_canon.specs.Entries.{list_in, text_in}
 use Rattle.st_canon.specs.Measure.{size_of}
 use Rattle.st_canon.specs.Plain.{Plain}
-use Rattle.st_canon.specs.Shapes.{is_object_of, list_at, text_at}
+use Rattle.st_canon.specs.Shapes.{both_members}
 use Rattle.st_hash.specs.Hash.{HashValue, hash_of_text_at}
 use Rattle.st_params.specs.Limits.{Limits}
 use Rattle.st_doc.specs.Patch.{PlainPatch, patch_of, plain_patch}
@@ -22,9 +23,9 @@ pub record PlainDelta : Type 0 where
 abbrev pub plain_delta : Delta → PlainDelta
 plain_delta delta = record { patches = map plain_patch delta.patches; update = delta.update }
 
--- the hash whose text is the update commitment, one of the version
-abbrev pub update_in : ℕ → Plain → Option HashValue
-update_in version delta = option_and_then (hash_of_text_at version) (text_at (codes "updateCommitment") (Some delta))
+-- the hash of the version whose text a value is
+abbrev pub hash_in : ℕ → Plain → Option HashValue
+hash_in version value = option_and_then (hash_of_text_at version) (text_in value)
 
 -- The patches that these values are, or the number of the first that is none, the first of these
 -- being `i`.
@@ -35,18 +36,24 @@ patches_of limits i (value ∷ values) = do
   patches ← patches_of limits (i + 1) values
   Ok (patch ∷ patches)
 
--- The delta that a value is, or the first that is wrong: its canonical text is too long; it is no object of
--- `patches`, a list, and `updateCommitment`, a hash text of the version, or nests more than 64 deep; or a
--- patch is none.
+-- The values in `patches`, and the update commitment, of what has the outer form of a delta; or what is wrong: its
+-- canonical text is too long; or it is no object of `patches`, a list, and `updateCommitment`, a hash text of the
+-- version, or nests more than 64 deep.
+unfoldable pub outer_of : Limits → Plain → Result (List Plain × HashValue) DeltaRefused
+outer_of limits delta = do
+  holds_or (nat_le (size_of delta) limits.max_delta) TooLong
+  both ← ok_or (both_members (codes "patches") (codes "updateCommitment") (Some delta)) BadDelta
+  update ← ok_or (hash_in limits.version both.1) BadDelta
+  holds_or (nat_le (depth_of delta) 64) BadDelta
+  values ← ok_or (list_in both.0) BadDelta
+  Ok (values, update)
+
+-- The delta that a value is, or the first that is wrong: its outer form, or a patch that is none.
 unfoldable pub delta_of : Limits → Plain → Result PlainDelta DeltaRefused
 delta_of limits delta = do
-  holds_or (nat_le (size_of delta) limits.max_delta) TooLong
-  holds_or (is_object_of (codes "patches" ∷ codes "updateCommitment" ∷ []) (Some delta)) BadDelta
-  update ← ok_or (update_in limits.version delta) BadDelta
-  holds_or (nat_le (depth_of delta) 64) BadDelta
-  values ← ok_or (list_at (codes "patches") (Some delta)) BadDelta
-  patches ← patches_of limits 0 values
-  Ok (record { patches = patches; update = update })
+  outer ← outer_of limits delta
+  patches ← patches_of limits 0 outer.0
+  Ok (record { patches = patches; update = outer.1 })
 
 -- what a refusal says of the value: nothing, where memory was wanting
 abbrev pub refusal_of : DeltaRefused → Option DeltaRefused

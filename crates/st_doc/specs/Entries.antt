@@ -1,12 +1,13 @@
 -- The forms of the keys and services of a document (after DIF Sidetree v1.0.0, "DID State Patches", in bounds of
 -- this project's own). `None` is a value that is not there.
-use Rattle.std.specs.Prelude.{ℕ, ◌==◌, Bool, true, false, ◌&&◌, ◌||◌, nat_le, List, [], ◌∷◌, length, codes, Option, Some, None, unwrap_or}
+use Rattle.std.specs.Prelude.{ℕ, ◌==◌, Bool, true, false, ◌&&◌, ◌||◌, nat_le, List, [], ◌∷◌, length, codes, Option, Some, None, is_some, option_and_then, option_map, unwrap_or}
 use Rattle.std.specs.Char.{is_ascii_alphanumeric}
-use Rattle.std.specs.List.{list_all, filter_map}
-use Rattle.st_canon.specs.Entries.{entries, text_in}
-use Rattle.st_canon.specs.Plain.{Plain, text, list, object}
+use Rattle.std.specs.List.{list_all, list_any, filter_map}
+use Rattle.st_canon.specs.Entries.{list_in, members_in, text_in}
+use Rattle.st_canon.specs.Plain.{Plain}
 use Rattle.st_canon.specs.Shapes.{is_object_of, member_in, text_at}
-use Rattle.st_doc.specs.Alike.{is_among, none_twice}
+use Rattle.st_canon.specs.Texts.{is_text_of}
+use Rattle.st_doc.specs.Alike.{none_twice}
 
 -- every one of the tests is true
 abbrev pub all_hold : List Bool → Bool
@@ -18,10 +19,13 @@ all_hold tests = list_all (λ holds. holds) tests
 abbrev pub is_short : ℕ → List ℕ → Bool
 is_short most bytes = nat_le 1 (length bytes) && nat_le (length bytes) most
 
+-- a text of which this holds stands there
+abbrev pub is_text_that : (List ℕ → Bool) → Option Plain → Bool
+is_text_that holds there = unwrap_or (option_map holds (option_and_then text_in there)) false
+
 -- a text of 1 to so many bytes stands there
 abbrev pub is_short_text : ℕ → Option Plain → Bool
-is_short_text most (Some (text bytes)) = is_short most bytes
-is_short_text most other = false
+is_short_text most there = is_text_that (is_short most) there
 
 -- the same, or no value at all
 abbrev pub is_short_text_if_there : ℕ → Option Plain → Bool
@@ -38,8 +42,7 @@ is_id bytes = is_short 50 bytes && list_all is_base64url_sign bytes
 
 -- a text that is an id
 abbrev pub is_id_text : Option Plain → Bool
-is_id_text (Some (text bytes)) = is_id bytes
-is_id_text other = false
+is_id_text there = is_text_that is_id there
 
 -- 1 to 100 bytes
 abbrev pub is_name : List ℕ → Bool
@@ -49,8 +52,7 @@ is_name bytes = is_short 100 bytes
 
 -- an object, whatever is in it
 abbrev pub is_object : Option Plain → Bool
-is_object (Some (object _)) = true
-is_object other = false
+is_object there = is_some (option_and_then members_in there)
 
 -- what a key may be for (after DIF Sidetree v1.0.0, "add-public-keys")
 abbrev pub purposes : List (List ℕ)
@@ -59,22 +61,20 @@ purposes = codes "authentication" ∷ codes "assertionMethod" ∷ codes "keyAgre
 
 -- a text that is one of the purposes
 abbrev pub is_purpose : Plain → Bool
-is_purpose (text bytes) = is_among purposes bytes
-is_purpose other = false
+is_purpose value = list_any (λ word. is_text_of word value) purposes
 
 -- the texts of a list
 abbrev pub texts_of : List Plain → List (List ℕ)
 texts_of values = filter_map text_in values
 
--- a list of purposes, each once
-abbrev pub are_purposes : Option Plain → Bool
-are_purposes (Some (list items)) = list_all is_purpose (entries items) && none_twice (texts_of (entries items))
-are_purposes other = false
+-- values that are purposes, each once
+abbrev pub are_purposes : List Plain → Bool
+are_purposes values = list_all is_purpose values && none_twice (texts_of values)
 
--- the same, or no value at all
+-- a list of these, or no value at all
 abbrev pub are_purposes_if_there : Option Plain → Bool
 are_purposes_if_there None = true
-are_purposes_if_there (Some value) = are_purposes (Some value)
+are_purposes_if_there (Some value) = unwrap_or (option_map are_purposes (list_in value)) false
 
 -- the members that a key may have
 abbrev pub key_names : List (List ℕ)

@@ -1,13 +1,13 @@
 -- The patches of a delta, after DIF Sidetree v1.0.0, "Standard Patch Actions"; the rules, and the patches on
 -- names, are this project's own. Each is an object with exactly `action` and the member that this action needs.
-use Rattle.std.specs.Prelude.{ℕ, ◌&&◌, List, [], ◌∷◌, map, codes, if◌then◌else◌, bytes_eq, Option, Some, None, option_and_then}
+use Rattle.std.specs.Prelude.{ℕ, ◌&&◌, List, map, codes, if◌then◌else◌, bytes_eq, Option, Some, None, option_and_then}
 use Rattle.std.specs.List.{list_all}
 use Rattle.std.specs.Result.{result_ok}
 use Rattle.st_base.specs.Each.{each_of}
 use Rattle.st_base.specs.Options.{◌>>=◌, ◌>>◌}
-use Rattle.st_canon.specs.Entries.{text_in}
+use Rattle.st_canon.specs.Entries.{list_in, text_in}
 use Rattle.st_canon.specs.Plain.{Plain}
-use Rattle.st_canon.specs.Shapes.{is_object_of, list_at, member_in, text_at}
+use Rattle.st_canon.specs.Shapes.{both_members, text_at}
 use Rattle.st_canon.specs.View.{plain}
 use Rattle.st_jsonpatch.specs.Step.{PlainStep, plain_step, step_of}
 use Rattle.st_params.specs.Limits.{Limits}
@@ -16,6 +16,8 @@ use Rattle.st_doc.specs.Document.{PlainDocument, document_of, may_have_names, pl
 use Rattle.st_doc.specs.Entries.{id_of, is_id, is_key, is_name, is_service}
 use Rattle.st_doc.specs.declared.action.Action.{Action}
 use Rattle.st_doc.specs.declared.action.Action.TheVariants as action
+use Rattle.st_doc.specs.declared.patch.Found.{Found}
+use Rattle.st_doc.specs.declared.patch.Found.TheVariants.{Keys, Services, Whole}
 use Rattle.st_doc.specs.declared.patch.Patch.{Patch}
 use Rattle.st_doc.specs.declared.patch.Patch.TheVariants.{AddKeys, RemoveKeys, AddServices, RemoveServices, Replace, Steps, AddNames, RemoveNames}
 
@@ -41,13 +43,23 @@ plain_patch (Steps list) = steps (map plain_step list)
 plain_patch (AddNames names) = add_names names
 plain_patch (RemoveNames names) = remove_names names
 
+-- the same of a patch that was read
+abbrev pub found_patch : Found → PlainPatch
+found_patch (Keys keys) = add_keys keys
+found_patch (Services services) = add_services services
+found_patch (Whole patch) = plain_patch patch
+
 -- ---- what stands in a patch
 
--- the values of the list that is the one member beside `action`
+-- the value of the one member beside `action`
+abbrev pub beside_action : List ℕ → Plain → Option Plain
+beside_action name patch = do
+  both ← both_members (codes "action") name (Some patch)
+  Some both.1
+
+-- the values of the list that stands there
 abbrev pub values_at : List ℕ → Plain → Option (List Plain)
-values_at name patch = do
-  is_object_of (codes "action" ∷ name ∷ []) (Some patch)
-  list_at name (Some patch)
+values_at name patch = option_and_then list_in (beside_action name patch)
 
 -- the ids that a patch lists
 abbrev pub ids_in : Plain → Option (List (List ℕ))
@@ -98,8 +110,7 @@ remove_services_of patch = do
 -- `replace`: a whole document
 abbrev pub replace_of : Limits → Plain → Option PlainPatch
 replace_of limits patch = do
-  is_object_of (codes "action" ∷ codes "document" ∷ []) (Some patch)
-  value ← member_in (codes "document") (Some patch)
+  value ← beside_action (codes "document") patch
   document ← result_ok (document_of limits value)
   Some (replace document)
 

@@ -1,9 +1,10 @@
-ghost use Rattle.std.specs.Prelude.{◌≡◌};
-ghost use Rattle.st_canon.specs.View.{plain};
+ghost use Rattle.std.specs.Prelude.{◌≡◌, IfOk};
 ghost use Rattle.st_doc.specs.Patch.{action_named, action_of};
 
 use crate::check::may_have_names;
-use st_canon::Json;
+use st_base::WantOfMemory;
+use st_canon::scan::Scanned;
+use std::alloc::Global;
 
 /// What a patch does, by its `action`.
 #[derive(Clone, Copy, Debug)]
@@ -19,11 +20,20 @@ pub(crate) enum Action {
 }
 
 /// The action that a value names, where it is one of this version.
-pub(crate) fn action_of(value: &Json, version: u8) -> Option<Action>
-    ensures { result ≡ action_of version (plain value.now) }
+pub(crate) fn action_of(
+    alloc: Global,
+    value: &Scanned<'_>,
+    version: u8,
+) -> Result<Option<Action>, WantOfMemory>
+    ensures { IfOk result (λ action. action ≡ action_of version value.now) }
 {
-    let name = value.member("action")?.as_text()?;
-    action_named(name, version)
+    let Some(action) = value.member("action") else {
+        return Ok(None);
+    };
+    match action.text(alloc)? {
+        Some(name) => Ok(action_named(name.as_str(), version)),
+        None => Ok(None),
+    }
 }
 
 fn action_named(name: &str, version: u8) -> Option<Action>

@@ -1,61 +1,96 @@
-ghost use Rattle.std.specs.Prelude.{◌≡◌, ◌≤◌, map, nat_le};
-ghost use Rattle.st_base.specs.Answers.{GivesAs};
+ghost use Rattle.std.specs.Prelude.{◌≡◌, ◌≤◌, is_some, map, nat_le, IfOk};
+ghost use Rattle.std.specs.List.{list_all};
+ghost use Rattle.std.specs.Result.{result_ok};
+ghost use Rattle.st_base.specs.Answers.{Gives, GivesAs};
 ghost use Rattle.st_canon.specs.Depth.{depth_of};
 ghost use Rattle.st_canon.specs.Measure.{size_of};
 ghost use Rattle.st_canon.specs.View.{plain};
-ghost use Rattle.st_doc.specs.Delta.{delta_of, patches_of, plain_delta, refusal_of, update_in};
-ghost use Rattle.st_doc.specs.Patch.{plain_patch};
+ghost use Rattle.st_doc.specs.Delta.{delta_of, hash_in, outer_of, patches_of, plain_delta, refusal_of};
+ghost use Rattle.st_doc.specs.Patch.{patch_of, plain_patch};
 
 use crate::delta::Delta;
 use crate::patch::Patch;
-use crate::patch_reading::take_patch;
+use crate::patch_reading::{read_patch, whole};
 use crate::refused::DeltaRefused;
-use crate::taking::take_list;
-use st_base::List;
+use crate::scanned::list_in;
+use st_base::{List, WantOfMemory};
+use st_canon::scan::{CanonicalText, Entries, Scanned};
 use st_canon::{Json, depth, fits};
 use st_hash::{Hash, read_hash_at};
 use st_params::Params;
 use std::alloc::Global;
 
-pub(crate) const MAX_DEPTH: u64 = 64;
+const MAX_DEPTH: u64 = 64;
 
-/// The delta at these parameters that this value is. The value is taken over: keys, services and
-/// documents in it are moved and not copied.
+/// The delta at these parameters that this value is.
 ///
 /// It refuses with the first of these that holds: `TooLong`, `BadDelta`, and `BadPatch(i)` for the
 /// first value in `patches` that is no patch.
-#[tactic(auto, unfolding(crate::specs::Delta::delta_of))]
-pub fn check_delta(alloc: Global, value: Json, params: &Params) -> Result<Delta, DeltaRefused>
-    ensures { GivesAs plain_delta refusal_of (delta_of params.now (plain value)) result }
+#[tactic(auto, using(crate::proofs::DeltaLemmas::long_refused, crate::proofs::DeltaLemmas::deep_refused))]
+pub fn check_delta(alloc: Global, value: &Json, params: &Params) -> Result<Delta, DeltaRefused>
+    ensures { GivesAs plain_delta refusal_of (delta_of params.now (plain value.now)) result }
 {
-    if is_within_size(&value, params) {
-        check_short_delta(alloc, value, params)
-    } else {
-        Err(DeltaRefused::TooLong)
+    if !is_within_size(value, params) {
+        return Err(DeltaRefused::TooLong);
+    }
+    if !is_shallow(value) {
+        return Err(DeltaRefused::BadDelta);
+    }
+    let text = CanonicalText::of(alloc, value)?;
+    read_delta(alloc, &text.root(), params)
+}
+
+/// The same of a value that stands in its canonical text. Trees are made of what is applied of it.
+#[tactic(auto, unfolding(crate::specs::Delta::delta_of))]
+pub fn read_delta(
+    alloc: Global,
+    delta: &Scanned<'_>,
+    params: &Params,
+) -> Result<Delta, DeltaRefused>
+    ensures { GivesAs plain_delta refusal_of (delta_of params.now delta.now) result }
+{
+    let (patches, update) = outer_of(alloc, delta, params)?;
+    let patches = read_patches(alloc, patches, params)?;
+    Ok(Delta { patches, update })
+}
+
+/// Whether it is a delta at these parameters. Of its keys and services no trees are made.
+#[tactic(auto, unfolding(crate::specs::Delta::delta_of), using(crate::proofs::PatchLists::is_by_patches))]
+pub fn is_delta(alloc: Global, delta: &Scanned<'_>, params: &Params) -> Result<bool, WantOfMemory>
+    ensures { IfOk result (λ is. is ≡ is_some (result_ok (delta_of params.now delta.now))) }
+{
+    match outer_of(alloc, delta, params) {
+        Ok((patches, _)) => are_patches(alloc, patches, params),
+        Err(DeltaRefused::WantOfMemory) => Err(WantOfMemory),
+        Err(_) => Ok(false),
     }
 }
 
-/// The same of a value whose canonical text is known to be no longer than that of a delta may be. It isn't
-/// measured again.
-#[tactic(auto, unfolding(crate::specs::Delta::delta_of))]
-pub fn check_short_delta(alloc: Global, value: Json, params: &Params) -> Result<Delta, DeltaRefused>
-    requires { size_of (plain value) ≤ params.now.max_delta }
-    ensures { GivesAs plain_delta refusal_of (delta_of params.now (plain value)) result }
+// The patches and the update commitment of what has the outer form of a delta.
+#[tactic(auto, unfolding(crate::specs::Delta::outer_of))]
+fn outer_of<'a>(
+    alloc: Global,
+    delta: &Scanned<'a>,
+    params: &Params,
+) -> Result<(Entries<'a>, Hash), DeltaRefused>
+    ensures { Gives refusal_of (outer_of params.now delta.now) result }
 {
-    if !value.is_object_of(&["patches", "updateCommitment"]) {
-        return Err(DeltaRefused::BadDelta);
+    if delta.size() as u64 > params.max_delta() {
+        return Err(DeltaRefused::TooLong);
     }
-    let Some(update) = update_in(&value, params.version()) else {
+    let Some((patches, update)) = delta.both_members("patches", "updateCommitment") else {
         return Err(DeltaRefused::BadDelta);
     };
-    if !is_shallow(&value) {
-        return Err(DeltaRefused::BadDelta);
-    }
-    let Some(values) = take_list(value, "patches") else {
+    let Some(update) = hash_in(alloc, &update, params.version())? else {
         return Err(DeltaRefused::BadDelta);
     };
-    let patches = take_patches(alloc, values, params)?;
-    Ok(Delta { patches, update })
+    if !nests_little(alloc, delta)? {
+        return Err(DeltaRefused::BadDelta);
+    }
+    let Some(patches) = list_in(patches) else {
+        return Err(DeltaRefused::BadDelta);
+    };
+    Ok((patches, update))
 }
 
 // Whether its canonical text is no longer than that of a delta may be.
@@ -72,36 +107,59 @@ fn is_shallow(value: &Json) -> bool
     depth(value) <= MAX_DEPTH
 }
 
-// The hash whose text is the update commitment.
-fn update_in(value: &Json, version: u8) -> Option<Hash>
+// The same of a value in its text, whose brackets mostly tell it.
+fn nests_little(alloc: Global, value: &Scanned<'_>) -> Result<bool, WantOfMemory>
+    ensures { IfOk result (λ is. is ≡ nat_le (depth_of value.now) 64) }
+{
+    if value.depth_bound() as u64 <= MAX_DEPTH {
+        return Ok(true);
+    }
+    let json = value.json(alloc)?;
+    Ok(is_shallow(&json))
+}
+
+// The hash of the version whose text this is.
+fn hash_in(alloc: Global, value: &Scanned<'_>, version: u8) -> Result<Option<Hash>, WantOfMemory>
     requires first { 1 ≤ version }
     requires last { version ≤ 2 }
-    ensures { result ≡ update_in version (plain value.now) }
+    ensures { IfOk result (λ hash. hash ≡ hash_in version value.now) }
 {
-    match value.member("updateCommitment") {
-        Some(Json::Text(text)) => match read_hash_at(text.as_str().as_bytes(), version) {
-            Ok(hash) => Some(hash),
-            Err(_) => None,
-        },
-        _ => None,
+    if let Some(text) = value.bare_text() {
+        return Ok(read_hash_at(text, version).ok());
+    }
+    match value.text(alloc)? {
+        Some(text) => Ok(read_hash_at(text.as_str().as_bytes(), version).ok()),
+        None => Ok(None),
     }
 }
 
-fn take_patches(
+// Whether each of these is a patch.
+fn are_patches(alloc: Global, patches: Entries<'_>, params: &Params) -> Result<bool, WantOfMemory>
+    ensures { IfOk result (λ are. are ≡ list_all (λ patch. is_some (patch_of params.now patch)) patches.entry) }
+{
+    let mut left = patches;
+    'patches: while let Some(patch) = left.next() {
+        if read_patch(alloc, &patch, params)?.is_none() {
+            return Ok(false);
+        }
+    }
+    Ok(true)
+}
+
+fn read_patches(
     alloc: Global,
-    values: List<Json>,
+    patches: Entries<'_>,
     params: &Params,
 ) -> Result<List<Patch>, DeltaRefused>
-    ensures { GivesAs (map plain_patch) refusal_of (patches_of params.now 0 (map plain values)) result }
+    ensures { GivesAs (map plain_patch) refusal_of (patches_of params.now 0 patches.entry) result }
 {
-    let mut patches = List::new(alloc);
-    let mut at = 0;
-    'values: for value in values.into_vec() {
-        let Some(patch) = take_patch(alloc, value, params)? else {
-            return Err(DeltaRefused::BadPatch(at));
+    let mut read = List::new(alloc);
+    let mut left = patches;
+    'patches: while let Some(patch) = left.next() {
+        let Some(found) = read_patch(alloc, &patch, params)? else {
+            return Err(DeltaRefused::BadPatch(read.len()));
         };
-        patches.push(alloc, patch)?;
-        at += 1;
+        read.push(alloc, whole(alloc, found)?)?;
     }
-    Ok(patches)
+    Ok(read)
 }

@@ -1,10 +1,10 @@
-ghost use Rattle.std.specs.Prelude.{◌≡◌, option_map};
+ghost use Rattle.std.specs.Prelude.{◌≡◌, IfOk};
 ghost use Rattle.std.specs.List.{list_all};
-ghost use Rattle.std.specs.Option.{option_copied};
-ghost use Rattle.st_canon.specs.View.{plain};
 ghost use Rattle.st_doc.specs.Entries.{is_base64url_sign, is_id, is_id_text, is_name, is_object, is_short, is_short_text, is_short_text_if_there};
 
-use st_canon::Json;
+use st_base::WantOfMemory;
+use st_canon::scan::Scanned;
+use std::alloc::Global;
 
 /// 1 to so many bytes.
 pub(crate) fn is_short(bytes: &[u8], most: usize) -> bool
@@ -45,42 +45,61 @@ pub(crate) fn is_name(text: &str) -> bool
 }
 
 /// Whether a text of 1 to so many bytes is there.
-pub(crate) fn is_short_text(there: Option<&Json>, most: usize) -> bool
-    ensures { result ≡ is_short_text most (option_map plain (option_copied there.entry)) }
+pub(crate) fn is_short_text(
+    alloc: Global,
+    there: &Option<Scanned<'_>>,
+    most: usize,
+) -> Result<bool, WantOfMemory>
+    ensures { IfOk result (λ is. is ≡ is_short_text most there.now) }
 {
-    match there {
-        Some(Json::Text(text)) => is_short(text.as_str().as_bytes(), most),
-        _ => false,
+    let Some(value) = there else {
+        return Ok(false);
+    };
+    if let Some(bytes) = value.bare_text() {
+        return Ok(is_short(bytes, most));
+    }
+    match value.text(alloc)? {
+        Some(text) => Ok(is_short(text.as_str().as_bytes(), most)),
+        None => Ok(false),
     }
 }
 
 /// The same, or nothing.
-pub(crate) fn is_short_text_if_there(there: Option<&Json>, most: usize) -> bool
-    ensures { result ≡ is_short_text_if_there most (option_map plain (option_copied there.entry)) }
+pub(crate) fn is_short_text_if_there(
+    alloc: Global,
+    there: &Option<Scanned<'_>>,
+    most: usize,
+) -> Result<bool, WantOfMemory>
+    ensures { IfOk result (λ is. is ≡ is_short_text_if_there most there.now) }
 {
-    match there {
-        None => true,
-        Some(Json::Text(text)) => is_short(text.as_str().as_bytes(), most),
-        Some(_) => false,
+    if there.is_none() {
+        return Ok(true);
     }
+    is_short_text(alloc, there, most)
 }
 
 /// Whether an id is there.
-pub(crate) fn is_id_text(there: Option<&Json>) -> bool
-    ensures { result ≡ is_id_text (option_map plain (option_copied there.entry)) }
+pub(crate) fn is_id_text(alloc: Global, there: &Option<Scanned<'_>>) -> Result<bool, WantOfMemory>
+    ensures { IfOk result (λ is. is ≡ is_id_text there.now) }
 {
-    match there {
-        Some(Json::Text(text)) => is_id(text.as_str().as_bytes()),
-        _ => false,
+    let Some(value) = there else {
+        return Ok(false);
+    };
+    if let Some(bytes) = value.bare_text() {
+        return Ok(is_id(bytes));
+    }
+    match value.text(alloc)? {
+        Some(text) => Ok(is_id(text.as_str().as_bytes())),
+        None => Ok(false),
     }
 }
 
 /// Whether an object is there.
-pub(crate) fn is_object(there: Option<&Json>) -> bool
-    ensures { result ≡ is_object (option_map plain (option_copied there.entry)) }
+pub(crate) fn is_object(there: &Option<Scanned<'_>>) -> bool
+    ensures { result ≡ is_object there.now }
 {
     match there {
-        Some(Json::Object(_)) => true,
-        _ => false,
+        Some(value) => value.is_object(),
+        None => false,
     }
 }

@@ -4,14 +4,15 @@ ghost use Rattle.st_canon.specs.View.{plain};
 ghost use Rattle.st_doc.specs.Alike.{is_among, none_twice};
 ghost use Rattle.st_doc.specs.Entries.{id_of};
 
-use st_base::{Text, WantOfMemory};
+use st_base::{List, Text, WantOfMemory};
 use st_canon::Json;
+use st_canon::scan::{Entries, Scanned};
 use std::alloc::{AllocError, Global};
 use std::collections::BTreeSet;
 
 // From so many texts on, a set tells whether one stands twice. Fewer are compared with one another,
 // which takes no memory.
-pub(crate) const MANY: usize = 8;
+const MANY: usize = 8;
 
 /// The id of a key or a service; of what has none, the empty text.
 pub(crate) fn id_of(entry: &Json) -> &str
@@ -48,14 +49,11 @@ pub(crate) fn has_id(entries: &[Json], id: &str) -> bool
 }
 
 /// Whether no id stands twice.
-pub(crate) fn ids_stand_once(alloc: Global, entries: &[Json]) -> Result<bool, WantOfMemory>
-    ensures { IfOk result (λ once. once ≡ none_twice (map id_of (map plain entries.now))) }
+pub(crate) fn ids_stand_once(alloc: Global, entries: Entries<'_>) -> Result<bool, WantOfMemory>
+    ensures { IfOk result (λ once. once ≡ none_twice (map id_of entries.entry)) }
 {
-    if entries.len() < MANY {
-        return Ok(few_ids_stand_once(entries));
-    }
     let ids = ids_of(alloc, entries)?;
-    none_twice(alloc, ids.as_slice())
+    texts_stand_once(alloc, ids.as_slice())
 }
 
 /// Whether no text stands twice.
@@ -67,17 +65,6 @@ pub(crate) fn texts_stand_once(alloc: Global, texts: &[Text]) -> Result<bool, Wa
     }
     let texts = strs_of(alloc, texts)?;
     none_twice(alloc, texts.as_slice())
-}
-
-fn few_ids_stand_once(entries: &[Json]) -> bool
-    ensures { result ≡ none_twice (map id_of (map plain entries.now)) }
-{
-    for (at, entry) in entries.iter().enumerate() {
-        if has_id(behind(entries, at), id_of(entry)) {
-            return false;
-        }
-    }
-    true
 }
 
 fn few_texts_stand_once(texts: &[Text]) -> bool
@@ -99,14 +86,26 @@ fn behind<T>(items: &[T], at: usize) -> &[T]
     &items[at + 1..]
 }
 
-fn ids_of<'a>(alloc: Global, entries: &'a [Json]) -> Result<Vec<&'a str>, WantOfMemory>
-    ensures { IfOk result (λ ids. map (λ id. id.now) ids.items ≡ map id_of (map plain entries.now)) }
+fn ids_of(alloc: Global, entries: Entries<'_>) -> Result<List<Text>, WantOfMemory>
+    ensures { IfOk result (λ ids. ids ≡ map id_of entries.entry) }
 {
-    let mut ids = Vec::new(alloc);
-    for entry in entries {
-        ids.push(id_of(entry))?;
+    let mut ids = List::new(alloc);
+    let mut left = entries;
+    'entries: while let Some(entry) = left.next() {
+        ids.push(alloc, scanned_id(alloc, &entry)?)?;
     }
     Ok(ids)
+}
+
+fn scanned_id(alloc: Global, entry: &Scanned<'_>) -> Result<Text, WantOfMemory>
+    ensures { IfOk result (λ id. id ≡ id_of entry.now) }
+{
+    if let Some(value) = entry.member("id") {
+        if let Some(id) = value.text(alloc)? {
+            return Ok(id);
+        }
+    }
+    Text::from_text(alloc, "")
 }
 
 fn strs_of<'a>(alloc: Global, texts: &'a [Text]) -> Result<Vec<&'a str>, WantOfMemory>

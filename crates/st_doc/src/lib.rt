@@ -17,16 +17,15 @@ mod patch;
 mod patch_reading;
 mod reading;
 mod refused;
+mod scanned;
 mod service;
-mod sight;
 mod taking;
 #[cfg(test)]
 mod tests;
 
 pub use applying::apply_all;
 pub use delta::Delta;
-pub use delta_reading::{check_delta, check_short_delta};
+pub use delta_reading::{check_delta, is_delta, read_delta};
 pub use document::Document;
 pub use patch::Patch;
 pub use refused::{DeltaRefused, DocumentRefused, PatchRefused};
-pub use sight::is_delta_at_sight;

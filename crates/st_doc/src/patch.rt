@@ -1,6 +1,7 @@
 use crate::document::Document;
 use st_base::{Copied, List, Text, WantOfMemory};
 use st_canon::Json;
+use st_canon::scan::Entries;
 use st_jsonpatch::Step;
 use std::alloc::Global;
 
@@ -23,6 +24,14 @@ pub enum Patch {
     AddNames(List<Text>),
     /// Each of these names goes.
     RemoveNames(List<Text>),
+}
+
+/// A patch that was read. Keys and services stand in the text of the delta still.
+#[derive(Drop)]
+pub(crate) enum Found<'a> {
+    Keys(Entries<'a>),
+    Services(Entries<'a>),
+    Whole(Patch),
 }
 
 impl Copied for Patch {

@@ -1,86 +1,125 @@
-ghost use Rattle.std.specs.Prelude.{◌≡◌, is_some, map, option_map, IfOk, Some};
+ghost use Rattle.std.specs.Prelude.{◌≡◌, map, option_map, IfOk};
 ghost use Rattle.std.specs.List.{list_all};
 ghost use Rattle.std.specs.Result.{result_ok};
 ghost use Rattle.st_base.specs.Each.{each_of};
 ghost use Rattle.st_canon.specs.View.{plain};
 ghost use Rattle.st_jsonpatch.specs.Step.{plain_step, step_of};
 ghost use Rattle.st_doc.specs.Entries.{is_id};
-ghost use Rattle.st_doc.specs.Patch.{add_keys_of, add_names_of, add_services_of, ids_in, names_in, patch_by, patch_of, plain_patch, remove_keys_of, remove_names_of, remove_services_of, replace_of, steps_of, values_at};
+ghost use Rattle.st_doc.specs.Patch.{add_keys, add_keys_of, add_names_of, add_services, add_services_of, beside_action, found_patch, ids_in, names_in, patch_by, patch_of, plain_patch, remove_keys_of, remove_names_of, remove_services_of, replace_of, steps_of, values_at};
 
 use crate::action::{Action, action_of};
 use crate::check::are_names;
 use crate::forms::is_id;
 use crate::ids::{ids_stand_once, texts_stand_once};
 use crate::key::are_keys;
-use crate::patch::Patch;
+use crate::patch::{Found, Patch};
 use crate::reading::{are_texts, take_document};
+use crate::scanned::{list_in, values_of};
 use crate::service::are_services;
-use crate::taking::{list_out, take_member, texts_of};
+use crate::taking::texts_of;
 use st_base::{List, Text, WantOfMemory};
 use st_canon::Json;
+use st_canon::scan::{Entries, Scanned};
 use st_jsonpatch::{Step, StepRefused};
 use st_params::Params;
 use std::alloc::Global;
 
-/// The patch that this value is, where it is one. Keys, services and a document are moved out of it.
+/// The patch that this value is, where it is one.
 #[tactic(auto, unfolding(crate::specs::Patch::patch_of))]
-pub(crate) fn take_patch(
+pub(crate) fn read_patch<'a>(
     alloc: Global,
-    value: Json,
+    value: &Scanned<'a>,
     params: &Params,
-) -> Result<Option<Patch>, WantOfMemory>
-    ensures { IfOk result (λ patch. option_map plain_patch patch ≡ patch_of params.now (plain value)) }
+) -> Result<Option<Found<'a>>, WantOfMemory>
+    ensures { IfOk result (λ patch. option_map found_patch patch ≡ patch_of params.now value.now) }
 {
-    match action_of(&value, params.version()) {
-        Some(action) => take_as(alloc, action, value, params),
+    match action_of(alloc, value, params.version())? {
+        Some(action) => read_as(alloc, action, value, params),
         None => Ok(None),
     }
 }
 
-fn take_as(
+fn read_as<'a>(
     alloc: Global,
     action: Action,
-    patch: Json,
+    patch: &Scanned<'a>,
     params: &Params,
-) -> Result<Option<Patch>, WantOfMemory>
-    ensures { IfOk result (λ taken. option_map plain_patch taken ≡ patch_by params.now action (plain patch)) }
+) -> Result<Option<Found<'a>>, WantOfMemory>
+    ensures { IfOk result (λ read. option_map found_patch read ≡ patch_by params.now action patch.now) }
 {
     match action {
-        Action::AddKeys => take_add_keys(alloc, patch),
-        Action::RemoveKeys => read_remove_keys(alloc, &patch),
-        Action::AddServices => take_add_services(alloc, patch),
-        Action::RemoveServices => read_remove_services(alloc, &patch),
-        Action::Replace => take_replace(alloc, patch, params),
-        Action::Steps => read_steps(alloc, &patch),
-        Action::AddNames => read_add_names(alloc, &patch),
-        Action::RemoveNames => read_remove_names(alloc, &patch),
+        Action::AddKeys => Ok(keys_in(new_keys(alloc, patch)?)),
+        Action::RemoveKeys => Ok(whole_in(read_remove_keys(alloc, patch)?)),
+        Action::AddServices => Ok(services_in(new_services(alloc, patch)?)),
+        Action::RemoveServices => Ok(whole_in(read_remove_services(alloc, patch)?)),
+        Action::Replace => Ok(whole_in(read_replace(alloc, patch, params)?)),
+        Action::Steps => Ok(whole_in(read_steps(alloc, patch)?)),
+        Action::AddNames => Ok(whole_in(read_add_names(alloc, patch)?)),
+        Action::RemoveNames => Ok(whole_in(read_remove_names(alloc, patch)?)),
     }
 }
 
-fn take_add_keys(alloc: Global, patch: Json) -> Result<Option<Patch>, WantOfMemory>
-    ensures { IfOk result (λ taken. option_map plain_patch taken ≡ add_keys_of (plain patch)) }
+fn keys_in<'a>(there: Option<Entries<'a>>) -> Option<Found<'a>>
+    ensures { option_map found_patch result ≡ option_map add_keys there.entry }
 {
-    if !adds_keys(alloc, &patch)? {
-        return Ok(None);
-    }
-    let keys = list_out(alloc, take_member(patch, "publicKeys"));
-    Ok(Some(Patch::AddKeys(keys)))
+    Some(Found::Keys(there?))
 }
 
-fn adds_keys(alloc: Global, patch: &Json) -> Result<bool, WantOfMemory>
-    ensures { IfOk result (λ adds. adds ≡ is_some (add_keys_of (plain patch.now))) }
+fn services_in<'a>(there: Option<Entries<'a>>) -> Option<Found<'a>>
+    ensures { option_map found_patch result ≡ option_map add_services there.entry }
+{
+    Some(Found::Services(there?))
+}
+
+fn whole_in<'a>(there: Option<Patch>) -> Option<Found<'a>>
+    ensures { option_map found_patch result ≡ option_map plain_patch there }
+{
+    Some(Found::Whole(there?))
+}
+
+/// The patch with trees of its keys and services.
+pub(crate) fn whole(alloc: Global, found: Found<'_>) -> Result<Patch, WantOfMemory>
+    ensures { IfOk result (λ patch. plain_patch patch ≡ found_patch found.entry) }
+{
+    match found {
+        Found::Keys(keys) => Ok(Patch::AddKeys(values_of(alloc, keys)?)),
+        Found::Services(services) => Ok(Patch::AddServices(values_of(alloc, services)?)),
+        Found::Whole(patch) => Ok(patch),
+    }
+}
+
+fn new_keys<'a>(alloc: Global, patch: &Scanned<'a>) -> Result<Option<Entries<'a>>, WantOfMemory>
+    ensures { IfOk result (λ keys. option_map add_keys keys ≡ add_keys_of patch.now) }
 {
     let Some(keys) = values_at(patch, "publicKeys") else {
-        return Ok(false);
+        return Ok(None);
     };
-    if !are_keys(keys) {
-        return Ok(false);
+    if !are_keys(alloc, keys.again())? {
+        return Ok(None);
     }
-    ids_stand_once(alloc, keys)
+    if !ids_stand_once(alloc, keys.again())? {
+        return Ok(None);
+    }
+    Ok(Some(keys))
 }
 
-fn read_remove_keys(alloc: Global, patch: &Json) -> Result<Option<Patch>, WantOfMemory>
-    ensures { IfOk result (λ read. option_map plain_patch read ≡ remove_keys_of (plain patch.now)) }
+fn new_services<'a>(alloc: Global, patch: &Scanned<'a>) -> Result<Option<Entries<'a>>, WantOfMemory>
+    ensures { IfOk result (λ services. option_map add_services services ≡ add_services_of patch.now) }
+{
+    let Some(services) = values_at(patch, "services") else {
+        return Ok(None);
+    };
+    if !are_services(alloc, services.again())? {
+        return Ok(None);
+    }
+    if !ids_stand_once(alloc, services.again())? {
+        return Ok(None);
+    }
+    Ok(Some(services))
+}
+
+fn read_remove_keys(alloc: Global, patch: &Scanned<'_>) -> Result<Option<Patch>, WantOfMemory>
+    ensures { IfOk result (λ read. option_map plain_patch read ≡ remove_keys_of patch.now) }
 {
     let Some(ids) = read_ids(alloc, patch)? else {
         return Ok(None);
@@ -88,30 +127,8 @@ fn read_remove_keys(alloc: Global, patch: &Json) -> Result<Option<Patch>, WantOf
     Ok(Some(Patch::RemoveKeys(ids)))
 }
 
-fn take_add_services(alloc: Global, patch: Json) -> Result<Option<Patch>, WantOfMemory>
-    ensures { IfOk result (λ taken. option_map plain_patch taken ≡ add_services_of (plain patch)) }
-{
-    if !adds_services(alloc, &patch)? {
-        return Ok(None);
-    }
-    let services = list_out(alloc, take_member(patch, "services"));
-    Ok(Some(Patch::AddServices(services)))
-}
-
-fn adds_services(alloc: Global, patch: &Json) -> Result<bool, WantOfMemory>
-    ensures { IfOk result (λ adds. adds ≡ is_some (add_services_of (plain patch.now))) }
-{
-    let Some(services) = values_at(patch, "services") else {
-        return Ok(false);
-    };
-    if !are_services(services) {
-        return Ok(false);
-    }
-    ids_stand_once(alloc, services)
-}
-
-fn read_remove_services(alloc: Global, patch: &Json) -> Result<Option<Patch>, WantOfMemory>
-    ensures { IfOk result (λ read. option_map plain_patch read ≡ remove_services_of (plain patch.now)) }
+fn read_remove_services(alloc: Global, patch: &Scanned<'_>) -> Result<Option<Patch>, WantOfMemory>
+    ensures { IfOk result (λ read. option_map plain_patch read ≡ remove_services_of patch.now) }
 {
     let Some(ids) = read_ids(alloc, patch)? else {
         return Ok(None);
@@ -119,35 +136,37 @@ fn read_remove_services(alloc: Global, patch: &Json) -> Result<Option<Patch>, Wa
     Ok(Some(Patch::RemoveServices(ids)))
 }
 
-fn take_replace(alloc: Global, patch: Json, params: &Params) -> Result<Option<Patch>, WantOfMemory>
-    ensures { IfOk result (λ taken. option_map plain_patch taken ≡ replace_of params.now (plain patch)) }
+fn read_replace(
+    alloc: Global,
+    patch: &Scanned<'_>,
+    params: &Params,
+) -> Result<Option<Patch>, WantOfMemory>
+    ensures { IfOk result (λ read. option_map plain_patch read ≡ replace_of params.now patch.now) }
 {
-    if !patch.is_object_of(&["action", "document"]) {
-        return Ok(None);
-    }
-    let Some(value) = take_member(patch, "document") else {
+    let Some(document) = beside_action(patch, "document") else {
         return Ok(None);
     };
-    match take_document(alloc, value, params)? {
+    match take_document(alloc, document.json(alloc)?, params)? {
         Some(document) => Ok(Some(Patch::Replace(document))),
         None => Ok(None),
     }
 }
 
-fn read_steps(alloc: Global, patch: &Json) -> Result<Option<Patch>, WantOfMemory>
-    ensures { IfOk result (λ read. option_map plain_patch read ≡ steps_of (plain patch.now)) }
+fn read_steps(alloc: Global, patch: &Scanned<'_>) -> Result<Option<Patch>, WantOfMemory>
+    ensures { IfOk result (λ read. option_map plain_patch read ≡ steps_of patch.now) }
 {
     let Some(values) = values_at(patch, "patches") else {
         return Ok(None);
     };
-    let Some(steps) = each_step(alloc, values)? else {
+    let values = values_of(alloc, values)?;
+    let Some(steps) = each_step(alloc, values.as_slice())? else {
         return Ok(None);
     };
     Ok(Some(Patch::Steps(steps)))
 }
 
-fn read_add_names(alloc: Global, patch: &Json) -> Result<Option<Patch>, WantOfMemory>
-    ensures { IfOk result (λ read. option_map plain_patch read ≡ add_names_of (plain patch.now)) }
+fn read_add_names(alloc: Global, patch: &Scanned<'_>) -> Result<Option<Patch>, WantOfMemory>
+    ensures { IfOk result (λ read. option_map plain_patch read ≡ add_names_of patch.now) }
 {
     let Some(names) = read_names(alloc, patch)? else {
         return Ok(None);
@@ -159,8 +178,8 @@ fn read_add_names(alloc: Global, patch: &Json) -> Result<Option<Patch>, WantOfMe
     }
 }
 
-fn read_remove_names(alloc: Global, patch: &Json) -> Result<Option<Patch>, WantOfMemory>
-    ensures { IfOk result (λ read. option_map plain_patch read ≡ remove_names_of (plain patch.now)) }
+fn read_remove_names(alloc: Global, patch: &Scanned<'_>) -> Result<Option<Patch>, WantOfMemory>
+    ensures { IfOk result (λ read. option_map plain_patch read ≡ remove_names_of patch.now) }
 {
     let Some(names) = read_names(alloc, patch)? else {
         return Ok(None);
@@ -168,27 +187,32 @@ fn read_remove_names(alloc: Global, patch: &Json) -> Result<Option<Patch>, WantO
     Ok(Some(Patch::RemoveNames(names)))
 }
 
-// The values of the list that is the one member beside `action`.
-#[tactic(auto, using(st_canon::proofs::ItemLists::entries_listed))]
-fn values_at<'a>(patch: &'a Json, name: &str) -> Option<&'a [Json]>
-    ensures { option_map (λ values. map plain values.now) result ≡ values_at name.now (plain patch.now) }
+// The value of the one member beside `action`.
+fn beside_action<'a>(patch: &Scanned<'a>, name: &str) -> Option<Scanned<'a>>
+    ensures { result ≡ beside_action name.now patch.now }
 {
-    if !patch.is_object_of(&["action", name]) {
-        return None;
-    }
-    Some(patch.member(name)?.as_list()?.as_slice())
+    let (_action, value) = patch.both_members("action", name)?;
+    Some(value)
 }
 
-fn read_ids(alloc: Global, patch: &Json) -> Result<Option<List<Text>>, WantOfMemory>
-    ensures { IfOk result (λ ids. ids ≡ ids_in (plain patch.now)) }
+// The values of the list that stands there.
+fn values_at<'a>(patch: &Scanned<'a>, name: &str) -> Option<Entries<'a>>
+    ensures { result ≡ values_at name.now patch.now }
+{
+    list_in(beside_action(patch, name)?)
+}
+
+fn read_ids(alloc: Global, patch: &Scanned<'_>) -> Result<Option<List<Text>>, WantOfMemory>
+    ensures { IfOk result (λ ids. ids ≡ ids_in patch.now) }
 {
     let Some(values) = values_at(patch, "ids") else {
         return Ok(None);
     };
-    if !are_texts(values) {
+    let values = values_of(alloc, values)?;
+    if !are_texts(values.as_slice()) {
         return Ok(None);
     }
-    let ids = texts_of(alloc, values)?;
+    let ids = texts_of(alloc, values.as_slice())?;
     if are_ids(ids.as_slice()) {
         Ok(Some(ids))
     } else {
@@ -196,16 +220,17 @@ fn read_ids(alloc: Global, patch: &Json) -> Result<Option<List<Text>>, WantOfMem
     }
 }
 
-fn read_names(alloc: Global, patch: &Json) -> Result<Option<List<Text>>, WantOfMemory>
-    ensures { IfOk result (λ names. names ≡ names_in (plain patch.now)) }
+fn read_names(alloc: Global, patch: &Scanned<'_>) -> Result<Option<List<Text>>, WantOfMemory>
+    ensures { IfOk result (λ names. names ≡ names_in patch.now) }
 {
     let Some(values) = values_at(patch, "uris") else {
         return Ok(None);
     };
-    if !are_texts(values) {
+    let values = values_of(alloc, values)?;
+    if !are_texts(values.as_slice()) {
         return Ok(None);
     }
-    let names = texts_of(alloc, values)?;
+    let names = texts_of(alloc, values.as_slice())?;
     if are_names(names.as_slice()) {
         Ok(Some(names))
     } else {

@@ -69,27 +69,6 @@ fn items_of(value: Json) -> Option<List<Json>>
     }
 }
 
-/// Takes the member of this name out of an object that has one.
-pub(crate) fn take_member(value: Json, name: &str) -> Option<Json>
-    ensures { option_map plain result ≡ member_in name.now (Some (plain value)) }
-{
-    match value {
-        Json::Object(mut members) => members.remove(name),
-        _ => None,
-    }
-}
-
-/// Takes the items of the list that is the member of this name out of an object that has one.
-#[tactic(auto, using(st_canon::proofs::ItemLists::entries_listed))]
-pub(crate) fn take_list(value: Json, name: &str) -> Option<List<Json>>
-    ensures { option_map (λ items. map plain items) result ≡ list_at name.now (Some (plain value)) }
-{
-    match items_of(take_member(value, name)?) {
-        Some(items) => Some(items),
-        None => None,
-    }
-}
-
 /// Copies of the texts among these values.
 pub(crate) fn texts_of(alloc: Global, values: &[Json]) -> Result<List<Text>, WantOfMemory>
     ensures { IfOk result (λ texts. texts ≡ texts_of (map plain values.now)) }

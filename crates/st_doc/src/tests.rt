@@ -1,11 +1,10 @@
 mod applied;
 mod bounds;
 mod forms;
-mod sight;
 
-use crate::{Delta, DeltaRefused, Document, PatchRefused, apply_all, check_delta};
+use crate::{Delta, DeltaRefused, Document, PatchRefused, apply_all, check_delta, is_delta};
 use st_base::{Copied, read_number};
-use st_canon::{Json, read, write};
+use st_canon::{Json, PackedJson, read, write};
 use st_params::{Params, Schedule};
 use std::alloc::Global;
 
@@ -55,9 +54,26 @@ fn is_text(alloc: Global, document: &Document, text: &str) -> bool {
     }
 }
 
+// Whether it is told in its text that it is a delta, where it is one.
+fn is_told(alloc: Global, value: &Json, params: &Params, is: bool) -> bool {
+    let Ok(packed) = PackedJson::pack(alloc, value) else {
+        return false;
+    };
+    match packed.scanned() {
+        Some(delta) => match is_delta(alloc, &delta, params) {
+            Ok(told) => told == is,
+            Err(_) => false,
+        },
+        None => false,
+    }
+}
+
 // Whether the value is taken so: `accepted`, or why it is no delta.
 fn is_taken(alloc: Global, value: Json, params: &Params, taken: &str) -> bool {
-    match check_delta(alloc, value, params) {
+    if !is_told(alloc, &value, params, taken == "accepted") {
+        return false;
+    }
+    match check_delta(alloc, &value, params) {
         Ok(_) => taken == "accepted",
         Err(DeltaRefused::TooLong) => taken == "too long",
         Err(DeltaRefused::BadDelta) => taken == "bad delta",
@@ -99,7 +115,7 @@ fn delta_makes(
     params: &Params,
     made: &str,
 ) -> bool {
-    match check_delta(alloc, delta, params) {
+    match check_delta(alloc, &delta, params) {
         Ok(delta) => copies_make(alloc, document, &delta, params, made),
         Err(_) => false,
     }

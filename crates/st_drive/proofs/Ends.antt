@@ -1,9 +1,9 @@
 -- The ends of a run.
-use Rattle.std.proofs.Common.{◌<◌, ◌≤◌, ◌^◌, ◌≡◌, ◌∙◌, ◌++◌, ◌+◌, length, take, ℕ, List, [], Some, None, Ok, Err, Result, refl, inl, ap, sym, subst, arith, append_assoc, append-nil, length-append}
+use Rattle.std.proofs.Common.{◌<◌, ◌≤◌, ◌^◌, ◌≡◌, ◌∙◌, ◌⊎◌, ◌++◌, ◌+◌, length, take, ℕ, List, [], Some, None, Ok, Err, Result, refl, inl, ap, sym, subst, arith, append_assoc, append-nil, length-append}
 use Rattle.std.proofs.lemmas.List.{take_at}
 use Rattle.std.specs.Prelude.{IfSome, OnOk, OnErr, IfErr}
 use Rattle.std.specs.declared.option.Option.{Option}
-use Rattle.std.specs.Io.KnownBytes.{Consumes, Keeps, IsAtEnd}
+use Rattle.std.specs.Io.KnownBytes.{Appends, Consumes, Keeps, IsAtEnd}
 use Rattle.std.proofs.KnownBytes.{Appends-nil, Appends-trans, Consumes-nil, Consumes-trans, Consumes-kept}
 use Rattle.st_drive.specs.declared.stop.Stop.{Stop}
 use Rattle.st_drive.specs.declared.stop.Stop.TheVariants.{ReadFault, WriteFault, DeviceFault, OverLimit, WantOfMemory}
@@ -12,7 +12,8 @@ use Rattle.st_drive.specs.Meaning.{Meaning, Laws}
 use Rattle.st_drive.specs.Runs.{Begins, Course, course}
 use Rattle.st_drive.specs.Parts.{Goes, Stops, GoesOverCut, Wrote, WroteSome}
 use Rattle.st_drive.specs.Stops.{IsAnswerStop}
-use Rattle.st_drive.specs.Tables.{Answered, AnsweredFirst, SoFar, Row, Table}
+use Rattle.st_drive.specs.Streams.{Streams}
+use Rattle.st_drive.specs.Tables.{Answered, AnsweredFirst, RunTable, SoFar, status_by, status_of}
 use Rattle.st_drive.proofs.LineLemmas.{split_append, capped_append, capped_nil}
 use Rattle.st_drive.proofs.CutLemmas.{whole_cut, all_cut}
 use Rattle.st_drive.proofs.RunLemmas.{went_none, went_more, stopped_more, goes_stops, stops_longer}
@@ -23,6 +24,10 @@ pub record Place (M C : Type 0) : Type 0 where
   pub context : C
   pub left : Option (List ℕ)
   pub holds : Option (List ℕ)
+
+-- these four
+abbrev pub place : {M C : Type 0} → M → C → (left holds : Option (List ℕ)) → Place M C
+place m c left holds = record { machine = m; context = c; left = left; holds = holds }
 
 -- What was taken from the start on is answered up to its last line feed, and the line is what stands behind it.
 -- There is room for so many bytes more.
@@ -65,14 +70,40 @@ all_at_end bytes None end = tt
 all_at_end bytes (Some rest) end =
     ([], append-nil (all_lines bytes) ∙ ap all_lines (sym (ap (λ xs. bytes ++ xs) end ∙ append-nil bytes)))
 
--- the row of a run that was stopped while it answered
-early_row : (over : Course) (left : Option (List ℕ)) (taken written : List ℕ) (T : Type 0) (limit : ℕ) (rose device : Type 0) (stop : Stop)
-    → IsAnswerStop rose device stop → length taken ≤ limit + 1 → Row {T = T} over limit left taken written (Err stop)
-early_row over left taken written T limit rose device ReadFault cause le = absurd cause
-early_row over left taken written T limit rose device WriteFault cause le = le
-early_row over left taken written T limit rose device DeviceFault cause le = le
-early_row over left taken written T limit rose device OverLimit cause le = absurd cause
-early_row over left taken written T limit rose device WantOfMemory cause le = le
+-- a status of a run that was cut short: a fault of the sink or the device, or want of memory
+pub record IsCutShort (status : ℕ) : Type 0 where
+  pub late : 3 ≤ status
+  pub within : status ≡ 5 → ⊥
+  pub is : (status ≡ 5) ⊎ (status ≡ 3) ⊎ (status ≡ 4) ⊎ (status ≡ 6)
+
+-- a run that was stopped while it answered was
+cut_short : (rose device : Type 0) (stop : Stop) → IsAnswerStop rose device stop → IsCutShort (status_by stop)
+cut_short rose device ReadFault cause = absurd cause
+cut_short rose device WriteFault cause = search arith
+cut_short rose device DeviceFault cause = search arith
+cut_short rose device OverLimit cause = absurd cause
+cut_short rose device WantOfMemory cause = search arith
+
+-- the table of a run that was cut short
+pub cut_table : {over : Course} {limit : ℕ} {io : Streams} {status : ℕ} (taken written : List ℕ) → IsCutShort status
+    → Consumes io.had io.left taken → length taken ≤ limit + 1 → Appends io.held io.holds written → SoFar over io.left taken written
+    → RunTable over limit io status
+cut_table taken written short takes bound writes so_far = record {
+  took = record {
+    taken = taken;
+    takes = takes;
+    done = λ e. let late = short.late in absurd (omega arith);
+    over = λ e. absurd (short.within e);
+    bound = bound;
+    exceeds = λ e. short.is;
+  };
+  written = written;
+  writes = writes;
+  done = λ e. let late = short.late in absurd (omega arith);
+  read_fault = λ e. let late = short.late in absurd (omega arith);
+  over = λ e. absurd (short.within e);
+  so_far = so_far;
+}
 
 module _ {M C : Type 0} {means : Meaning M C} {cap : ℕ} (laws : Laws means cap) where
   -- no line was answered
@@ -82,7 +113,7 @@ module _ {M C : Type 0} {means : Meaning M C} {cap : ℕ} (laws : Laws means cap
     later = lines;
     all = refl;
     replies = λ told. (means.answers m [], refl);
-    context = inl (m, laws.ran_none m c);
+    context = inl ((m, laws.ran_none m c), λ now told. inl ([], ap (λ xs. xs ++ []) (laws.silent m)));
   }
 
   -- before its first read a run has done nothing
@@ -111,7 +142,7 @@ module _ {M C : Type 0} {means : Meaning M C} {cap : ℕ} (laws : Laws means cap
       ∙ ap (λ l. ((capped cap t.taken).0 ++ (capped cap (l ++ piece)).0, (capped cap (l ++ piece)).1)) (sym t.line_is)
 
   -- the lines of a piece were answered
-  wrote_more : {m n o : M} {c d e : C} {ls ks : List (List ℕ)} {held between holds : Option (List ℕ)}
+  pub wrote_more : {m n o : M} {c d e : C} {ls ks : List (List ℕ)} {held between holds : Option (List ℕ)}
       → Wrote means cap m c ls n d held between → Wrote means cap n d ks o e between holds → Wrote means cap m c (ls ++ ks) o e held holds
   wrote_more {held = held} {between = between} {holds = holds} p q = record {
     written = p.written ++ q.written;
@@ -119,8 +150,8 @@ module _ {M C : Type 0} {means : Meaning M C} {cap : ℕ} (laws : Laws means cap
     writes = Appends-trans held between holds p.written q.written p.writes q.writes;
   }
 
-  wrote_less : {m n : M} {c d e : C} {ls ks : List (List ℕ)} {held between holds : Option (List ℕ)}
-      → Wrote means cap m c ls n d held between → WroteSome means cap n d ks e between holds → WroteSome means cap m c (ls ++ ks) e held holds
+  pub wrote_less : {prompt : Type 0} {m n : M} {c d e : C} {ls ks : List (List ℕ)} {held between holds : Option (List ℕ)}
+      → Wrote means cap m c ls n d held between → WroteSome prompt means cap n d ks e between holds → WroteSome prompt means cap m c (ls ++ ks) e held holds
   wrote_less {held = held} {between = between} {holds = holds} p q = record {
     written = p.written ++ q.written;
     stopped = stopped_more laws p.went q.stopped;
@@ -159,12 +190,12 @@ module _ {M C : Type 0} {means : Meaning M C} {cap : ℕ} (laws : Laws means cap
 
   -- lines that it went over it has stopped behind
   stopped_behind : {m n : M} {c d : C} {lines : List (List ℕ)} {written : List ℕ} → Goes means m c lines written n d
-      → Stops means m c lines written d
-  stopped_behind {m} {n} {c} {d} {lines} {written} p = subst (λ ls. Stops means m c ls written d) (append-nil lines) (goes_stops laws lines [] written p)
+      → Stops means.prompt means m c lines written d
+  stopped_behind {m} {n} {c} {d} {lines} {written} p = subst (λ ls. Stops means.prompt means m c ls written d) (append-nil lines) (goes_stops laws lines [] written p)
 
   -- a run that stopped within the first lines answered the first ones of all
   answered_first : {m : M} {c d : C} {lines : List (List ℕ)} {written : List ℕ} (all : List (List ℕ))
-      → Stops means m c lines written d → (more : List (List ℕ)) × (lines ++ more ≡ all)
+      → Stops means.prompt means m c lines written d → (more : List (List ℕ)) × (lines ++ more ≡ all)
       → AnsweredFirst (course means m c d) written all
   answered_first {m} {c} {d} {lines} {written} all stops more =
       let longer = stops_longer laws lines more.0 written stops in
@@ -178,7 +209,7 @@ module _ {M C : Type 0} {means : Meaning M C} {cap : ℕ} (laws : Laws means cap
 
   -- so much has come about where a run stopped within the first lines of what was taken
   comes_so_far : {m : M} {c d : C} {lines : List (List ℕ)} {written : List ℕ} (taken : List ℕ) (left : Option (List ℕ))
-      → Stops means m c lines written d → AreFirst lines taken → IfSome left (λ rest. AreFirst lines (taken ++ rest))
+      → Stops means.prompt means m c lines written d → AreFirst lines taken → IfSome left (λ rest. AreFirst lines (taken ++ rest))
       → SoFar (course means m c d) left taken written
   comes_so_far {m} {c} {d} {lines} {written} taken left stops now all = record {
     of_taken = answered_first (all_lines taken) stops now;
@@ -198,79 +229,86 @@ module _ {M C : Type 0} {means : Meaning M C} {cap : ℕ} (laws : Laws means cap
 
   -- ---- the table at each end
 
-  pub table_read_fault : {T : Type 0} {limit room : ℕ} {line : List ℕ} {start now : Place M C} (rest : Option (List ℕ))
-      → limit < 2 ^ 62 → Taken means cap limit room line start now → Keeps now.left rest
-      → Table {T = T} (course means start.machine start.context now.context) limit start.left rest start.holds now.holds (Err ReadFault)
-  table_read_fault {start = start} {now = now} rest small t kept =
-      let b = t.budget in
-      record {
-        taken = t.taken;
-        written = t.wrote.written;
-        takes = Consumes-kept start.left now.left rest t.taken t.takes kept;
-        writes = t.wrote.writes;
-        so_far = subst (λ bytes. SoFar (course means start.machine start.context now.context) rest bytes t.wrote.written) (append-nil t.taken)
-            (so_far_whole t.taken [] rest (omega arith) t.wrote.went);
-        row = (omega arith, answered_whole t.taken (omega arith) t.wrote.went);
-      }
+  module _ {limit room : ℕ} {line : List ℕ} {io : Streams} {m n : M} {c d : C} {between : Option (List ℕ)} where
+    pub table_read_fault : limit < 2 ^ 62 → Taken means cap limit room line (place m c io.had io.held) (place n d between io.holds) → Keeps between io.left → RunTable (course means m c d) limit io 2
+    table_read_fault small t kept =
+        let b = t.budget in
+        record {
+          took = record {
+            taken = t.taken;
+            takes = Consumes-kept io.had between io.left t.taken t.takes kept;
+            done = λ e. absurd (omega arith);
+            over = λ e. absurd (omega arith);
+            bound = omega arith;
+            exceeds = λ e. absurd (omega arith);
+          };
+          written = t.wrote.written;
+          writes = t.wrote.writes;
+          done = λ e. absurd (omega arith);
+          read_fault = λ e. answered_whole t.taken (omega arith) t.wrote.went;
+          over = λ e. absurd (omega arith);
+          so_far = subst (λ bytes. SoFar (course means m c d) io.left bytes t.wrote.written) (append-nil t.taken)
+              (so_far_whole t.taken [] io.left (omega arith) t.wrote.went);
+        }
 
-  -- the run stopped while it answered the lines of a piece; one byte more may have been taken
-  pub table_cut : {T : Type 0} {limit room : ℕ} {line piece extra : List ℕ} {start now : Place M C} {rest new : Option (List ℕ)} {e : C}
-      (rose device : Type 0) (stop : Stop)
-      → limit < 2 ^ 62 → Taken means cap limit room line start now → Read room now.left rest piece extra
-      → WroteSome means cap now.machine now.context (capped cap (line ++ piece)).0 e now.holds new → IsAnswerStop rose device stop
-      → Table {T = T} (course means start.machine start.context e) limit start.left rest start.holds new (Err stop)
-  table_cut {T} {limit} {room} {line} {piece} {extra} {start} {now} {rest} {new} {e} rose device stop small t read cut cause =
-      let bytes = t.taken ++ piece in
-      let all = t.taken ++ (piece ++ extra) in
-      let b = t.budget in
-      let fits = read.fits in
-      let most = read.most in
-      let len = length-append t.taken piece in
-      let some = subst (λ ls. WroteSome means cap start.machine start.context ls e start.holds new) (sym (ap (λ p. p.0) (piece_lines t piece)))
-      (wrote_less t.wrote cut) in
-      let stops = some.stopped.of (whole_lines bytes) (whole_cut cap bytes (omega arith)) in
-      let assoc : (more : List ℕ) → bytes ++ (extra ++ more) ≡ all ++ more =
-      λ more. append_assoc t.taken piece (extra ++ more) ∙ ap (λ xs. t.taken ++ xs) (sym (append_assoc piece extra more)) ∙ sym
-      (append_assoc t.taken (piece ++ extra) more) in
-      let first = whole_first bytes extra in
-      let early = comes_so_far all rest stops (first.0, first.1 ∙ ap all_lines (append_assoc t.taken piece extra))
-      (if_some rest (λ more. let found = whole_first bytes (extra ++ more) in (found.0, found.1 ∙ ap all_lines (assoc more)))) in
-      record {
-        taken = all;
-        written = some.written;
-        takes = Consumes-trans start.left now.left rest t.taken (piece ++ extra) t.takes read.takes;
-        writes = some.writes;
-        so_far = early;
-        row = early_row (course means start.machine start.context e) rest all some.written T limit rose device stop cause
-            (omega (arith, length-append t.taken (piece ++ extra)));
-      }
+    module _ {piece extra : List ℕ} {e : C} {holds : Option (List ℕ)} where
+      -- the run stopped while it answered the lines of a piece; one byte more may have been taken
+      pub table_cut : (rose device : Type 0) (stop : Stop) → limit < 2 ^ 62
+          → Taken means cap limit room line (place m c io.had io.held) (place n d between holds) → Read room between io.left piece extra
+          → WroteSome means.prompt means cap n d (capped cap (line ++ piece)).0 e holds io.holds → IsAnswerStop rose device stop
+          → RunTable (course means m c e) limit io (status_by stop)
+      table_cut rose device stop small t read cut cause =
+          let bytes = t.taken ++ piece in
+          let all = t.taken ++ (piece ++ extra) in
+          let b = t.budget in
+          let fits = read.fits in
+          let most = read.most in
+          let len = length-append t.taken piece in
+          let some = subst (λ ls. WroteSome means.prompt means cap m c ls e io.held io.holds) (sym (ap (λ p. p.0) (piece_lines t piece)))
+          (wrote_less t.wrote cut) in
+          let stops = some.stopped.of (whole_lines bytes) (whole_cut cap bytes (omega arith)) in
+          let assoc : (more : List ℕ) → bytes ++ (extra ++ more) ≡ all ++ more =
+          λ more. append_assoc t.taken piece (extra ++ more) ∙ ap (λ xs. t.taken ++ xs) (sym (append_assoc piece extra more)) ∙ sym
+          (append_assoc t.taken (piece ++ extra) more) in
+          let first = whole_first bytes extra in
+          cut_table all some.written (cut_short rose device stop cause)
+          (Consumes-trans io.had between io.left t.taken (piece ++ extra) t.takes read.takes)
+          (omega (arith, length-append t.taken (piece ++ extra))) some.writes
+          (comes_so_far all io.left stops (first.0, first.1 ∙ ap all_lines (append_assoc t.taken piece extra))
+          (if_some io.left (λ more. let found = whole_first bytes (extra ++ more) in (found.0, found.1 ∙ ap all_lines (assoc more)))))
 
-  -- the source gave one byte more than there was room for
-  pub table_over : {T : Type 0} {limit room : ℕ} {line piece extra : List ℕ} {start now : Place M C} {rest new : Option (List ℕ)} {o : M} {e : C}
-      → limit < 2 ^ 62 → Taken means cap limit room line start now → Read room now.left rest piece extra
-      → length piece ≡ room → length extra ≡ 1 → Wrote means cap now.machine now.context (capped cap (line ++ piece)).0 o e now.holds new
-      → Table {T = T} (course means start.machine start.context e) limit start.left rest start.holds new (Err OverLimit)
-  table_over {T} {limit} {room} {line} {piece} {extra} {start} {now} {rest} {new} {o} {e} small t read full one more =
-      let bytes = t.taken ++ piece in
-      let all = t.taken ++ (piece ++ extra) in
-      let wrote = subst (λ ls. Wrote means cap start.machine start.context ls o e start.holds new) (sym (ap (λ p. p.0) (piece_lines t piece)))
-      (wrote_more t.wrote more) in
-      let b = t.budget in
-      let len : length bytes ≡ limit = omega (arith, length-append t.taken piece) in
-      let first : take limit all ≡ bytes = ap (take limit) (sym (append_assoc t.taken piece extra)) ∙ take_at bytes extra limit len in
-      let answered = answered_whole bytes (omega arith) wrote.went in
-      record {
-        taken = all;
-        written = wrote.written;
-        takes = Consumes-trans start.left now.left rest t.taken (piece ++ extra) t.takes read.takes;
-        writes = wrote.writes;
-        so_far = subst (λ xs. SoFar (course means start.machine start.context e) rest xs wrote.written) (append_assoc t.taken piece extra)
-            (so_far_whole bytes extra rest (omega arith) wrote.went);
-        row = (
-          omega (arith, length-append t.taken (piece ++ extra), length-append piece extra, length-append t.taken piece),
-          subst (λ xs. Answered (course means start.machine start.context e) wrote.written (whole_lines xs)) (sym first) answered,
-        );
-      }
+      -- one byte more than the limit came, and the lines before it were answered
+      pub table_over : {o : M} → limit < 2 ^ 62
+          → Taken means cap limit room line (place m c io.had io.held) (place n d between holds) → Read room between io.left piece extra → length piece ≡ room → length extra ≡ 1
+          → Wrote means cap n d (capped cap (line ++ piece)).0 o e holds io.holds → RunTable (course means m c e) limit io 5
+      table_over {o} small t read full one more =
+          let bytes = t.taken ++ piece in
+          let all = t.taken ++ (piece ++ extra) in
+          let wrote = subst (λ ls. Wrote means cap m c ls o e io.held io.holds) (sym (ap (λ p. p.0) (piece_lines t piece)))
+          (wrote_more t.wrote more) in
+          let b = t.budget in
+          let len : length bytes ≡ limit = omega (arith, length-append t.taken piece) in
+          let first : take limit all ≡ bytes = ap (take limit) (sym (append_assoc t.taken piece extra)) ∙ take_at bytes extra limit len in
+          let count : length all ≡ limit + 1 =
+          omega (arith, length-append t.taken (piece ++ extra), length-append piece extra, length-append t.taken piece) in
+          record {
+            took = record {
+              taken = all;
+              takes = Consumes-trans io.had between io.left t.taken (piece ++ extra) t.takes read.takes;
+              done = λ is. absurd (omega arith);
+              over = λ is. count;
+              bound = omega (arith, count);
+              exceeds = λ is. inl refl;
+            };
+            written = wrote.written;
+            writes = wrote.writes;
+            done = λ is. absurd (omega arith);
+            read_fault = λ is. absurd (omega arith);
+            over = λ is. subst (λ xs. Answered (course means m c e) wrote.written (whole_lines xs)) (sym first)
+                (answered_whole bytes (omega arith) wrote.went);
+            so_far = subst (λ xs. SoFar (course means m c e) io.left xs wrote.written) (append_assoc t.taken piece extra)
+                (so_far_whole bytes extra io.left (omega arith) wrote.went);
+          }
 
   -- all lines of what was taken, the one without a line feed among them
   last_cut : {limit room : ℕ} {line : List ℕ} {start now : Place M C} (t : Taken means cap limit room line start now) → limit < 2 ^ 62
@@ -280,33 +318,38 @@ module _ {M C : Type 0} {means : Meaning M C} {cap : ℕ} (laws : Laws means cap
       subst (λ l. CutTo cap (all_lines t.taken) ((capped cap t.taken).0 ++ last_line l)) (sym t.line_is) (all_cut cap t.taken laws.positive (omega arith))
 
   -- the source is at its end, and the last line was answered, or the run stopped at it
-  pub table_of_end : {T : Type 0} {limit room : ℕ} {line : List ℕ} {start now : Place M C} {rest new : Option (List ℕ)} {e : C} (rose device : Type 0)
-      (ending : Result T Stop)
-      → limit < 2 ^ 62 → Taken means cap limit room line start now → Consumes now.left rest [] × IsAtEnd rest
-      → OnOk ending ((next : M) × Wrote means cap now.machine now.context (last_line line) next e now.holds new)
-      → OnErr ending (WroteSome means cap now.machine now.context (last_line line) e now.holds new) × IfErr ending (IsAnswerStop rose device)
-      → Table (course means start.machine start.context e) limit start.left rest start.holds new ending
-  table_of_end {start = start} {now = now} {rest = rest} rose device (Ok x) small t end ok err =
+  pub table_of_end : {T : Type 0} {limit room : ℕ} {line : List ℕ} {io : Streams} {m n : M} {c d : C} {between holds : Option (List ℕ)} {e : C}
+      (rose device : Type 0) (ending : Result T Stop) → limit < 2 ^ 62
+      → Taken means cap limit room line (place m c io.had io.held) (place n d between holds)
+      → Consumes between io.left [] × IsAtEnd io.left
+      → OnOk ending ((next : M) × Wrote means cap n d (last_line line) next e holds io.holds)
+      → OnErr ending (WroteSome means.prompt means cap n d (last_line line) e holds io.holds) × IfErr ending (IsAnswerStop rose device)
+      → RunTable (course means m c e) limit io (status_of ending)
+  table_of_end {io = io} {between = between} rose device (Ok x) small t end ok err =
       let b = t.budget in
       let wrote = wrote_more t.wrote ok.1 in
       record {
-        taken = t.taken;
+        took = record {
+          taken = t.taken;
+          takes = subst (Consumes io.had io.left) (append-nil t.taken) (Consumes-trans io.had between io.left t.taken [] t.takes end.0);
+          done = λ e. (end.1, omega arith);
+          over = λ e. absurd (omega arith);
+          bound = omega arith;
+          exceeds = λ e. absurd (omega arith);
+        };
         written = wrote.written;
-        takes = subst (Consumes start.left rest) (append-nil t.taken) (Consumes-trans start.left now.left rest t.taken [] t.takes end.0);
         writes = wrote.writes;
-        so_far = comes_so_far t.taken rest (stopped_behind (wrote.went.of (all_lines t.taken) (last_cut t small)))
-            ([], append-nil (all_lines t.taken)) (all_at_end t.taken rest end.1);
-        row = (end.1, omega arith, answered_of (wrote.went.of (all_lines t.taken) (last_cut t small)));
+        done = λ e. answered_of (wrote.went.of (all_lines t.taken) (last_cut t small));
+        read_fault = λ e. absurd (omega arith);
+        over = λ e. absurd (omega arith);
+        so_far = comes_so_far t.taken io.left (stopped_behind (wrote.went.of (all_lines t.taken) (last_cut t small)))
+            ([], append-nil (all_lines t.taken)) (all_at_end t.taken io.left end.1);
       }
-  table_of_end {T = T} {limit = limit} {start = start} {now = now} {rest = rest} {e = e} rose device (Err stop) small t end ok err =
+  table_of_end {io = io} {between = between} rose device (Err stop) small t end ok err =
       let b = t.budget in
       let some = wrote_less t.wrote err.0 in
-      let stops = some.stopped.of (all_lines t.taken) (last_cut t small) in
-      record {
-        taken = t.taken;
-        written = some.written;
-        takes = subst (Consumes start.left rest) (append-nil t.taken) (Consumes-trans start.left now.left rest t.taken [] t.takes end.0);
-        writes = some.writes;
-        so_far = comes_so_far t.taken rest stops ([], append-nil (all_lines t.taken)) (all_at_end t.taken rest end.1);
-        row = early_row (course means start.machine start.context e) rest t.taken some.written T limit rose device stop err.1 (omega arith);
-      }
+      cut_table t.taken some.written (cut_short rose device stop err.1)
+      (subst (Consumes io.had io.left) (append-nil t.taken) (Consumes-trans io.had between io.left t.taken [] t.takes end.0))
+      (omega arith) some.writes
+      (comes_so_far t.taken io.left (some.stopped.of (all_lines t.taken) (last_cut t small)) ([], append-nil (all_lines t.taken))
+      (all_at_end t.taken io.left end.1))

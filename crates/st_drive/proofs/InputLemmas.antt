@@ -6,32 +6,41 @@ use Rattle.std.specs.Io.KnownBytes.{Consumes, Appends}
 use Rattle.st_base.proofs.Cuts.{same_cut}
 use Rattle.st_drive.specs.Lines.{all_lines}
 use Rattle.st_drive.specs.Runs.{Course}
-use Rattle.st_drive.specs.Tables.{AnsweredFirst, SoFar}
+use Rattle.st_drive.specs.Streams.{Streams, Tells}
+use Rattle.st_drive.specs.Tables.{AnsweredFirst, RunTable, SoFar}
 
--- such a source had this input, and such a sink held these bytes and holds `written` besides
-pub record Tells (had held holds : Option (List ℕ)) (input before written : List ℕ) : Type 0 where
-  pub input_is : had ≡ Some input
-  pub before_is : held ≡ Some before
-  pub after_is : holds ≡ Some (before ++ written)
+of_source : {over : Course} (had left : Option (List ℕ)) {taken wrote input : List ℕ} → had ≡ Some input → Consumes had left taken
+    → SoFar over left taken wrote → AnsweredFirst over wrote (all_lines input)
+of_source None left is takes so_far = absurd (let none = is in cc)
+of_source (Some all) None is takes so_far = absurd takes
+of_source {over = over} (Some all) (Some rest) {taken = taken} {wrote = wrote} {input = input} is takes so_far =
+    let whole : taken ++ rest ≡ input = sym takes ∙ same_Some all input is in
+    subst (λ b. AnsweredFirst over wrote (all_lines b)) whole so_far.of_all
 
--- of all lines of the input the first were answered
-pub answered_input : {over : Course} {had left held holds : Option (List ℕ)} {taken wrote : List ℕ} {input before written : List ℕ}
-    → Tells had held holds input before written → Consumes had left taken → Appends held holds wrote → SoFar over left taken wrote
-    → AnsweredFirst over written (all_lines input)
-answered_input {had = None} tells takes writes so_far = absurd (let none = tells.input_is in cc)
-answered_input {had = Some all} {left = None} tells takes writes so_far = absurd takes
-answered_input {had = Some all} {left = Some rest} {held = None} tells takes writes so_far = absurd (let none = tells.before_is in cc)
-answered_input {had = Some all} {left = Some rest} {held = Some old} {holds = None} tells takes writes so_far = absurd writes
-answered_input {over = over} {had = Some all} {left = Some rest} {held = Some old} {holds = Some new} {taken = taken} {wrote = wrote} {input = input} {before = before} {written = written} tells takes writes so_far =
-    let whole : taken ++ rest ≡ input = sym takes ∙ same_Some all input tells.input_is in
+-- what was written is what a sink that tells its bytes holds besides
+wrote_is : {held holds : Option (List ℕ)} {wrote before written : List ℕ} → held ≡ Some before → holds ≡ Some (before ++ written)
+    → Appends held holds wrote → wrote ≡ written
+wrote_is {held = None} was is writes = absurd (let none = was in cc)
+wrote_is {held = Some old} {holds = None} was is writes = absurd writes
+wrote_is {held = Some old} {holds = Some new} {wrote = wrote} {before = before} {written = written} was is writes =
     let both : old ++ wrote ≡ old ++ written =
-    sym writes ∙ same_Some new (before ++ written) tells.after_is ∙ ap (λ h. h ++ written) (sym (same_Some old before tells.before_is)) in
+    sym writes ∙ same_Some new (before ++ written) is ∙ ap (λ h. h ++ written) (sym (same_Some old before was)) in
     let long : length wrote ≡ length written = omega (arith, ap length both, length-append old wrote, length-append old written) in
-    subst (λ w. AnsweredFirst over w (all_lines input)) (same_cut old wrote old written both long).back_is
-    (subst (λ b. AnsweredFirst over wrote (all_lines b)) whole so_far.of_all)
+    (same_cut old wrote old written both long).back_is
+
+module _ {over : Course} {limit : ℕ} {io : Streams} {status : ℕ} (table : RunTable over limit io status) where
+  -- of all lines of an input that the source tells the first were answered
+  pub answered_source : {input : List ℕ} → io.had ≡ Some input → AnsweredFirst over table.written (all_lines input)
+  answered_source is = of_source io.had io.left is table.took.takes table.so_far
+
+  -- the same, by what the sink holds
+  pub answered_input : {input written : List ℕ} → Tells io input written → AnsweredFirst over written (all_lines input)
+  answered_input {input} tells =
+      subst (λ w. AnsweredFirst over w (all_lines input)) (wrote_is tells.held_is tells.holds_is table.writes) (answered_source tells.had_is)
 
 -- a sink that holds what it held got nothing
-pub nothing_written : {held : Option (List ℕ)} {before written : List ℕ} → held ≡ Some before → held ≡ Some (before ++ written) → written ≡ []
-nothing_written {held = held} {before = before} {written = written} was is =
-    let both : before ++ written ≡ before = same_Some (before ++ written) before (sym is ∙ was) in
+pub nothing_written : {io : Streams} {input written : List ℕ} → Tells io input written → io.holds ≡ io.held → written ≡ []
+nothing_written {io} {input} {written} tells same =
+    let before = tells.held_before in
+    let both : before ++ written ≡ before = same_Some (before ++ written) before (sym tells.holds_is ∙ same ∙ tells.held_is) in
     nil_from_length written (omega (arith, ap length both, length-append before written))

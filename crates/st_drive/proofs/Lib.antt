@@ -5,9 +5,10 @@ pub mod ReplyLemmas
 pub mod FitsLemmas
 pub mod Fed
 pub mod Ends
+pub mod TableLemmas
+mod PromptLemmas
 pub mod OnDiskLemmas
 pub mod ReleasedLemmas
 pub mod SpendingLemmas
 pub mod RecordingLemmas
 pub mod InputLemmas
-pub mod TestNumbersLemmas

@@ -1,10 +1,10 @@
 -- A machine on a disk: one step, the end of its run, and the run from before its disk is opened.
-use Rattle.std.proofs.Common.{◌≡◌, ◌∙◌, ◌⊎◌, inl, inr, ⊎_elim, ◌++◌, ◌+◌, ◌≤◌, ℕ, List, [], ◌∷◌, refl, ap, sym, arith, append_assoc, append-nil, length, length-append}
+use Rattle.std.proofs.Common.{◌≡◌, ◌∙◌, ◌⊎◌, inl, inr, ⊎_elim, ◌++◌, ◌+◌, ◌≤◌, ℕ, List, [], ◌∷◌, refl, ap, sym, subst, arith, append_assoc, append-nil, length, length-append}
 use Rattle.std.proofs.lemmas.List.{nil_from_length}
 use Rattle.st_io.specs.Past.{Past, Leaves}
 use Rattle.st_io.proofs.PastLemmas.{goes_on, splits_since_sync}
 use Rattle.st_drive.specs.DiskLaws.{head_is}
-use Rattle.st_drive.specs.Runs.{Begins, course}
+use Rattle.st_drive.specs.Runs.{Begins, NearlyReplied, course}
 use Rattle.st_drive.specs.Tables.{AnsweredFirst}
 use Rattle.st_drive.specs.OnDisk.{Rules, replies, after, AllHold, HoldsEither, HoldsFirst, Went, GaveUp, Store, IsTold, disk_meaning, HasReleased, LeavesOnDisk, Opens, RunLeaves}
 use Rattle.st_drive.proofs.RunLemmas.{begins_trans}
@@ -92,6 +92,19 @@ module _ {M C K : Type 0} (rules : Rules M C K) where
   pub replies_begin : (m : M) (first lines : List (List ℕ)) → Begins first lines → Begins (replies rules m first) (replies rules m lines)
   replies_begin m first lines b = (replies rules (after rules m first) b.0, sym (replies_more m first b.0) ∙ ap (replies rules m) b.1)
 
+  -- where all replies but the last are written, so it is with the first lines
+  pub nearly_first : (m : M) (written : List ℕ) (first lines : List (List ℕ)) → Begins first lines → NearlyReplied (replies rules m) written lines
+      → NearlyReplied (replies rules m) written first
+  nearly_first m written first lines b (inl all) =
+      inl (begins_trans (replies rules m first) (replies rules m lines) written (replies_begin m first lines b) all)
+  nearly_first m written first lines b (inr r) = ⊎_elim
+      (λ whole.
+      let same : lines ≡ first =
+      begins_all first lines b (omega (arith, begins_length (r.0 ++ r.1 ∷ []) first whole, ap length r.2)) in
+      subst (NearlyReplied (replies rules m) written) same (inr r))
+      (λ less. inl (begins_trans (replies rules m first) (replies rules m r.0) written (replies_begin m first r.0 less) r.3))
+      (before_or_after first b.0 r.0 r.1 [] (b.1 ∙ sym r.2))
+
 module _ {M C K D : Type 0} (rules : Rules M C K) (store : Store D) where
   -- ---- the end of a run
 
@@ -110,27 +123,35 @@ module _ {M C K D : Type 0} (rules : Rules M C K) (store : Store D) where
     pub leaves_on_disk : (k : K) → AllHold rules k (store.past c.1) → LeavesOnDisk rules m k lines written (store.past c.1) (store.past d.1)
     leaves_on_disk k all = ⊎_elim
         (λ ran.
-        let went = ran.1.disk told k all in
+        let went = ran.0.1.disk told k all in
         record {
           goes = went.goes;
           moments = λ image left. let h = went.moments image left in (h.0, begins_trans h.0 first.answered lines h.1 (first.later, first.all), h.2);
-          end = λ image is. (first.answered, (first.later, first.all), released, went.now image is);
+          end = λ image is. record {
+            first = first.answered;
+            begins = (first.later, first.all);
+            released = released;
+            replied = ran.1 tt told;
+            holds = went.now image is;
+          };
         })
         (λ gave.
-        let gone = gave.3.disk told k all in
+        let gone = gave.3.0.disk told k all in
         let here = behind first.answered gave.0 gave.1 first.later lines gave.2 first.all in
         record {
           goes = gone.goes;
           moments = λ image left. let h = gone.moments image left in (h.0, begins_trans h.0 (first.answered ++ gave.0 ∷ []) lines h.1 here, h.2);
           end = λ image is.
               let h = gone.now image is in
-              let had = nearly first.answered gave.0 h.0 h.1 h.2 in (
-                h.0,
-                begins_trans h.0 (first.answered ++ gave.0 ∷ []) lines h.1 here,
-                λ before line later e out. begins_trans
-                    (before ++ line ∷ []) first.answered h.0 (released before line later e out) had,
-                h.3,
-              );
+              let had = nearly first.answered gave.0 h.0 h.1 h.2 in
+              record {
+                first = h.0;
+                begins = begins_trans h.0 (first.answered ++ gave.0 ∷ []) lines h.1 here;
+                released = λ before line later e out. begins_trans
+                    (before ++ line ∷ []) first.answered h.0 (released before line later e out) had;
+                replied = nearly_first rules m written h.0 (first.answered ++ gave.0 ∷ []) h.1 (gave.3.1 tt told);
+                holds = h.3;
+              };
         })
         first.context
 
@@ -150,7 +171,7 @@ module _ {M C K : Type 0} (rules : Rules M C K) where
         (λ was. ([], (lines, refl), opens.synced image was))
         (λ new. leaves.moments image new)
         (splits_since_sync b c leaves.goes a.now image left);
-    end = λ some image is. leaves.end image is;
+    end = λ image is. inr (leaves.end image is);
   }
 
   -- the disk could not be opened, and nothing was written
@@ -159,5 +180,14 @@ module _ {M C K : Type 0} (rules : Rules M C K) where
     goes = opens.goes;
     moments = λ image left. ⊎_elim inl (λ holds. inr ([], (lines, refl), holds)) (opens.moments image left);
     synced = λ image left. ([], (lines, refl), opens.synced image left);
-    end = λ some. absurd (omega (arith, some));
+    end = λ image is. ⊎_elim
+        (λ was. inl (was, refl))
+        (λ holds. inr (record {
+          first = [];
+          begins = (lines, refl);
+          released = λ before line later e out. absurd (omega (arith, out));
+          replied = inl ([], refl);
+          holds = holds;
+        }))
+        (opens.moments image (b.earlier a.now b.now image opens.goes.later is));
   }

@@ -1,8 +1,8 @@
 -- Machines that record the lines that change them.
 use Rattle.std.proofs.Common.{◌≡◌, ◌∙◌, inl, inr, ⊎_elim, ◌++◌, List, [], ◌∷◌, ℕ, true, Some, ap, sym, append_assoc, append-nil}
 use Rattle.st_io.specs.Past.{Past, Leaves}
-use Rattle.st_drive.specs.OnDisk.{Rules, kept, AllHold, HoldsEither, HoldsFirst, Store, RanOnDisk, GaveUpOnDisk, RunLeaves}
-use Rattle.st_drive.specs.Recording.{Recorder, recorded, recording, changing, LeavesOneMore, HasRecorded, GaveUpRecording, HasPrefix, KeepsRecords}
+use Rattle.st_drive.specs.OnDisk.{Rules, kept, AllHold, HoldsEither, HoldsFirst, HoldsReplied, Store, RanOnDisk, GaveUpOnDisk, RunLeaves}
+use Rattle.st_drive.specs.Recording.{Recorder, recorded, recording, changing, LeavesOneMore, HasRecorded, GaveUpRecording, HasPrefix, HasRepliedPrefix, KeepsPrefixes, KeepsRecords}
 use Rattle.st_drive.proofs.OnDiskLemmas.{line_went, line_gave}
 
 module _ {M C : Type 0} (recorder : Recorder M C) where
@@ -53,10 +53,22 @@ module _ {M C : Type 0} (recorder : Recorder M C) where
   has_prefix : (m : M) (r lines : List (List ℕ)) (image : List ℕ) → HoldsFirst rules m r lines image → HasPrefix recorder m r lines image
   has_prefix m r lines image h = (h.0, h.1, h.2 ∙ ap Some (kept_is m r h.0))
 
-  pub keeps_records : (m : M) (r lines : List (List ℕ)) (written : List ℕ) (old new : Past) → RunLeaves rules m r lines written old new
-      → KeepsRecords recorder m r lines written old new
-  keeps_records m r lines written old new leaves = record {
-    moments = λ image left. ⊎_elim inl (λ h. inr (has_prefix m r lines image h)) (leaves.moments image left);
-    synced = λ image left. has_prefix m r lines image (leaves.synced image left);
-    end = λ some image is. let e = leaves.end some image is in (e.0, e.1, e.2, e.3 ∙ ap Some (kept_is m r e.0));
+  has_replied_prefix : (m : M) (r lines : List (List ℕ)) (written image : List ℕ) → HoldsReplied rules m r lines written image
+      → HasRepliedPrefix recorder m r lines written image
+  has_replied_prefix m r lines written image h = record {
+    prefix = h.first;
+    begins = h.begins;
+    released = h.released;
+    replied = h.replied;
+    records_are = h.holds ∙ ap Some (kept_is m r h.first);
   }
+
+  module _ (m : M) (r lines : List (List ℕ)) (written : List ℕ) (old new : Past) (leaves : RunLeaves rules m r lines written old new) where
+    pub keeps_prefixes : KeepsPrefixes recorder m r lines old new
+    keeps_prefixes = record {
+      moments = λ image left. ⊎_elim inl (λ h. inr (has_prefix m r lines image h)) (leaves.moments image left);
+      synced = λ image left. has_prefix m r lines image (leaves.synced image left);
+    }
+
+    pub keeps_records : KeepsRecords recorder m r lines written old new
+    keeps_records image is = ⊎_elim inl (λ h. inr (has_replied_prefix m r lines written image h)) (leaves.end image is)

@@ -1,16 +1,10 @@
 -- Lemmas on runs of a machine.
-use Rattle.std.proofs.Common.{◌≡◌, ◌∙◌, ◌++◌, ℕ, List, [], ◌∷◌, refl, ap, sym, subst, inl, inr, append_assoc}
-use Rattle.std.specs.Prelude.{Result, Ok, Err, OnErr}
+use Rattle.std.proofs.Common.{◌≡◌, ◌∙◌, ◌++◌, ◌+◌, ◌≤◌, ℕ, List, [], ◌∷◌, refl, ap, sym, subst, inl, inr, arith, append_assoc, append-nil, length, length-append}
 use Rattle.st_drive.specs.Lines.{CutTo}
 use Rattle.st_drive.specs.Meaning.{Meaning, Laws}
-use Rattle.st_drive.specs.Runs.{Begins, RanOver, GaveUpOver, EndsWithin}
+use Rattle.st_drive.specs.Runs.{Begins, RanOver, GaveUpOver, NearlyReplied, CarriedOut, EndsWithin}
 use Rattle.st_drive.specs.Parts.{Goes, Stops, GoesOverCut, StopsOverCut}
-use Rattle.st_drive.proofs.CutLemmas.{cut_append}
-
--- a fact that doesn't speak of the error
-pub on_err : {T E P : Type 0} (r : Result T E) → P → OnErr r P
-on_err (Ok x) p = tt
-on_err (Err e) p = p
+use Rattle.st_drive.proofs.CutLemmas.{cut_append, cut_length}
 
 pub begins_trans : {A : Type 0} (a b c : List A) → Begins a b → Begins b c → Begins a c
 begins_trans a b c p q = (p.0 ++ q.0, sym (append_assoc a p.0 q.0) ∙ ap (λ xs. xs ++ q.0) p.1 ∙ q.1)
@@ -18,22 +12,92 @@ begins_trans a b c p q = (p.0 ++ q.0, sym (append_assoc a p.0 q.0) ∙ ap (λ xs
 pub begins_behind : {A : Type 0} (a b c : List A) → Begins b c → Begins (a ++ b) (a ++ c)
 begins_behind a b c p = (p.0, append_assoc a b p.0 ∙ ap (λ xs. a ++ xs) p.1)
 
+-- ---- where a run ended
+
+-- with more lines behind
+ends_longer : (ran gave : List (List ℕ) → Type 0) (answered later ks : List (List ℕ)) → EndsWithin ran gave answered later
+    → EndsWithin ran gave answered (later ++ ks)
+ends_longer ran gave answered later ks (inl r) = inl r
+ends_longer ran gave answered later ks (inr r) = inr (r.0, r.1 ++ ks, ap (λ xs. xs ++ ks) r.2, r.3)
+
+module _ (ran gave over given : List (List ℕ) → Type 0) (answered later : List (List ℕ)) where
+  -- what holds of some lines holds of others
+  pub ends_map : ((ls : List (List ℕ)) → ran ls → over ls) → ((ls : List (List ℕ)) → gave ls → given ls) → EndsWithin ran gave answered later
+      → EndsWithin over given answered later
+  ends_map f g (inl r) = inl (f answered r)
+  ends_map f g (inr r) = inr (r.0, r.1, r.2, g (answered ++ r.0 ∷ []) r.3)
+
+  -- with more lines in front
+  ends_behind : (ls : List (List ℕ)) → ((ks : List (List ℕ)) → ran ks → over (ls ++ ks)) → ((ks : List (List ℕ)) → gave ks → given (ls ++ ks))
+      → EndsWithin ran gave answered later → EndsWithin over given (ls ++ answered) later
+  ends_behind ls f g (inl r) = inl (f answered r)
+  ends_behind ls f g (inr r) = inr (r.0, r.1, r.2, subst given (sym (append_assoc ls answered (r.0 ∷ []))) (g (answered ++ r.0 ∷ []) r.3))
+
+  -- at most one line was carried out
+  ends_few : length (answered ++ later) ≤ 1 → ((ls : List (List ℕ)) → length ls ≤ 1 → ran ls → over ls)
+      → ((ls : List (List ℕ)) → length ls ≤ 1 → gave ls → given ls) → EndsWithin ran gave answered later → EndsWithin over given answered later
+  ends_few few f g (inl r) = inl (f answered (omega (arith, few, length-append answered later)) r)
+  ends_few few f g (inr r) =
+      let next = ap length r.2 in
+      inr (r.0, r.1, r.2, g (answered ++ r.0 ∷ []) (omega (arith, few, next, length-append answered later, length-append answered (r.0 ∷ []))) r.3)
+
 module _ {M C : Type 0} {means : Meaning M C} {cap : ℕ} (laws : Laws means cap) where
+  -- what was carried out from m at c to d, of whose replies these are written
+  abbrev Ran : Type 0 → (m : M) (c d : C) → List ℕ → List (List ℕ) → Type 0
+  Ran prompt m c d written = CarriedOut (means.told c) prompt (means.answers m) written (RanOver means m c d)
+
+  abbrev Gave : Type 0 → (m : M) (c d : C) → List ℕ → List (List ℕ) → Type 0
+  Gave prompt m c d written = CarriedOut (means.told c) prompt (means.answers m) written (GaveUpOver means m c d)
+
+  -- ---- the replies that are written
+
+  -- those to a line at most
+  nearly_few : (m : M) (written : List ℕ) (lines : List (List ℕ)) → length lines ≤ 1 → NearlyReplied (means.answers m) written lines
+  nearly_few m written [] few = inl (written, ap (λ xs. xs ++ written) (laws.silent m))
+  nearly_few m written (line ∷ []) few = inr ([], line, refl, (written, ap (λ xs. xs ++ written) (laws.silent m)))
+  nearly_few m written (line ∷ next ∷ lines) few = absurd (omega arith)
+
+  -- all of those to lines that it went over
+  nearly_all : {m n : M} {c d : C} (ls : List (List ℕ)) (w : List ℕ) → Goes means m c ls w n d → means.told c → Begins (means.answers m ls) w
+  nearly_all {m} {n} ls w p told = (
+    [],
+    append-nil (means.answers m ls) ∙ ap (means.answers m) (sym (append-nil ls)) ∙ p.on told [] ∙ ap (λ xs. w ++ xs) (laws.silent n) ∙ append-nil w,
+  )
+
+  -- behind lines that it went over
+  nearly_behind : {m n : M} {c d : C} (ls : List (List ℕ)) (w v : List ℕ) → Goes means m c ls w n d → means.told c
+      → (lines : List (List ℕ)) → Begins (means.answers n lines) v → Begins (means.answers m (ls ++ lines)) (w ++ v)
+  nearly_behind {m} {n} ls w v p told lines b = (
+    b.0,
+    ap (λ xs. xs ++ b.0) (p.on told lines) ∙ append_assoc w (means.answers n lines) b.0 ∙ ap (λ xs. w ++ xs) b.1,
+  )
+
+  nearly_more : {m n : M} {c d : C} (ls : List (List ℕ)) (w v : List ℕ) → Goes means m c ls w n d → means.told c
+      → (lines : List (List ℕ)) → NearlyReplied (means.answers n) v lines → NearlyReplied (means.answers m) (w ++ v) (ls ++ lines)
+  nearly_more ls w v p told lines (inl b) = inl (nearly_behind ls w v p told lines b)
+  nearly_more ls w v p told lines (inr r) = inr (
+    ls ++ r.0,
+    r.1,
+    append_assoc ls r.0 (r.1 ∷ []) ∙ ap (λ xs. ls ++ xs) r.2,
+    nearly_behind ls w v p told r.0 r.3,
+  )
+
   -- ---- of whole lines
 
   -- where the context has gone, behind lines that it went over
-  ends_more : {m n : M} {c d e : C} (ls answered later : List (List ℕ)) → means.ran m c ls n d
-      → EndsWithin (RanOver means n d e) (GaveUpOver means n d e) answered later
-      → EndsWithin (RanOver means m c e) (GaveUpOver means m c e) (ls ++ answered) later
-  ends_more ls answered later p (inl r) = inl (r.0, laws.ran_more _ _ _ _ _ _ ls answered p r.1)
-  ends_more {m} {n} {c} {d} {e} ls answered later p (inr r) =
-      inr (
-        r.0,
-        r.1,
-        r.2,
-        subst (λ xs. means.gave_up m c xs e) (sym (append_assoc ls answered (r.0 ∷ [])))
-            (laws.gave_up_more m n c d e ls (answered ++ r.0 ∷ []) p r.3),
-      )
+  ends_more : {prompt : Type 0} {m n : M} {c d e : C} (ls answered later : List (List ℕ)) (w v : List ℕ) → Goes means m c ls w n d
+      → EndsWithin (Ran prompt n d e v) (Gave prompt n d e v) answered later
+      → EndsWithin (Ran prompt m c e (w ++ v)) (Gave prompt m c e (w ++ v)) (ls ++ answered) later
+  ends_more {prompt} {m} {n} {c} {d} {e} ls answered later w v p =
+      ends_behind (Ran prompt n d e v) (Gave prompt n d e v) (Ran prompt m c e (w ++ v)) (Gave prompt m c e (w ++ v)) answered later ls
+      (λ ks r. (
+        (r.0.0, laws.ran_more m n r.0.0 c d e ls ks p.context r.0.1),
+        λ now told. nearly_more ls w v p told ks (r.1 now (laws.told_stays m n c d ls p.context told)),
+      ))
+      (λ ks r. (
+        laws.gave_up_more m n c d e ls ks p.context r.0,
+        λ now told. nearly_more ls w v p told ks (r.1 now (laws.told_stays m n c d ls p.context told)),
+      ))
 
   goes_more : {m n o : M} {c d e : C} (ls ks : List (List ℕ)) (w v : List ℕ) → Goes means m c ls w n d
       → Goes means n d ks v o e → Goes means m c (ls ++ ks) (w ++ v) o e
@@ -45,9 +109,9 @@ module _ {M C : Type 0} {means : Meaning M C} {cap : ℕ} (laws : Laws means cap
     context = laws.ran_more m n o c d e ls ks p.context q.context;
   }
 
-  stops_more : {m n : M} {c d e : C} (ls ks : List (List ℕ)) (w v : List ℕ) → Goes means m c ls w n d
-      → Stops means n d ks v e → Stops means m c (ls ++ ks) (w ++ v) e
-  stops_more {m} {n} {c} {d} ls ks w v p q = record {
+  stops_more : {prompt : Type 0} {m n : M} {c d e : C} (ls ks : List (List ℕ)) (w v : List ℕ) → Goes means m c ls w n d
+      → Stops prompt means n d ks v e → Stops prompt means m c (ls ++ ks) (w ++ v) e
+  stops_more {prompt} {m} {n} {c} {d} ls ks w v p q = record {
     answered = ls ++ q.answered;
     later = q.later;
     all = append_assoc ls q.answered q.later ∙ ap (λ xs. ls ++ xs) q.all;
@@ -56,44 +120,64 @@ module _ {M C : Type 0} {means : Meaning M C} {cap : ℕ} (laws : Laws means cap
       append_assoc w v r.0 ∙ ap (λ xs. w ++ xs) r.1 ∙ sym (p.on told (q.answered ++ more)) ∙ sym
           (ap (means.answers m) (append_assoc ls q.answered more)),
     );
-    context = ends_more ls q.answered q.later p.context q.context;
+    context = ends_more ls q.answered q.later w v p q.context;
   }
 
   -- it may stop at any moment
-  pub goes_stops : {m n : M} {c d : C} (ls ks : List (List ℕ)) (w : List ℕ) → Goes means m c ls w n d
-      → Stops means m c (ls ++ ks) w d
-  goes_stops {m} {n} ls ks w p = record {
+  pub goes_stops : {prompt : Type 0} {m n : M} {c d : C} (ls ks : List (List ℕ)) (w : List ℕ) → Goes means m c ls w n d
+      → Stops prompt means m c (ls ++ ks) w d
+  goes_stops {prompt} {m} {n} ls ks w p = record {
     answered = ls;
     later = ks;
     all = refl;
     off = λ told more. (means.answers n more, sym (p.on told more));
-    context = inl (n, p.context);
+    context = inl ((n, p.context), λ now told. inl (nearly_all ls w p told));
   }
 
-  ends_longer : {m : M} {c d : C} (answered later ks : List (List ℕ))
-      → EndsWithin (RanOver means m c d) (GaveUpOver means m c d) answered later
-      → EndsWithin (RanOver means m c d) (GaveUpOver means m c d) answered (later ++ ks)
-  ends_longer answered later ks (inl r) = inl r
-  ends_longer answered later ks (inr r) = inr (r.0, r.1 ++ ks, ap (λ xs. xs ++ ks) r.2, r.3)
-
-  pub stops_longer : {m : M} {c d : C} (ls ks : List (List ℕ)) (w : List ℕ) → Stops means m c ls w d
-      → Stops means m c (ls ++ ks) w d
-  stops_longer ls ks w p = record {
+  pub stops_longer : {prompt : Type 0} {m : M} {c d : C} (ls ks : List (List ℕ)) (w : List ℕ) → Stops prompt means m c ls w d
+      → Stops prompt means m c (ls ++ ks) w d
+  stops_longer {prompt} {m} {c} {d} ls ks w p = record {
     answered = p.answered;
     later = p.later ++ ks;
     all = sym (append_assoc p.answered p.later ks) ∙ ap (λ xs. xs ++ ks) p.all;
     off = p.off;
-    context = ends_longer p.answered p.later ks p.context;
+    context = ends_longer (Ran prompt m c d w) (Gave prompt m c d w) p.answered p.later ks p.context;
   }
 
-  stops_shorter : {m : M} {c d : C} {ls : List (List ℕ)} (w v : List ℕ) → Stops means m c ls w d → Begins v w
-      → Stops means m c ls v d
-  stops_shorter {m} w v p q = record {
+  -- of what was written only a part is known
+  stops_shorter : {m : M} {c d : C} {ls : List (List ℕ)} (w v : List ℕ) → Stops ⊥ means m c ls w d → Begins v w
+      → Stops ⊥ means m c ls v d
+  stops_shorter {m} {c} {d} w v p q = record {
     answered = p.answered;
     later = p.later;
     all = p.all;
     off = λ told more. begins_trans v w (means.answers m (p.answered ++ more)) q (p.off told more);
-    context = p.context;
+    context = ends_map (Ran ⊥ m c d w) (Gave ⊥ m c d w) (Ran ⊥ m c d v) (Gave ⊥ m c d v) p.answered p.later
+        (λ ls r. (r.0, λ now. absurd now)) (λ ls r. (r.0, λ now. absurd now)) p.context;
+  }
+
+  -- of a line at most
+  stops_few : {prompt : Type 0} {m : M} {c d : C} {ls : List (List ℕ)} {w : List ℕ} → length ls ≤ 1 → Stops ⊥ means m c ls w d
+      → Stops prompt means m c ls w d
+  stops_few {prompt} {m} {c} {d} {ls} {w} few p = record {
+    answered = p.answered;
+    later = p.later;
+    all = p.all;
+    off = p.off;
+    context = ends_few (Ran ⊥ m c d w) (Gave ⊥ m c d w) (Ran prompt m c d w) (Gave prompt m c d w) p.answered p.later (let both = ap length p.all in omega (arith, few, both))
+        (λ ls short r. (r.0, λ now told. nearly_few m w ls short)) (λ ls short r. (r.0, λ now told. nearly_few m w ls short)) p.context;
+  }
+
+  -- of a machine that isn't prompt
+  stops_slow : {prompt : Type 0} {m : M} {c d : C} {ls : List (List ℕ)} {w : List ℕ} → (prompt → ⊥) → Stops ⊥ means m c ls w d
+      → Stops prompt means m c ls w d
+  stops_slow {prompt} {m} {c} {d} {ls} {w} slow p = record {
+    answered = p.answered;
+    later = p.later;
+    all = p.all;
+    off = p.off;
+    context = ends_map (Ran ⊥ m c d w) (Gave ⊥ m c d w) (Ran prompt m c d w) (Gave prompt m c d w) p.answered p.later
+        (λ ls r. (r.0, λ now. absurd (slow now))) (λ ls r. (r.0, λ now. absurd (slow now))) p.context;
   }
 
   -- ---- of all lines that are cut to the kept ones
@@ -113,35 +197,52 @@ module _ {M C : Type 0} {means : Meaning M C} {cap : ℕ} (laws : Laws means cap
         (goes_more s.0 s.1 w v (p.of s.0 s.3) (q.of s.1 s.4));
   }
 
-  pub stopped_more : {m n : M} {c d e : C} {ls ks : List (List ℕ)} {w v : List ℕ}
-      → GoesOverCut means cap m c ls w n d → StopsOverCut means cap n d ks v e
-      → StopsOverCut means cap m c (ls ++ ks) (w ++ v) e
-  stopped_more {m} {n} {c} {d} {e} {ls} {ks} {w} {v} p q = record {
-    of = λ lines cut. let s = cut_append cap lines ls ks cut in subst (λ xs. Stops means m c xs (w ++ v) e) s.2
+  pub stopped_more : {prompt : Type 0} {m n : M} {c d e : C} {ls ks : List (List ℕ)} {w v : List ℕ}
+      → GoesOverCut means cap m c ls w n d → StopsOverCut prompt means cap n d ks v e
+      → StopsOverCut prompt means cap m c (ls ++ ks) (w ++ v) e
+  stopped_more {prompt} {m} {n} {c} {d} {e} {ls} {ks} {w} {v} p q = record {
+    of = λ lines cut. let s = cut_append cap lines ls ks cut in subst (λ xs. Stops prompt means m c xs (w ++ v) e) s.2
         (stops_more s.0 s.1 w v (p.of s.0 s.3) (q.of s.1 s.4));
   }
 
-  pub went_stopped : {m n : M} {c d : C} {ls : List (List ℕ)} {w : List ℕ} (ks : List (List ℕ))
-      → GoesOverCut means cap m c ls w n d → StopsOverCut means cap m c (ls ++ ks) w d
-  went_stopped {m} {n} {c} {d} {ls} {w} ks p = record {
-    of = λ lines cut. let s = cut_append cap lines ls ks cut in subst (λ xs. Stops means m c xs w d) s.2 (goes_stops s.0 s.1 w (p.of s.0 s.3));
+  pub went_stopped : {prompt : Type 0} {m n : M} {c d : C} {ls : List (List ℕ)} {w : List ℕ} (ks : List (List ℕ))
+      → GoesOverCut means cap m c ls w n d → StopsOverCut prompt means cap m c (ls ++ ks) w d
+  went_stopped {prompt} {m} {n} {c} {d} {ls} {w} ks p = record {
+    of = λ lines cut. let s = cut_append cap lines ls ks cut in subst (λ xs. Stops prompt means m c xs w d) s.2 (goes_stops s.0 s.1 w (p.of s.0 s.3));
   }
 
-  pub stopped_longer : {m : M} {c d : C} {ls : List (List ℕ)} {w : List ℕ} (ks : List (List ℕ))
-      → StopsOverCut means cap m c ls w d → StopsOverCut means cap m c (ls ++ ks) w d
-  stopped_longer {m} {c} {d} {ls} {w} ks p = record {
-    of = λ lines cut. let s = cut_append cap lines ls ks cut in subst (λ xs. Stops means m c xs w d) s.2 (stops_longer s.0 s.1 w (p.of s.0 s.3));
+  pub stopped_longer : {prompt : Type 0} {m : M} {c d : C} {ls : List (List ℕ)} {w : List ℕ} (ks : List (List ℕ))
+      → StopsOverCut prompt means cap m c ls w d → StopsOverCut prompt means cap m c (ls ++ ks) w d
+  stopped_longer {prompt} {m} {c} {d} {ls} {w} ks p = record {
+    of = λ lines cut. let s = cut_append cap lines ls ks cut in subst (λ xs. Stops prompt means m c xs w d) s.2 (stops_longer s.0 s.1 w (p.of s.0 s.3));
   }
 
   pub stopped_shorter : {m : M} {c d : C} {ls : List (List ℕ)} {w : List ℕ} (v : List ℕ)
-      → StopsOverCut means cap m c ls w d → Begins v w → StopsOverCut means cap m c ls v d
+      → StopsOverCut ⊥ means cap m c ls w d → Begins v w → StopsOverCut ⊥ means cap m c ls v d
   stopped_shorter {w = w} v p q = record { of = λ lines cut. stops_shorter w v (p.of lines cut) q }
 
+  -- within a line at most, and so at most one reply is missing
+  pub stopped_few : {prompt : Type 0} {m : M} {c d : C} {ls : List (List ℕ)} {w : List ℕ} → length ls ≤ 1
+      → StopsOverCut ⊥ means cap m c ls w d → StopsOverCut prompt means cap m c ls w d
+  stopped_few {ls = ls} few p = record {
+    of = λ lines cut. stops_few (let same = cut_length cap lines ls cut in omega (arith, few, same)) (p.of lines cut);
+  }
+
+  -- it isn't prompt
+  pub stopped_slow : {prompt : Type 0} {m : M} {c d : C} {ls : List (List ℕ)} {w : List ℕ} → (prompt → ⊥)
+      → StopsOverCut ⊥ means cap m c ls w d → StopsOverCut prompt means cap m c ls w d
+  stopped_slow slow p = record { of = λ lines cut. stops_slow slow (p.of lines cut) }
+
   -- nothing is done yet
-  pub stopped_none : (m : M) (c : C) (ls : List (List ℕ)) → StopsOverCut means cap m c ls [] c
+  pub stopped_none : (m : M) (c : C) (ls : List (List ℕ)) → StopsOverCut ⊥ means cap m c ls [] c
   stopped_none m c ls = record {
-    of =
-        λ lines cut. record { answered = []; later = lines; all = refl; off = λ told more. (means.answers m more, refl); context = inl (m, laws.ran_none m c) };
+    of = λ lines cut. record {
+      answered = [];
+      later = lines;
+      all = refl;
+      off = λ told more. (means.answers m more, refl);
+      context = inl ((m, laws.ran_none m c), λ now. absurd now);
+    };
   }
 
   -- ---- one step
@@ -163,17 +264,17 @@ module _ {M C : Type 0} {means : Meaning M C} {cap : ℕ} (laws : Laws means cap
   went_one line reply p r = record { of = goes_one line reply p r }
 
   stops_one : {m : M} {c d : C} (line : List ℕ) → means.gave_up m c (line ∷ []) d → (lines : List (List ℕ))
-      → CutTo cap lines (line ∷ []) → Stops means m c lines [] d
+      → CutTo cap lines (line ∷ []) → Stops ⊥ means m c lines [] d
   stops_one line r [] cut = absurd cut
   stops_one {m} {c} {d} line r (f ∷ []) cut = record {
     answered = [];
     later = f ∷ [];
     all = refl;
     off = λ told more. (means.answers m more, refl);
-    context = inr (f, [], refl, laws.cut_gave_up m c d f cut.0 (subst (λ xs. means.gave_up m c (xs ∷ []) d) (sym cut.1) r));
+    context = inr (f, [], refl, (laws.cut_gave_up m c d f cut.0 (subst (λ xs. means.gave_up m c (xs ∷ []) d) (sym cut.1) r), λ now. absurd now));
   }
   stops_one line r (f ∷ g ∷ gs) cut = absurd cut.2
 
   pub stopped_one : {m : M} {c d : C} (line : List ℕ) → means.gave_up m c (line ∷ []) d
-      → StopsOverCut means cap m c (line ∷ []) [] d
+      → StopsOverCut ⊥ means cap m c (line ∷ []) [] d
   stopped_one line r = record { of = stops_one line r }

@@ -14,6 +14,8 @@ pub record Meaning (M C : Type 0) : Type 1 where
   pub ran : M → C → List (List ℕ) → M → C → Type 0
   -- From this machine and context it may give up at the last of these lines, and leave that context.
   pub gave_up : M → C → List (List ℕ) → C → Type 0
+  -- each reply is written before the next line is carried out, as where a line takes something for good
+  pub prompt : Type 0
 
 -- what is promised of a machine that looks at the first `cap` bytes of a line
 pub record Laws {M C : Type 0} (means : Meaning M C) (cap : ℕ) : Type 0 where

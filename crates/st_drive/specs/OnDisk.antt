@@ -4,7 +4,7 @@ use Rattle.std.specs.Prelude.{◌≡◌, ◌⊎◌, ◌+◌, ◌≤◌, ◌<◌,
 use Rattle.std.specs.declared.option.Option.{Option}
 use Rattle.st_io.specs.Past.{Past, Images, GoesOn, LeftSinceSync}
 use Rattle.st_drive.specs.Meaning.{Meaning}
-use Rattle.st_drive.specs.Runs.{Begins}
+use Rattle.st_drive.specs.Runs.{Begins, NearlyReplied}
 
 -- What a machine of type M may do to its context of type C, whatever its disk tells, as a bound on the work
 -- that is counted.
@@ -113,13 +113,14 @@ pub record GaveUpOnDisk {M C K D : Type 0} (rules : Rules M C K) (store : Store 
   pub disk : IsTold store c.1 → (k : K) → AllHold rules k (store.past c.1)
       → GaveUp rules m k lines (store.past c.1) (store.past d.1)
 
--- what a machine with these rules means to a run
+-- What a machine with these rules means to a run. It is prompt: what a line does to the disk stays there.
 abbrev pub disk_meaning : {M C K D : Type 0} → Rules M C K → Store D → Meaning M (C × D)
 disk_meaning rules store = record {
   answers = replies rules;
   told = λ c. IsTold store c.1;
   ran = RanOnDisk rules store;
   gave_up = GaveUpOnDisk rules store;
+  prompt = ⊤;
 }
 
 -- what is promised of an effect, as `Laws` promises it of a meaning
@@ -166,16 +167,22 @@ HasReleased rules m lines written first =
     (before : List (List ℕ)) (line : List ℕ) (later : List (List ℕ)) → before ++ line ∷ later ≡ lines
     → Released rules m before written → Begins (before ++ line ∷ []) first
 
--- What a run over lines leaves of its disk, whatever ended it: at each moment since its start an image holds
--- what the machine keeps after some first lines, and at the end these have each line of whose reply a byte was
--- written.
+-- An image holds what the machine keeps after some first lines. These have each line of whose reply a byte was
+-- written, and the replies to all of them are written, or to all but the last: a stop costs at most one.
+pub record HoldsReplied {M C K : Type 0} (rules : Rules M C K)
+    (m : M) (k : K) (lines : List (List ℕ)) (written image : List ℕ) : Type 0 where
+  pub first : List (List ℕ)
+  pub begins : Begins first lines
+  pub released : HasReleased rules m lines written first
+  pub replied : NearlyReplied (replies rules m) written first
+  pub holds : rules.holds (kept rules m k first) image
+
+-- What a run over lines leaves of its disk, whatever ended it, at each moment since its start and at the end.
 pub record LeavesOnDisk {M C K : Type 0} (rules : Rules M C K)
     (m : M) (k : K) (lines : List (List ℕ)) (written : List ℕ) (old new : Past) : Type 0 where
   pub goes : GoesOn old new
   pub moments : (image : List ℕ) → new.left_since old.now image → HoldsFirst rules m k lines image
-  pub end : (image : List ℕ) → Images new image
-      → (first : List (List ℕ)) × Begins first lines × HasReleased rules m lines written first
-      × rules.holds (kept rules m k first) image
+  pub end : (image : List ℕ) → Images new image → HoldsReplied rules m k lines written image
 
 -- How a disk is opened where it holds k: at each moment an image is one of the start or holds k, and from the
 -- first good sync on each holds k.
@@ -192,7 +199,5 @@ pub record RunLeaves {M C K : Type 0} (rules : Rules M C K)
   pub moments : (image : List ℕ) → new.left_since old.now image → Images old image ⊎ HoldsFirst rules m k lines image
   -- from the first good sync on each holds that
   pub synced : (image : List ℕ) → LeftSinceSync new old.now image → HoldsFirst rules m k lines image
-  -- at the end, where a byte was written, these first lines have each of whose reply a byte was written
-  pub end : 0 < length written → (image : List ℕ) → Images new image
-      → (first : List (List ℕ)) × Begins first lines × HasReleased rules m lines written first
-      × rules.holds (kept rules m k first) image
+  -- at the end too, with all lines of whose reply a byte was written, and at most one besides
+  pub end : (image : List ℕ) → Images new image → (Images old image × (written ≡ [])) ⊎ HoldsReplied rules m k lines written image

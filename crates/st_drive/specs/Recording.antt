@@ -1,8 +1,8 @@
 -- Machines that record on their disk each line that changes them, before they reply to it, as a journal does.
-use Rattle.std.specs.Prelude.{◌≡◌, ◌⊎◌, ◌<◌, ℕ, Bool, true, false, List, [], ◌∷◌, ◌++◌, length, Option, Some, if◌then◌else◌}
+use Rattle.std.specs.Prelude.{◌≡◌, ◌⊎◌, ℕ, Bool, true, List, [], ◌∷◌, ◌++◌, Option, Some, if◌then◌else◌}
 use Rattle.st_io.specs.Past.{Past, Images, LeftSinceSync, Leaves}
-use Rattle.st_drive.specs.OnDisk.{Effect, Rules, AllHold, HasReleased, Store, IsTold}
-use Rattle.st_drive.specs.Runs.{Begins}
+use Rattle.st_drive.specs.OnDisk.{Effect, Rules, AllHold, HasReleased, Store, IsTold, replies}
+use Rattle.st_drive.specs.Runs.{Begins, NearlyReplied}
 
 -- a machine of type M with a context of type C that records lines
 pub record Recorder (M C : Type 0) : Type 1 where
@@ -67,13 +67,6 @@ pub record GaveUpRecording {M C D : Type 0} (recorder : Recorder M C) (store : S
   pub effect : recorder.effect.gave_up m c.0 (line ∷ []) d.0
   pub moments : IsTold store c.1 → LeavesOneMore recorder line (store.past c.1) (store.past d.1)
 
--- it has replied to a line that changes nothing, and left the disk
-pub record HasIdled {M C D : Type 0} (recorder : Recorder M C) (store : Store D)
-    (m : M) (c : C) (line : List ℕ) (n : M) (d : C) (disk : D) : Type 0 where
-  pub idle : recorder.changes m line ≡ false
-  pub effect : recorder.effect.ran m c (line ∷ []) n d
-  pub came : IsTold store disk → n ≡ recorder.next m line
-
 -- ---- a whole run
 
 -- the records of an image are r, and then the changing lines of a prefix of these lines
@@ -81,14 +74,25 @@ abbrev pub HasPrefix : {M C : Type 0} → Recorder M C → M → (r lines : List
 HasPrefix recorder m r lines image =
     (prefix : List (List ℕ)) × Begins prefix lines × (recorder.records image ≡ Some (r ++ changing recorder m prefix))
 
--- What a run of such a machine leaves of its disk, which begins as m with the records r.
-pub record KeepsRecords {M C : Type 0} (recorder : Recorder M C)
-    (m : M) (r lines : List (List ℕ)) (written : List ℕ) (old new : Past) : Type 0 where
+-- The same of a prefix that has each line of whose reply a byte was written. All replies to the prefix are written,
+-- or all but the last: a stop leaves at most one record without its reply.
+pub record HasRepliedPrefix {M C : Type 0} (recorder : Recorder M C)
+    (m : M) (r lines : List (List ℕ)) (written image : List ℕ) : Type 0 where
+  pub prefix : List (List ℕ)
+  pub begins : Begins prefix lines
+  pub released : HasReleased (recording recorder) m lines written prefix
+  pub replied : NearlyReplied (replies (recording recorder) m) written prefix
+  pub records_are : recorder.records image ≡ Some (r ++ changing recorder m prefix)
+
+-- What a run of such a machine leaves of its disk at each moment, which begins as m with the records r.
+pub record KeepsPrefixes {M C : Type 0} (recorder : Recorder M C) (m : M) (r lines : List (List ℕ)) (old new : Past) : Type 0 where
   -- at each moment an image is one of those of the start, or has the records of a prefix
   pub moments : (image : List ℕ) → new.left_since old.now image → Images old image ⊎ HasPrefix recorder m r lines image
   -- from the first good sync on each has the records of a prefix
   pub synced : (image : List ℕ) → LeftSinceSync new old.now image → HasPrefix recorder m r lines image
-  -- at the end, where a byte was written, the prefix has each line of whose reply a byte was written
-  pub end : 0 < length written → (image : List ℕ) → Images new image
-      → (prefix : List (List ℕ)) × Begins prefix lines × HasReleased (recording recorder) m lines written prefix
-      × (recorder.records image ≡ Some (r ++ changing recorder m prefix))
+
+-- What it leaves at the end: an image is one of those of the start, where nothing was written, or has the records
+-- of such a prefix.
+abbrev pub KeepsRecords : {M C : Type 0} → Recorder M C → (m : M) (r lines : List (List ℕ)) (written : List ℕ) (old new : Past) → Type 0
+KeepsRecords recorder m r lines written old new =
+    (image : List ℕ) → Images new image → (Images old image × (written ≡ [])) ⊎ HasRepliedPrefix recorder m r lines written image

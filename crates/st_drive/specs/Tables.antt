@@ -1,11 +1,47 @@
--- What a run over a source and a sink has taken, written and done to its context, for each way that it ends.
-use Rattle.std.specs.Prelude.{◌≡◌, ℕ, ◌+◌, ◌≤◌, List, ◌++◌, length, take, Result, Ok, Err, IfSome}
+-- How a run over lines ends: the status, and what it has taken from its source, written to its sink and done to its
+-- context by then.
+use Rattle.std.specs.Prelude.{◌≡◌, ◌≢◌, ◌==◌, ◌||◌, ◌⊎◌, ⊤, Bool, true, ℕ, ◌+◌, ◌≤◌, List, [], ◌++◌, length, take, Result, Ok, Err, Some, IsTrue, IfSome}
 use Rattle.std.specs.declared.option.Option.{Option}
 use Rattle.std.specs.Io.KnownBytes.{Consumes, Appends, IsAtEnd}
+use Rattle.st_io.specs.Sinks.{FinishesNothing}
 use Rattle.st_drive.specs.declared.stop.Stop.{Stop}
 use Rattle.st_drive.specs.declared.stop.Stop.TheVariants.{ReadFault, WriteFault, DeviceFault, OverLimit, WantOfMemory}
 use Rattle.st_drive.specs.Lines.{all_lines, whole_lines}
-use Rattle.st_drive.specs.Runs.{Begins, Course, EndsWithin}
+use Rattle.st_drive.specs.Runs.{Begins, CarriedOut, Course, EndsWithin}
+use Rattle.st_drive.specs.Streams.{GoesWell, Streams}
+
+-- ---- the status
+
+-- of a run that was stopped so
+abbrev pub status_by : Stop → ℕ
+status_by ReadFault = 2
+status_by WriteFault = 3
+status_by DeviceFault = 4
+status_by OverLimit = 5
+status_by WantOfMemory = 6
+
+-- of a run that ended so
+abbrev pub status_of : {T : Type 0} → Result T Stop → ℕ
+status_of (Ok x) = 0
+status_of (Err stop) = status_by stop
+
+-- the statuses of a run over lines
+abbrev pub is_end : ℕ → Bool
+is_end status = status == 0 || (status == 2 || (status == 3 || (status == 4 || (status == 5 || status == 6))))
+
+-- how a run ends: the sink is finished at status 0, and under every other only where it was before; a fault has its cause
+pub record Ends (io : Streams) (disk_failed : Type 0) (status : ℕ) : Type 0 where
+  pub finished : status ≡ 0 → io.is_finished ≡ true
+  pub unfinished : status ≢ 0 → FinishesNothing io.was_finished io.is_finished
+  pub read_fault : status ≡ 2 → io.read_failed
+  pub write_fault : status ≡ 3 → io.write_failed
+  pub disk_fault : status ≡ 4 → disk_failed
+
+-- ---- the lines that were answered
+
+-- a run that replies so to lines, and of which this holds where it has gone over lines; when replies are written isn't said
+abbrev pub replying : (answers : List (List ℕ) → List ℕ) → (counts : List (List ℕ) → Type 0) → Course
+replying answers counts = record { told = ⊤; prompt = ⊥; answers = answers; ran_over = counts; gave_up_over = counts }
 
 -- these lines were answered and no other: all the replies were written, where they are told, and the context
 -- went over all these lines
@@ -20,8 +56,10 @@ pub record AnsweredFirst (course : Course) (written : List ℕ) (lines : List (L
   pub all : answered ++ later ≡ lines
   -- what was written begins the replies to those that were answered
   pub replies : course.told → Begins written (course.answers answered)
-  -- the context went over the lines that were answered, or also over the next one, where the machine gave up
-  pub context : EndsWithin course.ran_over course.gave_up_over answered later
+  -- The context went over the lines that were answered, or also over the next one, where the machine gave up. Where
+  -- it is prompt, at most the last of these has no reply that is written.
+  pub context : EndsWithin (CarriedOut course.told course.prompt course.answers written course.ran_over)
+      (CarriedOut course.told course.prompt course.answers written course.gave_up_over) answered later
 
 -- what has come about by the end of a run, however it ends
 pub record SoFar (course : Course) (left : Option (List ℕ)) (taken written : List ℕ) : Type 0 where
@@ -32,25 +70,51 @@ pub record SoFar (course : Course) (left : Option (List ℕ)) (taken written : L
   -- what was written begins the replies to all lines of the source
   pub all_replies : IfSome left (λ rest. course.told → Begins written (course.answers (all_lines (taken ++ rest))))
 
--- by the end of the run
-abbrev pub Row : {T : Type 0} → Course → (limit : ℕ) (left : Option (List ℕ)) (taken written : List ℕ)
-    → Result T Stop → Type 0
-Row course limit left taken written (Ok x) =
-    IsAtEnd left × (length taken ≤ limit) × Answered course written (all_lines taken)
-Row course limit left taken written (Err ReadFault) =
-    (length taken ≤ limit) × Answered course written (whole_lines taken)
-Row course limit left taken written (Err WriteFault) = length taken ≤ limit + 1
-Row course limit left taken written (Err OverLimit) =
-    (length taken ≡ limit + 1) × Answered course written (whole_lines (take limit taken))
-Row course limit left taken written (Err DeviceFault) = length taken ≤ limit + 1
-Row course limit left taken written (Err WantOfMemory) = length taken ≤ limit + 1
+-- ---- the table of a run
 
--- from a source that had `had` and has `left`, to a sink that held `held` and holds `holds`
-pub record Table {T : Type 0} (course : Course)
-    (limit : ℕ) (had left held holds : Option (List ℕ)) (result : Result T Stop) : Type 0 where
+-- what a run has taken, by its status, whatever it answers
+pub record TakesBytes (limit : ℕ) (had left : Option (List ℕ)) (status : ℕ) : Type 0 where
   pub taken : List ℕ
-  pub written : List ℕ
   pub takes : Consumes had left taken
-  pub writes : Appends held holds written
-  pub so_far : SoFar course left taken written
-  pub row : Row course limit left taken written result
+  -- 0: nothing is left of the source
+  pub done : status ≡ 0 → IsAtEnd left × (length taken ≤ limit)
+  -- 5: one byte over the limit was taken
+  pub over : status ≡ 5 → length taken ≡ limit + 1
+  -- at most one byte over the limit is taken, and a run that takes it ends with 5, but for a fault of the sink or a
+  -- device and for want of memory
+  pub bound : length taken ≤ limit + 1
+  pub exceeds : length taken ≡ limit + 1 → (status ≡ 5) ⊎ (status ≡ 3) ⊎ (status ≡ 4) ⊎ (status ≡ 6)
+
+-- what it has taken, written and done to its context, by its status
+pub record RunTable (course : Course) (limit : ℕ) (io : Streams) (status : ℕ) : Type 0 where
+  pub took : TakesBytes limit io.had io.left status
+  pub written : List ℕ
+  pub writes : Appends io.held io.holds written
+  -- 0: all lines were answered
+  pub done : status ≡ 0 → Answered course written (all_lines took.taken)
+  -- 2: the whole lines of what was taken were answered
+  pub read_fault : status ≡ 2 → Answered course written (whole_lines took.taken)
+  -- 5: the whole lines before the limit were answered
+  pub over : status ≡ 5 → Answered course written (whole_lines (take limit took.taken))
+  -- whatever the status, the first lines were answered, and a beginning of the replies is written
+  pub so_far : SoFar course io.left took.taken written
+
+-- ---- what follows for a whole input
+
+-- at status 0 the whole input was read, which is within the limit, and the replies to all its lines are written
+abbrev pub AnswersInput : Course → (limit : ℕ) → Streams → (status : ℕ) → Type 0
+AnswersInput course limit io status = status ≡ 0 → IfSome io.had (λ input.
+    (length input ≤ limit) × (io.left ≡ Some []) × Appends io.held io.holds (course.answers (all_lines input)))
+
+-- All that is promised of a run that answers the lines of a source of at most `limit` bytes. Where no disk is at work,
+-- `disk_failed` is ⊥, and 4 doesn't come.
+pub record AnswersLines (course : Course) (limit : ℕ) (io : Streams) (disk_failed : Type 0) (status : ℕ) : Type 0 where
+  -- what was taken and written, and over which lines the context went, by the status
+  pub table : RunTable course limit io status
+  -- at status 0 the replies to the whole input are written
+  pub done : course.told → AnswersInput course limit io status
+  -- where nothing fails and the input is within the limit, all is answered, unless memory runs out
+  pub complete : GoesWell limit io → ¬ disk_failed → (status ≡ 0) ⊎ (status ≡ 6)
+  pub ends : Ends io disk_failed status
+  -- 0 and 2 to 6 are the only statuses
+  pub statuses : IsTrue (is_end status)

@@ -31,7 +31,7 @@ pub record SpendsLess (m : ℕ) (c : Allowance × Unit {0}) (lines : List (List 
 
 -- what the machine that numbers its replies means
 abbrev pub numbered_meaning : Meaning ℕ (Allowance × Unit {0})
-numbered_meaning = record { answers = numbered; told = λ c. ⊤; ran = Spends; gave_up = SpendsLess }
+numbered_meaning = record { answers = numbered; told = λ c. ⊤; ran = Spends; gave_up = SpendsLess; prompt = ⊥ }
 
 pub numbered_laws : Laws numbered_meaning 4
 numbered_laws = record {

@@ -4,10 +4,11 @@ ghost use Rattle.st_io.specs.Causes.{Rose, HasCause};
 ghost use Rattle.st_io.specs.Sinks.{FinishesNothing};
 ghost use Rattle.st_base.specs.Words.{HasNo};
 ghost use Rattle.st_drive.specs.Lines.{last_line};
-ghost use Rattle.st_drive.specs.Parts.{Wrote, WroteSome, Orderly};
+ghost use Rattle.st_drive.specs.Parts.{Ended, Orderly, Writes, Wrote, WroteSome, turn};
 ghost use Rattle.st_drive.specs.Runs.{course};
 ghost use Rattle.st_drive.specs.Stops.{IsRunStop};
-ghost use Rattle.st_drive.specs.Tables.{Table};
+ghost use Rattle.st_drive.specs.Streams.{streams};
+ghost use Rattle.st_drive.specs.Tables.{RunTable, status_of};
 
 use crate::machine::Machine;
 use crate::progress::Progress;
@@ -42,15 +43,10 @@ fn answer_last<M: Machine, K: Sink>(
     sink: &mut K,
 ) -> Result<M, Stop>
     requires fits { M.fits progress.machine (context.old, device.old) (vec_len progress.line + 1) }
-    ensures ok { IfOk result (λ next. Wrote M.meaning M.CAP
-        progress.machine (context.old, device.old) (last_line progress.line.items)
-        next (context.new, device.new) (K.written sink.old) (K.written sink.new)) }
-    ensures err { OnErr result (WroteSome M.meaning M.CAP
-        progress.machine (context.old, device.old) (last_line progress.line.items)
-        (context.new, device.new) (K.written sink.old) (K.written sink.new)) }
-    ensures unfinished { FinishesNothing (K.is_finished sink.old) (K.is_finished sink.new) }
-    ensures faults { Orderly (K.faults sink.old) (K.faults sink.new)
-        (M.faults (context.old, device.old)) (M.faults (context.new, device.new)) result }
+    ensures writes { Writes M.meaning.prompt (turn M.meaning M.CAP progress.machine (context.old, device.old) (context.new, device.new))
+        (last_line progress.line.items) (K.written sink.old) (K.written sink.new) (λ next. next) result }
+    ensures orderly { Orderly (K.is_finished sink.old) (K.is_finished sink.new) (K.faults sink.old, K.faults sink.new)
+        (M.faults (context.old, device.old), M.faults (context.new, device.new)) result }
 {
     if progress.line.is_empty() {
         return Ok(progress.machine);
@@ -74,14 +70,11 @@ fn end_run<M: Machine, K: Sink>(
     ensures ok { OnOk result ((next : _) × Wrote M.meaning M.CAP
         progress.machine (context.old, device.old) (last_line progress.line.items)
         next (context.new, device.new) (K.written sink.old) (K.written sink.new)) }
-    ensures finished { OnOk result (K.is_finished sink.new ≡ true) }
-    ensures err { OnErr result (WroteSome M.meaning M.CAP
+    ensures err { OnErr result (WroteSome M.meaning.prompt M.meaning M.CAP
         progress.machine (context.old, device.old) (last_line progress.line.items)
         (context.new, device.new) (K.written sink.old) (K.written sink.new)) }
-    ensures unfinished { OnErr result
-        (FinishesNothing (K.is_finished sink.old) (K.is_finished sink.new)) }
-    ensures faults { Orderly (K.faults sink.old) (K.faults sink.new)
-        (M.faults (context.old, device.old)) (M.faults (context.new, device.new)) result }
+    ensures orderly { Ended (K.is_finished sink.old) (K.is_finished sink.new) (K.faults sink.old, K.faults sink.new)
+        (M.faults (context.old, device.old), M.faults (context.new, device.new)) result }
 {
     match answer_last(alloc, progress, context, device, sink) {
         Err(stop) => Err(stop),
@@ -99,7 +92,8 @@ fn end_run<M: Machine, K: Sink>(
 /// Runs the machine over all lines of a source of at most `limit` bytes, and writes its replies.
 ///
 /// Each read's bytes are one call of `Progress::feed`, before the next read, so a line is answered
-/// and its reply written once its line feed was read. The last line is answered also at the end of
+/// and its reply written once its line feed was read. Of a prompt machine each reply is written before the
+/// next line is carried out, so whatever ends the run, at most one line was carried out whose reply isn't written. The last line is answered also at the end of
 /// the input, where it has a byte. Reads go through `buffer`, and at most `limit + 1` bytes are taken.
 /// The machine gets the first `CAP` bytes of a line; all clauses speak of the whole line.
 ///
@@ -128,8 +122,8 @@ pub fn drive<M: Machine, S: Source, K: Sink>(
     requires some { 0 < length buffer.old }
     requires fits { M.fits machine (context.old, device.old) (limit + 1) }
     requires limit { limit < 2 ^ 62 }
-    ensures table { Table (course M.meaning machine (context.old, device.old) (context.new, device.new)) limit
-        (S.left source.old) (S.left source.new) (K.written sink.old) (K.written sink.new) result }
+    ensures table { RunTable (course M.meaning machine (context.old, device.old) (context.new, device.new)) limit
+        (streams S.left S.faults source.old source.new K.written K.is_finished K.faults sink.old sink.new) (status_of result) }
     ensures finished { OnOk result (K.is_finished sink.new ≡ true) }
     ensures unfinished { OnErr result
         (FinishesNothing (K.is_finished sink.old) (K.is_finished sink.new)) }

@@ -1,4 +1,4 @@
-ghost use Rattle.std.specs.Prelude.{◌≡◌, ◌+◌, ◌≤◌, ℕ, List, [], ◌∷◌, ◌++◌, length, IfOk, OnErr, IsErrOf};
+ghost use Rattle.std.specs.Prelude.{◌≡◌, ◌+◌, ◌≤◌, ℕ, Bool, true, List, [], ◌∷◌, ◌++◌, length, IfOk, OnErr, IsErrOf};
 ghost use Rattle.st_io.specs.Causes.{Rose};
 ghost use Rattle.st_drive.specs.Meaning.{Meaning, Laws, Fewer, FitsAfter};
 
@@ -48,6 +48,13 @@ pub trait Machine: Sized + Drop {
     /// How many bytes of a line it looks at: the others are skipped.
     const CAP: usize;
 
+    /// Each reply is written before the next line is carried out, so that a stop costs at most one line its reply.
+    ghost PROMPT: { Bool };
+
+    /// Each reply is written before the next line is carried out. Else replies are gathered, and many short ones
+    /// become one write.
+    const PROMPT: bool;
+
     /// The machine may go on with this context and this device over lines of so many bytes, with a
     /// byte for the end of each.
     ghost fits: { Self → Self.Context × Self.Device → ℕ → Type 0 };
@@ -81,6 +88,9 @@ pub trait Machine: Sized + Drop {
 
     /// It may go on over fewer bytes, where it may over more.
     ghost fewer: { Fewer fits };
+
+    /// It is prompt where its meaning says so.
+    ghost prompt: { meaning.prompt → PROMPT ≡ true };
 
     /// What it promises of its meaning.
     ghost laws: { Laws meaning CAP };

@@ -1,12 +1,11 @@
-ghost use Rattle.std.specs.Prelude.{◌≡◌, ◌+◌, ◌≤◌, [], ◌∷◌, ◌++◌, length, take, vec_len, true, IfOk, OnOk, OnErr};
+ghost use Rattle.std.specs.Prelude.{◌≡◌, ◌+◌, ◌≤◌, [], ◌∷◌, ◌++◌, length, take, vec_len, IfOk, OnOk};
 ghost use Rattle.std.proofs.Props.{props};
-ghost use Rattle.st_io.specs.Sinks.{FinishesNothing};
 ghost use Rattle.st_base.specs.Words.{HasNo};
 ghost use Rattle.st_drive.specs.Lines.{capped};
 ghost use Rattle.st_drive.specs.Meaning.{FitsAfter, FitsBeside};
-ghost use Rattle.st_drive.specs.Parts.{Wrote, WroteSome, Gathered, GatheredSome, Orderly, outlet};
+ghost use Rattle.st_drive.specs.Parts.{Gathers, Orderly, Writes, outlet, turn};
 
-use crate::lines::{LINE_FEED, cut_front, keep_front};
+use crate::lines::{LINE_FEED, cut_front, cut_line, keep_front};
 use crate::machine::{Machine, StepError};
 use crate::replies::{gather, write_gathered};
 use crate::stop::Stop;
@@ -27,17 +26,10 @@ fn answer_line<M: Machine, K: Sink>(
     requires { M.fits machine (context.old, device.old) (length line.now + 1) }
     ensures fits { IfOk result (λ next. FitsAfter M.fits
         machine (context.old, device.old) (length line.now + 1) next (context.new, device.new)) }
-    ensures ok { IfOk result (λ next. Gathered M.meaning M.CAP
-        machine (context.old, device.old) (line.now ∷ []) next (context.new, device.new)
-        (outlet (K.written sink.old) gathered.old.items
-        (K.written sink.new) gathered.new.items)) }
-    ensures err { OnErr result (GatheredSome M.meaning M.CAP
-        machine (context.old, device.old) (line.now ∷ []) (context.new, device.new)
-        (outlet (K.written sink.old) gathered.old.items
-        (K.written sink.new) gathered.new.items)) }
-    ensures unfinished { FinishesNothing (K.is_finished sink.old) (K.is_finished sink.new) }
-    ensures faults { Orderly (K.faults sink.old) (K.faults sink.new)
-        (M.faults (context.old, device.old)) (M.faults (context.new, device.new)) result }
+    ensures gathers { Gathers (turn M.meaning M.CAP machine (context.old, device.old) (context.new, device.new)) (line.now ∷ [])
+        (outlet (K.written sink.old) gathered.old.items (K.written sink.new) gathered.new.items) (λ next. next) result }
+    ensures orderly { Orderly (K.is_finished sink.old) (K.is_finished sink.new) (K.faults sink.old, K.faults sink.new)
+        (M.faults (context.old, device.old), M.faults (context.new, device.new)) result }
 {
     match machine.step(alloc, context, device, line) {
         Err(StepError::WantOfMemory) => Err(Stop::WantOfMemory),
@@ -64,18 +56,12 @@ fn end_line<M: Machine, K: Sink>(
     requires fits { M.fits machine (context.old, device.old) (vec_len line.old + length front.now + 1) }
     ensures fits { IfOk result (λ next. FitsAfter M.fits
         machine (context.old, device.old) (vec_len line.old + length front.now + 1) next (context.new, device.new)) }
-    ensures ok { IfOk result (λ next. Gathered M.meaning M.CAP
-        machine (context.old, device.old) (take M.CAP (line.old.items ++ front.now) ∷ []) next (context.new, device.new)
-        (outlet (K.written sink.old) gathered.old.items
-        (K.written sink.new) gathered.new.items)) }
+    ensures gathers { Gathers (turn M.meaning M.CAP machine (context.old, device.old) (context.new, device.new))
+        (take M.CAP (line.old.items ++ front.now) ∷ [])
+        (outlet (K.written sink.old) gathered.old.items (K.written sink.new) gathered.new.items) (λ next. next) result }
     ensures emptied { OnOk result (line.new.items ≡ []) }
-    ensures err { OnErr result (GatheredSome M.meaning M.CAP
-        machine (context.old, device.old) (take M.CAP (line.old.items ++ front.now) ∷ []) (context.new, device.new)
-        (outlet (K.written sink.old) gathered.old.items
-        (K.written sink.new) gathered.new.items)) }
-    ensures unfinished { FinishesNothing (K.is_finished sink.old) (K.is_finished sink.new) }
-    ensures faults { Orderly (K.faults sink.old) (K.faults sink.new)
-        (M.faults (context.old, device.old)) (M.faults (context.new, device.new)) result }
+    ensures orderly { Orderly (K.is_finished sink.old) (K.is_finished sink.new) (K.faults sink.old, K.faults sink.new)
+        (M.faults (context.old, device.old), M.faults (context.new, device.new)) result }
 {
     if line.is_empty() {
         // The line stands whole in the piece, so it isn't copied.
@@ -128,21 +114,13 @@ impl<M: Machine> Progress<M> {
         ensures fits { IfOk result (λ next. FitsBeside M.fits
             self.machine (context.old, device.old) (vec_len self.line + length piece.now)
             next.machine (context.new, device.new) (vec_len next.line)) }
-        ensures ok { IfOk result (λ next. Gathered M.meaning M.CAP
-            self.machine (context.old, device.old) (capped M.CAP (self.line.items ++ piece.now)).0
-            next.machine (context.new, device.new)
-            (outlet (K.written sink.old) gathered.old.items
-            (K.written sink.new) gathered.new.items)) }
+        ensures gathers { Gathers (turn M.meaning M.CAP self.machine (context.old, device.old) (context.new, device.new))
+            (capped M.CAP (self.line.items ++ piece.now)).0
+            (outlet (K.written sink.old) gathered.old.items (K.written sink.new) gathered.new.items) (λ next. next.machine) result }
         ensures line { IfOk result (λ next. next.line.items
             ≡ (capped M.CAP (self.line.items ++ piece.now)).1) }
-        ensures err { OnErr result (GatheredSome M.meaning M.CAP
-            self.machine (context.old, device.old) (capped M.CAP (self.line.items ++ piece.now)).0
-            (context.new, device.new)
-            (outlet (K.written sink.old) gathered.old.items
-            (K.written sink.new) gathered.new.items)) }
-        ensures unfinished { FinishesNothing (K.is_finished sink.old) (K.is_finished sink.new) }
-        ensures faults { Orderly (K.faults sink.old) (K.faults sink.new)
-            (M.faults (context.old, device.old)) (M.faults (context.new, device.new)) result }
+        ensures orderly { Orderly (K.is_finished sink.old) (K.is_finished sink.new) (K.faults sink.old, K.faults sink.new)
+            (M.faults (context.old, device.old), M.faults (context.new, device.new)) result }
     {
         let Progress {
             mut machine,
@@ -150,9 +128,12 @@ impl<M: Machine> Progress<M> {
         } = self;
         let mut rest = piece;
         'lines: while let Some((front, after)) = cut_at(rest, LINE_FEED) {
-            machine = end_line(
+            machine = match end_line(
                 alloc, machine, context, device, &mut line, sink, gathered, front,
-            )?;
+            ) {
+                Ok(next) => next,
+                Err(stop) => return Err(stop),
+            };
             rest = after;
         }
         if keep_front(M::CAP, &mut line, rest).is_err() {
@@ -161,11 +142,78 @@ impl<M: Machine> Progress<M> {
         Ok(Progress { machine, line })
     }
 
+    // Takes the next bytes, answers each line that is whole now, and then writes the replies.
+    fn feed_at_once<K: Sink>(
+        self,
+        alloc: Global,
+        context: &mut M::Context,
+        device: &mut M::Device,
+        sink: &mut K,
+        piece: &[u8],
+    ) -> Result<Self, Stop>
+        requires fits { M.fits self.machine (context.old, device.old) (vec_len self.line + length piece.now) }
+        ensures fits { IfOk result (λ next. FitsBeside M.fits
+            self.machine (context.old, device.old) (vec_len self.line + length piece.now)
+            next.machine (context.new, device.new) (vec_len next.line)) }
+        ensures writes { Writes ⊥ (turn M.meaning M.CAP self.machine (context.old, device.old) (context.new, device.new))
+            (capped M.CAP (self.line.items ++ piece.now)).0 (K.written sink.old) (K.written sink.new) (λ next. next.machine) result }
+        ensures line { IfOk result (λ next. next.line.items
+            ≡ (capped M.CAP (self.line.items ++ piece.now)).1) }
+        ensures orderly { Orderly (K.is_finished sink.old) (K.is_finished sink.new) (K.faults sink.old, K.faults sink.new)
+            (M.faults (context.old, device.old), M.faults (context.new, device.new)) result }
+    {
+        let mut gathered = Vec::new(alloc);
+        let outcome = self.answer_lines(alloc, context, device, sink, &mut gathered, piece);
+        if write_gathered(sink, &mut gathered).is_err() {
+            return Err(Stop::WriteFault);
+        }
+        match outcome {
+            Ok(next) => Ok(next),
+            Err(stop) => Err(stop),
+        }
+    }
+
+    // Takes the next bytes line by line, and writes each reply before the next line is carried out.
+    fn feed_promptly<K: Sink>(
+        self,
+        alloc: Global,
+        context: &mut M::Context,
+        device: &mut M::Device,
+        sink: &mut K,
+        piece: &[u8],
+    ) -> Result<Self, Stop>
+        requires fits { M.fits self.machine (context.old, device.old) (vec_len self.line + length piece.now) }
+        ensures fits { IfOk result (λ next. FitsBeside M.fits
+            self.machine (context.old, device.old) (vec_len self.line + length piece.now)
+            next.machine (context.new, device.new) (vec_len next.line)) }
+        ensures writes { Writes M.meaning.prompt (turn M.meaning M.CAP self.machine (context.old, device.old) (context.new, device.new))
+            (capped M.CAP (self.line.items ++ piece.now)).0 (K.written sink.old) (K.written sink.new) (λ next. next.machine) result }
+        ensures line { IfOk result (λ next. next.line.items
+            ≡ (capped M.CAP (self.line.items ++ piece.now)).1) }
+        ensures orderly { Orderly (K.is_finished sink.old) (K.is_finished sink.new) (K.faults sink.old, K.faults sink.new)
+            (M.faults (context.old, device.old), M.faults (context.new, device.new)) result }
+    {
+        let mut progress = self;
+        let mut rest = piece;
+        'lines: while let Some((line, after)) = cut_line(rest) {
+            progress = match progress.feed_at_once(alloc, context, device, sink, line) {
+                Ok(next) => next,
+                Err(stop) => return Err(stop),
+            };
+            rest = after;
+        }
+        match progress.feed_at_once(alloc, context, device, sink, rest) {
+            Ok(next) => Ok(next),
+            Err(stop) => Err(stop),
+        }
+    }
+
     /// Takes the next bytes, answers each line that is whole now, and writes the replies.
     ///
     /// When it answers `Ok`, the replies to all lines that these bytes end are written, and of the line
     /// that they begin at most `CAP` bytes are kept. When it answers `Err`, a beginning of these replies
-    /// is written: where the machine gave up, that of all lines before, unless the sink fails too.
+    /// is written: where the machine gave up, that of all lines before, unless the sink fails too. A prompt
+    /// machine has carried out at most one line whose reply isn't written then.
     /// `WriteFault` and `DeviceFault` come only where the count of faults of the sink or the device rose;
     /// want of memory is free, and no other stop comes. The sink isn't finished.
     pub fn feed<K: Sink>(
@@ -180,24 +228,17 @@ impl<M: Machine> Progress<M> {
         ensures fits { IfOk result (λ next. FitsBeside M.fits
             self.machine (context.old, device.old) (vec_len self.line + length piece.now)
             next.machine (context.new, device.new) (vec_len next.line)) }
-        ensures ok { IfOk result (λ next. Wrote M.meaning M.CAP
-            self.machine (context.old, device.old) (capped M.CAP (self.line.items ++ piece.now)).0
-            next.machine (context.new, device.new) (K.written sink.old) (K.written sink.new)) }
+        ensures writes { Writes M.meaning.prompt (turn M.meaning M.CAP self.machine (context.old, device.old) (context.new, device.new))
+            (capped M.CAP (self.line.items ++ piece.now)).0 (K.written sink.old) (K.written sink.new) (λ next. next.machine) result }
         ensures line { IfOk result (λ next. next.line.items
             ≡ (capped M.CAP (self.line.items ++ piece.now)).1) }
-        ensures err { OnErr result (WroteSome M.meaning M.CAP
-            self.machine (context.old, device.old) (capped M.CAP (self.line.items ++ piece.now)).0
-            (context.new, device.new) (K.written sink.old) (K.written sink.new)) }
-        ensures unfinished { FinishesNothing (K.is_finished sink.old) (K.is_finished sink.new) }
-        ensures faults { Orderly (K.faults sink.old) (K.faults sink.new)
-            (M.faults (context.old, device.old)) (M.faults (context.new, device.new)) result }
+        ensures orderly { Orderly (K.is_finished sink.old) (K.is_finished sink.new) (K.faults sink.old, K.faults sink.new)
+            (M.faults (context.old, device.old), M.faults (context.new, device.new)) result }
     {
-        let mut gathered = Vec::new(alloc);
-        let outcome = self.answer_lines(alloc, context, device, sink, &mut gathered, piece);
-        if write_gathered(sink, &mut gathered).is_err() {
-            return Err(Stop::WriteFault);
+        if M::PROMPT {
+            return self.feed_promptly(alloc, context, device, sink, piece);
         }
-        match outcome {
+        match self.feed_at_once(alloc, context, device, sink, piece) {
             Ok(next) => Ok(next),
             Err(stop) => Err(stop),
         }

@@ -1,8 +1,6 @@
 ghost use Rattle.std.specs.Prelude.{◌≡◌, ◌<◌, ◌≤◌, ◌^◌, length, IfOk};
 
 mod machines;
-mod numbers;
-mod on_disk;
 
 use crate::{Stop, answer_all, drive};
 use machines::{Allowance, Numbered};

@@ -80,7 +80,7 @@ by_code false = omega arith
 long_fits : (code : ℕ) → digest_length code < 256
 long_fits code = by_code (code == 0x13)
 
-multihash_bytes : (hash : HashValue) → IsHash hash → IsBytes (multihash hash)
+pub multihash_bytes : (hash : HashValue) → IsHash hash → IsBytes (multihash hash)
 multihash_bytes hash is zero = code_fits hash.code is.code
 multihash_bytes hash is (suc zero) =
     let fits = long_fits hash.code in

@@ -1,6 +1,6 @@
 pub mod FixedLemmas
 pub mod HashTexts
 pub mod SameHash
-pub mod Separators
 pub mod Spelling
+pub mod Symbols
 pub mod Utf8Bytes

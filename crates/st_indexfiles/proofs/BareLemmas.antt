@@ -1,110 +1,37 @@
--- Nothing in base64url is escaped, so a hash text stands in canonical text as it is.
-use Rattle.std.proofs.Common.{◌≡◌, ℕ, zero, suc, ◌+◌, ◌*◌, ◌/◌, ◌%◌, ◌<◌, ◌==◌, Bool, true, false, if◌then◌else◌}
-use Rattle.std.proofs.Common.{List, [], ◌∷◌, ◌++◌, codes, length, slice_index, inl, inr, refl, append_assoc, arith}
-use Rattle.std.specs.List.{flat_map, list_all}
-use Rattle.std.specs.Str.{bytes_eq}
-use Rattle.std.proofs.lemmas.Bool.{and_parts}
-use Rattle.std.proofs.lemmas.List.{append-nil}
-use Rattle.std.proofs.lemmas.Slice.Eq.{bytes_eq-Decides}
-use Rattle.base64.specs.Engines.{url_safe_no_pad}
-use Rattle.base64.specs.GeneralPurpose.{IsBytes}
-use Rattle.base64.specs.Rfc4648.{encode_symbols}
+-- Nothing in base64url is escaped, so a hash text stands in canonical text as it is, and a text of which JSON escapes
+-- a byte is none.
+use Rattle.std.proofs.Common.{◌≡◌, ◌≢◌, ◌==◌, ◌++◌, Bool, true, false, cond, List, ℕ, [], ◌∷◌, codes, Option, Some, None, option_and_then, refl, sym, ap, append_assoc, arith}
+use Rattle.std.specs.List.{AllByRecursion, flat_map}
+use Rattle.std.specs.Option.{option_or}
+use Rattle.std.proofs.lemmas.Bool.Decides.{nat_tests}
 use Rattle.st_canon.specs.Canonical.{canonical, escape}
+use Rattle.st_canon.specs.Entries.{text_in}
 use Rattle.st_canon.specs.Objects.{object_of}
-use Rattle.st_canon.specs.Plain.{text}
+use Rattle.st_canon.specs.Plain.{Plain, null, boolean, whole, text, list, object}
 use Rattle.st_canon.proofs.OnLiterals.{names_on_literals}
-use Rattle.st_hash.specs.Base64url.{base64url}
-use Rattle.st_hash.specs.Hash.{HashValue, IsCode, IsHash, digest_length, hash_text, multihash}
+use Rattle.st_hash.specs.Base64url.{bytes_of_text}
+use Rattle.st_hash.specs.Hash.{HashValue, IsHash, hash_of_multihash, hash_of_text_at, hash_of_text_with, hash_text, multihash}
+use Rattle.st_hash.proofs.HashTexts.{multihash_bytes}
+use Rattle.st_hash.proofs.Symbols.{IsApart, base64url_apart, decoded_apart}
+use Rattle.st_indexfiles.specs.Hashes.{hash_in, uri_in}
 use Rattle.st_indexfiles.specs.SuffixData.{suffix_data_json}
 use Rattle.st_indexfiles.specs.declared.suffix_data.SuffixData.{SuffixData}
-
--- ---- bytes that are not escaped
 
 -- no byte of these is escaped
 abbrev pub IsBare : List ℕ → Type 0
 IsBare bytes = flat_map escape bytes ≡ bytes
 
--- one more byte that is not escaped
-pub bare_more : (byte : ℕ) (bytes : List ℕ) → escape byte ≡ byte ∷ [] → IsBare bytes → IsBare (byte ∷ bytes)
-bare_more byte bytes first rest = rw (first, rest) refl
-
--- ---- the alphabet
-
--- the test of one byte
-abbrev is_bare : ℕ → Bool
-is_bare byte = bytes_eq (escape byte) (byte ∷ [])
-
--- where each symbol passes it, the one at a place is escaped as itself
-bare_at : (symbols : List ℕ) → list_all is_bare symbols ≡ true → (i : ℕ) → i < length symbols
-    → escape (slice_index symbols i) ≡ slice_index symbols i ∷ []
-bare_at [] all i within = absurd (omega (arith, within))
-bare_at (x ∷ xs) all zero within = (bytes_eq-Decides (escape x) (x ∷ [])).0 (and_parts (is_bare x) (list_all is_bare xs) all).0
-bare_at (x ∷ xs) all (suc i) within = bare_at xs (and_parts (is_bare x) (list_all is_bare xs) all).1 i (omega (arith, within))
-
--- each symbol of base64url passes it
-table_bare : list_all is_bare url_safe_no_pad.encode_table ≡ true
+byte_bare : (byte : ℕ) → IsApart byte → escape byte ≡ byte ∷ []
 unfolding escape
-table_bare = refl
+byte_bare byte apart = grind (arith, nat_tests)
 
--- the symbol of six bits
-abbrev pub symbol : ℕ → ℕ
-symbol i = slice_index url_safe_no_pad.encode_table i
+pub apart_bare : (bytes : List ℕ) → AllByRecursion IsApart bytes → IsBare bytes
+apart_bare [] apart = refl
+apart_bare (byte ∷ bytes) apart = rw (byte_bare byte apart.0, apart_bare bytes apart.1) refl
 
--- each symbol of base64url is escaped as itself
-pub symbol_bare : (i : ℕ) → i < 64 → escape (symbol i) ≡ symbol i ∷ []
-symbol_bare i within = bare_at url_safe_no_pad.encode_table table_bare i within
-
--- ---- base64url
-
--- so no byte of the symbols of bytes is escaped
-symbols_bare : (bytes : List ℕ) → IsBytes bytes → IsBare (encode_symbols url_safe_no_pad.encode_table bytes)
-unfolding encode_symbols
-symbols_bare [] are = refl
-symbols_bare (a ∷ []) are =
-    let first = are 0 in
-    bare_more _ _ (symbol_bare (a / 4) (omega (arith, first))) (bare_more _ _ (symbol_bare (a % 4 * 16) (omega arith)) refl)
-symbols_bare (a ∷ b ∷ []) are =
-    let first = are 0 in
-    let second = are 1 in
-    bare_more _ _ (symbol_bare (a / 4) (omega (arith, first)))
-    (bare_more _ _ (symbol_bare (a % 4 * 16 + b / 16) (omega (arith, second))) (bare_more _ _ (symbol_bare (b % 16 * 4) (omega arith)) refl))
-symbols_bare (a ∷ b ∷ c ∷ rest) are =
-    let first = are 0 in
-    let second = are 1 in
-    let third = are 2 in
-    bare_more _ _ (symbol_bare (a / 4) (omega (arith, first)))
-    (bare_more _ _ (symbol_bare (a % 4 * 16 + b / 16) (omega (arith, second)))
-    (bare_more _ _ (symbol_bare (b % 16 * 4 + c / 64) (omega (arith, third)))
-    (bare_more _ _ (symbol_bare (c % 64) (omega arith)) (symbols_bare rest (λ i. are (suc (suc (suc i))))))))
-
--- no byte of a base64url text is escaped
-pub base64url_bare : (bytes : List ℕ) → IsBytes bytes → IsBare (base64url bytes)
-base64url_bare bytes are = rw (append-nil) (symbols_bare bytes are)
-
--- ---- hash texts
-
--- a code is a byte
-code_byte : (code : ℕ) → IsCode code → code < 256
-code_byte code (inl is) = omega (arith, is)
-code_byte code (inr is) = omega (arith, is)
-
--- and so is the length of a digest
-length_byte : (code : ℕ) → digest_length code < 256
-length_byte code = by (code == 0x13)
-  where
-    by : (second : Bool) → (if second then 64 else 32) < 256
-    by true = omega arith
-    by false = omega arith
-
--- a multihash is made of bytes
-pub multihash_bytes : (hash : HashValue) → IsHash hash → IsBytes (multihash hash)
-multihash_bytes hash is zero = code_byte hash.code is.code
-multihash_bytes hash is (suc zero) = omega (arith, is.long, length_byte hash.code)
-multihash_bytes hash is (suc (suc i)) = is.bytes i
-
--- no byte of a hash text is escaped
+-- no byte of a hash text is
 pub hash_text_bare : (hash : HashValue) → IsHash hash → IsBare (hash_text hash)
-hash_text_bare hash is = base64url_bare (multihash hash) (multihash_bytes hash is)
+hash_text_bare hash is = apart_bare (hash_text hash) (base64url_apart (multihash hash) (multihash_bytes hash is))
 
 -- ---- suffix data
 
@@ -123,3 +50,44 @@ pub suffix_data_text : (suffix_data : SuffixData) → IsHash suffix_data.delta_h
 suffix_data_text suffix_data first second =
     both_bare (hash_text suffix_data.delta_hash) (hash_text suffix_data.recovery_commitment)
     (hash_text_bare suffix_data.delta_hash first) (hash_text_bare suffix_data.recovery_commitment second)
+
+-- ---- a text of which JSON escapes a byte
+
+by_reading : (bytes : List ℕ) (read : Option (List ℕ)) → bytes_of_text bytes ≡ read → flat_map escape bytes ≢ bytes → read ≡ None
+by_reading bytes None is escaped = refl
+by_reading bytes (Some found) is escaped = absurd (escaped (apart_bare bytes (decoded_apart bytes found is)))
+
+-- it is not a text, or JSON escapes a byte of it
+abbrev pub IsNotBare : Plain → Type 0
+IsNotBare value = (bytes : List ℕ) → value ≡ text bytes → flat_map escape bytes ≢ bytes
+
+no_bytes_in : (value : Plain) → IsNotBare value → option_and_then bytes_of_text (text_in value) ≡ None
+no_bytes_in null escaped = refl
+no_bytes_in (boolean b) escaped = refl
+no_bytes_in (whole z) escaped = refl
+no_bytes_in (text bytes) escaped = by_reading bytes (bytes_of_text bytes) refl (escaped bytes refl)
+no_bytes_in (list ps) escaped = refl
+no_bytes_in (object ms) escaped = refl
+
+no_hash_with : (code : ℕ) (there : Option (List ℕ)) → option_and_then bytes_of_text there ≡ None
+    → option_and_then (hash_of_text_with code) there ≡ None
+no_hash_with code None none = refl
+no_hash_with code (Some bytes) none = ap (option_and_then (hash_of_multihash code)) none
+
+no_hash_at : (version : ℕ) (there : Option (List ℕ)) → option_and_then bytes_of_text there ≡ None
+    → option_and_then (hash_of_text_at version) there ≡ None
+no_hash_at version None none = refl
+no_hash_at version (Some bytes) none = neither (version == 1) _ _ (no_hash_with 0x12 (Some bytes) none) (no_hash_with 0x13 (Some bytes) none)
+  where
+    neither : (first : Bool) (sha256 sha512 : Option HashValue) → sha256 ≡ None → sha512 ≡ None
+        → cond first sha256 (option_or sha256 sha512) ≡ None
+    neither true sha256 sha512 e f = e
+    neither false sha256 sha512 e f = rw (e, f) refl
+
+-- so it is no URI
+pub no_uri_in : (value : Plain) → IsNotBare value → None ≡ uri_in (Some value)
+no_uri_in value escaped = sym (no_hash_with 0x12 (text_in value) (no_bytes_in value escaped))
+
+-- and no hash text of any version
+pub no_hash_in : (value : Plain) → IsNotBare value → (version : ℕ) → None ≡ hash_in version (Some value)
+no_hash_in value escaped version = sym (no_hash_at version (text_in value) (no_bytes_in value escaped))

@@ -1,15 +1,11 @@
--- no byte of base64url, and so of a hash text, is escaped in JSON
+-- no byte of base64url, and so of a hash text, is escaped in JSON, and a text of which one is is none
 pub mod BareLemmas
 pub mod CoreLemmas
--- a text of which JSON escapes a byte is no hash text
-pub mod EscapedLemmas
 -- their canonical text, a member after another
 pub mod MemberLemmas
 pub mod ProvisionalLemmas
 pub mod ReadLemmas
 -- what they are written as is read again
 pub mod ReadableLemmas
--- what base64 takes
-pub mod TakenLemmas
 pub mod TwiceLemmas
 pub mod WrittenLemmas

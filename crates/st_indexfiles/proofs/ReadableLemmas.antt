@@ -1,16 +1,13 @@
 -- What index files are written as is proper and does not nest too deep, so its canonical text is read again.
-use Rattle.std.proofs.Common.{◌≡◌, ℕ, zero, suc, ◌+◌, ◌*◌, ◌/◌, ◌%◌, ◌<◌, ◌≤◌, ◌++◌, true, List, [], ◌∷◌, codes, map, slice_index, nat_lt, Option, Some, None, refl, arith}
+use Rattle.std.proofs.Common.{◌≡◌, ℕ, ◌≤◌, true, List, [], ◌∷◌, codes, map, Option, Some, None, refl, arith}
 use Rattle.std.specs.Prelude.{option_map}
-use Rattle.std.specs.List.{AllByRecursion, list_all}
-use Rattle.std.specs.Str.{IsAscii, IsUtf8}
-use Rattle.std.proofs.lemmas.Bool.{and_parts}
-use Rattle.std.proofs.lemmas.Bool.Decides.{nat_tests}
+use Rattle.std.specs.List.{AllByRecursion}
+use Rattle.std.specs.Str.{IsUtf8}
 use Rattle.std.proofs.lemmas.Str.{IsUtf8-from_ascii}
 use Rattle.base64.specs.Engines.{url_safe_no_pad}
-use Rattle.base64.specs.Rfc4648.{encode_symbols}
+use Rattle.base64.proofs.EngineFacts.{IsAscii-encode_of}
 use Rattle.st_canon.proofs.OnLiterals.{names_on_literals}
 use Rattle.st_canon.proofs.ReadableLemmas.{IsReadable, IsReadableThere, deeper, list_there, listed_readable, object_readable, object_there}
-use Rattle.st_hash.specs.Base64url.{base64url}
 use Rattle.st_hash.specs.Hash.{HashValue, hash_text}
 use Rattle.st_indexfiles.specs.CoreIndex.{core_json, core_lists, core_members, core_operations}
 use Rattle.st_indexfiles.specs.Hashes.{hash_json}
@@ -25,40 +22,9 @@ use lib.Utf8.{encode, encodes, scalars}
 
 -- ---- hash texts
 
-abbrev pub AreBelow : ℕ → List ℕ → Type 0
-AreBelow most bytes = AllByRecursion (λ byte. byte < most) bytes
-
-pub below_both : (most : ℕ) (xs ys : List ℕ) → AreBelow most xs → AreBelow most ys → AreBelow most (xs ++ ys)
-below_both most [] ys first second = second
-below_both most (x ∷ xs) ys first second = (first.0, below_both most xs ys first.1 second)
-
-pub below_at : (most : ℕ) (xs : List ℕ) → 0 < most → AreBelow most xs → (i : ℕ) → slice_index xs i < most
-below_at most [] some all i = some
-below_at most (x ∷ xs) some all zero = all.0
-below_at most (x ∷ xs) some all (suc i) = below_at most xs some all.1 i
-
-tested_at : (symbols : List ℕ) → list_all (λ symbol. nat_lt symbol 128) symbols ≡ true → (i : ℕ) → slice_index symbols i < 128
-tested_at [] all i = omega arith
-tested_at (x ∷ xs) all zero = let first = (and_parts (nat_lt x 128) (list_all (λ symbol. nat_lt symbol 128) xs) all).0 in grind (arith, nat_tests)
-tested_at (x ∷ xs) all (suc i) = tested_at xs (and_parts (nat_lt x 128) (list_all (λ symbol. nat_lt symbol 128) xs) all).1 i
-
-below_in : (symbols bytes : List ℕ) → ((i : ℕ) → slice_index symbols i < 128) → AreBelow 128 (encode_symbols symbols bytes)
-unfolding encode_symbols
-below_in symbols [] low = tt
-below_in symbols (a ∷ []) low = (low (a / 4), (low (a % 4 * 16), tt))
-below_in symbols (a ∷ b ∷ []) low = (low (a / 4), (low (a % 4 * 16 + b / 16), (low (b % 16 * 4), tt)))
-below_in symbols (a ∷ b ∷ c ∷ rest) low =
-    (low (a / 4), (low (a % 4 * 16 + b / 16), (low (b % 16 * 4 + c / 64), (low (c % 64), below_in symbols rest low))))
-
-base64url_ascii : (bytes : List ℕ) → IsAscii (base64url bytes)
-base64url_ascii bytes =
-    let symbols = url_safe_no_pad.encode_table in
-    below_at 128 (encode_symbols symbols bytes ++ []) (omega arith)
-    (below_both 128 (encode_symbols symbols bytes) [] (below_in symbols bytes (tested_at symbols refl)) tt)
-
 -- a hash text is UTF-8
 pub hash_text_utf8 : (hash : HashValue) → IsUtf8 (hash_text hash)
-hash_text_utf8 hash = IsUtf8-from_ascii (hash_text hash) (base64url_ascii _)
+hash_text_utf8 hash = IsUtf8-from_ascii (hash_text hash) (IsAscii-encode_of url_safe_no_pad _)
 
 -- so a hash as JSON is readable
 pub hash_readable : (hash : HashValue) → IsReadable 1 (hash_json hash)

@@ -56,7 +56,7 @@ pub(crate) fn uri_in(there: Option<&Scanned<'_>>) -> Option<Hash>
 
 // The text that stands there, where it may be a hash text. JSON escapes no byte of a hash text, so one of
 // which it escapes a byte is none.
-#[tactic(auto, using(crate::proofs::EscapedLemmas::no_hash_in, crate::proofs::EscapedLemmas::no_uri_in))]
+#[tactic(auto, using(crate::proofs::BareLemmas::no_hash_in, crate::proofs::BareLemmas::no_uri_in))]
 fn hash_text_in<'a>(there: Option<&Scanned<'a>>) -> Option<&'a [u8]>
     ensures hash { (version : ℕ) → option_and_then (hash_of_text_at version) (option_copied result) ≡ hash_in version (option_copied there.entry) }
     ensures uri { option_and_then hash_of_text (option_copied result) ≡ uri_in (option_copied there.entry) }

@@ -33,6 +33,12 @@ put_before given = option_map (λ more. given ++ more)
 abbrev pub coming : Opening → List ℕ → Option (List (List ℕ))
 coming opening image = records_from opening.place image
 
+-- from this gate's place on these records stand one behind the other, up to that place
+abbrev pub StandFrom : (place : ℕ) → List (List ℕ) → (end : ℕ) → List ℕ → Type 0
+StandFrom place [] end image = end ≡ place
+StandFrom place (body ∷ more) end image =
+    (record_at (drop place image) ≡ Some (Some body)) × StandFrom (place + (5 + length body)) more end image
+
 -- how many bytes are still to be read
 abbrev pub left_of : Opening → ℕ
 left_of opening = opening.len - opening.place

@@ -102,7 +102,7 @@ fn read_on<D: Disk>(
                     return Err(JournalRefused::WantOfMemory);
                 }
             }
-            Ok(None) => return Ok((opening.finish(), bodies)),
+            Ok(None) => return Ok((opening.finish(disk), bodies)),
             Err(refused) => return Err(refused),
         }
     }

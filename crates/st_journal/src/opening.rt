@@ -1,4 +1,4 @@
-ghost use Rattle.std.specs.Prelude.{◌≡◌, ◌≢◌, ◌≤◌, ◌<◌, ◌^◌, List, ℕ, None, Ok, Err, drop, length, IfErr, IfOk, IfSome, OnOk, IsErrOf};
+ghost use Rattle.std.specs.Prelude.{◌≡◌, ◌≢◌, ◌≤◌, ◌+◌, ◌<◌, ◌^◌, List, ℕ, None, Ok, Err, drop, length, IfErr, IfOk, IfSome, OnOk, IsErrOf};
 ghost use Rattle.std.specs.Option.{ok_or};
 ghost use Rattle.st_io.specs.Causes.{Rose};
 ghost use Rattle.st_io.specs.Past.{AddsNoImage, Leaves, LeftSinceSync, Only};
@@ -40,6 +40,7 @@ impl Opening {
     pub fn begin<D: Disk>(alloc: Global, disk: &mut D) -> Result<Opening, JournalRefused>
         // The records that are still to come are then all that the disk is opened as.
         ensures reading { IfOk result (λ opening. IsReading opening (D.reads disk.new) (D.past disk.new)) }
+        ensures first { IfOk result (λ opening. opening.place ≡ 0) }
         ensures comes { IfOk result (λ opening. Turns (D.reads disk.old) (D.reads disk.new) (λ old new. opened old ≡ ok_or (coming opening new) Damaged)) }
         ensures begun { OnOk result (Turns (D.reads disk.old) (D.reads disk.new) (λ old new. new ≡ begun old)) }
         ensures same { OnOk result (Turns (D.reads disk.old) (D.reads disk.new) (λ old new. records new ≡ records old)) }
@@ -79,6 +80,9 @@ impl Opening {
         ensures gives { IfTold (D.reads disk.old) (λ image. RecordIs (drop self.old.place image) result) }
         ensures comes { IfTold (D.reads disk.old) (λ image. Comes (coming self.old image) (coming self.new image) result) }
 
+        // A record is passed with the five bytes in front of it.
+        ensures place { IfOk result (λ next. IfSome next (λ body. self.new.place ≡ self.old.place + (5 + length body))) }
+
         // Behind the last record the disk stands ready for the journal that ends there.
         ensures ready { IfOk result (λ next. next ≡ None → IsReady (at_end self.new.place) (D.reads disk.new) (D.past disk.new)) }
         ensures small { self.new.place < 2 ^ 40 }
@@ -104,9 +108,11 @@ impl Opening {
         }
     }
 
-    /// The journal that ends at the place that was reached.
-    pub fn finish(self) -> Journal
-        ensures { result ≡ at_end self.place }
+    /// The journal that ends at the place that was reached, behind the last record of the disk.
+    pub fn finish<D: Disk>(self, _disk: &D) -> Journal
+        requires { IsReady (at_end self.place) (D.reads _disk.now) (D.past _disk.now) }
+        ensures value { result ≡ at_end self.place }
+        ensures ready { IsReady result (D.reads _disk.now) (D.past _disk.now) }
     {
         Journal::new(self.place)
     }
@@ -116,6 +122,7 @@ impl Opening {
 pub(crate) fn begin_synced<D: Disk>(alloc: Global, disk: &mut D) -> Result<Opening, JournalRefused>
     requires { IfTold (D.reads disk.old) (Only (D.past disk.old)) }
     ensures reading { IfOk result (λ opening. IsReading opening (D.reads disk.new) (D.past disk.new)) }
+    ensures first { IfOk result (λ opening. opening.place ≡ 0) }
     ensures comes { IfOk result (λ opening. Turns (D.reads disk.old) (D.reads disk.new) (λ old new. opened old ≡ ok_or (coming opening new) Damaged)) }
     ensures begun { OnOk result (Turns (D.reads disk.old) (D.reads disk.new) (λ old new. new ≡ begun old)) }
     ensures same { OnOk result (Turns (D.reads disk.old) (D.reads disk.new) (λ old new. records new ≡ records old)) }
@@ -148,6 +155,7 @@ fn begin_closed<D: Disk>(alloc: Global, disk: &mut D) -> Result<Opening, Journal
     requires short { IfTold (D.reads disk.old) (λ old. length old < 2) }
     requires only { IfTold (D.reads disk.old) (Only (D.past disk.old)) }
     ensures reading { IfOk result (λ opening. IsReading opening (D.reads disk.new) (D.past disk.new)) }
+    ensures first { IfOk result (λ opening. opening.place ≡ 0) }
     ensures comes { IfOk result (λ opening. Turns (D.reads disk.old) (D.reads disk.new) (λ old new. opened old ≡ ok_or (coming opening new) Damaged)) }
     ensures begun { OnOk result (Turns (D.reads disk.old) (D.reads disk.new) (λ old new. new ≡ begun old)) }
     ensures same { OnOk result (Turns (D.reads disk.old) (D.reads disk.new) (λ old new. records new ≡ records old)) }

@@ -1,3 +1,4 @@
+mod LawLemmas
 mod ReplayLemmas
 mod StepLemmas
 mod OpenedLemmas

@@ -1,6 +1,9 @@
 -- What a journal was opened as, and the machine behind it.
-use Rattle.std.proofs.Common.{◌≡◌, ◌∙◌, inl, inr, ⊎_elim, ℕ, Bool, true, false, List, [], Option, Some, None, Result, Ok, Err, refl, ap, sym, subst, length, nat_le, ◌^◌}
-use Rattle.std.specs.Prelude.{IfSome, IsTrue}
+use Rattle.std.proofs.Common.{◌≡◌, ◌≢◌, ◌∙◌, ◌⊎◌, ◌<◌, inl, inr, ⊎_elim, ℕ, Bool, true, false, List, [], Option, Some, None, Result, Ok, Err, refl, ap, sym, subst, length, nat_le, ◌^◌}
+use Rattle.std.specs.Prelude.{IfErr, IfSome, IsErrOf, IsTrue, OnOk}
+use Rattle.st_io.specs.Past.{AddsNoImage, Past}
+use Rattle.st_io.proofs.MomentLemmas.{no_image_on}
+use Rattle.st_journal.specs.Moments.{StaysAsItWas}
 use Rattle.std.specs.Option.{ok_or}
 use Rattle.st_base.specs.Answers.{◌>>◌, holds_or}
 use Rattle.st_drive.specs.OnDisk.{EffectLaws}
@@ -8,7 +11,7 @@ use Rattle.st_journal.specs.Image.{records}
 use Rattle.st_journal.specs.Opening.{opened, refusal_of}
 use Rattle.st_journal.specs.declared.refused.JournalRefused.{JournalRefused}
 use Rattle.st_journal.specs.declared.refused.JournalRefused.TheVariants.{TooLong, Damaged, DiskFault, WantOfMemory}
-use Rattle.st_status.specs.Status.{is_end}
+use Rattle.st_drive.specs.Tables.{is_end}
 use Rattle.st_journal_lines.specs.Answering.{Answering, StayedOrWent, behind, behind_opened}
 use Rattle.st_journal_lines.specs.Journalled.{WentWithin}
 
@@ -94,3 +97,28 @@ module _ {M C : Type 0} (answering : Answering M C) (m : M) where
 -- the statuses of a run whose journal was opened are not those of one that was refused
 pub no_end : (status other : ℕ) → IsTrue (is_end status) → (is_end other ≡ false) → status ≡ other → ⊥
 no_end status other end none is = let here : is_end other ≡ true = subst (λ s. is_end s ≡ true) is end in cc
+
+-- ---- the records are gone over once a disk was opened
+
+pub on_ok : {T E P : Type 0} (r : Result T E) → P → OnOk r P
+on_ok (Ok x) p = p
+on_ok (Err e) p = tt
+
+-- a journal that is refused while its records come had some left, and then the disk was left as it was
+pub stays_refused : {T : Type 0} (result : Result T JournalRefused) {left : ℕ} {told mid now : Option (List ℕ)} {a b c : Past}
+    → IfErr result (λ refused. 0 < left) → (0 < left → StaysAsItWas told mid a b) → now ≡ mid → AddsNoImage b c
+    → IsErrOf result Damaged ⊎ IsErrOf result TooLong → StaysAsItWas told now a c
+stays_refused (Ok x) some stays reads images is = absurd (⊎_elim (λ no. cc) (λ no. cc) is)
+stays_refused (Err e) {a = a} {b = b} {c = c} some stays reads images is =
+    let was = stays some in
+    record { reads = reads ∙ was.reads; images = no_image_on a b c was.images images }
+
+-- the error is the same, whatever would be there without it
+pub same_error : {T U : Type 0} {error other : JournalRefused} → IsErrOf {T = T} (Err error) other → IsErrOf {T = U} (Err error) other
+same_error {error = error} is = ap Err (ap (error_or error) is)
+
+-- a disk that could not be opened was left as it was, unless it failed
+pub stays_unopened : {T : Type 0} {error : JournalRefused} {told now : Option (List ℕ)} {a b : Past} → (error ≢ DiskFault → StaysAsItWas told now a b)
+    → IsErrOf {T = T} (Err error) Damaged ⊎ IsErrOf {T = T} (Err error) TooLong → StaysAsItWas told now a b
+stays_unopened {error = error} stays (inl is) = stays (λ fault. let no = sym fault ∙ ap (error_or error) is in cc)
+stays_unopened {error = error} stays (inr is) = stays (λ fault. let no = sym fault ∙ ap (error_or error) is in cc)

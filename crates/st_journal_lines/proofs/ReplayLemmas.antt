@@ -1,25 +1,37 @@
 -- A machine that goes over the records of a journal as they come.
-use Rattle.std.proofs.Common.{◌≡◌, ◌∙◌, ◌⊎◌, inl, inr, ⊎_elim, ◌++◌, ℕ, List, [], ◌∷◌, Option, Some, Ok, Err, refl, ap, sym, subst}
-use Rattle.std.specs.Prelude.{IfSome}
+use Rattle.std.proofs.Common.{◌≡◌, ◌∙◌, ◌⊎◌, inl, inr, ⊎_elim, ◌++◌, ◌+◌, append-nil, drop, length, ℕ, List, [], ◌∷◌, Option, Some, None, Ok, Err, refl, ap, sym, subst}
+use Rattle.std.specs.Prelude.{◌<◌, IfErr, IfSome, OnErr, Result}
+use Rattle.st_io.specs.Tears.{IfTold}
 use Rattle.std.specs.Option.{ok_or}
 use Rattle.std.proofs.lemmas.Option.{same_Some}
 use Rattle.st_drive.specs.Runs.{Begins}
 use Rattle.st_journal.proofs.ComingLemmas.{given_all, given_damaged, given_more, given_none}
 use Rattle.st_journal.proofs.SplitLemmas.{map_some}
-use Rattle.st_journal.specs.Coming.{Comes, put_before}
+use Rattle.st_journal.specs.Coming.{Comes, StandFrom, put_before, record_at}
 use Rattle.st_journal.specs.Opening.{refusal_of}
 use Rattle.st_journal.specs.declared.refused.JournalRefused.{JournalRefused}
 use Rattle.st_journal.specs.declared.refused.JournalRefused.TheVariants.{TooLong, Damaged, DiskFault, WantOfMemory}
-use Rattle.st_journal_lines.specs.Answering.{Answering, AnsweringLaws, StayedOrWent, behind, behind_opened}
+use Rattle.st_journal_lines.specs.Answering.{Answering, AnsweringLaws, StayedOrWent, WentOverFirst, WentOverFrom, behind, behind_opened}
 
 -- Of the records that were to come, some have come, and the rest is still to come: the machine n at d has gone
 -- over those, from m at c, or has done nothing yet.
-pub record Replayed {M C : Type 0} (answering : Answering M C) (m : M) (c : C) (all rest : Option (List (List ℕ))) (n : M) (d : C) : Type 0 where
+pub record Replayed {M C : Type 0} (answering : Answering M C) (m : M) (c : C) (from to : ℕ) (image : List ℕ)
+    (all rest : Option (List (List ℕ))) (n : M) (d : C) : Type 0 where
   pub done : List (List ℕ)
+  pub stand : StandFrom from done to image
   pub split : all ≡ put_before done rest
   pub machine : n ≡ behind answering m done
   pub context : answering.effect.ran m c done n d
   pub stayed : (d ≡ c) ⊎ answering.effect.gave_up m c done d
+
+stand_more : (image : List ℕ) (from : ℕ) (done : List (List ℕ)) (to : ℕ) (line : List ℕ) (end : ℕ) → StandFrom from done to image
+    → record_at (drop to image) ≡ Some (Some line) → end ≡ to + (5 + length line) → StandFrom from (done ++ line ∷ []) end image
+stand_more image from [] to line end stand here behind = (
+  ap (λ n. record_at (drop n image)) (sym stand) ∙ here,
+  behind ∙ ap (λ n. n + (5 + length line)) stand,
+)
+stand_more image from (body ∷ done) to line end stand here behind =
+    (stand.0, stand_more image (from + (5 + length body)) done to line end stand.1 here behind)
 
 begins_so_far : (first : List (List ℕ)) (all rest : Option (List (List ℕ))) (r : List (List ℕ)) → all ≡ put_before first rest → all ≡ Some r → Begins first r
 begins_so_far first all rest r split is = let more = map_some (λ x. first ++ x) rest r (sym split ∙ is) in (more.0, more.2)
@@ -29,15 +41,18 @@ module _ {M C : Type 0} {answering : Answering M C} {cap : ℕ} (laws : Answerin
   behind_more m [] line = refl
   behind_more m (l ∷ first) line = behind_more (answering.next m l) first line
 
-  pub replayed_none : (m : M) (c : C) (rest : Option (List (List ℕ))) → Replayed answering m c rest rest m c
-  replayed_none m c rest = record { done = []; split = given_none rest; machine = refl; context = laws.effect.ran_none m c; stayed = inl refl }
+  pub replayed_none : (m : M) (c : C) (place : ℕ) (image : List ℕ) (rest : Option (List (List ℕ))) → Replayed answering m c place place image rest rest m c
+  replayed_none m c place image rest = record { done = []; stand = refl; split = given_none rest; machine = refl; context = laws.effect.ran_none m c; stayed = inl refl }
 
-  module _ {m n : M} {c d : C} {all rest : Option (List (List ℕ))} (so_far : Replayed answering m c all rest n d) where
+  module _ {m n : M} {c d : C} {from to : ℕ} {image : List ℕ} {all rest : Option (List (List ℕ))}
+      (so_far : Replayed answering m c from to image all rest n d) where
     -- one record more
-    pub replayed_more : {o : M} {e : C} {line : List ℕ} {more : Option (List (List ℕ))} → rest ≡ put_before (line ∷ []) more
-        → o ≡ answering.next n line → answering.effect.ran n d (line ∷ []) o e → Replayed answering m c all more o e
-    replayed_more {o} {e} {line} {more} next stepped ran = record {
+    pub replayed_more : {o : M} {e : C} {line : List ℕ} {more : Option (List (List ℕ))} {end : ℕ} → rest ≡ put_before (line ∷ []) more
+        → record_at (drop to image) ≡ Some (Some line) → end ≡ to + (5 + length line)
+        → o ≡ answering.next n line → answering.effect.ran n d (line ∷ []) o e → Replayed answering m c from end image all more o e
+    replayed_more {o} {e} {line} {more} {end} next here behind stepped ran = record {
       done = so_far.done ++ line ∷ [];
+      stand = stand_more image from so_far.done to line end so_far.stand here behind;
       split = given_more so_far.done so_far.split line more next;
       machine = stepped ∙ ap (λ x. answering.next x line) so_far.machine ∙ sym (behind_more m so_far.done line);
       context = laws.effect.ran_more m n o c d e so_far.done (line ∷ []) so_far.context ran;
@@ -61,6 +76,29 @@ module _ {M C : Type 0} {answering : Answering M C} {cap : ℕ} (laws : Answerin
     refused_as more DiskFault is = tt
     refused_as more WantOfMemory is = tt
 
+    -- the first records were gone over, and then the next one could not be had
+    pub first_within : (first : List (List ℕ)) × (end : ℕ) × StandFrom from first end image × StayedOrWent answering m first c d
+    first_within = (
+      so_far.done,
+      to,
+      so_far.stand,
+      ⊎_elim (λ same. inl same) (λ gave. inr (so_far.done, ([], append-nil so_far.done), gave)) so_far.stayed,
+    )
+
+    -- or the machine gave up at it
+    pub first_gave : {e : C} {line : List ℕ} → record_at (drop to image) ≡ Some (Some line) → answering.effect.gave_up n d (line ∷ []) e
+        → (first : List (List ℕ)) × (end : ℕ) × StandFrom from first end image × StayedOrWent answering m first c e
+    first_gave {e} {line} here gave = (
+      so_far.done ++ line ∷ [],
+      to + (5 + length line),
+      stand_more image from so_far.done to line (to + (5 + length line)) so_far.stand here refl,
+      inr (
+        so_far.done ++ line ∷ [],
+        ([], append-nil (so_far.done ++ line ∷ [])),
+        laws.effect.gave_up_more m n c d e so_far.done (line ∷ []) so_far.context gave,
+      ),
+    )
+
     pub stayed_within : (r : List (List ℕ)) → all ≡ Some r → StayedOrWent answering m r c d
     stayed_within r is = ⊎_elim
         (λ same. inl same)
@@ -75,3 +113,16 @@ module _ {M C : Type 0} {answering : Answering M C} {cap : ℕ} (laws : Answerin
       begins_so_far (so_far.done ++ line ∷ []) all more r (given_more so_far.done so_far.split line more next) is,
       laws.effect.gave_up_more m n c d e so_far.done (line ∷ []) so_far.context gave,
     )
+
+-- a journal that was refused behind its beginning was left as it was, so what was gone over stands in the old image
+pub first_opened : {M C T : Type 0} (answering : Answering M C) (m : M) (c d : C) (result : Result T JournalRefused) (place left : ℕ) (told now : Option (List ℕ))
+    (image : List ℕ) → told ≡ Some image → place ≡ 0 → IfErr result (λ refused. 0 < left) → (0 < left → now ≡ told)
+    → IfTold now (λ x. OnErr result (WentOverFrom answering m place x c d)) → OnErr result (WentOverFirst answering m image c d)
+first_opened answering m c d (Ok x) place left told now image here is refuses stays within = tt
+first_opened answering m c d (Err e) place left told now image here is refuses stays within =
+    subst (λ n. WentOverFrom answering m n image c d) is (within image (stays refuses ∙ here))
+
+-- what is read is not too long
+pub not_long : (found : Option (List (List ℕ))) → ok_or found Damaged ≡ Err TooLong → ⊥
+not_long None is = absurd (let no = is in cc)
+not_long (Some r) is = absurd (let no = is in cc)

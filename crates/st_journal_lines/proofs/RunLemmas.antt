@@ -1,27 +1,38 @@
 -- A run of a machine with its journal, from before its disk is opened:
---     replies_are                     where the journal ends makes no difference to replies
---     kept_opened, kept_unopened      what it leaves of the disk
---     table_opened, table_unopened    the table of the run
-use Rattle.std.proofs.Common.{◌≡◌, ◌∙◌, inl, inr, ⊎_elim, ◌++◌, ℕ, List, [], ◌∷◌, Option, Some, is_some, refl, ap, sym, subst, arith, length, append-nil, ◌⊎◌}
-use Rattle.std.specs.Io.KnownBytes.{Consumes, Appends}
-use Rattle.st_io.specs.Past.{Past, LeftSinceSync, Leaves}
+--     replies_are     where the journal ends makes no difference to replies
+--     opened_run      what is promised where the journal was opened
+--     refused_run     and where it wasn't
+use Rattle.std.proofs.Common.{◌≡◌, ◌∙◌, inl, inr, ⊎_elim, ◌++◌, ◌≤◌, ℕ, Bool, true, false, List, [], ◌∷◌, Option, Some, Ok, Err, is_some, refl, ap, sym, subst, arith, length, append-nil, ◌⊎◌, IsTrue, ◌||◌}
+use Rattle.std.specs.Prelude.{IsErrOf}
+use Rattle.std.proofs.lemmas.Bool.{false≢true}
+use Rattle.st_io.specs.Causes.{Rose}
+use Rattle.st_io.specs.Past.{Past}
 use Rattle.st_io.specs.Tears.{Turns}
 use Rattle.st_drive.specs.Lines.{all_lines}
 use Rattle.st_drive.specs.OnDisk.{AllHold, EffectLaws, HasReleased, IsTold, Opens, RunLeaves, Store, disk_meaning, replies}
-use Rattle.st_drive.specs.Recording.{HasPrefix, KeepsRecords, changing, recorded, recording}
-use Rattle.st_drive.specs.Runs.{Begins, course}
-use Rattle.st_drive.specs.Tables.{AnsweredFirst, SoFar}
-use Rattle.st_drive.proofs.InputLemmas.{Tells, answered_input, nothing_written}
+use Rattle.st_drive.specs.Recording.{HasPrefix, HasRepliedPrefix, KeepsPrefixes, KeepsRecords, changing, recorded, recording}
+use Rattle.st_drive.specs.Runs.{Begins, NearlyReplied, course}
+use Rattle.st_drive.specs.Streams.{Outcome, Storage, Streams, Unread, storage}
+use Rattle.st_drive.specs.Tables.{AnsweredFirst, AnswersLines, is_end}
+use Rattle.st_drive.proofs.InputLemmas.{answered_input, answered_source, nothing_written}
 use Rattle.st_drive.proofs.OnDiskLemmas.{leaves_on_disk, run_leaves, run_opens}
-use Rattle.st_drive.proofs.RecordingLemmas.{keeps_records}
+use Rattle.st_drive.proofs.RecordingLemmas.{keeps_prefixes, keeps_records}
 use Rattle.st_drive.proofs.RunLemmas.{begins_behind}
-use Rattle.st_status.proofs.TableLemmas.{IsUnread, not_begun, table_by}
-use Rattle.st_status.specs.Status.{StatusTable}
+use Rattle.st_drive.proofs.TableLemmas.{IsUnread, ends_unread, ends_weaker, lines_by, not_begun, rose_before, took_none}
 use Rattle.st_journal.specs.Image.{records}
-use Rattle.st_journal.specs.Moments.{IsOldOrHas, IsReady}
+use Rattle.st_journal.specs.Moments.{IsReady}
+use Rattle.st_journal.specs.Opening.{opened}
 use Rattle.st_journal.specs.Values.{JournalValue}
+use Rattle.st_journal.specs.declared.refused.JournalRefused.{JournalRefused}
+use Rattle.st_journal.specs.declared.refused.JournalRefused.TheVariants.{TooLong, Damaged, DiskFault, WantOfMemory}
 use Rattle.st_journal_lines.specs.Answering.{Answering, behind, grown, recorder_of}
-use Rattle.st_journal_lines.specs.Journalled.{JournalTable, KeepsLines, WentWithin, plain_recorder, replies_by}
+use Rattle.st_journal_lines.specs.Journalled.{RunFromRecords, RecordedRun, KeepsFirstLines, KeepsLines, OpensJournal, Refuses, WentWithin, is_journal_end, journal_course, plain_recorder, refusal_status}
+use Rattle.st_journal_lines.proofs.OpenedLemmas.{damaged_is, machine_is, no_end, not_refused, opened_records, too_long_is, within_records}
+
+-- the statuses of a run over lines are among those of a run with a journal
+or_left : (a b : Bool) → IsTrue a → IsTrue (a || b)
+or_left true b is = refl
+or_left false b is = absurd (false≢true is)
 
 module _ {M C : Type 0} (answering : Answering M C) where
   -- ---- where the journal ends makes no difference
@@ -49,26 +60,44 @@ module _ {M C : Type 0} (answering : Answering M C) where
     plain_released written first has before line later all out =
         has before line later all (omega (arith, out, ap length (replies_are m journal before)))
 
-    plain_keeps : (written : List ℕ) (old new : Past) → KeepsRecords (recorder_of answering) (m, journal) r lines written old new
-        → KeepsLines answering m r lines written old new
-    plain_keeps written old new keeps = record {
+    plain_nearly : (written : List ℕ) (first : List (List ℕ)) → NearlyReplied (replies (recording (recorder_of answering)) (m, journal)) written first
+        → NearlyReplied (replies (recording (plain_recorder answering)) m) written first
+    plain_nearly written first (inl all) = inl (subst (λ xs. Begins xs written) (replies_are m journal first) all)
+    plain_nearly written first (inr r) = inr (r.0, r.1, r.2, subst (λ xs. Begins xs written) (replies_are m journal r.0) r.3)
+
+    plain_prefixes : (old new : Past) → KeepsPrefixes (recorder_of answering) (m, journal) r lines old new
+        → KeepsFirstLines answering m r lines old new
+    plain_prefixes old new keeps = record {
       moments = λ image left. ⊎_elim inl (λ has. inr (plain_prefix image has)) (keeps.moments image left);
       synced = λ image left. plain_prefix image (keeps.synced image left);
-      end = λ some image is.
-          let e = keeps.end some image is in
-          (e.0, e.1, plain_released written e.0 e.2, e.3 ∙ ap (λ more. Some (r ++ more)) (changing_are m journal e.0));
     }
+
+    plain_replied : (written image : List ℕ) → HasRepliedPrefix (recorder_of answering) (m, journal) r lines written image
+        → HasRepliedPrefix (plain_recorder answering) m r lines written image
+    plain_replied written image has = record {
+      prefix = has.prefix;
+      begins = has.begins;
+      released = plain_released written has.prefix has.released;
+      replied = plain_nearly written has.prefix has.replied;
+      records_are = has.records_are ∙ ap (λ more. Some (r ++ more)) (changing_are m journal has.prefix);
+    }
+
+    plain_keeps : (written : List ℕ) (old new : Past) → KeepsRecords (recorder_of answering) (m, journal) r lines written old new
+        → KeepsLines answering m r lines written old new
+    plain_keeps written old new keeps image is = ⊎_elim inl (λ has. inr (plain_replied written image has)) (keeps image is)
 
   -- ---- the opening
 
-  opens_journal : (image : List ℕ) (r : List (List ℕ)) (old new : Past) → records image ≡ Some r
-      → Leaves (IsOldOrHas old (records image)) old new
-      → ((x : List ℕ) → LeftSinceSync new old.now x → records x ≡ records image) → Opens (recording (recorder_of answering)) r old new
-  opens_journal image r old new is moments synced = record {
-    goes = moments.goes;
-    moments = λ x left. ⊎_elim inl (λ has. inr (has ∙ is)) (moments.each x left);
-    synced = λ x left. synced x left ∙ is;
-  }
+  module _ {m : M} {disk : Storage} {c d : C} {result : _} (opens : OpensJournal answering m disk c d result) {image : List ℕ}
+      (told : disk.reads ≡ Some image) {r : List (List ℕ)} (is : records image ≡ Some r) where
+    opens_rules : Opens (recording (recorder_of answering)) r disk.before disk.behind
+    opens_rules =
+        let moments = opens.moments image told in
+        record {
+          goes = moments.goes;
+          moments = λ x left. ⊎_elim inl (λ has. inr (has ∙ is)) (moments.each x left);
+          synced = λ x left. opens.synced image told x left ∙ is;
+        }
 
   -- all images have the records then
   all_have : (image : List ℕ) (r : List (List ℕ)) (told now : Option (List ℕ)) (past : Past) (journal : JournalValue) → told ≡ Some image
@@ -78,80 +107,155 @@ module _ {M C : Type 0} (answering : Answering M C) where
       let to = turns.forward image here in
       (ready.images to.0 to.1 x left).1 ∙ to.2 ∙ is
 
-  -- ---- a whole run
-
-  -- how the disk of a run was opened: it has this image and these records
-  pub record Begun (image : List ℕ) (r : List (List ℕ)) (old new : Past) : Type 0 where
-    pub is : records image ≡ Some r
-    pub moments : Leaves (IsOldOrHas old (records image)) old new
-    pub synced : (x : List ℕ) → LeftSinceSync new old.now x → records x ≡ records image
-
-  opens_begun : {image : List ℕ} {r : List (List ℕ)} {old new : Past} → Begun image r old new
-      → Opens (recording (recorder_of answering)) r old new
-  opens_begun {image} {r} {old} {new} begun = opens_journal image r old new begun.is begun.moments begun.synced
-
-  -- no line was answered
-  pub kept_unopened : {image : List ℕ} {r : List (List ℕ)} {old new : Past} {held : Option (List ℕ)} {before written : List ℕ} (m : M) (input : List ℕ)
-      → Begun image r old new → held ≡ Some before → held ≡ Some (before ++ written) → KeepsLines answering m r (all_lines input) written old new
-  kept_unopened {r = r} {old = old} {new = new} m input begun was is =
-      let journal : JournalValue = record { end = 0 } in
-      let leaves : RunLeaves (recording (recorder_of answering)) (m, journal) r (all_lines input) [] old new =
-      run_opens (recording (recorder_of answering)) (m, journal) r (all_lines input) old new (opens_begun begun) in
-      subst (λ w. KeepsLines answering m r (all_lines input) w old new) (sym (nothing_written was is))
-      (plain_keeps m journal r (all_lines input) [] old new
-      (keeps_records (recorder_of answering) (m, journal) r (all_lines input) [] old new leaves))
-
-  -- the disk stands ready at b, and lines were answered
-  pub kept_opened : {D : Type 0} (store : Store D) {image : List ℕ} {r : List (List ℕ)} {old : Past} {b d : D} {c e : C} {told : Option (List ℕ)}
-      {m : M × JournalValue} {had left held holds : Option (List ℕ)} {taken wrote input before written : List ℕ}
-      → Begun image r old (store.past b) → told ≡ Some image
-      → Turns told (store.reads b) (λ was now. records now ≡ records was) → IsReady m.1 (store.reads b) (store.past b)
-      → Tells had held holds input before written → Consumes had left taken → Appends held holds wrote
-      → SoFar (course (disk_meaning (recording (recorder_of answering)) store) m (c, b) (e, d)) left taken wrote
-      → KeepsLines answering m.0 r (all_lines input) written old (store.past d)
-  kept_opened store {image} {r} {old} {b} {d} {c} {e} {told} {m} {input = input} {written = written} begun here turns ready tells takes writes so_far =
-      let still : IsTold store b = ap is_some (turns.forward image here).1 in
-      let all = all_have image r told (store.reads b) (store.past b) m.1 here begun.is turns ready in
-      let first : AnsweredFirst (course (disk_meaning (recording (recorder_of answering)) store) m (c, b) (e, d)) written (all_lines input) =
-      answered_input tells takes writes so_far in
-      let leaves : RunLeaves (recording (recorder_of answering)) m r (all_lines input) written old (store.past d) =
-      run_leaves (recording (recorder_of answering)) m r (all_lines input) written old (store.past b) (store.past d)
-      (opens_begun begun) (leaves_on_disk (recording (recorder_of answering)) store still first r all) in
-      plain_keeps m.0 m.1 r (all_lines input) written old (store.past d)
-      (keeps_records (recorder_of answering) m r (all_lines input) written old (store.past d) leaves)
-
-  -- ---- the table of a run
-
   -- the context went over the records, to the machine that they bring back
-  module _ (m : M) (r : List (List ℕ)) {c : C} where
-    within_none : {d : C} → WentWithin answering m c d r → WentWithin answering m c d (r ++ [])
-    within_none within = (within.0, subst (Begins within.0) (sym (append-nil r)) within.1, within.2)
+  within_none : (m : M) (r : List (List ℕ)) {c d : C} → WentWithin answering m c d r → WentWithin answering m c d (r ++ [])
+  within_none m r within = (within.0, subst (Begins within.0) (sym (append-nil r)) within.1, within.2)
 
-    within_more : {cap : ℕ} {d e : C} {n : M} → EffectLaws answering.effect cap → answering.effect.ran m c r n d → (first lines : List (List ℕ)) → Begins first lines
-        → ((o : M) × answering.effect.ran n d first o e) ⊎ answering.effect.gave_up n d first e → WentWithin answering m c e (r ++ lines)
-    within_more {d = d} {e = e} {n = n} laws ran first lines begins went = (
-      r ++ first,
-      begins_behind r first lines begins,
-      ⊎_elim
-          (λ some. inl (some.0, laws.ran_more m n some.0 c d e r first ran some.1))
-          (λ gave. inr (laws.gave_up_more m n c d e r first ran gave))
-          went,
-    )
+  within_more : {cap : ℕ} (m : M) (r : List (List ℕ)) {c d e : C} {n : M} → EffectLaws answering.effect cap → answering.effect.ran m c r n d
+      → (lines : List (List ℕ)) → ((o : M) × answering.effect.ran n d lines o e) ⊎ answering.effect.gave_up n d lines e
+      → WentWithin answering m c e (r ++ lines)
+  within_more m r {c} {d} {e} {n} laws ran lines went = (
+    r ++ lines,
+    begins_behind r lines lines ([], append-nil lines),
+    ⊎_elim
+        (λ some. inl (some.0, laws.ran_more m n some.0 c d e r lines ran some.1))
+        (λ gave. inr (laws.gave_up_more m n c d e r lines ran gave))
+        went,
+  )
 
-    pub table_opened : {cap : ℕ} {D : Type 0} (store : Store D) {b x : D} {d e : C} {lines : M × JournalValue} → EffectLaws answering.effect cap
-        → IsTold store b → lines.0 ≡ behind answering m r → answering.effect.ran m c r lines.0 d
-        → {limit : ℕ} {had left held holds : Option (List ℕ)} {status : ℕ}
-        → StatusTable (course (disk_meaning (recording (recorder_of answering)) store) lines (d, b) (e, x)) limit had left held holds status
-        → JournalTable answering m r c e limit had left held holds status
-    table_opened store {lines = lines} laws told is ran = table_by (record {
-      told = λ t. told;
-      answers = λ ls. replies_are lines.0 lines.1 ls ∙ ap (λ n. replies (recording (plain_recorder answering)) n ls) is;
-      ran_over = λ ls went. within_more laws ran ls ls ([], append-nil ls) (inl (went.0.0, went.1.effect));
-      gave_up_over = λ ls gave. within_more laws ran ls ls ([], append-nil ls) (inr gave.effect);
-    })
+  -- ---- the journal was opened, and lines were answered
 
+  module _ {cap : ℕ} (effects : EffectLaws answering.effect cap) {D : Type 0} (store : Store D) (faults : D → ℕ) {m : M} {a b d : D} {c mid e : C}
+      {limit : ℕ} {io : Streams} {status : ℕ} {lines : M × JournalValue}
+      (opens : OpensJournal answering m (storage store.reads store.past faults a b) c mid (Ok lines)) (later : faults a ≤ faults b)
+      (answered : AnswersLines (course (disk_meaning (recording (recorder_of answering)) store) lines (mid, b) (e, d)) limit io (Rose (faults b) (faults d)) status) where
+    left_some : {image : List ℕ} → store.reads a ≡ Some image → {r : List (List ℕ)} → records image ≡ Some r → (over : List (List ℕ)) (written : List ℕ)
+        → AnsweredFirst (course (disk_meaning (recording (recorder_of answering)) store) lines (mid, b) (e, d)) written over
+        → RunLeaves (recording (recorder_of answering)) lines r over written (store.past a) (store.past d)
+    left_some {image} told {r} is over written first =
+        let still : IsTold store b = ap is_some (opens.same.forward image told).1 in
+        let all = all_have image r (store.reads a) (store.reads b) (store.past b) lines.1 told is opens.same opens.ready in
+        run_leaves (recording (recorder_of answering)) lines r over written (store.past a) (store.past b) (store.past d)
+        (opens_rules opens told is) (leaves_on_disk (recording (recorder_of answering)) store still first r all)
+
+    from_opened : {image : List ℕ} → store.reads a ≡ Some image → (r : List (List ℕ)) → opened image ≡ Ok r
+        → RunFromRecords answering m limit
+        (record { io = io; disk = storage store.reads store.past faults a d; context = c; context_now = e; status = status }) r
+    from_opened {image} told r is =
+        let has = opened_records image r is in
+        let same : lines.0 ≡ behind answering m r = machine_is answering m image lines.0 r (opens.gives image told) is in
+        let ran = opens.ran image told r is in
+        record {
+          lines = lines_by (record {
+            told = λ t. ap is_some (opens.same.forward image told).1;
+            prompt = λ never. absurd never;
+            answers = λ t ls. replies_are lines.0 lines.1 ls ∙ ap (λ n. replies (recording (plain_recorder answering)) n ls) same;
+            ran_over = λ ls went. within_more m r effects ran ls (inl (went.0.0, went.1.effect));
+            gave_up_over = λ ls gave. within_more m r effects ran ls (inr gave.effect);
+          }) (rose_before (faults a) (faults b) (faults d) later) answered;
+          moments = λ input had. subst (λ n. KeepsFirstLines answering n r (all_lines input) (store.past a) (store.past d)) same
+              (plain_prefixes lines.0 lines.1 r (all_lines input) (store.past a) (store.past d)
+              (keeps_prefixes (recorder_of answering) lines r (all_lines input) answered.table.written (store.past a) (store.past d)
+              (left_some told has (all_lines input) answered.table.written (answered_source answered.table had))));
+          records = λ input written tells. subst (λ n. KeepsLines answering n r (all_lines input) written (store.past a) (store.past d)) same
+              (plain_keeps lines.0 lines.1 r (all_lines input) written (store.past a) (store.past d)
+              (keeps_records (recorder_of answering) lines r (all_lines input) written (store.past a) (store.past d)
+              (left_some told has (all_lines input) written (answered_input answered.table tells))));
+        }
+
+    pub opened_run : RecordedRun answering m limit
+        (record { io = io; disk = storage store.reads store.past faults a d; context = c; context_now = e; status = status })
+    opened_run =
+        let rose = rose_before (faults a) (faults b) (faults d) later in
+        record {
+          ends = record {
+            damaged = λ image told. (
+              λ seven. absurd (no_end status 7 answered.statuses refl seven),
+              λ is. absurd (not_refused answering m image lines.0 Damaged (opens.gives image told) is),
+            );
+            too_long = λ image told. (
+              λ eight. absurd (no_end status 8 answered.statuses refl eight),
+              λ is. absurd (not_refused answering m image lines.0 TooLong (opens.gives image told) is),
+            );
+            refused = λ is. absurd (⊎_elim (no_end status 7 answered.statuses refl) (no_end status 8 answered.statuses refl) is);
+            unread = λ is. absurd (⊎_elim (no_end status 7 answered.statuses refl) (no_end status 8 answered.statuses refl) is);
+            took = answered.table.took;
+            ends = ends_weaker rose answered.ends;
+            complete = λ well working. ⊎_elim inl (λ six. inr (inl six)) (answered.complete well (λ fault. working (rose fault)));
+            statuses = or_left (is_end status) _ answered.statuses;
+          };
+          from = λ image told. from_opened told;
+          within = λ image told is. absurd (not_refused answering m image lines.0 Damaged (opens.gives image told) is);
+          unmoved = λ image told is. absurd (not_refused answering m image lines.0 TooLong (opens.gives image told) is);
+        }
+
+  -- ---- it was refused, or the disk failed, or memory was wanting
+
+  module _ {m : M} {limit : ℕ} {run : Outcome C} {refused : JournalRefused} (opens : OpensJournal answering m run.disk run.context run.context_now (Err refused))
+      (unread : Unread run.io) (kept : run.io.source_kept × run.io.sink_kept) where
     -- the machine is not there, and the context went over no more than the records
-    pub table_unopened : {d : C} → WentWithin answering m c d r → (limit : ℕ) (left holds : Option (List ℕ)) (status : ℕ) → IsUnread status
-        → JournalTable answering m r c d limit left left holds holds status
-    table_unopened within limit left holds status is =
-        not_begun (replies_by answering (behind answering m r)) (λ lines. WentWithin answering m c _ (r ++ lines)) (within_none within) limit left holds status is
+    from_refused : {cap : ℕ} → EffectLaws answering.effect cap → IsUnread run.disk.failed run.status → IsTrue (is_end run.status)
+        → {image : List ℕ} → run.disk.reads ≡ Some image → (r : List (List ℕ)) → opened image ≡ Ok r → RunFromRecords answering m limit run r
+    from_refused effects late end {image} told r is =
+        let went = within_none m r (within_records answering m r effects (opens.gave_up image told r is)) in
+        let none = λ (input : List ℕ). run_opens (recording (recorder_of answering)) (behind answering m r, record { end = 0 }) r (all_lines input)
+        run.disk.before run.disk.behind (opens_rules opens told (opened_records image r is)) in
+        record {
+          lines = not_begun late unread (journal_course answering m r run.context run.context_now) went (λ t. refl) end;
+          moments = λ input had. plain_prefixes (behind answering m r) (record { end = 0 }) r (all_lines input) run.disk.before run.disk.behind
+              (keeps_prefixes (recorder_of answering) (behind answering m r, record { end = 0 }) r (all_lines input) [] run.disk.before run.disk.behind (none input));
+          records = λ input written tells. subst (λ w. KeepsLines answering (behind answering m r) r (all_lines input) w run.disk.before run.disk.behind)
+              (sym (nothing_written tells unread.holds_is))
+              (plain_keeps (behind answering m r) (record { end = 0 }) r (all_lines input) [] run.disk.before run.disk.behind
+              (keeps_records (recorder_of answering) (behind answering m r, record { end = 0 }) r (all_lines input) [] run.disk.before run.disk.behind (none input)));
+        }
+
+    -- all but what the cause and the status say
+    refused_with : IsUnread run.disk.failed run.status
+        → ((image : List ℕ) → run.disk.reads ≡ Some image → (r : List (List ℕ)) → opened image ≡ Ok r → RunFromRecords answering m limit run r)
+        → ((image : List ℕ) → run.disk.reads ≡ Some image → Refuses Damaged image 7 run.status × Refuses TooLong image 8 run.status)
+        → ((run.status ≡ 7) ⊎ (run.status ≡ 8) → IsErrOf {T = M × JournalValue} (Err refused) Damaged ⊎ IsErrOf {T = M × JournalValue} (Err refused) TooLong)
+        → (¬ run.disk.failed → (run.status ≡ 6) ⊎ (run.status ≡ 7) ⊎ (run.status ≡ 8)) → IsTrue (is_journal_end run.status)
+        → RecordedRun answering m limit run
+    refused_with late from refuses is complete end = record {
+      ends = record {
+        damaged = λ image told. (refuses image told).0;
+        too_long = λ image told. (refuses image told).1;
+        refused = λ e. opens.refused (is e);
+        unread = λ e. kept;
+        took = took_none late unread;
+        ends = ends_unread late unread;
+        complete = λ well working. inr (complete working);
+        statuses = end;
+      };
+      from = from;
+      within = λ image told e. opens.within image told;
+      unmoved = opens.unmoved;
+    }
+
+  pub refused_run : {cap : ℕ} → EffectLaws answering.effect cap → {m : M} {limit : ℕ} {run : Outcome C} (refused : JournalRefused)
+      → OpensJournal answering m run.disk run.context run.context_now (Err refused) → Unread run.io → run.io.source_kept × run.io.sink_kept
+      → run.status ≡ refusal_status refused → RecordedRun answering m limit run
+  refused_run effects {m} {limit} {run} DiskFault opens unread kept is =
+      let failed = opens.fault refl in
+      let late : IsUnread run.disk.failed run.status = search arith in
+      refused_with opens unread kept late
+      (λ image told r has. from_refused opens unread kept effects late (subst (λ s. IsTrue (is_end s)) (sym is) refl) told r has)
+      (λ image told. search arith) (λ e. absurd (search arith)) (λ working. absurd (working failed))
+      (subst (λ s. IsTrue (is_journal_end s)) (sym is) refl)
+  refused_run effects {m} {limit} {run} WantOfMemory opens unread kept is =
+      let late : IsUnread run.disk.failed run.status = search arith in
+      refused_with opens unread kept late
+      (λ image told r has. from_refused opens unread kept effects late (subst (λ s. IsTrue (is_end s)) (sym is) refl) told r has)
+      (λ image told. search arith) (λ e. absurd (search arith)) (λ working. inl is)
+      (subst (λ s. IsTrue (is_journal_end s)) (sym is) refl)
+  refused_run effects {m} {limit} {run} Damaged opens unread kept is =
+      let damaged = λ (image : List ℕ) (told : run.disk.reads ≡ Some image). damaged_is answering m image Damaged (opens.gives image told) refl in
+      refused_with opens unread kept (search arith) (λ image told r has. absurd (let other = sym (damaged image told) ∙ has in cc))
+      (λ image told. ((λ e. damaged image told, λ e. inl is), (λ e. absurd (omega (arith, is, e)), λ e. absurd (let other = sym (damaged image told) ∙ e in cc))))
+      (λ e. inl refl) (λ working. inr (inl is)) (subst (λ s. IsTrue (is_journal_end s)) (sym is) refl)
+  refused_run effects {m} {limit} {run} TooLong opens unread kept is =
+      let too_long = λ (image : List ℕ) (told : run.disk.reads ≡ Some image). too_long_is answering m image TooLong (opens.gives image told) refl in
+      refused_with opens unread kept (search arith) (λ image told r has. absurd (let other = sym (too_long image told) ∙ has in cc))
+      (λ image told. ((λ e. absurd (omega (arith, is, e)), λ e. absurd (let other = sym (too_long image told) ∙ e in cc)), (λ e. too_long image told, λ e. inl is)))
+      (λ e. inr refl) (λ working. inr (inr is)) (subst (λ s. IsTrue (is_journal_end s)) (sym is) refl)

@@ -1,10 +1,11 @@
 -- Machines of lines that lines bring back, and the same with a journal in which the lines that change them are
 -- recorded.
-use Rattle.std.specs.Prelude.{◌≡◌, ◌⊎◌, ℕ, ◌+◌, ◌≤◌, ◌<◌, ◌^◌, Bool, true, List, [], ◌∷◌, length, take, if◌then◌else◌, Result, Ok}
+use Rattle.std.specs.Prelude.{◌≡◌, ◌⊎◌, ℕ, ◌+◌, ◌≤◌, ◌<◌, ◌^◌, Bool, true, false, List, [], ◌∷◌, length, take, if◌then◌else◌, Result, Ok}
 use Rattle.st_base.specs.Answers.{◌>>=◌}
 use Rattle.st_drive.specs.OnDisk.{Effect, EffectLaws}
 use Rattle.st_drive.specs.Recording.{Recorder}
 use Rattle.st_drive.specs.Runs.{Begins}
+use Rattle.st_journal.specs.Coming.{StandFrom}
 use Rattle.st_journal.specs.Image.{records}
 use Rattle.st_journal.specs.Values.{JournalValue, at_end}
 use Rattle.st_journal.specs.declared.refused.JournalRefused.{JournalRefused}
@@ -57,6 +58,23 @@ GaveUpWithin answering m lines c d = (first : List (List ℕ)) × Begins first l
 -- the context stayed as it was, or went over these lines, or the machine gave up at one of them
 abbrev pub StayedOrWent : {M C : Type 0} → Answering M C → M → List (List ℕ) → (c d : C) → Type 0
 StayedOrWent answering m lines c d = (d ≡ c) ⊎ GaveUpWithin answering m lines c d
+
+-- What is promised of the machines that lines bring back from the start: a line that isn't told as a change leaves the
+-- machine. It may be so of the good ones alone, as which the machine starts and stays.
+pub record Idles {M C S : Type 0} (answering : Answering M C) (start : S → M) (good : M → Type 0) : Type 0 where
+  pub starts : (seed : S) → good (start seed)
+  pub stays : (m : M) (line : List ℕ) → good m → good (answering.next m line)
+  pub idle : (m : M) (line : List ℕ) → good m → answering.changes m line ≡ false → answering.next m line ≡ m
+
+-- The context went over no more than the first records of an image from this gate's place on, whatever stands behind
+-- them.
+abbrev pub WentOverFrom : {M C : Type 0} → Answering M C → M → (place : ℕ) (image : List ℕ) → (c d : C) → Type 0
+WentOverFrom answering m place image c d =
+    (first : List (List ℕ)) × (end : ℕ) × StandFrom place first end image × StayedOrWent answering m first c d
+
+-- no more than the first records of the image
+abbrev pub WentOverFirst : {M C : Type 0} → Answering M C → M → (image : List ℕ) → (c d : C) → Type 0
+WentOverFirst answering m image c d = WentOverFrom answering m 0 image c d
 
 -- ---- with its journal
 

@@ -2,11 +2,13 @@
 //! is replied to, and the records bring it back.
 #![tactic(auto)]
 
+mod laws;
 mod lines;
 mod opening;
 mod replayable;
 mod running;
 
+pub use laws::journal_law;
 pub use lines::JournalLines;
 pub use replayable::Replayable;
 pub use running::run_journalled;

@@ -1,4 +1,4 @@
-ghost use Rattle.std.specs.Prelude.{◌≡◌, ◌≤◌, ◌+◌, ◌*◌, ◌^◌, ℕ, List, length, IsSome, IsErrOf, IfOk, OnOk};
+ghost use Rattle.std.specs.Prelude.{◌≡◌, refl, true, ◌≤◌, ◌+◌, ◌*◌, ◌^◌, ℕ, List, length, IsSome, IsErrOf, IfOk, OnOk};
 ghost use Rattle.st_io.specs.Causes.{Rose};
 ghost use Rattle.st_io.specs.Past.{Images, Leaves};
 ghost use Rattle.st_io.specs.Tears.{IfTold};
@@ -86,6 +86,10 @@ impl<N: Replayable, D: Disk> Machine for JournalLines<N, D> {
 
     const CAP: usize = N::CAP;
 
+    ghost PROMPT = { true };
+
+    const PROMPT: bool = true;
+
     ghost fits = { λ m c more. (m.1.end + 6 * more ≤ 2 ^ 41) × IsReady m.1 (D.reads c.1) (D.past c.1) };
 
     ghost faults = { λ c. D.faults c.1 };
@@ -117,6 +121,8 @@ impl<N: Replayable, D: Disk> Machine for JournalLines<N, D> {
     }
 
     ghost fewer = { λ m c many few le fits. (fits_less m.1.end many few le fits.0, fits.1) };
+
+    ghost prompt = { λ now. refl };
 
     ghost laws = { machine_laws N.laws (record { reads = D.reads; past = D.past }) };
 }

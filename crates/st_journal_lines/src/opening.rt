@@ -1,15 +1,16 @@
-ghost use Rattle.std.specs.Prelude.{◌≡◌, ◌≤◌, ◌<◌, ◌^◌, ℕ, List, IfOk, OnOk, OnErr, IsErrOf, Some, Ok};
+ghost use Rattle.std.specs.Prelude.{◌≡◌, ◌≤◌, ◌<◌, ◌^◌, ℕ, List, IfErr, IfOk, OnErr, IsErrOf, Some};
 ghost use Rattle.std.specs.Option.{ok_or};
 ghost use Rattle.st_base.specs.Answers.{GivesAs};
 ghost use Rattle.st_io.specs.Causes.{Rose};
-ghost use Rattle.st_io.specs.Past.{AddsNoImage, LeftSinceSync, Leaves};
-ghost use Rattle.st_io.specs.Tears.{IfTold, Turns};
-ghost use Rattle.st_journal.specs.Coming.{IsReading, coming};
-ghost use Rattle.st_journal.specs.Image.{records};
-ghost use Rattle.st_journal.specs.Moments.{IsReady, IsOldOrHas};
-ghost use Rattle.st_journal.specs.Opening.{opened, refusal_of};
+ghost use Rattle.st_io.specs.Past.{AddsNoImage};
+ghost use Rattle.st_io.specs.Tears.{IfTold};
+ghost use Rattle.st_drive.specs.Streams.{storage};
+ghost use Rattle.st_journal.specs.Coming.{IsReading, coming, left_of};
+ghost use Rattle.st_journal.specs.Moments.{IsReady};
+ghost use Rattle.st_journal.specs.Opening.{refusal_of};
 ghost use Rattle.st_journal.specs.declared.refused.JournalRefused.TheVariants.{Damaged};
-ghost use Rattle.st_journal_lines.specs.Answering.{StayedOrWent, behind_opened};
+ghost use Rattle.st_journal_lines.specs.Answering.{StayedOrWent, WentOverFrom, behind_opened};
+ghost use Rattle.st_journal_lines.specs.Journalled.{OpensJournal};
 
 use crate::lines::JournalLines;
 use crate::replayable::Replayable;
@@ -35,6 +36,9 @@ fn replay<N: Replayable, D: Disk>(
         → IfOk result (λ lines. N.answering.effect.ran machine context.old r lines.0 context.new)) }
     ensures gave_up { IfTold (D.reads disk.old) (λ image. (r : List (List ℕ)) → coming opening image ≡ Some r
         → OnErr result (StayedOrWent N.answering machine r context.old context.new)) }
+    ensures within { IfTold (D.reads disk.old) (λ image.
+        OnErr result (WentOverFrom N.answering machine opening.place image context.old context.new)) }
+    ensures refuses { IfErr result (λ refused. 0 < left_of opening) }
     ensures reads { D.reads disk.new ≡ D.reads disk.old }
     ensures images { AddsNoImage (D.past disk.old) (D.past disk.new) }
     ensures fault { IsErrOf result JournalRefused.DiskFault → Rose (D.faults disk.old) (D.faults disk.new) }
@@ -48,7 +52,7 @@ fn replay<N: Replayable, D: Disk>(
                 Ok((next, _reply, _changes)) => machine = next,
                 Err(_) => return Err(JournalRefused::WantOfMemory),
             },
-            Ok(None) => return Ok(JournalLines::new(machine, opening.finish())),
+            Ok(None) => return Ok(JournalLines::new(machine, opening.finish(disk))),
             Err(refused) => return Err(refused),
         }
     }
@@ -68,27 +72,8 @@ impl<N: Replayable, D: Disk> JournalLines<N, D> {
         context: &mut N::Context,
         disk: &mut D,
     ) -> Result<JournalLines<N, D>, JournalRefused>
-        // The machine behind the records of the disk, or why there is none.
-        ensures gives { IfTold (D.reads disk.old) (λ old.
-            GivesAs (λ lines. lines.0) refusal_of (behind_opened N.answering (N.start seed.now) (opened old)) result) }
-
-        // The disk then stands ready for its journal, with the same records.
-        ensures ready { IfOk result (λ lines. IsReady lines.1 (D.reads disk.new) (D.past disk.new)) }
-        ensures small { IfOk result (λ lines. lines.1.end < 2 ^ 40) }
-        ensures same { OnOk result (Turns (D.reads disk.old) (D.reads disk.new) (λ old new. records new ≡ records old)) }
-
-        // What a stop leaves at any moment of the call.
-        ensures moments { IfTold (D.reads disk.old) (λ old.
-            Leaves (IsOldOrHas (D.past disk.old) (records old)) (D.past disk.old) (D.past disk.new)) }
-        ensures synced { IfTold (D.reads disk.old) (λ old. (image : List ℕ)
-            → LeftSinceSync (D.past disk.new) (D.past disk.old).now image → records image ≡ records old) }
-
-        // What was done to the context: it went over the records.
-        ensures ran { IfTold (D.reads disk.old) (λ old. (r : List (List ℕ)) → opened old ≡ Ok r
-            → IfOk result (λ lines. N.answering.effect.ran (N.start seed.now) context.old r lines.0 context.new)) }
-        ensures gave_up { IfTold (D.reads disk.old) (λ old. (r : List (List ℕ)) → opened old ≡ Ok r
-            → OnErr result (StayedOrWent N.answering (N.start seed.now) r context.old context.new)) }
-        ensures fault { IsErrOf result JournalRefused.DiskFault → Rose (D.faults disk.old) (D.faults disk.new) }
+        ensures opens { OpensJournal N.answering (N.start seed.now) (storage D.reads D.past D.faults disk.old disk.new)
+            context.old context.new result }
         ensures later { D.faults disk.old ≤ D.faults disk.new }
     {
         match Opening::begin(alloc, disk) {

@@ -1,5 +1,5 @@
 ghost use Rattle.std.specs.Prelude.{◌≡◌, ℕ, List, [], ◌∷◌, IfOk, OnErr};
-ghost use Rattle.st_journal_lines.specs.Answering.{Answering, AnsweringLaws};
+ghost use Rattle.st_journal_lines.specs.Answering.{Answering, AnsweringLaws, Idles};
 
 use st_base::{Bytes, WantOfMemory};
 use std::alloc::Global;
@@ -18,6 +18,9 @@ pub trait Replayable: Sized + Drop {
     /// What it replies to a line, what it is then, whether the line has changed it, and what it may do
     /// to its context.
     ghost answering: { Answering Self Self.Context };
+
+    /// What holds of each machine that lines bring back from the start.
+    ghost good: { Self → Type 0 };
 
     /// How many bytes of a line it looks at.
     ghost CAP: { ℕ };
@@ -45,6 +48,9 @@ pub trait Replayable: Sized + Drop {
         ensures changes { IfOk result (λ done. done.2 ≡ answering.changes self line.now) }
         ensures ran { IfOk result (λ done. answering.effect.ran self context.old (line.now ∷ []) done.0 context.new) }
         ensures gave_up { OnErr result (answering.effect.gave_up self context.old (line.now ∷ []) context.new) };
+
+    /// A line that isn't told as a change leaves a machine that lines bring back as it was.
+    ghost idles: { Idles answering start good };
 
     /// What it promises.
     ghost laws: { AnsweringLaws answering CAP };

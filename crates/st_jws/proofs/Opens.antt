@@ -12,8 +12,8 @@ use Rattle.st_canon.specs.Shapes.{json_in}
 use Rattle.st_canon.proofs.Back.{reads_back}
 use Rattle.st_canon.proofs.Texts.{IsUtf8-canonical}
 use Rattle.st_hash.specs.Base64url.{base64url}
-use Rattle.st_hash.proofs.Separators.{no_dot}
 use Rattle.st_hash.proofs.Spelling.{bytes_of_text-base64url}
+use Rattle.st_hash.proofs.Symbols.{base64url_apart, no_dot}
 use Rattle.st_hash.proofs.Utf8Bytes.{IsBytes-IsUtf8}
 use Rattle.st_jws.specs.Jwk.{lms}
 use Rattle.st_jws.specs.Opening.{is_header, opened}
@@ -56,7 +56,7 @@ header_bytes =
 
 -- ---- the texts
 
-texts_of-joined : (header payload signature : List ℕ)
+texts_of-joined : (header payload signature : List ℕ) → IsBytes header → IsBytes payload
     → texts_of (join_signed (base64url header ++ dot ∷ base64url payload) signature)
     ≡ Some (record {
       input = base64url header ++ dot ∷ base64url payload;
@@ -64,13 +64,13 @@ texts_of-joined : (header payload signature : List ℕ)
       payload = base64url payload;
       signature = base64url signature;
     })
-texts_of-joined header payload signature =
+texts_of-joined header payload signature header_are payload_are =
     let first = base64url header in
     let second = base64url payload in
     let third = base64url signature in
     let whole : join_signed (first ++ dot ∷ second) signature ≡ first ++ dot ∷ (second ++ dot ∷ third) = append_assoc first (dot ∷ second) (dot ∷ third) in
-    let cut = cut_at-append dot first (second ++ dot ∷ third) (no_dot header) in
-    let cut_again = cut_at-append dot second third (no_dot payload) in
+    let cut = cut_at-append dot first (second ++ dot ∷ third) (no_dot first (base64url_apart header header_are)) in
+    let cut_again = cut_at-append dot second third (no_dot second (base64url_apart payload payload_are)) in
     rw (whole, cut, cut_again) refl
 
 -- ---- the law
@@ -83,9 +83,10 @@ pub opened-joined : (payload : Plain) (key : Jwk) (signature : List ℕ) (limit 
 opened-joined payload key signature limit signs are_bytes within =
     let input = signing_input payload in
     let short : nat_le (length (join_signed input signature)) limit ≡ true = grind (arith, nat_tests) in
-    let texts = texts_of-joined header_text (canonical payload) signature in
+    let payload_bytes = IsBytes-IsUtf8 (canonical payload) (IsUtf8-canonical payload signs.proper) in
+    let texts = texts_of-joined header_text (canonical payload) signature header_bytes payload_bytes in
     let first = bytes_of_text-base64url header_text header_bytes in
-    let second = bytes_of_text-base64url (canonical payload) (IsBytes-IsUtf8 (canonical payload) (IsUtf8-canonical payload signs.proper)) in
+    let second = bytes_of_text-base64url (canonical payload) payload_bytes in
     let third = bytes_of_text-base64url signature are_bytes in
     let json : json_in (canonical payload) ≡ Some payload = ap result_ok (reads_back payload signs.proper signs.shallow) in
     let holds = is_signature-IsSignature key.public input signature signs.signed in

@@ -15,3 +15,4 @@ pub mod PartLemmas
 pub mod Decided
 pub mod Law
 mod KeptLemmas
+pub mod KnownEnds

@@ -10,3 +10,4 @@ pub mod Parts
 pub mod PartsOf
 pub mod Decided
 pub mod KeptNodes
+pub mod Runs

@@ -4,11 +4,13 @@
 
 mod chain;
 mod digits;
+mod ends;
 mod hasher;
 mod kept;
 mod one_time;
 mod parameters;
 mod public;
+mod run;
 mod secret;
 mod sign;
 mod strings;

@@ -5,7 +5,7 @@ ghost use Rattle.st_lms.specs.Signature.{IsSignature, front_of, public_of, signa
 ghost use Rattle.st_lms.specs.Tree.{path_from, sibling};
 
 use crate::digits::{Digits, checked};
-use crate::one_time::{message_hash, signed_value};
+use crate::one_time::{known_signed_value, message_hash, signed_ends};
 use crate::secret::{Secret, node, randomizer_of};
 use crate::strings::u32str;
 use st_base::{Bytes, WantOfMemory};
@@ -23,8 +23,9 @@ pub(crate) fn push_values(
         ++ signed_values secret.now.ots secret.now.id q secret.now.seed digits.now) }
 {
     let count = secret.ots.parameters().chains;
+    let known = signed_ends(secret.ots, &secret.id, q, &secret.seed, digits);
     'digits: for i in 0..count {
-        let value = signed_value(secret.ots, &secret.id, q, &secret.seed, digits, i);
+        let value = known_signed_value(&known, secret.ots, &secret.id, q, &secret.seed, digits, i);
         out.push_all(alloc, &value)?;
     }
     Ok(())

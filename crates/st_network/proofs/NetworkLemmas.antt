@@ -1,10 +1,10 @@
 -- How much fits behind the messages that are kept, and a node that is put back to its place.
-use Rattle.std.proofs.Common.{◌≡◌, ◌∙◌, ℕ, zero, suc, ◌+◌, ◌-◌, ◌<◌, ◌≤◌, ◌&&◌, nat_le, false, List, [], ◌∷◌, ◌++◌, length, get_or, drop, slice_set, slice_get, Option, Some, None, IfSome, ap, sym, subst, refl, arith}
+use Rattle.std.proofs.Common.{◌≡◌, ◌∙◌, ℕ, zero, suc, ◌+◌, ◌-◌, ◌<◌, nat_le, false, List, [], ◌∷◌, length, get_or, drop, slice_set, slice_get, Option, Some, None, IfSome, ap, sym, subst, refl, arith}
 use Rattle.std.proofs.lemmas.Bool.Decides.{nat_tests}
 use Rattle.std.proofs.lemmas.List.Sums.{sum_by-cons}
 use Rattle.std.specs.List.{AllByRecursion, insert, remove, sum_by}
 use Rattle.st_base.proofs.Lists.{next_item}
-use Rattle.st_network.specs.Network.{fits, less, size_of}
+use Rattle.st_network.specs.Network.{less, size_of}
 use Rattle.st_network.specs.declared.letter.Letter.{Letter}
 
 -- ---- a list of nodes

@@ -21,4 +21,5 @@ network_meaning = record {
   told = λ work. ⊤;
   ran = λ network work lines next counted. RanLines network lines next;
   gave_up = λ network work lines counted. ⊤;
+  prompt = ⊥;
 }

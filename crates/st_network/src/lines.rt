@@ -1,4 +1,4 @@
-ghost use Rattle.std.specs.Prelude.{⊤};
+ghost use Rattle.std.specs.Prelude.{⊤, false};
 ghost use Rattle.st_network.specs.LineLaws.{network_laws};
 ghost use Rattle.st_network.specs.Lines.{kept_of_line, network_meaning};
 
@@ -20,6 +20,10 @@ impl Machine for Network {
 
     const CAP: usize = LONGEST_LINE + 1;
 
+    ghost PROMPT = { false };
+
+    const PROMPT: bool = false;
+
     ghost fits = { λ _ _ _. ⊤ };
 
     ghost faults = { λ _. 0 };
@@ -38,6 +42,8 @@ impl Machine for Network {
     }
 
     ghost fewer = { λ m c many few le fits. fits };
+
+    ghost prompt = { λ never. absurd never };
 
     ghost laws = { network_laws };
 }

@@ -1,20 +1,18 @@
-ghost use Rattle.std.specs.Prelude.{◌≡◌, ◌≢◌, ◌≤◌, ◌<◌, ◌^◌, ◌⊎◌, List, ℕ, [], Some, true, length, IsTrue, IfSome};
-ghost use Rattle.std.specs.Io.KnownBytes.{Appends};
-ghost use Rattle.st_io.specs.Causes.{Rose};
-ghost use Rattle.st_io.specs.Sinks.{FinishesNothing};
-ghost use Rattle.st_network.specs.Run.{ExchangeTable, exchange_replies};
-ghost use Rattle.st_status.specs.Status.{is_end};
+ghost use Rattle.std.specs.Prelude.{◌<◌, ◌^◌};
+ghost use Rattle.st_drive.specs.Streams.{streams};
+ghost use Rattle.st_drive.specs.Tables.{AnswersLines};
+ghost use Rattle.st_network.specs.Run.{exchange_course};
 
 use crate::network::Network;
 use st_base::Work;
+use st_drive::run_machine;
 use st_io::{Sink, Source};
-use st_status::run_machine;
 use std::alloc::Global;
 
 /// Answers the lines of a source of at most `limit` bytes as four nodes, each empty and under the limits of
 /// version 1, with the messages between them.
 ///
-/// The status is that of `run_machine`, and never 4, since no device is at work.
+/// No disk is at work, so the status is never 4.
 pub fn run_exchange<S: Source, K: Sink>(
     alloc: Global,
     limit: usize,
@@ -23,25 +21,8 @@ pub fn run_exchange<S: Source, K: Sink>(
     work: &mut Work,
 ) -> u8
     requires { limit < 2 ^ 62 }
-
-    // At status 0 the whole input was read, and the replies to it are written.
-    ensures done { result ≡ 0 → IfSome (S.left source.old) (λ input.
-        (length input ≤ limit) × (S.left source.new ≡ Some [])
-        × Appends (K.written sink.old) (K.written sink.new) (exchange_replies input)) }
-
-    // What was taken and written, by status.
-    ensures table { ExchangeTable limit
-        (S.left source.old) (S.left source.new) (K.written sink.old) (K.written sink.new) result }
-    ensures finished { result ≡ 0 → K.is_finished sink.new ≡ true }
-    ensures unfinished { result ≢ 0
-        → FinishesNothing (K.is_finished sink.old) (K.is_finished sink.new) }
-    ensures read_fault { result ≡ 2 → Rose (S.faults source.old) (S.faults source.new) }
-    ensures write_fault { result ≡ 3 → Rose (K.faults sink.old) (K.faults sink.new) }
-    ensures statuses { IsTrue (is_end result) × (result ≢ 4) }
-    ensures complete { (input : List ℕ) → S.left source.old ≡ Some input → length input ≤ limit
-        → ¬ Rose (S.faults source.old) (S.faults source.new)
-        → ¬ Rose (K.faults sink.old) (K.faults sink.new)
-        → (result ≡ 0) ⊎ (result ≡ 6) }
+    ensures { AnswersLines exchange_course limit
+        (streams S.left S.faults source.old source.new K.written K.is_finished K.faults sink.old sink.new) ⊥ result }
 {
     match Network::new(alloc) {
         Ok(network) => run_machine(alloc, limit, network, work, &mut (), source, sink),

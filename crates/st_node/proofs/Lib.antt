@@ -8,10 +8,10 @@ mod EntryLemmas
 mod FlushLemmas
 mod FormLemmas
 mod IsolationLemmas
-mod KeptLemmas
 mod ResolvedLemmas
 mod SumLemmas
 mod TellingLemmas
 pub mod ChangingLemmas
+pub mod IdleLemmas
 pub mod LineLemmas
 pub mod RunLemmas

@@ -22,6 +22,10 @@ pub record IsNode (machine : Machine) : Type 0 where
   pub few : length machine.observed.ledger ≤ most_entries
   pub queued : AllByRecursion IsQueued machine.queue
 
+-- No more entries than a ledger may have: so it is with each machine that lines bring back.
+abbrev pub HasFew : Machine → Type 0
+HasFew machine = length machine.observed.ledger ≤ most_entries
+
 -- Of each machine that has this, the reply to each line tells whether the line has changed it.
 abbrev pub TellsChanges : Type 0
 TellsChanges = (machine : Machine) (line : List ℕ) → IsNode machine

@@ -8,7 +8,6 @@ mod changes;
 mod command;
 mod explaining;
 mod flushing;
-mod kept_replies;
 mod laws;
 mod lent;
 mod node;

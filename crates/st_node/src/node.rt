@@ -1,8 +1,8 @@
 ghost use Rattle.std.specs.Prelude.{◌≡◌, ◌≤◌, IfOk, OnOk, length};
-ghost use Rattle.st_base.specs.Work.{AppliesAtMost, ProofsAtMost};
+ghost use Rattle.st_base.specs.Work.{ProofsAtMost};
 ghost use Rattle.st_node.specs.Changed.{IsCountable, Serves, TakesSome, TellsChange};
 ghost use Rattle.st_node.specs.Command.{command_of};
-ghost use Rattle.st_node.specs.Machine.{AnswersWith, answered, answered_anchor, answered_command, answered_content, answered_flush, answered_report, answered_resolve, answered_rollback, answered_submit, answered_wanted, new_machine};
+ghost use Rattle.st_node.specs.Machine.{AnswersWith, answered, answered_anchor, answered_command, answered_content, answered_flush, answered_report, answered_rollback, answered_submit, answered_wanted, new_machine};
 ghost use Rattle.st_node.specs.Work.{AdmittedCounts, ArrivalCounts, CommandCounts, FlushCounts, LineCounts, RollbackCounts, StaysDue, entry_of_command, entry_of_line, submitted_by, submitted_by_line};
 ghost use Rattle.st_ledger.specs.Ledger.{admitted};
 
@@ -10,8 +10,7 @@ use crate::causes::{cause_word, ledger_word};
 use crate::command::{Command, LineRefused, read_command};
 use crate::explaining::explain;
 use crate::flushing::{take_files, tell_batch};
-use crate::kept_replies::KeptReplies;
-use crate::resolving::resolve_kept;
+use crate::resolving::resolve;
 use crate::submitting::{limits_now, submit};
 use crate::telling::{tell_states, tell_wanted};
 use itoa::Buffer;
@@ -31,12 +30,9 @@ use std::marker::Model;
 pub struct Node {
     observer: Observer,
     queue: Queue,
-    // Replies since the observer last changed. A command that changes it goes on with none.
-    kept: KeptReplies,
 }
 
 impl Model for Node {
-    ghost use Rattle.st_node.specs.Answers.{AreAnswers};
     ghost use Rattle.st_node.specs.Codes.{coded_machine};
     ghost use Rattle.st_node.specs.Machine.{Machine};
 
@@ -45,8 +41,6 @@ impl Model for Node {
     ghost coded = { coded_machine };
 
     ghost view = { λ n. record { observed = n.observer; queue = n.queue } };
-
-    ghost invariant = { λ n. AreAnswers n.observer n.kept };
 }
 
 impl Node {
@@ -58,7 +52,6 @@ impl Node {
         Ok(Node {
             observer,
             queue: Queue::new(alloc),
-            kept: KeptReplies::new(alloc),
         })
     }
 
@@ -147,7 +140,10 @@ impl Node {
             Command::Content(bytes) => self.take(alloc, bytes, work),
             Command::Anchor { height, text } => self.append(alloc, height, text.as_slice(), work),
             Command::Rollback(n) => self.cut(alloc, n, work),
-            Command::Resolve(did) => self.resolve(alloc, did.as_slice(), work),
+            Command::Resolve(did) => {
+                let text = resolve(alloc, &self.observer, did.as_slice(), work)?;
+                Ok((self, text))
+            }
             Command::Explain(did) => {
                 let text = explain(alloc, &self.observer, did.as_slice(), work)?;
                 Ok((self, text))
@@ -169,12 +165,7 @@ impl Node {
         ensures answer { IfOk result (AnswersWith (answered_content self bytes)) }
         ensures counts { ArrivalCounts self.observed bytes work.old work.new }
     {
-        let Node {
-            observer,
-            queue,
-            ..
-        } = self;
-        let kept = KeptReplies::new(alloc);
+        let Node { observer, queue } = self;
         let (observer, uri, put) = observer.arrive(alloc, bytes, work)?;
         let uri = hash_text(alloc, &uri)?;
         let word = match put {
@@ -182,11 +173,7 @@ impl Node {
             Put::Had => "had ",
         };
         let text = reply(alloc, word, uri.as_str().as_bytes())?;
-        let node = Node {
-            observer,
-            queue,
-            kept,
-        };
+        let node = Node { observer, queue };
         Ok((node, text))
     }
 
@@ -207,19 +194,10 @@ impl Node {
             return Ok((self, text));
         }
         let text = Bytes::from_slice(alloc, text)?;
-        let Node {
-            observer,
-            queue,
-            ..
-        } = self;
-        let kept = KeptReplies::new(alloc);
+        let Node { observer, queue } = self;
         let (observer, number) = observer.append(alloc, Entry { height, text }, work)?;
         let text = reply(alloc, "anchored ", Buffer::new().format(number).as_bytes())?;
-        let node = Node {
-            observer,
-            queue,
-            kept,
-        };
+        let node = Node { observer, queue };
         Ok((node, text))
     }
 
@@ -233,43 +211,10 @@ impl Node {
             let text = reply(alloc, "refused ", b"range")?;
             return Ok((self, text));
         }
-        let Node {
-            observer,
-            queue,
-            ..
-        } = self;
-        let kept = KeptReplies::new(alloc);
+        let Node { observer, queue } = self;
         let (observer, removed) = observer.cut(alloc, n, work)?;
         let text = reply(alloc, "cut ", Buffer::new().format(removed).as_bytes())?;
-        let node = Node {
-            observer,
-            queue,
-            kept,
-        };
-        Ok((node, text))
-    }
-
-    // `resolve`
-    fn resolve(
-        self,
-        alloc: Global,
-        did: &[u8],
-        work: &mut Work,
-    ) -> Result<(Node, Bytes), WantOfMemory>
-        ensures answer { IfOk result (AnswersWith (answered_resolve self did.now)) }
-        ensures counts { AppliesAtMost 1 work.old work.new }
-    {
-        let Node {
-            observer,
-            queue,
-            kept,
-        } = self;
-        let (kept, text) = resolve_kept(alloc, &observer, kept, did, work)?;
-        let node = Node {
-            observer,
-            queue,
-            kept,
-        };
+        let node = Node { observer, queue };
         Ok((node, text))
     }
 
@@ -306,15 +251,10 @@ impl Node {
         let Node {
             observer,
             mut queue,
-            kept,
         } = self;
         let params = limits_now(&observer);
         let text = submit(alloc, &mut queue, request, &params, work)?;
-        let node = Node {
-            observer,
-            queue,
-            kept,
-        };
+        let node = Node { observer, queue };
         Ok((node, text))
     }
 
@@ -324,32 +264,19 @@ impl Node {
         ensures takes { OnOk result (TakesSome self) }
         ensures counts { FlushCounts self work.old work.new }
     {
-        let Node {
-            observer,
-            queue,
-            ..
-        } = self;
-        let kept = KeptReplies::new(alloc);
+        let Node { observer, queue } = self;
         let params = limits_now(&observer);
         match queue.flush(alloc, &params) {
             Ok((queue, batch)) => {
                 let text = tell_batch(alloc, &batch)?;
                 let Batch { files, .. } = batch;
                 let observer = take_files(alloc, observer, files, work)?;
-                let node = Node {
-                    observer,
-                    queue,
-                    kept,
-                };
+                let node = Node { observer, queue };
                 Ok((node, text))
             }
             Err(FlushRefused::Nothing(queue)) => {
                 let text = reply(alloc, "refused ", b"nothing")?;
-                let node = Node {
-                    observer,
-                    queue,
-                    kept,
-                };
+                let node = Node { observer, queue };
                 Ok((node, text))
             }
             Err(FlushRefused::WantOfMemory) => Err(WantOfMemory),

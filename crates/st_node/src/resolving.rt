@@ -1,42 +1,16 @@
-ghost use Rattle.std.specs.Prelude.{◌≡◌, ◌≤◌, IfOk, is_some, true};
+ghost use Rattle.std.specs.Prelude.{◌≡◌, ◌≤◌, IfOk};
 ghost use Rattle.st_base.specs.Work.{AppliesAtMost};
-ghost use Rattle.st_node.specs.Answers.{AreAnswers, reply_at};
 ghost use Rattle.st_node.specs.Machine.{resolution, resolve_reply, result_for};
 ghost use Rattle.st_resolve.specs.Identifier.{plain_did};
 
-use crate::kept_replies::KeptReplies;
-use st_base::{Bytes, Copied, WantOfMemory, Work, reply};
+use st_base::{Bytes, WantOfMemory, Work, reply};
 use st_observer::Observer;
 use st_resolve::{Did, DidRefused, RenderRefused, read_did, render};
 use std::alloc::Global;
 
-// The reply to a text that is to be resolved, and what is kept then. A reply that is kept is copied, nothing is
-// counted of it, and what is kept stays; else the reply is made.
-pub fn resolve_kept(
-    alloc: Global,
-    observer: &Observer,
-    kept: KeptReplies,
-    text: &[u8],
-    work: &mut Work,
-) -> Result<(KeptReplies, Bytes), WantOfMemory>
-    requires { AreAnswers observer.now kept }
-    ensures answers { IfOk result (λ done. AreAnswers observer.now done.0) }
-    ensures reply { IfOk result (λ done. done.1 ≡ resolve_reply (resolution observer.now text.now)) }
-    ensures stays { is_some (reply_at text.now kept) ≡ true → IfOk result (λ done. done.0 ≡ kept) }
-    ensures work { AppliesAtMost 1 work.old work.new }
-{
-    if let Some(reply) = kept.get(text) {
-        let reply = reply.copy(alloc)?;
-        return Ok((kept, reply));
-    }
-    let reply = resolve(alloc, observer, text, work)?;
-    let kept = kept.keep(alloc, text, &reply)?;
-    Ok((kept, reply))
-}
-
-// The same, where no reply is kept. No file and no signed text is counted, and at most one operation: the
-// create of a long form that no entry gave, or a delta that is looked at where the state is opened.
-fn resolve(
+// The reply to a text that is to be resolved. No file and no signed text is counted, and at most one operation:
+// the create of a long form that no entry gave, or a delta that is looked at where the state is opened.
+pub fn resolve(
     alloc: Global,
     observer: &Observer,
     text: &[u8],

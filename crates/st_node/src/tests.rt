@@ -118,23 +118,18 @@ fn first_other(alloc: Global, work: &mut Work) -> Result<Option<&'static str>, W
 // and once when it is there again.
 const AGAIN: &[usize] = &[0, 2, 16, 16, 18, 26, 26, 34, 16, 2, 26];
 
-// The place of the first of these lines to which a new node gives another reply, or for which it counts
-// an applied operation though it was the line before too.
+// The place of the first of these lines to which a new node gives another reply.
 fn first_other_again(alloc: Global, work: &mut Work) -> Result<Option<usize>, WantOfMemory> {
     let mut node = Node::new(alloc, Schedule::with_second(10))?;
-    let mut last = usize::MAX;
     for place in AGAIN {
         let mut lines = SESSION.lines();
         let line = lines.nth(*place).unwrap_or("");
         let expected = lines.next().unwrap_or("");
-        let before = work.applies();
         let (next, reply) = node.answer(alloc, line.as_bytes(), work)?;
-        let counts_again = *place == last && before < work.applies();
-        if counts_again || !is_reply(reply.as_slice(), expected) {
+        if !is_reply(reply.as_slice(), expected) {
             return Ok(Some(*place));
         }
         node = next;
-        last = *place;
     }
     Ok(None)
 }

@@ -2,24 +2,28 @@
 --     appended-known    what is known of it
 --     appended-kept, appended-few, appended-wanting
 use Rattle.std.proofs.Common.{◌≡◌, ◌∙◌, ℕ, ◌≤◌, List, length, ap, refl, subst, sym, arith}
+use Rattle.std.specs.List.{AllByRecursion}
 use Rattle.st_anchor.specs.Coming.{newly_decided, newly_opened}
 use Rattle.st_anchor.specs.Counting.{WorkedAtMost}
-use Rattle.st_anchor.specs.Gives.{given}
+use Rattle.st_anchor.specs.Gives.{given, suffixes_given}
 use Rattle.st_anchor.specs.Known.{Known, known_from, known_of_text}
 use Rattle.st_anchor.specs.States.{decided_roles, opened_proofs}
 use Rattle.st_base.specs.Work.{AppliesAtMost, Counts}
+use Rattle.st_hash.specs.Hash.{HashValue, hash_cmp}
 use Rattle.st_ledger.specs.declared.entry.Entry.{Entry}
+use Rattle.st_opindex.specs.ByKey.{Covers, cover_cost}
 use Rattle.st_params.specs.Limits.{Limits}
 use Rattle.st_params.specs.Schedule.{params_at}
-use Rattle.st_observer.specs.Kept.{IsKept}
+use Rattle.st_observer.specs.Kept.{IsKept, IsObserved}
 use Rattle.st_observer.specs.Observed.{Observed, appended, known_of}
-use Rattle.st_observer.specs.States.{given_cost}
+use Rattle.st_observer.specs.States.{at_place}
 use Rattle.st_observer.specs.Steps.{Pushes}
-use Rattle.st_observer.specs.Work.{GrewAtMost, entry_cost}
+use Rattle.st_observer.specs.Work.{GrewAtMost, entry_cost, named_cost}
 use Rattle.st_observer.specs.declared.kept.Kept.{Kept}
-use Rattle.st_observer.proofs.CostLemmas.{pushed-cost}
+use Rattle.st_observer.proofs.CostLemmas.{entry-cost, kept-cost}
 use Rattle.st_observer.proofs.GoingLemmas.{kept-length}
 use Rattle.st_observer.proofs.KeptLemmas.{kept-pushed, settled-known}
+use Rattle.st_observer.proofs.StatesLemmas.{covers-itself, covers-put, each-of}
 use Rattle.st_observer.proofs.WorkLemmas.{grew-more, grew-only, grew-worked}
 
 module _ (observed : Observed) (entry : Entry) (text : List ℕ) (limits : Limits) (anchored bound : Known) (texts : text ≡ entry.text)
@@ -43,26 +47,23 @@ module _ (observed : Observed) (entry : Entry) (text : List ℕ) (limits : Limit
   opened-few : newly_opened observed.files anchored ≤ opened_proofs (known_of observed.schedule observed.files entry)
   opened-few = omega (arith, ap opened_proofs (sym settles ∙ appended-known))
 
-  pub appended-few : (n : ℕ) (before : Kept) (old mid new : Counts) → IsKept observed before → n ≡ length observed.ledger
-      → WorkedAtMost (newly_decided observed.files anchored) (newly_opened observed.files anchored) old mid
-      → AppliesAtMost (given_cost n entry.height (given bound) before.states.items) mid new
+  pub appended-few : (n : ℕ) (before later : Kept) (old mid new : Counts) → IsObserved observed before → n ≡ length observed.ledger
+      → WorkedAtMost (newly_decided observed.files anchored) (newly_opened observed.files anchored) old mid → Pushes n entry.height bound before later
+      → ((names : List (HashValue × ℕ)) → AllByRecursion (Covers hash_cmp names) later.index.changes
+      → AppliesAtMost (cover_cost hash_cmp later.index.items names) mid new)
       → GrewAtMost (decided_roles (known_of observed.schedule observed.files entry)) (opened_proofs (known_of observed.schedule observed.files entry))
       (entry_cost (length observed.ledger) entry (appended entry observed)) old new
-  appended-few n before old mid new is number few applied =
-      let cost : given_cost n entry.height (given (known_of observed.schedule observed.files entry)) before.states.items ≤ entry_cost n entry
-      (appended entry observed) =
-      pushed-cost observed before.bounds.items entry n before.states is.same (number ∙ sym (kept-length observed before is)) is.states in
-      let same : given_cost n entry.height (given bound) before.states.items ≡ given_cost n entry.height
-      (given (known_of observed.schedule observed.files entry)) before.states.items =
-      ap (λ b. given_cost n entry.height (given b) before.states.items) appended-known in
-      let at : entry_cost n entry (appended entry observed) ≡ entry_cost (length observed.ledger) entry (appended entry observed) = ap
-      (λ k. entry_cost k entry (appended entry observed)) number in
-      grew-more (newly_decided observed.files anchored) (newly_opened observed.files anchored) (given_cost n entry.height (given bound) before.states.items)
-      (decided_roles (known_of observed.schedule observed.files entry)) (opened_proofs (known_of observed.schedule observed.files entry))
-      (entry_cost (length observed.ledger) entry (appended entry observed)) old new
-      decided-few opened-few (omega (arith, cost, same, at))
-      (grew-worked (newly_decided observed.files anchored) (newly_opened observed.files anchored)
-      (given_cost n entry.height (given bound) before.states.items) old mid new few applied)
+  appended-few n before later old mid new held number few step applied =
+      let suffixes : List HashValue = suffixes_given (given bound) in
+      let names : List (HashValue × ℕ) = at_place n suffixes in
+      let after : Observed = appended entry observed in
+      let covers : AllByRecursion (Covers hash_cmp names) later.index.changes =
+      covers-put step.states names (rw held.none tt) (each-of (Covers hash_cmp names) (λ suffix. (suffix, n)) suffixes (covers-itself names)) in
+      let cost = kept-cost after later (appended-kept n before later held.is number step) names in
+      let same : named_cost after names ≡ entry_cost n entry after =
+      ap (λ b. named_cost after (at_place n (suffixes_given (given b)))) appended-known ∙ entry-cost n entry after in
+      let at : entry_cost n entry after ≡ entry_cost (length observed.ledger) entry after = ap (λ k. entry_cost k entry after) number in
+      grew-more decided-few opened-few (omega (arith, cost, same, at)) (grew-worked few (applied names covers))
 
 -- memory ran out before its files were all read
 pub appended-wanting : (observed : Observed) (entry : Entry) (text : List ℕ) (limits : Limits) (anchored : Known) → text ≡ entry.text
@@ -72,9 +73,7 @@ pub appended-wanting : (observed : Observed) (entry : Entry) (text : List ℕ) (
     → GrewAtMost (decided_roles (known_of observed.schedule observed.files entry)) (opened_proofs (known_of observed.schedule observed.files entry))
     (entry_cost (length observed.ledger) entry (appended entry observed)) old new
 appended-wanting observed entry text limits anchored texts limited says old new few =
-    let cost : ℕ = entry_cost (length observed.ledger) entry (appended entry observed) in
-    grew-more (newly_decided observed.files anchored) (newly_opened observed.files anchored) cost
-    (decided_roles (known_of observed.schedule observed.files entry)) (opened_proofs (known_of observed.schedule observed.files entry)) cost old new
+    grew-more
     (decided-few observed entry text limits anchored (known_from observed.files anchored) texts limited says refl)
     (opened-few observed entry text limits anchored (known_from observed.files anchored) texts limited says refl) (omega arith)
-    (grew-only (newly_decided observed.files anchored) (newly_opened observed.files anchored) cost old new few)
+    (grew-only {applies = entry_cost (length observed.ledger) entry (appended entry observed)} few)

@@ -1,41 +1,79 @@
--- What an entry may cost while its operations are put in place.
---     pushed-cost              one that comes last
-use Rattle.std.proofs.Common.{◌≡◌, ◌∙◌, ℕ, ◌+◌, ◌≤◌, List, [], ◌∷◌, ◌++◌, length, map, sum, sym, ap, arith}
-use Rattle.std.specs.List.{sum_by}
-use Rattle.std.proofs.lemmas.List.{length-map, map_push}
-use Rattle.std.proofs.lemmas.List.Sums.{sum-map, sum_by-le-sum_by}
-use Rattle.st_anchor.specs.Gives.{given, suffixes_given}
-use Rattle.st_anchor.specs.Known.{Known}
-use Rattle.st_hash.specs.Hash.{HashValue}
+-- What may be folded, by what has been seen.
+--     kept-cost, folded-few     by names
+--     pushed-cost     of an entry that comes last
+--     cut-cost        of identifiers that lose an operation
+use Rattle.std.proofs.Common.{◌≡◌, ◌∙◌, ℕ, ◌+◌, ◌*◌, ◌≤◌, Bool, leb, ltb, List, [], ◌∷◌, length, ap, arith, subst, sym}
+use Rattle.std.specs.List.{AllByRecursion}
+use Rattle.std.proofs.lemmas.Bool.{lt-leb, ltb-true}
+use Rattle.std.proofs.lemmas.List.Folds.{fold-map}
+use Rattle.std.proofs.lemmas.List.Sums.{sum_by-cons, sum_by-le-sum_by}
+use Rattle.st_apply.specs.Anchored.{Anchored}
+use Rattle.st_base.specs.Work.{AppliesAtMost, Counts}
+use Rattle.st_base.proofs.Quantifiers.{each-passes, each-weaker, filter_none}
+use Rattle.st_content.specs.Files.{Files}
+use Rattle.st_hash.specs.Hash.{HashValue, hash_cmp}
 use Rattle.st_ledger.specs.declared.entry.Entry.{Entry}
-use Rattle.st_ops.specs.Operation.{PlainOperation}
-use Rattle.st_observer.specs.Kept.{StatesAgree, gifts, operations_from}
-use Rattle.st_observer.specs.Observed.{Observed, appended, given_for, known_of, operations}
-use Rattle.st_observer.specs.States.{StatesValue, given_cost, operations_in, with_given}
-use Rattle.st_observer.specs.Work.{entry_cost, from_place, suffix_cost}
-use Rattle.st_observer.proofs.OperationsLemmas.{operations-known, operations-pushed}
+use Rattle.st_opindex.specs.ByKey.{cover_cost, items_at}
+use Rattle.st_opindex.specs.Items.{from}
+use Rattle.st_observer.specs.Kept.{IsKept}
+use Rattle.st_observer.specs.Observed.{Observed}
+use Rattle.st_observer.specs.States.{Operations, at_place, before_place, operations_in}
+use Rattle.st_observer.specs.Steps.{CoversWhere, GrewOver, over}
+use Rattle.st_observer.specs.Work.{entry_cost, from_place, named_cost, suffix_cost, suffixes_of}
+use Rattle.st_observer.specs.declared.kept.Kept.{Kept}
+use Rattle.st_observer.proofs.KeptLemmas.{kept-operations}
+use Rattle.st_observer.proofs.StatesLemmas.{from-length}
+use Rattle.st_observer.proofs.WorkLemmas.{grew-then}
 
-cost-le : (place height : ℕ) (given : List (HashValue × PlainOperation)) (states : StatesValue) (observed : Observed)
-    → ((suffix : HashValue) → length (from_place place (with_given place height (given_for suffix given) (operations_in suffix states))) ≤ length
-    (from_place place (operations suffix observed)))
-    → given_cost place height given states.items ≤ sum_by (suffix_cost place observed) (suffixes_given given)
-cost-le place height given states observed each =
-    let cost : HashValue → ℕ = λ suffix. 7 + length (from_place place (with_given place height (given_for suffix given) (operations_in suffix states))) in
-    let along : sum (map cost (suffixes_given given)) ≡ sum_by cost (suffixes_given given) = sum-map cost (suffixes_given given) in
-    omega (arith, along, sum_by-le-sum_by cost (suffix_cost place observed) (suffixes_given given) (λ suffix. omega (arith, each suffix)))
+-- what names cost by what is kept they cost by what has been seen
+pub kept-cost : (observed : Observed) (kept : Kept) → IsKept observed kept → (names : List (HashValue × ℕ))
+    → cover_cost hash_cmp kept.index.items names ≤ named_cost observed names
+kept-cost observed kept is names =
+    sum_by-le-sum_by (λ name. 7 + length (from name.1 (items_at hash_cmp name.0 kept.index.items))) (λ name. suffix_cost name.1 observed name.0) names
+    (λ name. omega (
+      arith,
+      from-length name.1 name.0 kept.index.items,
+      ap (λ operations. length (from_place name.1 operations)) (kept-operations name.0 observed kept is),
+    ))
 
--- an entry comes last, of which this is known
-pub pushed-cost : (observed : Observed) (bounds : List Known) (entry : Entry) (n : ℕ) (states : StatesValue)
-    → bounds ≡ map (known_of observed.schedule observed.files) observed.ledger → n ≡ length bounds → StatesAgree (gifts observed.ledger bounds) states
-    → given_cost n entry.height (given (known_of observed.schedule observed.files entry)) states.items ≤ entry_cost n entry (appended entry observed)
-pushed-cost observed bounds entry n states same number agree =
-    let many : length bounds ≡ length observed.ledger = ap length same ∙ length-map observed.ledger (known_of observed.schedule observed.files) in
-    let bound : Known = known_of observed.schedule observed.files entry in
-    let after : bounds ++ bound ∷ [] ≡ map (known_of observed.schedule observed.files) (observed.ledger ++ entry ∷ []) =
-    ap (λ xs. xs ++ bound ∷ []) same ∙ sym (map_push (known_of observed.schedule observed.files) observed.ledger entry) in
-    cost-le n entry.height (given bound) states (appended entry observed) (λ suffix.
-    let now : with_given n entry.height (given_for suffix (given bound)) (operations_in suffix states) ≡ operations suffix (appended entry observed) =
-    operations-pushed suffix observed.ledger bounds entry bound n states many number agree
-    ∙ ap (λ xs. operations_from suffix 0 (gifts (observed.ledger ++ entry ∷ []) xs)) after
-    ∙ sym (operations-known suffix (appended entry observed)) in
-    omega (arith, ap (λ xs. length (from_place n xs)) now))
+-- what was looked at was read, and then what pended was folded
+pub folded-few : (observed : Observed) (start later : Kept) (names : List (HashValue × ℕ)) (old mid new : Counts) → IsKept observed later
+    → GrewOver observed.files start.bounds.items 0 old mid → AppliesAtMost (cover_cost hash_cmp later.index.items names) mid new
+    → GrewOver observed.files start.bounds.items (named_cost observed names) old new
+folded-few observed start later names old mid new is grew applied = grew-then grew applied (kept-cost observed later is names)
+
+-- so where what is kept was taken out of its box first
+pub taken-few : (ledger : List Entry) (files : Files) (waits among : ℕ → Bool) (kept taken : Kept) (names : List (HashValue × ℕ)) (old new : Counts)
+    → taken ≡ kept → ((n : ℕ) → among n ≡ waits n)
+    → (CoversWhere among (over taken.index.folder.schedule ledger files) names
+    → GrewOver files taken.bounds.items (named_cost (over taken.index.folder.schedule ledger files) names) old new)
+    → CoversWhere waits (over kept.index.folder.schedule ledger files) names
+    → GrewOver files kept.bounds.items (named_cost (over kept.index.folder.schedule ledger files) names) old new
+taken-few ledger files waits among kept taken names old new is same grew covers =
+    subst (λ (k : Kept). GrewOver files k.bounds.items (named_cost (over k.index.folder.schedule ledger files) names) old new) is
+    (grew (subst (λ (k : Kept). CoversWhere among (over k.index.folder.schedule ledger files) names) (sym is)
+    (λ n entry found one. covers n entry found (sym (same n) ∙ one))))
+
+-- an entry costs what its identifiers do, at its place
+pub entry-cost : (n : ℕ) (entry : Entry) (observed : Observed) → named_cost observed (at_place n (suffixes_of observed entry)) ≡ entry_cost n entry observed
+entry-cost n entry observed =
+    fold-map (λ total name. total + suffix_cost name.1 observed name.0) (λ suffix. (suffix, n)) 0 (suffixes_of observed entry)
+
+-- what a cut leaves of an identifier has nothing from its place on
+module _ (n : ℕ) (before after : Operations)
+    (cuts : (suffix : HashValue) → operations_in suffix after ≡ before_place n (operations_in suffix before)) where
+  pub cut-cost : (suffixes : List HashValue) → cover_cost hash_cmp after.items (at_place n suffixes) ≤ 7 * length suffixes
+  cut-cost [] = omega arith
+  cut-cost (suffix ∷ suffixes) =
+      let early : AllByRecursion (λ anchored. leb n anchored.place ≡ _) (before_place n (operations_in suffix before)) =
+      each-weaker (λ (anchored : Anchored). ltb anchored.place n ≡ _) (λ anchored. leb n anchored.place ≡ _)
+      (λ anchored is. lt-leb n anchored.place (ltb-true anchored.place n is)) (before_place n (operations_in suffix before))
+      (each-passes (λ anchored. ltb anchored.place n) (operations_in suffix before)) in
+      omega (
+        arith,
+        cut-cost suffixes,
+        sum_by-cons (λ (name : HashValue × ℕ). 7 + length (from name.1 (items_at hash_cmp name.0 after.items))) (suffix, n) (at_place n suffixes),
+        from-length n suffix after.items,
+        ap (λ operations. length (from_place n operations)) (cuts suffix),
+        ap length (filter_none (λ anchored. leb n anchored.place) (before_place n (operations_in suffix before)) early),
+      )

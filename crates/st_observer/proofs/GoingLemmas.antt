@@ -4,7 +4,7 @@
 --     going-settled    one of them
 --     going-end        after the last of them, it is what is kept with the file
 use Rattle.std.proofs.Common.{◌≡◌, ◌≢◌, ◌∙◌, ◌⊎◌, ⊎_elim, inl, inr, ℕ, ◌+◌, ◌<◌, ◌≤◌, ◌==◌, Bool, true, false, List, [], ◌∷◌, length, map, drop, set, get_or, refl, sym, ap, subst, arith}
-use Rattle.std.specs.List.{list_any}
+use Rattle.std.specs.List.{AllByRecursion, list_any}
 use Rattle.std.proofs.lemmas.Bool.{cases_eq, eqb-true, or_from, or_parts, true≢false}
 use Rattle.std.proofs.lemmas.List.{get_or-map, get_or-set_other, get_or-set_same, length-map, length-set, map-set, same_lists, set-get_or}
 use Rattle.st_anchor.specs.Coming.{Extends, IsUnmissed}
@@ -48,24 +48,20 @@ unmissed_role uri state none is =
     let other : same_hash uri uri ≡ false = (or_parts (same_hash uri uri) false here).0 in
     true≢false (sym (same_hash-itself uri) ∙ other)
 
+none-each : (test : RoleState → Bool) (states : List RoleState) → list_any test states ≡ false → AllByRecursion (λ state. test state ≡ false) states
+none-each test [] none = tt
+none-each test (state ∷ states) none = let parts = or_parts (test state) (list_any test states) none in (parts.0, none-each test states parts.1)
+
 -- a file that no role of an entry misses
 pub unmissed : (uri : HashValue) (bound : Known) → one_misses uri (role_states bound) ≡ false → IsUnmissed uri bound
 unmissed uri bound none =
-    let test : RoleState → Bool = misses uri in
-    let core = or_parts (test (role_state Core bound)) (list_any test
-    (role_state CoreProof bound ∷ role_state Provisional bound ∷ role_state ProvisionalProof bound ∷ role_state Chunk bound ∷ [])) none in
-    let core_proof = or_parts (test (role_state CoreProof bound))
-    (list_any test (role_state Provisional bound ∷ role_state ProvisionalProof bound ∷ role_state Chunk bound ∷ [])) core.1 in
-    let provisional = or_parts (test (role_state Provisional bound))
-    (list_any test (role_state ProvisionalProof bound ∷ role_state Chunk bound ∷ [])) core_proof.1 in
-    let proof = or_parts (test (role_state ProvisionalProof bound)) (list_any test (role_state Chunk bound ∷ [])) provisional.1 in
-    let chunk = or_parts (test (role_state Chunk bound)) false proof.1 in
+    let each = none-each (misses uri) (role_states bound) none in
     λ role. elim role as (λ role. role_state role bound ≡ Missing uri → ⊥) [
-      | Core ↦ unmissed_role uri (role_state Core bound) core.0
-      | CoreProof ↦ unmissed_role uri (role_state CoreProof bound) core_proof.0
-      | Provisional ↦ unmissed_role uri (role_state Provisional bound) provisional.0
-      | ProvisionalProof ↦ unmissed_role uri (role_state ProvisionalProof bound) proof.0
-      | Chunk ↦ unmissed_role uri (role_state Chunk bound) chunk.0
+      | Core ↦ unmissed_role uri (role_state Core bound) each.0
+      | CoreProof ↦ unmissed_role uri (role_state CoreProof bound) each.1.0
+      | Provisional ↦ unmissed_role uri (role_state Provisional bound) each.1.1.0
+      | ProvisionalProof ↦ unmissed_role uri (role_state ProvisionalProof bound) each.1.1.1.0
+      | Chunk ↦ unmissed_role uri (role_state Chunk bound) each.1.1.1.1.0
     ]
 
 -- ---- more files
@@ -188,8 +184,8 @@ going-settled observed still next n entry before after going step inside is left
           (waits-settled bounds more n before.waiting after.waiting inside step.waits going.waits);
       schedule = step.states.schedule ∙ going.schedule;
       states =
-          subst (λ xs. StatesAgree (gifts observed.ledger xs) after.states) (sym step.bounds)
-          (agree-settled observed.ledger bounds entry observed.files unknown n before.states after.states
+          subst (λ xs. StatesAgree (gifts observed.ledger xs) after.index) (sym step.bounds)
+          (agree-settled observed.ledger bounds entry observed.files unknown n before.index after.index
           (going-length observed still before going) inside is going.states step.states);
     }
 

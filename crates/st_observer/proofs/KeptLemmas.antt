@@ -1,36 +1,75 @@
 -- What is kept, as the observer's calls use and change it.
 --     kept-operations, kept-state     the operations and the state of an identifier
+--     kept-folded                     once what pends is folded
 --     kept-pushed, kept-cut           once an entry has come, or entries are cut
---     losing-names                    whose operations are fewer then
+--     losing-covers                   whose operations are fewer then
 --     settled-known    what a new entry's text and the files make of it
-use Rattle.std.proofs.Common.{◌≡◌, ◌∙◌, ℕ, ◌≤◌, List, [], ◌∷◌, ◌++◌, length, take, sym, ap, subst}
+use Rattle.std.proofs.Common.{◌≡◌, ◌∙◌, ℕ, ◌≤◌, List, [], ◌∷◌, ◌++◌, length, take, Option, Some, None, option_map, unwrap_or, sym, ap, subst, arith}
 use Rattle.std.proofs.lemmas.List.{map_push, take-map}
 use Rattle.st_anchor.specs.Known.{Known, known, known_from, known_of_text}
-use Rattle.st_apply.specs.Anchored.{Anchored, resolved}
+use Rattle.st_apply.specs.Anchored.{Anchored, place_of, resolved}
+use Rattle.st_apply.specs.Laws.{PlacesAscend}
+use Rattle.st_apply.specs.Seen.{absent}
+use Rattle.st_apply.proofs.LawLemmas.{given_ascend}
 use Rattle.st_content.specs.Files.{Files}
-use Rattle.st_hash.specs.Hash.{HashValue}
+use Rattle.st_hash.specs.Hash.{HashValue, hash_cmp}
 use Rattle.st_ledger.specs.declared.entry.Entry.{Entry}
+use Rattle.st_opindex.specs.ByKey.{CoversLosing, items_at}
+use Rattle.st_opindex.specs.Items.{folded}
+use Rattle.st_ops.specs.Operation.{PlainOperation}
 use Rattle.st_params.specs.Limits.{Limits}
-use Rattle.st_observer.specs.Kept.{IsKept, StatesAgree, WaitsAgree, gifts}
-use Rattle.st_observer.specs.Observed.{Observed, appended, cut_to, known_of, operations, state_of}
-use Rattle.st_observer.specs.States.{NamesFrom, operations_in}
-use Rattle.st_observer.specs.Steps.{Cuts, Pushes}
+use Rattle.st_observer.specs.Kept.{IsKept, IsObserved, StatesAgree, WaitsAgree, gifts}
+use Rattle.st_observer.specs.Observed.{Observed, anchored_by, anchored_for, appended, cut_to, given_for, gives_of, known_of, operations, state_of}
+use Rattle.st_observer.specs.States.{at_place, operations_in, stepped}
+use Rattle.st_observer.specs.Steps.{Cuts, Folds, Pushes}
+use Rattle.st_observer.specs.Waiting.{Waits}
 use Rattle.st_observer.specs.Work.{from_place, losing}
 use Rattle.st_observer.specs.declared.kept.Kept.{Kept}
 use Rattle.st_observer.proofs.GoingLemmas.{kept-length}
-use Rattle.st_observer.proofs.NamesLemmas.{losing-has}
+use Rattle.st_observer.proofs.NamesLemmas.{covers-here, losing-has}
 use Rattle.st_observer.proofs.OperationsLemmas.{agree-cut, agree-pushed, operations-agree}
+use Rattle.st_observer.proofs.StatesLemmas.{loses, state_resolved}
 use Rattle.st_observer.proofs.WaitsLemmas.{waits-pushed}
 
 pub kept-operations : (suffix : HashValue) (observed : Observed) (kept : Kept) → IsKept observed kept
-    → operations_in suffix kept.states ≡ operations suffix observed
-kept-operations suffix observed kept is = operations-agree suffix observed kept.bounds.items kept.states is.same is.states
+    → operations_in suffix kept.index ≡ operations suffix observed
+kept-operations suffix observed kept is = operations-agree suffix observed kept.bounds.items kept.index is.same is.states
 
+-- the operations of an identifier stand in ascending places
+pub operations-ascend : (suffix : HashValue) (observed : Observed) → PlacesAscend place_of (operations suffix observed)
+unfolding operations
+operations-ascend suffix observed =
+    given_ascend (anchored_for suffix observed.schedule observed.files) place_of
+    (λ number entry item is. at number entry item (given_for suffix (gives_of observed.schedule observed.files entry)) is) 0 observed.ledger
+  where
+    at : (number : ℕ) (entry : Entry) (item : Anchored) (found : Option PlainOperation) → option_map (anchored_by number entry) found ≡ Some item
+        → item.place ≡ number
+    at number entry item None is = cc
+    at number entry item (Some operation) is = ap (λ found. (unwrap_or found item).place) (sym is)
+
+-- what they fold to is what they resolve to
 pub kept-state : (suffix : HashValue) (observed : Observed) (kept : Kept) → IsKept observed kept
-    → resolved kept.states.schedule (operations_in suffix kept.states) ≡ state_of suffix observed
+    → folded (stepped kept.index.folder.schedule) absent (items_at hash_cmp suffix kept.index.items) ≡ state_of suffix observed
 kept-state suffix observed kept is =
-    ap (λ schedule. resolved schedule (operations_in suffix kept.states)) is.schedule
-    ∙ ap (resolved observed.schedule) (kept-operations suffix observed kept is)
+    let same = kept-operations suffix observed kept is in
+    state_resolved kept.index.folder.schedule suffix kept.index.items (subst (PlacesAscend place_of) (sym same) (operations-ascend suffix observed))
+    ∙ ap (λ schedule. resolved schedule (operations_in suffix kept.index)) is.schedule
+    ∙ ap (resolved observed.schedule) same
+
+-- ---- what pends is folded
+
+pub kept-folded : (observed : Observed) (before after : Kept) → IsKept observed before → Folds before after → IsObserved observed after
+kept-folded observed before after is step = record {
+  is = record {
+    same = step.bounds ∙ is.same;
+    waits = subst (λ (xs : List Known). WaitsAgree xs after.waiting) (sym step.bounds)
+        (subst (λ (waits : Waits). WaitsAgree before.bounds.items waits) (sym step.waiting) is.waits);
+    schedule = step.schedule ∙ is.schedule;
+    states = subst (λ (xs : List Known). StatesAgree (gifts observed.ledger xs) after.index) (sym step.bounds)
+        (record { each = λ suffix. step.operations suffix ∙ is.states.each suffix });
+  };
+  none = step.none;
+}
 
 -- ---- an entry comes
 
@@ -53,8 +92,8 @@ kept-pushed observed entry n before after is number step =
       waits = subst (λ xs. WaitsAgree xs after.waiting) (sym step.bounds) (waits-pushed bounds bound n before.waiting after.waiting number step.waits is.waits);
       schedule = step.states.schedule ∙ is.schedule;
       states =
-          subst (λ xs. StatesAgree (gifts (observed.ledger ++ entry ∷ []) xs) after.states) (sym step.bounds)
-          (agree-pushed observed.ledger bounds entry bound n before.states after.states (kept-length observed before is) number is.states step.states);
+          subst (λ xs. StatesAgree (gifts (observed.ledger ++ entry ∷ []) xs) after.index) (sym step.bounds)
+          (agree-pushed observed.ledger bounds entry bound n before.index after.index (kept-length observed before is) number is.states step.states);
     }
 
 -- ---- entries are cut
@@ -66,14 +105,16 @@ kept-cut observed n before after is within step = record {
   waits = step.waits;
   schedule = step.schedule ∙ is.schedule;
   states =
-      subst (λ xs. StatesAgree (gifts (take n observed.ledger) xs) after.states) (sym step.bounds)
-      (agree-cut observed.ledger before.bounds.items n before.states after.states (kept-length observed before is) within is.states step.operations);
+      subst (λ xs. StatesAgree (gifts (take n observed.ledger) xs) after.index) (sym step.bounds)
+      (agree-cut observed.ledger before.bounds.items n before.index after.index (kept-length observed before is) within is.states step.operations);
 }
 
 -- ---- an identifier loses operations
 
--- the suffixes that lose an operation, by what is kept
-pub losing-names : (n : ℕ) (observed seen : Observed) (kept : Kept) → IsKept observed kept → observed ≡ seen → NamesFrom n kept.states.items (losing n seen)
-losing-names n observed seen kept is same suffix some =
-    losing-has n seen suffix
-    (subst (λ (xs : List Anchored). 1 ≤ length (from_place n xs)) (kept-operations suffix observed kept is ∙ ap (operations suffix) same) some)
+-- the suffixes that lose an operation cover what a cut changes
+pub losing-covers : (n : ℕ) (observed seen : Observed) (kept : Kept) → IsKept observed kept → observed ≡ seen
+    → CoversLosing hash_cmp (at_place n (losing n seen)) n kept.index.items
+losing-covers n observed seen kept is same suffix any =
+    covers-here n suffix n (losing n seen) (omega arith) (losing-has n seen suffix
+    (subst (λ (xs : List Anchored). 1 ≤ length (from_place n xs)) (kept-operations suffix observed kept is ∙ ap (operations suffix) same)
+    (loses n suffix kept.index.items any)))

@@ -7,7 +7,6 @@ mod OperationsLemmas
 mod WaitsLemmas
 mod GoingLemmas
 mod WorkLemmas
-mod ClosingLemmas
 mod CostLemmas
 mod NamesLemmas
 mod LookingLemmas
@@ -15,7 +14,6 @@ mod AskedLemmas
 mod IsolationLemmas
 mod KeptLemmas
 mod BackLemmas
-mod SettleLemmas
 mod AppendLemmas
 mod ArriveLemmas
 mod CutLemmas

@@ -1,7 +1,8 @@
 -- What is kept while the entries that wait for a file are looked at again, one after the other.
 --     looking-next, looking-skipped     after one, and after one that isn't there
 --     looking-few, looking-wanting      what was counted at the end, and where memory ran out
-use Rattle.std.proofs.Common.{◌≡◌, ◌∙◌, inl, inr, ℕ, zero, suc, ◌+◌, ◌-◌, ◌<◌, ◌≤◌, ◌==◌, true, ◌||◌, List, [], ◌∷◌, length, map, drop, take, get_or, slice_get, Some, None, refl, sym, ap, subst, arith}
+use Rattle.std.proofs.Common.{◌≡◌, ◌∙◌, inl, inr, ℕ, zero, suc, ◌+◌, ◌<◌, ◌≤◌, ◌==◌, true, ◌||◌, List, [], ◌∷◌, length, map, drop, take, get_or, slice_get, Some, None, refl, sym, ap, subst, arith}
+use Rattle.std.specs.List.{AllByRecursion}
 use Rattle.std.proofs.lemmas.Bool.{eq-eqb, false≢true, or_cases, or_left, or_right}
 use Rattle.std.proofs.lemmas.List.{get_or-map, get_or_default, length-map}
 use Rattle.std.proofs.lemmas.Option.{get_or_from_slice_get, slice_get_within}
@@ -13,13 +14,13 @@ use Rattle.st_base.specs.Work.{Counts}
 use Rattle.st_hash.specs.Hash.{HashValue, hash_cmp}
 use Rattle.st_ledger.specs.declared.entry.Entry.{Entry}
 use Rattle.st_observer.specs.Observed.{Observed, known_of}
-use Rattle.st_observer.specs.States.{AreNamedAt}
-use Rattle.st_observer.specs.Steps.{IsGoing, NamesWhere, Settles, bound_at, decided_of, is_among, kept_of, opened_of, unknown}
+use Rattle.st_observer.specs.Steps.{CoversWhere, GrewOver, IsGoing, Settles, bound_at, is_among, unknown}
 use Rattle.st_observer.specs.Work.{GrewAtMost, ReadExactly}
-use Rattle.st_observer.specs.declared.going.Going.{Going}
+use Rattle.st_observer.specs.declared.kept.Kept.{Kept}
 use Rattle.st_observer.proofs.GoingLemmas.{among-left, going-length, going-settled, going-skipped}
+use Rattle.st_observer.proofs.StatesLemmas.{covers-put}
 use Rattle.st_observer.proofs.WorkLemmas.{Reading, reading-few, reading-settled, reading-wanting}
-use Rattle.st_opindex.specs.Changed.{AreNamed}
+use Rattle.st_opindex.specs.ByKey.{Covers}
 
 -- ---- as the code finds the numbers and their entries
 
@@ -40,13 +41,12 @@ entry-past (entry ∷ ledger) (suc n) none = let rest : length ledger ≤ n = en
 -- ---- on the way
 
 -- The first of the entries with these numbers have been looked at, so many of them. Nothing is applied, and
--- names of what all of them give name what is changed.
-pub record Looking (observed : Observed) (entries : List ℕ) (at : ℕ) (start now : Going) (old new : Counts) : Type 0 where
-  pub going : IsGoing observed (is_among (drop at entries)) (kept_of now)
+-- names that cover what all of them give cover what is changed.
+pub record Looking (observed : Observed) (entries : List ℕ) (at : ℕ) (start now : Kept) (old new : Counts) : Type 0 where
+  pub going : IsGoing observed (is_among (drop at entries)) now
   pub same : map (known_from observed.files) now.bounds.items ≡ map (known_from observed.files) start.bounds.items
-  pub reading : Reading start.bounds.items now.bounds.items 0 old new
-  pub named : (names : List (HashValue × ℕ)) → AreNamed hash_cmp start.states.changes names → NamesWhere (is_among entries) observed names
-      → AreNamed hash_cmp now.states.changes names
+  pub reading : Reading start.bounds.items now.bounds.items old new
+  pub covers : (names : List (HashValue × ℕ)) → CoversWhere (is_among entries) observed names → AllByRecursion (Covers hash_cmp names) now.index.changes
 
 -- more is known of an entry that is looked at again
 more-known : (observed : Observed) (bounds : List Known) (entry : Entry) (n : ℕ)
@@ -77,67 +77,63 @@ module _ (entries : List ℕ) (at n : ℕ) (inside : at < length entries) (is : 
   all-among : is_among entries n ≡ true
   all-among = among-taken entries (at + 1) n (more-among n ∙ or_right (is_among (take at entries) n) (n == n) (eq-eqb n n refl))
 
-  pub looking-inside : (observed : Observed) (start now : Going) (entry : Entry) (old mid : Counts) → Looking observed entries at start now old mid
+  pub looking-inside : (observed : Observed) (start now : Kept) (entry : Entry) (old mid : Counts) → Looking observed entries at start now old mid
       → n < length observed.ledger → n < length now.bounds.items
   looking-inside observed start now entry old mid looking within =
-      omega (arith, within, going-length observed (is_among (drop at entries)) (kept_of now) looking.going)
+      omega (arith, within, going-length observed (is_among (drop at entries)) now looking.going)
 
   -- the entry with this number is looked at again
-  pub looking-next : (observed : Observed) (start now after : Going) (entry : Entry) (old mid new : Counts) → Looking observed entries at start now old mid
+  pub looking-next : (observed : Observed) (start now after : Kept) (entry : Entry) (old mid new : Counts) → Looking observed entries at start now old mid
       → Some entry ≡ slice_get observed.ledger n
-      → Settles observed.files n entry.height (kept_of now) (kept_of after)
+      → Settles observed.files n entry.height now after
       → ReadExactly (newly_decided observed.files (bound_at n now.bounds.items)) (newly_opened observed.files (bound_at n now.bounds.items)) mid new
       → GrewAtMost (newly_decided observed.files (bound_at n now.bounds.items)) (newly_opened observed.files (bound_at n now.bounds.items)) 0 mid new
-      → ((names : List (HashValue × ℕ)) → AreNamed hash_cmp now.states.changes names
-      → AreNamedAt n (suffixes_given (given (known_from observed.files (bound_at n now.bounds.items)))) names → AreNamed hash_cmp after.states.changes names)
       → Looking observed entries (at + 1) start after old new
-  looking-next observed start now after entry old mid new looking found step exactly grew changes =
+  looking-next observed start now after entry old mid new looking found step exactly grew =
       let within : n < length observed.ledger = entry-inside observed.ledger n entry found in
       let there : get_or observed.ledger n entry ≡ entry = entry-at observed.ledger n entry found in
       let room : n < length now.bounds.items = looking-inside observed start now entry old mid looking within in
-      let going : IsGoing observed (is_among (drop (at + 1) entries)) (kept_of after) =
-      going-settled observed (is_among (drop at entries)) (is_among (drop (at + 1) entries)) n entry (kept_of now) (kept_of after) looking.going step room there
+      let going : IsGoing observed (is_among (drop (at + 1) entries)) after =
+      going-settled observed (is_among (drop at entries)) (is_among (drop (at + 1) entries)) n entry now after looking.going step room there
       (among-left entries at n inside is) in
       record {
         going = going;
         same = going.same ∙ sym looking.going.same ∙ looking.same;
         reading =
-            reading-settled observed.files start.bounds.items now.bounds.items after.bounds.items n 0 0 0 old mid new
-            room step.bounds looking.reading exactly grew.least.applies (omega (arith, grew.applied)) (omega arith);
-        named = λ names first where_given.
-            changes names (looking.named names first where_given)
-            (subst (λ (b : Known). AreNamedAt n (suffixes_given (given b)) names)
+            reading-settled observed.files start.bounds.items now.bounds.items after.bounds.items n old mid new
+            room step.bounds looking.reading exactly (omega (arith, grew.least.applies, grew.applied));
+        covers = λ names where_given.
+            covers-put step.states names (looking.covers names where_given)
+            (subst (λ (b : Known). AllByRecursion (λ suffix. Covers hash_cmp names (suffix, n)) (suffixes_given (given b)))
             (sym (more-known observed now.bounds.items entry n looking.going.same room there))
             (where_given n entry found all-among));
       }
 
-  pub looking-skipped : (observed : Observed) (start now : Going) (old new : Counts) → Looking observed entries at start now old new
+  pub looking-skipped : (observed : Observed) (start now : Kept) (old new : Counts) → Looking observed entries at start now old new
       → length observed.ledger ≤ n
       → Looking observed entries (at + 1) start now old new
   looking-skipped observed start now old new looking past = record {
     going =
-        going-skipped observed (is_among (drop at entries)) (is_among (drop (at + 1) entries)) n (kept_of now) looking.going
-        (omega (arith, past, going-length observed (is_among (drop at entries)) (kept_of now) looking.going)) (among-left entries at n inside is);
+        going-skipped observed (is_among (drop at entries)) (is_among (drop (at + 1) entries)) n now looking.going
+        (omega (arith, past, going-length observed (is_among (drop at entries)) now looking.going)) (among-left entries at n inside is);
     same = looking.same;
     reading = looking.reading;
-    named = looking.named;
+    covers = looking.covers;
   }
 
   -- memory ran out at this entry
-  pub looking-wanting : (observed : Observed) (start now : Going) (entry : Entry) (old mid new : Counts) → Looking observed entries at start now old mid
+  pub looking-wanting : (observed : Observed) (start now : Kept) (entry : Entry) (old mid new : Counts) → Looking observed entries at start now old mid
       → Some entry ≡ slice_get observed.ledger n
       → GrewAtMost (newly_decided observed.files (bound_at n now.bounds.items)) (newly_opened observed.files (bound_at n now.bounds.items)) 0 mid new
-      → GrewAtMost (decided_of (map (known_from observed.files) start.bounds.items) - decided_of start.bounds.items)
-      (opened_of (map (known_from observed.files) start.bounds.items) - opened_of start.bounds.items) 0 old new
+      → GrewOver observed.files start.bounds.items 0 old new
   looking-wanting observed start now entry old mid new looking found grew =
       let room : n < length now.bounds.items = looking-inside observed start now entry old mid looking (entry-inside observed.ledger n entry found) in
-      reading-wanting observed.files start.bounds.items now.bounds.items n 0 0 0 old mid new room looking.same looking.reading grew (omega arith)
+      reading-wanting observed.files start.bounds.items now.bounds.items n old mid new room looking.same looking.reading grew
 
 -- ---- at the end
 
-module _ (observed : Observed) (entries : List ℕ) (at : ℕ) (start now : Going) (old new : Counts) where
+module _ (observed : Observed) (entries : List ℕ) (at : ℕ) (start now : Kept) (old new : Counts) where
   pub looking-few : Looking observed entries at start now old new
-      → GrewAtMost (decided_of (map (known_from observed.files) start.bounds.items) - decided_of start.bounds.items)
-      (opened_of (map (known_from observed.files) start.bounds.items) - opened_of start.bounds.items) 0 old new
+      → GrewOver observed.files start.bounds.items 0 old new
   looking-few looking =
-      reading-few observed.files start.bounds.items now.bounds.items 0 0 old new looking.same (omega arith) looking.reading
+      reading-few observed.files start.bounds.items now.bounds.items old new looking.same looking.reading

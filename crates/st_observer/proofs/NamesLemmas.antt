@@ -7,7 +7,7 @@ use Rattle.std.proofs.lemmas.List.Folds.{list_any-append}
 use Rattle.std.proofs.lemmas.Map.Made.{is_some-lookup}
 use Rattle.std.proofs.lemmas.Map.Views.{any-filter_same}
 use Rattle.std.specs.BTreeMap.{is_at}
-use Rattle.std.specs.List.{cons_option, flat_map, list_any}
+use Rattle.std.specs.List.{AllByRecursion, cons_option, flat_map, list_any}
 use Rattle.st_apply.specs.Anchored.{Anchored}
 use Rattle.st_apply.specs.Numbered.{given_from}
 use Rattle.st_base.proofs.Quantifiers.{each-weaker}
@@ -15,12 +15,12 @@ use Rattle.st_hash.specs.Hash.{HashValue, hash_cmp, same_hash}
 use Rattle.st_hash.specs.Order.{hash_cmp-total, same_hash-ties}
 use Rattle.st_hash.proofs.SameHash.{same_hash-is, same_hash-itself}
 use Rattle.st_ledger.specs.declared.entry.Entry.{Entry}
-use Rattle.st_opindex.specs.Changed.{IsNamed}
+use Rattle.st_opindex.specs.ByKey.{Covers}
 use Rattle.st_ops.specs.Operation.{PlainOperation}
 use Rattle.st_observer.specs.Observed.{Observed, anchored_by, anchored_for, arrived, given_for, gives_of, operations}
-use Rattle.st_observer.specs.States.{AreNamedAt}
+use Rattle.st_observer.specs.States.{at_place}
 use Rattle.st_observer.specs.Work.{from_place, is_missed_by, late, late_from, late_in, losing, suffixes_of}
-use Rattle.st_observer.proofs.StatesLemmas.{named-before, named-there}
+use Rattle.st_observer.proofs.StatesLemmas.{covers-before, covers-itself, each-of}
 use Rattle.st_observer.proofs.WantedLemmas.{once-has}
 
 -- ---- entries that are cut
@@ -108,28 +108,28 @@ any-filter test keep xs keeps any = any-filter_same test keep true keeps xs ∙ 
 
 module _ (place : ℕ) where
   -- suffixes at one place name each of them there and later
-  named_here : (suffix : HashValue) (later : ℕ) (suffixes : List HashValue) → place ≤ later → list_any (same_hash suffix) suffixes ≡ true
-      → IsNamed hash_cmp (map (λ other. (other, place)) suffixes) suffix later
-  named_here suffix later [] le any = absurd (true≢false (sym any))
-  named_here suffix later (other ∷ suffixes) le any =
+  pub covers-here : (suffix : HashValue) (later : ℕ) (suffixes : List HashValue) → place ≤ later → list_any (same_hash suffix) suffixes ≡ true
+      → Covers hash_cmp (at_place place suffixes) (suffix, later)
+  covers-here suffix later [] le any = absurd (true≢false (sym any))
+  covers-here suffix later (other ∷ suffixes) le any =
       let test : HashValue × ℕ → Bool = λ name. is_at (hash_cmp suffix) name.0 && leb name.1 later in
       ⊎_elim
       (λ same.
       let at : is_at (hash_cmp suffix) other ≡ true = sym (same_hash-ties suffix other) ∙ same in
       or_left (test (other, place)) (list_any test (map (λ s. (s, place)) suffixes)) (rw (at, le-leb place later le) refl))
-      (λ rest. or_right (test (other, place)) (list_any test (map (λ s. (s, place)) suffixes)) (named_here suffix later suffixes le rest))
+      (λ rest. or_right (test (other, place)) (list_any test (map (λ s. (s, place)) suffixes)) (covers-here suffix later suffixes le rest))
       (or_cases (same_hash suffix other) (list_any (same_hash suffix) suffixes) any)
 
 -- What names a suffix goes on doing so where other suffixes are named first, at an earlier place.
-named_on : (place later : ℕ) (suffixes : List HashValue) (names : List (HashValue × ℕ)) (suffix : HashValue) → place ≤ later → IsNamed hash_cmp names suffix later
-    → IsNamed hash_cmp (map (λ other. (other, place)) suffixes ++ filter (λ name. not (list_any (same_hash name.0) suffixes)) names) suffix later
+named_on : (place later : ℕ) (suffixes : List HashValue) (names : List (HashValue × ℕ)) (suffix : HashValue) → place ≤ later → Covers hash_cmp names (suffix, later)
+    → Covers hash_cmp (map (λ other. (other, place)) suffixes ++ filter (λ name. not (list_any (same_hash name.0) suffixes)) names) (suffix, later)
 named_on place later suffixes names suffix le named =
     let test : HashValue × ℕ → Bool = λ name. is_at (hash_cmp suffix) name.0 && leb name.1 later in
     let keep : HashValue × ℕ → Bool = λ name. not (list_any (same_hash name.0) suffixes) in
     let front : List (HashValue × ℕ) = map (λ other. (other, place)) suffixes in
     list_any-append test front (filter keep names)
     ∙ elim (cases_Bool (list_any (same_hash suffix) suffixes)) [
-      | inl here ↦ or_left (list_any test front) (list_any test (filter keep names)) (named_here place suffix later suffixes le here)
+      | inl here ↦ or_left (list_any test front) (list_any test (filter keep names)) (covers-here place suffix later suffixes le here)
       | inr apart ↦ or_right (list_any test front) (list_any test (filter keep names)) (any-filter test keep names
           (λ name is.
           let same : suffix ≡ name.0 = same_hash-is suffix name.0 (same_hash-ties suffix name.0 ∙ (and_parts (is_at (hash_cmp suffix) name.0) (leb name.1 later) is).0) in
@@ -139,17 +139,19 @@ named_on place later suffixes names suffix le named =
 
 module _ (file : List ℕ) (observed : Observed) where
   first-late : (place : ℕ) (entry : Entry) (entries : List Entry) → is_missed_by file observed entry ≡ true
-      → AreNamedAt place (suffixes_of (arrived file observed) entry) (late_from place file observed (entry ∷ entries))
+      → AllByRecursion (λ suffix. Covers hash_cmp (late_from place file observed (entry ∷ entries)) (suffix, place)) (suffixes_of (arrived file observed) entry)
   first-late place entry entries missed =
       let suffixes : List HashValue = suffixes_of (arrived file observed) entry in
       let here : suffixes ≡ late_in file observed entry = rw missed refl in
       let rest : List (HashValue × ℕ) = late_from (place + 1) file observed entries in
-      subst (λ (some : List HashValue). AreNamedAt place suffixes (map (λ suffix. (suffix, place)) some ++ filter (λ later. not (list_any (same_hash later.0) some)) rest))
-      here (named-before place suffixes (map (λ suffix. (suffix, place)) suffixes) (filter (λ later. not (list_any (same_hash later.0) suffixes)) rest)
-      (named-there place suffixes))
+      let back : List (HashValue × ℕ) = filter (λ later. not (list_any (same_hash later.0) suffixes)) rest in
+      subst (λ (some : List HashValue). AllByRecursion (λ suffix. Covers hash_cmp (at_place place some ++ filter (λ later. not (list_any (same_hash later.0) some)) rest)
+      (suffix, place)) suffixes)
+      here (each-of (Covers hash_cmp (at_place place suffixes ++ back)) (λ suffix. (suffix, place)) suffixes
+      (covers-before (at_place place suffixes) back (at_place place suffixes) (covers-itself (at_place place suffixes))))
 
   each-late : (place n : ℕ) (entries : List Entry) (entry : Entry) → Some entry ≡ slice_get entries n → is_missed_by file observed entry ≡ true
-      → AreNamedAt (place + n) (suffixes_of (arrived file observed) entry) (late_from place file observed entries)
+      → AllByRecursion (λ suffix. Covers hash_cmp (late_from place file observed entries) (suffix, place + n)) (suffixes_of (arrived file observed) entry)
   each-late place n [] entry found missed = absurd (none-there n entry found)
     where
       none-there : (n : ℕ) (entry : Entry) → Some entry ≡ slice_get [] n → ⊥
@@ -158,19 +160,19 @@ module _ (file : List ℕ) (observed : Observed) where
   each-late place zero (first ∷ entries) entry found missed =
       let same : entry ≡ first = ap (λ found. unwrap_or found entry) found in
       let at : place + 0 ≡ place = omega arith in
-      rw at (subst (λ other. AreNamedAt place (suffixes_of (arrived file observed) entry) (late_from place file observed (other ∷ entries))) same
+      rw at (subst (λ other. AllByRecursion (λ suffix. Covers hash_cmp (late_from place file observed (other ∷ entries)) (suffix, place)) (suffixes_of (arrived file observed) entry)) same
       (first-late place entry entries missed))
   each-late place (suc n) (first ∷ entries) entry found missed =
       let at : place + suc n ≡ place + 1 + n = omega arith in
       rw at
-      (each-weaker (λ suffix. IsNamed hash_cmp (late_from (place + 1) file observed entries) suffix (place + 1 + n))
-      (λ suffix. IsNamed hash_cmp (late_from place file observed (first ∷ entries)) suffix (place + 1 + n))
+      (each-weaker (λ suffix. Covers hash_cmp (late_from (place + 1) file observed entries) (suffix, place + 1 + n))
+      (λ suffix. Covers hash_cmp (late_from place file observed (first ∷ entries)) (suffix, place + 1 + n))
       (λ suffix named. named_on place (place + 1 + n) (late_in file observed first) (late_from (place + 1) file observed entries) suffix (omega arith) named)
       (suffixes_of (arrived file observed) entry) (each-late (place + 1) n entries entry found missed))
 
   -- each of which an entry gives one that missed the file is among those that are computed, at the entry's place or before
   pub names-late : (n : ℕ) (entry : Entry) → Some entry ≡ slice_get observed.ledger n → is_missed_by file observed entry ≡ true
-      → AreNamedAt n (suffixes_of (arrived file observed) entry) (late file observed)
+      → AllByRecursion (λ suffix. Covers hash_cmp (late file observed) (suffix, n)) (suffixes_of (arrived file observed) entry)
   names-late n entry found missed =
-      subst (λ place. AreNamedAt place (suffixes_of (arrived file observed) entry) (late file observed)) (let at : 0 + n ≡ n = omega arith in at)
+      subst (λ place. AllByRecursion (λ suffix. Covers hash_cmp (late file observed) (suffix, place)) (suffixes_of (arrived file observed) entry)) (let at : 0 + n ≡ n = omega arith in at)
       (each-late 0 n observed.ledger entry found missed)

@@ -18,7 +18,7 @@ use Rattle.st_ledger.specs.declared.entry.Entry.{Entry}
 use Rattle.st_ops.specs.Operation.{PlainOperation}
 use Rattle.st_observer.specs.Kept.{Gift, StatesAgree, anchored_in, gifts, operations_from}
 use Rattle.st_observer.specs.Observed.{Observed, anchored_for, given_for, known_of, operations}
-use Rattle.st_observer.specs.States.{StatesValue, before_place, operations_in, with_given}
+use Rattle.st_observer.specs.States.{Operations, before_place, operations_in, with_given}
 use Rattle.st_observer.specs.Steps.{PutsGiven}
 use Rattle.st_observer.proofs.GiftsLemmas.{operations-first, operations-put}
 
@@ -76,7 +76,7 @@ pub operations-known : (suffix : HashValue) (observed : Observed)
 unfolding operations
 operations-known suffix observed = known-from suffix observed.schedule observed.files 0 observed.ledger
 
-pub operations-agree : (suffix : HashValue) (observed : Observed) (bounds : List Known) (states : StatesValue)
+pub operations-agree : (suffix : HashValue) (observed : Observed) (bounds : List Known) (states : Operations)
     → bounds ≡ map (known_of observed.schedule observed.files) observed.ledger → StatesAgree (gifts observed.ledger bounds) states
     → operations_in suffix states ≡ operations suffix observed
 operations-agree suffix observed bounds states same agree =
@@ -135,7 +135,7 @@ nothing-from suffix number [] height = refl
 nothing-from suffix number (gift ∷ all) height = ap (cons_option (anchored_in suffix number gift)) (nothing-from suffix (number + 1) all height)
 
 -- An entry comes last, and gives this.
-pub operations-pushed : (suffix : HashValue) (entries : List Entry) (bounds : List Known) (entry : Entry) (bound : Known) (n : ℕ) (states : StatesValue)
+pub operations-pushed : (suffix : HashValue) (entries : List Entry) (bounds : List Known) (entry : Entry) (bound : Known) (n : ℕ) (states : Operations)
     → length bounds ≡ length entries → n ≡ length bounds → StatesAgree (gifts entries bounds) states
     → with_given n entry.height (given_for suffix (given bound)) (operations_in suffix states)
     ≡ operations_from suffix 0 (gifts (entries ++ entry ∷ []) (bounds ++ bound ∷ []))
@@ -146,7 +146,7 @@ operations-pushed suffix entries bounds entry bound n states many number agree =
     (gifts-length entries bounds many ∙ sym many ∙ sym number) (λ empty. refl)
     ∙ ap (operations_from suffix 0) (sym (gifts-append entries bounds entry bound many))
 
-pub agree-pushed : (entries : List Entry) (bounds : List Known) (entry : Entry) (bound : Known) (n : ℕ) (old new : StatesValue)
+pub agree-pushed : (entries : List Entry) (bounds : List Known) (entry : Entry) (bound : Known) (n : ℕ) (old new : Operations)
     → length bounds ≡ length entries → n ≡ length bounds → StatesAgree (gifts entries bounds) old → PutsGiven n entry.height (given bound) old new
     → StatesAgree (gifts (entries ++ entry ∷ []) (bounds ++ bound ∷ [])) new
 agree-pushed entries bounds entry bound n old new many number agree puts = record {
@@ -155,7 +155,7 @@ agree-pushed entries bounds entry bound n old new many number agree puts = recor
 
 -- More is known of the entry with this number over more files.
 pub operations-settled : (suffix : HashValue) (entries : List Entry) (bounds : List Known) (entry : Entry) (files : Files) (d : Known) (n : ℕ)
-    (states : StatesValue)
+    (states : Operations)
     → length bounds ≡ length entries → n < length bounds → get_or entries n entry ≡ entry → StatesAgree (gifts entries bounds) states
     → with_given n entry.height (given_for suffix (given (known_from files (get_or bounds n d)))) (operations_in suffix states)
     ≡ operations_from suffix 0 (gifts entries (set bounds n (known_from files (get_or bounds n d))))
@@ -169,7 +169,7 @@ operations-settled suffix entries bounds entry files d n states many inside is a
     (λ empty. ap (given_for suffix) (gifts-at entries bounds n (entry.height, none) d within inside) ∙ given-stays suffix files (get_or bounds n d) empty)
     ∙ ap (operations_from suffix 0) (sym (gifts-set entries bounds n more entry within inside is))
 
-pub agree-settled : (entries : List Entry) (bounds : List Known) (entry : Entry) (files : Files) (d : Known) (n : ℕ) (old new : StatesValue)
+pub agree-settled : (entries : List Entry) (bounds : List Known) (entry : Entry) (files : Files) (d : Known) (n : ℕ) (old new : Operations)
     → length bounds ≡ length entries → n < length bounds → get_or entries n entry ≡ entry → StatesAgree (gifts entries bounds) old
     → PutsGiven n entry.height (given (known_from files (get_or bounds n d))) old new
     → StatesAgree (gifts entries (set bounds n (known_from files (get_or bounds n d)))) new
@@ -178,7 +178,7 @@ agree-settled entries bounds entry files d n old new many inside is agree puts =
 }
 
 -- the first entries alone
-pub agree-cut : (entries : List Entry) (bounds : List Known) (n : ℕ) (old new : StatesValue)
+pub agree-cut : (entries : List Entry) (bounds : List Known) (n : ℕ) (old new : Operations)
     → length bounds ≡ length entries → n ≤ length entries → StatesAgree (gifts entries bounds) old
     → ((suffix : HashValue) → operations_in suffix new ≡ before_place n (operations_in suffix old))
     → StatesAgree (gifts (take n entries) (take n bounds)) new

@@ -14,7 +14,7 @@ use Rattle.st_anchor.proofs.CountLemmas.{decided_roles-up, opened_proofs-up}
 use Rattle.st_anchor.proofs.CountingLemmas.{counted_more-both}
 use Rattle.st_base.specs.Work.{AppliesAtMost, Counts, counted}
 use Rattle.st_content.specs.Files.{Files}
-use Rattle.st_observer.specs.Steps.{bound_at, decided_of, opened_of, unknown}
+use Rattle.st_observer.specs.Steps.{GrewOver, bound_at, decided_of, opened_of, unknown}
 use Rattle.st_observer.specs.Work.{GrewAtMost, NoneFell, ReadExactly}
 use Rattle.st_observer.proofs.FellLemmas.{fell-both}
 use Rattle.st_observer.proofs.GoingLemmas.{map-settled}
@@ -35,40 +35,39 @@ counted_more-least (suc more) count = omega (arith, counted-least (counted_more 
 
 -- ---- no count fell
 
-worked-least : (files proofs : ℕ) (old new : Counts) → WorkedAtMost files proofs old new → NoneFell old new
-worked-least files proofs old new few = record {
+worked-least : {files proofs : ℕ} {old new : Counts} → WorkedAtMost files proofs old new → NoneFell old new
+worked-least {old = old} few = record {
   files = omega (arith, ap (λ (w : Counts). w.files) few.counts, counted_more-least few.files_read old.files);
   proofs = omega (arith, ap (λ (w : Counts). w.proofs) few.counts, counted_more-least few.proofs_opened old.proofs);
   applies = omega (arith, ap (λ (w : Counts). w.applies) few.counts);
 }
 
-applied-least : (applies : ℕ) (old new : Counts) → AppliesAtMost applies old new → NoneFell old new
-applied-least applies old new applied =
-    record { files = omega (arith, applied.files); proofs = omega (arith, applied.proofs); applies = applied.least }
+applied-least : {applies : ℕ} {old new : Counts} → AppliesAtMost applies old new → NoneFell old new
+applied-least applied = record { files = omega (arith, applied.files); proofs = omega (arith, applied.proofs); applies = applied.least }
 
 -- ---- one entry
 
 -- what was counted exactly, and what was applied then
-pub grew-worked : (files proofs applies : ℕ) (old mid new : Counts) → WorkedAtMost files proofs old mid → AppliesAtMost applies mid new
+pub grew-worked : {files proofs applies : ℕ} {old mid new : Counts} → WorkedAtMost files proofs old mid → AppliesAtMost applies mid new
     → GrewAtMost files proofs applies old new
-grew-worked files proofs applies old mid new few applied = record {
-  least = fell-both (worked-least files proofs old mid few) (applied-least applies mid new applied);
+grew-worked {old = old} few applied = record {
+  least = fell-both (worked-least few) (applied-least applied);
   read = omega (arith, applied.files, few.few_files, ap (λ (w : Counts). w.files) few.counts, counted_more-few few.files_read old.files);
   opened = omega (arith, applied.proofs, few.few_proofs, ap (λ (w : Counts). w.proofs) few.counts, counted_more-few few.proofs_opened old.proofs);
   applied = omega (arith, applied.applies, ap (λ (w : Counts). w.applies) few.counts);
 }
 
-pub grew-only : (files proofs applies : ℕ) (old new : Counts) → WorkedAtMost files proofs old new → GrewAtMost files proofs applies old new
-grew-only files proofs applies old new few = record {
-  least = worked-least files proofs old new few;
+pub grew-only : {files proofs applies : ℕ} {old new : Counts} → WorkedAtMost files proofs old new → GrewAtMost files proofs applies old new
+grew-only {old = old} few = record {
+  least = worked-least few;
   read = omega (arith, few.few_files, ap (λ (w : Counts). w.files) few.counts, counted_more-few few.files_read old.files);
   opened = omega (arith, few.few_proofs, ap (λ (w : Counts). w.proofs) few.counts, counted_more-few few.proofs_opened old.proofs);
   applied = omega (arith, ap (λ (w : Counts). w.applies) few.counts);
 }
 
-pub grew-more : (files proofs applies more_files more_proofs more : ℕ) (old new : Counts) → files ≤ more_files → proofs ≤ more_proofs → applies ≤ more
+pub grew-more : {files proofs applies more_files more_proofs more : ℕ} {old new : Counts} → files ≤ more_files → proofs ≤ more_proofs → applies ≤ more
     → GrewAtMost files proofs applies old new → GrewAtMost more_files more_proofs more old new
-grew-more files proofs applies more_files more_proofs more old new fits_files fits_proofs fits grew = record {
+grew-more fits_files fits_proofs fits grew = record {
   least = grew.least;
   read = omega (arith, grew.read, fits_files);
   opened = omega (arith, grew.opened, fits_proofs);
@@ -76,10 +75,10 @@ grew-more files proofs applies more_files more_proofs more old new fits_files fi
 }
 
 -- and operations that were applied after all was read
-pub grew-then : (files proofs applies most : ℕ) (old mid new : Counts) → GrewAtMost files proofs 0 old mid → AppliesAtMost applies mid new → applies ≤ most
+pub grew-then : {files proofs applies most : ℕ} {old mid new : Counts} → GrewAtMost files proofs 0 old mid → AppliesAtMost applies mid new → applies ≤ most
     → GrewAtMost files proofs most old new
-grew-then files proofs applies most old mid new grew applied fits = record {
-  least = fell-both grew.least (applied-least applies mid new applied);
+grew-then grew applied fits = record {
+  least = fell-both grew.least (applied-least applied);
   read = omega (arith, applied.files, grew.read);
   opened = omega (arith, applied.proofs, grew.opened);
   applied = omega (arith, applied.applies, grew.applied, fits);
@@ -109,21 +108,19 @@ module _ (count : Known → ℕ) (files : Files) (up : (bound : Known) → count
       (map-settled files bounds n ∙ same) in
       omega (arith, alike, sum-later after, sum-settled bounds n inside, up (bound_at n bounds))
 
--- What was counted on the way from what was known at first to what is known now, and at most so many
--- operations were applied.
-pub record Reading (start bounds : List Known) (cost : ℕ) (old new : Counts) : Type 0 where
+-- What was counted on the way from what was known at first to what is known now. Nothing was applied.
+pub record Reading (start bounds : List Known) (old new : Counts) : Type 0 where
   pub decides : decided_of start ≤ decided_of bounds
   pub opens : opened_of start ≤ opened_of bounds
   pub files : new.files ≡ counted_more (decided_of bounds - decided_of start) old.files
   pub proofs : new.proofs ≡ counted_more (opened_of bounds - opened_of start) old.proofs
-  pub least : old.applies ≤ new.applies
-  pub applies : new.applies ≤ old.applies + cost
+  pub applies : new.applies ≡ old.applies
 
-reading-least : {start bounds : List Known} {cost : ℕ} {old new : Counts} → Reading start bounds cost old new → NoneFell old new
-reading-least {start} {bounds} {cost} {old} {new} reading = record {
+reading-least : {start bounds : List Known} {old new : Counts} → Reading start bounds old new → NoneFell old new
+reading-least {start} {bounds} {old} {new} reading = record {
   files = omega (arith, reading.files, counted_more-least (decided_of bounds - decided_of start) old.files);
   proofs = omega (arith, reading.proofs, counted_more-least (opened_of bounds - opened_of start) old.proofs);
-  applies = reading.least;
+  applies = omega (arith, reading.applies);
 }
 
 -- first so many, and then more
@@ -133,12 +130,11 @@ then-more start now after before later old mid new up more sum first second =
     second ∙ ap (counted_more (later - before)) first ∙ counted_more-both (now - start) (later - before) old
     ∙ ap (λ n. counted_more n old) (let e : later - before + (now - start) ≡ after - start = omega (arith, up, more, sum) in e)
 
-pub reading-settled : (files : Files) (start bounds after : List Known) (n cost applied total : ℕ) (old mid new : Counts) → n < length bounds
-    → after ≡ set bounds n (known_from files (bound_at n bounds)) → Reading start bounds cost old mid
+pub reading-settled : (files : Files) (start bounds after : List Known) (n : ℕ) (old mid new : Counts) → n < length bounds
+    → after ≡ set bounds n (known_from files (bound_at n bounds)) → Reading start bounds old mid
     → ReadExactly (newly_decided files (bound_at n bounds)) (newly_opened files (bound_at n bounds)) mid new
-    → mid.applies ≤ new.applies → new.applies ≤ mid.applies + applied → cost + applied ≤ total
-    → Reading start after total old new
-reading-settled files start bounds after n cost applied total old mid new inside is reading exactly least few fits =
+    → new.applies ≡ mid.applies → Reading start after old new
+reading-settled files start bounds after n old mid new inside is reading exactly same =
     let bound : Known = bound_at n bounds in
     let decided : decided_of after + decided_roles bound ≡ decided_of bounds + decided_roles (known_from files bound) =
     ap (λ xs. decided_of xs + decided_roles bound) is ∙ sum-settled decided_roles files (decided_roles-up files) bounds n inside in
@@ -155,17 +151,16 @@ reading-settled files start bounds after n cost applied total old mid new inside
           then-more (opened_of start) (opened_of bounds) (opened_of after) (opened_proofs bound)
           (opened_proofs (known_from files bound)) old.proofs mid.proofs new.proofs
           reading.opens (opened_proofs-up files bound) opened reading.proofs exactly.opened;
-      least = omega (arith, reading.least, least);
-      applies = omega (arith, reading.applies, few, fits);
+      applies = same ∙ reading.applies;
     }
 
 few-counted : (start now all old new : ℕ) → start ≤ now → now ≤ all → new ≡ counted_more (now - start) old → new ≤ old + (all - start)
 few-counted start now all old new up most counts = omega (arith, up, most, counts, counted_more-few (now - start) old)
 
-pub reading-few : (files : Files) (start bounds : List Known) (cost total : ℕ) (old new : Counts) → map (known_from files) bounds ≡ map (known_from files) start
-    → cost ≤ total → Reading start bounds cost old new
-    → GrewAtMost (decided_of (map (known_from files) start) - decided_of start) (opened_of (map (known_from files) start) - opened_of start) total old new
-reading-few files start bounds cost total old new same fits reading =
+pub reading-few : (files : Files) (start bounds : List Known) (old new : Counts) → map (known_from files) bounds ≡ map (known_from files) start
+    → Reading start bounds old new
+    → GrewOver files start 0 old new
+reading-few files start bounds old new same reading =
     let decided : decided_of bounds ≤ decided_of (map (known_from files) start) =
     subst (λ all. decided_of bounds ≤ decided_of all) same (sum-later decided_roles files (decided_roles-up files) bounds) in
     let opened : opened_of bounds ≤ opened_of (map (known_from files) start) =
@@ -176,7 +171,7 @@ reading-few files start bounds cost total old new same fits reading =
           reading.files;
       opened = few-counted (opened_of start) (opened_of bounds) (opened_of (map (known_from files) start)) old.proofs new.proofs reading.opens opened
           reading.proofs;
-      applied = omega (arith, reading.applies, fits);
+      applied = omega (arith, reading.applies);
     }
 
 few-wanting : (start now all more old mid new : ℕ) → start ≤ now → now + more ≤ all → mid ≡ counted_more (now - start) old → new ≤ mid + more
@@ -184,11 +179,11 @@ few-wanting : (start now all more old mid new : ℕ) → start ≤ now → now +
 few-wanting start now all more old mid new up most counts few = omega (arith, up, most, counts, few, counted_more-few (now - start) old)
 
 -- memory ran out at one entry
-pub reading-wanting : (files : Files) (start bounds : List Known) (n cost applied total : ℕ) (old mid new : Counts) → n < length bounds
-    → map (known_from files) bounds ≡ map (known_from files) start → Reading start bounds cost old mid
-    → GrewAtMost (newly_decided files (bound_at n bounds)) (newly_opened files (bound_at n bounds)) applied mid new → cost + applied ≤ total
-    → GrewAtMost (decided_of (map (known_from files) start) - decided_of start) (opened_of (map (known_from files) start) - opened_of start) total old new
-reading-wanting files start bounds n cost applied total old mid new inside same reading grew fits = record {
+pub reading-wanting : (files : Files) (start bounds : List Known) (n : ℕ) (old mid new : Counts) → n < length bounds
+    → map (known_from files) bounds ≡ map (known_from files) start → Reading start bounds old mid
+    → GrewAtMost (newly_decided files (bound_at n bounds)) (newly_opened files (bound_at n bounds)) 0 mid new
+    → GrewOver files start 0 old new
+reading-wanting files start bounds n old mid new inside same reading grew = record {
   least = fell-both (reading-least reading) grew.least;
   read =
       few-wanting (decided_of start) (decided_of bounds) (decided_of (map (known_from files) start))
@@ -198,5 +193,5 @@ reading-wanting files start bounds n cost applied total old mid new inside same 
       few-wanting (opened_of start) (opened_of bounds) (opened_of (map (known_from files) start))
       (newly_opened files (bound_at n bounds)) old.proofs mid.proofs new.proofs
       reading.opens (sum-wanting opened_proofs files (opened_proofs-up files) start bounds n inside same) reading.proofs grew.opened;
-  applied = omega (arith, reading.applies, grew.applied, fits);
+  applied = omega (arith, reading.applies, grew.applied);
 }

@@ -11,7 +11,7 @@ use Rattle.st_hash.specs.Hash.{HashValue}
 use Rattle.st_ledger.specs.declared.entry.Entry.{Entry}
 use Rattle.st_ops.specs.Operation.{PlainOperation}
 use Rattle.st_observer.specs.Observed.{Observed, given_for, known_of}
-use Rattle.st_observer.specs.States.{StatesValue, operations_in}
+use Rattle.st_observer.specs.States.{Operations, operations_in}
 use Rattle.st_observer.specs.Waiting.{Waits, is_waiting}
 use Rattle.st_observer.specs.Wanted.{one_misses}
 use Rattle.st_observer.specs.declared.kept.Kept.{Kept}
@@ -55,8 +55,8 @@ abbrev pub operations_from : HashValue → ℕ → List Gift → List Anchored
 operations_from suffix number gifts = given_from (anchored_in suffix) number gifts
 
 -- each identifier has the operations that the entries give for it
-pub record StatesAgree (given : List Gift) (states : StatesValue) : Type 0 where
-  pub each : (suffix : HashValue) → operations_in suffix states ≡ operations_from suffix 0 given
+pub record StatesAgree (given : List Gift) (index : Operations) : Type 0 where
+  pub each : (suffix : HashValue) → operations_in suffix index ≡ operations_from suffix 0 given
 
 -- ---- all of it
 
@@ -65,5 +65,10 @@ pub record StatesAgree (given : List Gift) (states : StatesValue) : Type 0 where
 pub record IsKept (observed : Observed) (kept : Kept) : Type 0 where
   pub same : kept.bounds.items ≡ map (known_of observed.schedule observed.files) observed.ledger
   pub waits : WaitsAgree kept.bounds.items kept.waiting
-  pub schedule : kept.states.schedule ≡ observed.schedule
-  pub states : StatesAgree (gifts observed.ledger kept.bounds.items) kept.states
+  pub schedule : kept.index.folder.schedule ≡ observed.schedule
+  pub states : StatesAgree (gifts observed.ledger kept.bounds.items) kept.index
+
+-- and nothing pends
+pub record IsObserved (observed : Observed) (kept : Kept) : Type 0 where
+  pub is : IsKept observed kept
+  pub none : kept.index.changes ≡ []

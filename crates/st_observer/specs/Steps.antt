@@ -1,35 +1,38 @@
 -- The steps by which what is kept follows entries and files as they come and go. No public call speaks of
 -- them.
-use Rattle.std.specs.Prelude.{◌≡◌, ℕ, ◌<◌, ◌==◌, Bool, true, false, List, [], ◌∷◌, ◌++◌, length, map, slice_get, slice_index_or, slice_set, take, Option, Some}
-use Rattle.std.specs.List.{list_any, sum_by}
+use Rattle.std.specs.Prelude.{◌≡◌, ℕ, ◌-◌, ◌<◌, ◌==◌, Bool, true, false, List, [], ◌∷◌, ◌++◌, length, map, reverse, slice_get, slice_index_or, slice_set, take, Option, Some}
+use Rattle.std.specs.List.{AllByRecursion, list_any, sum_by}
 use Rattle.st_anchor.specs.Gives.{given, suffixes_given}
 use Rattle.st_anchor.specs.Known.{Known, known_from}
 use Rattle.st_anchor.specs.States.{decided_roles, opened_proofs, role_states}
 use Rattle.st_anchor.specs.declared.part.Part.TheVariants as part_is
+use Rattle.st_base.specs.Work.{Counts}
 use Rattle.st_content.specs.Files.{Files}
-use Rattle.st_hash.specs.Hash.{HashValue}
+use Rattle.st_hash.specs.Hash.{HashValue, hash_cmp}
 use Rattle.st_ledger.specs.declared.entry.Entry.{Entry}
+use Rattle.st_opindex.specs.ByKey.{Covers, CoversLosing}
 use Rattle.st_ops.specs.Operation.{PlainOperation}
 use Rattle.st_params.specs.Limits.{limits_of}
 use Rattle.st_observer.specs.Kept.{StatesAgree, WaitsAgree, gifts}
 use Rattle.st_observer.specs.Observed.{Observed, given_for, gives_of, known_of}
-use Rattle.st_observer.specs.States.{AreNamedAt, StatesValue, before_place, operations_in, with_given}
+use Rattle.st_observer.specs.States.{Operations, at_place, before_place, operations_in, with_given}
 use Rattle.st_observer.specs.Waiting.{TurnsTo}
-use Rattle.st_observer.specs.declared.going.Going.{Going}
+use Rattle.st_observer.specs.Work.{GrewAtMost, ReadExactly}
 use Rattle.st_observer.specs.declared.kept.Kept.{Kept}
 
 -- ---- one entry
 
 -- what an entry of this number and height gives stands at its place from now on
-pub record PutsGiven (n height : ℕ) (given : List (HashValue × PlainOperation)) (old new : StatesValue) : Type 0 where
-  pub schedule : new.schedule ≡ old.schedule
+pub record PutsGiven (n height : ℕ) (given : List (HashValue × PlainOperation)) (old new : Operations) : Type 0 where
+  pub schedule : new.folder.schedule ≡ old.folder.schedule
   pub operations : (suffix : HashValue) → operations_in suffix new ≡ with_given n height (given_for suffix given) (operations_in suffix old)
+  pub changes : new.changes ≡ old.changes ++ reverse (at_place n (suffixes_given given))
 
 -- an entry comes last, of which this is known
 pub record Pushes (n height : ℕ) (bound : Known) (before after : Kept) : Type 0 where
   pub bounds : after.bounds.items ≡ before.bounds.items ++ bound ∷ []
   pub waits : TurnsTo n (role_states bound) before.waiting after.waiting
-  pub states : PutsGiven n height (given bound) before.states after.states
+  pub states : PutsGiven n height (given bound) before.index after.index
 
 -- of an entry that isn't there, nothing is known
 abbrev pub unknown : Known
@@ -43,7 +46,7 @@ bound_at n bounds = slice_index_or bounds n unknown
 pub record Settles (files : Files) (n height : ℕ) (before after : Kept) : Type 0 where
   pub bounds : after.bounds.items ≡ slice_set before.bounds.items n (known_from files (bound_at n before.bounds.items))
   pub waits : TurnsTo n (role_states (known_from files (bound_at n before.bounds.items))) before.waiting after.waiting
-  pub states : PutsGiven n height (given (known_from files (bound_at n before.bounds.items))) before.states after.states
+  pub states : PutsGiven n height (given (known_from files (bound_at n before.bounds.items))) before.index after.index
 
 -- ---- a file arrives
 
@@ -66,8 +69,8 @@ pub record IsGoing (observed : Observed) (still : ℕ → Bool) (kept : Kept) : 
   pub same : map (known_from observed.files) kept.bounds.items ≡ map (known_of observed.schedule observed.files) observed.ledger
   pub settled : (n : ℕ) → still n ≡ false → IsSettled observed.files kept.bounds.items n
   pub waits : WaitsAgree kept.bounds.items kept.waiting
-  pub schedule : kept.states.schedule ≡ observed.schedule
-  pub states : StatesAgree (gifts observed.ledger kept.bounds.items) kept.states
+  pub schedule : kept.index.folder.schedule ≡ observed.schedule
+  pub states : StatesAgree (gifts observed.ledger kept.bounds.items) kept.index
 
 -- how many roles of these entries are decided
 abbrev pub decided_of : List Known → ℕ
@@ -77,19 +80,30 @@ decided_of bounds = sum_by decided_roles bounds
 abbrev pub opened_of : List Known → ℕ
 opened_of bounds = sum_by opened_proofs bounds
 
--- What is kept while a file arrives, but for the changes that are not folded yet.
-abbrev pub kept_of : Going → Kept
-kept_of going = record { bounds = going.bounds; waiting = going.waiting; states = going.states.states }
+-- each of these files was read, and each signed text opened, and counted: what is known of the entries says more by
+-- so many
+abbrev pub ReadOver : List Known → List Known → Counts → Counts → Type 0
+ReadOver before after old new = ReadExactly (decided_of after - decided_of before) (opened_of after - opened_of before) old new
 
--- what is kept, opened for changes
-abbrev pub opened : Kept → Going
-opened kept = record { bounds = kept.bounds; waiting = kept.waiting; states = record { states = kept.states; changes = [] } }
+-- at most so many as these files say more, and so many operations were applied
+abbrev pub GrewOver : Files → List Known → ℕ → Counts → Counts → Type 0
+GrewOver files bounds applies old new =
+    GrewAtMost (decided_of (map (known_from files) bounds) - decided_of bounds) (opened_of (map (known_from files) bounds) - opened_of bounds)
+    applies old new
 
--- Among these names, each with a place, is every identifier for which an entry that passes a test by its
--- number gives an operation, at that number or before.
-abbrev pub NamesWhere : (ℕ → Bool) → Observed → List (HashValue × ℕ) → Type 0
-NamesWhere test observed names = (n : ℕ) (entry : Entry) → Some entry ≡ slice_get observed.ledger n → test n ≡ true
-    → AreNamedAt n (suffixes_given (gives_of observed.schedule observed.files entry)) names
+-- These names cover what each entry gives that passes a test by its number, at that number.
+abbrev pub CoversWhere : (ℕ → Bool) → Observed → List (HashValue × ℕ) → Type 0
+CoversWhere test observed names = (n : ℕ) (entry : Entry) → Some entry ≡ slice_get observed.ledger n → test n ≡ true
+    → AllByRecursion (λ suffix. Covers hash_cmp names (suffix, n)) (suffixes_given (gives_of observed.schedule observed.files entry))
+
+-- ---- what pends is folded
+
+pub record Folds (before after : Kept) : Type 0 where
+  pub bounds : after.bounds.items ≡ before.bounds.items
+  pub waiting : after.waiting ≡ before.waiting
+  pub schedule : after.index.folder.schedule ≡ before.index.folder.schedule
+  pub operations : (suffix : HashValue) → operations_in suffix after.index ≡ operations_in suffix before.index
+  pub none : after.index.changes ≡ []
 
 -- ---- entries are cut
 
@@ -97,5 +111,7 @@ NamesWhere test observed names = (n : ℕ) (entry : Entry) → Some entry ≡ sl
 pub record Cuts (n : ℕ) (before after : Kept) : Type 0 where
   pub bounds : after.bounds.items ≡ take n before.bounds.items
   pub waits : WaitsAgree after.bounds.items after.waiting
-  pub schedule : after.states.schedule ≡ before.states.schedule
-  pub operations : (suffix : HashValue) → operations_in suffix after.states ≡ before_place n (operations_in suffix before.states)
+  pub schedule : after.index.folder.schedule ≡ before.index.folder.schedule
+  pub operations : (suffix : HashValue) → operations_in suffix after.index ≡ before_place n (operations_in suffix before.index)
+  pub changes : (names : List (HashValue × ℕ)) → AllByRecursion (Covers hash_cmp names) before.index.changes
+      → CoversLosing hash_cmp names n before.index.items → AllByRecursion (Covers hash_cmp names) after.index.changes

@@ -1,37 +1,33 @@
-ghost use Rattle.std.specs.Prelude.{◌≡◌, ◌≤◌, ◌-◌, ◌*◌, length, take, IfOk, List, OnOk};
-ghost use Rattle.st_base.specs.Work.{AppliesAtMost};
-ghost use Rattle.st_hash.specs.Hash.{HashValue};
+ghost use Rattle.std.specs.Prelude.{◌≡◌, ◌≤◌, ◌-◌, length, take, IfOk, OnOk};
 ghost use Rattle.st_observer.specs.Kept.{WaitsAgree, roles_at};
-ghost use Rattle.st_observer.specs.States.{NamesFrom};
 ghost use Rattle.st_observer.specs.Steps.{Cuts};
 
 use crate::kept::Kept;
 use crate::stands::{no_roles, roles_of};
 use crate::waiting::Waiting;
 use st_anchor::{Bound, RoleState};
-use st_base::{WantOfMemory, Work};
+use st_base::WantOfMemory;
 use std::alloc::Global;
 
 impl Kept {
     // Of the first `n` entries alone; there are `len`.
-    pub fn cut(self, alloc: Global, n: u32, len: u32, work: &mut Work) -> Result<Kept, WantOfMemory>
+    pub fn cut(self, alloc: Global, n: u32, len: u32) -> Result<Kept, WantOfMemory>
         requires within { n ≤ len }
         requires number { len ≡ length self.bounds.items }
         requires waits { WaitsAgree self.bounds.items self.waiting }
-        ensures step { IfOk result (Cuts n self) }
-        ensures bound { (names : List HashValue) → NamesFrom n self.states.items names → AppliesAtMost (7 * length names) work.old work.new }
+        ensures { IfOk result (Cuts n self) }
     {
         let Kept {
             mut bounds,
             mut waiting,
-            states,
+            index,
         } = self;
         forget_from(alloc, n, len, &mut bounds, &mut waiting)?;
-        let states = states.cut(alloc, n, work)?;
+        let index = index.cut(alloc, n)?;
         Ok(Kept {
             bounds,
             waiting,
-            states,
+            index,
         })
     }
 }

@@ -1,43 +1,50 @@
-ghost use Rattle.std.specs.Prelude.{◌≡◌, ℕ, List, length, IfOk};
-ghost use Rattle.st_anchor.specs.Gives.{given, suffixes_given};
+ghost use Rattle.std.specs.Prelude.{◌≡◌, ℕ, ◌+◌, ◌<◌, ◌≤◌, [], List, length, slice_set, IfOk, OnOk};
+ghost use Rattle.std.specs.List.{AllByRecursion, swap_remove};
+ghost use Rattle.st_anchor.specs.Coming.{newly_decided, newly_opened};
+ghost use Rattle.st_anchor.specs.Gives.{given};
+ghost use Rattle.st_anchor.specs.Known.{Known};
 ghost use Rattle.st_base.specs.Work.{AppliesAtMost};
 ghost use Rattle.st_hash.specs.Hash.{HashValue, hash_cmp};
-ghost use Rattle.st_observer.specs.Kept.{IsKept, WaitsAgree};
+ghost use Rattle.st_observer.specs.Kept.{IsObserved, WaitsAgree};
 ghost use Rattle.st_observer.specs.Observed.{nothing_yet};
-ghost use Rattle.st_observer.specs.States.{AreNamedAt, given_cost};
-ghost use Rattle.st_observer.specs.Steps.{Pushes, PutsGiven, opened};
-ghost use Rattle.st_opindex.specs.Changed.{AreNamed};
+ghost use Rattle.st_observer.specs.Steps.{Folds, Pushes, PutsGiven, Settles, bound_at};
+ghost use Rattle.st_observer.specs.Work.{GrewAtMost, ReadExactly, ReadsNothing};
+ghost use Rattle.st_opindex.specs.ByKey.{Covers, cover_cost};
 
-use crate::going::Going;
 use crate::stands::{no_roles, roles_of};
-use crate::states::{OpenStates, States};
+use crate::states::put_all;
+use crate::steps::Steps;
 use crate::waiting::Waiting;
 use st_anchor::Bound;
-use st_base::{WantOfMemory, Work};
+use st_base::{Boxed, WantOfMemory, Work};
+use st_content::Content;
+use st_hash::Hash;
+use st_opindex::Index;
 use st_params::Schedule;
 use std::alloc::Global;
 
 // What is kept of the entries of a ledger: what is known of each, at its number; which of them wait for
-// which file; and the operations that they give, with the state of each identifier.
+// which file; and the operations that they give, with the state of each identifier. What changes pends until
+// it is folded.
 #[derive(Drop)]
 pub struct Kept {
     pub bounds: Vec<Bound>,
     pub waiting: Waiting,
-    pub states: States,
+    pub index: Index<Hash, Steps>,
 }
 
 impl Kept {
     // Of no entries.
     pub fn new(alloc: Global, schedule: Schedule) -> Result<Kept, WantOfMemory>
-        ensures { IfOk result (IsKept (nothing_yet schedule)) }
+        ensures { IfOk result (IsObserved (nothing_yet schedule)) }
     {
         let bounds = Vec::new(alloc);
         let waiting = Waiting::new(alloc);
-        let states = States::new(alloc, schedule)?;
+        let index = Index::new(alloc, Steps { schedule })?;
         Ok(Kept {
             bounds,
             waiting,
-            states,
+            index,
         })
     }
 
@@ -48,76 +55,121 @@ impl Kept {
         n: u32,
         height: u32,
         bound: Bound,
-        work: &mut Work,
     ) -> Result<Kept, WantOfMemory>
         requires number { n ≡ length self.bounds.items }
         requires waits { WaitsAgree self.bounds.items self.waiting }
         ensures step { IfOk result (Pushes n height bound self) }
-        ensures bound { AppliesAtMost (given_cost n height (given bound) self.states.items) work.old work.new }
     {
         let Kept {
             mut bounds,
             mut waiting,
-            states,
+            index,
         } = self;
         waiting.turn(alloc, n, &no_roles(), &roles_of(&bound))?;
-        let states = give_states(alloc, n, height, &bound, states, work)?;
+        let index = put_given(alloc, n, height, &bound, index)?;
         bounds.push(bound)?;
         Ok(Kept {
             bounds,
             waiting,
-            states,
+            index,
         })
     }
 
-    // Opened for changes.
-    pub fn open(self, alloc: Global) -> Going
-        ensures { result ≡ opened self }
+    // Looks at one entry again, over the files that have come.
+    pub fn settle(
+        self,
+        alloc: Global,
+        n: u32,
+        height: u32,
+        content: &Content,
+        work: &mut Work,
+    ) -> Result<Kept, WantOfMemory>
+        requires inside { n < length self.bounds.items }
+        requires waits { WaitsAgree self.bounds.items self.waiting }
+        ensures step { IfOk result (Settles content.now n height self) }
+        ensures exact { OnOk result (ReadExactly
+            (newly_decided content.now (bound_at n self.bounds.items))
+            (newly_opened content.now (bound_at n self.bounds.items))
+            work.old work.new) }
+        ensures bound { GrewAtMost
+            (newly_decided content.now (bound_at n self.bounds.items))
+            (newly_opened content.now (bound_at n self.bounds.items))
+            0 work.old work.new }
+    {
+        let Kept {
+            mut bounds,
+            mut waiting,
+            index,
+        } = self;
+        let bound = take_out(&mut bounds, n);
+        let before = roles_of(&bound);
+        let bound = bound.settle(alloc, content, work)?;
+        waiting.turn(alloc, n, &before, &roles_of(&bound))?;
+        let index = put_given(alloc, n, height, &bound, index)?;
+        put_back(&mut bounds, n, bound)?;
+        Ok(Kept {
+            bounds,
+            waiting,
+            index,
+        })
+    }
+
+    // Folds what pends, and boxes all, so that an observer is small: each line of a node moves it several
+    // times.
+    pub fn fold(self, alloc: Global, work: &mut Work) -> Result<Boxed<Kept>, WantOfMemory>
+        ensures step { IfOk result (Folds self) }
+        ensures bound { (names : List (HashValue × ℕ)) → AllByRecursion (Covers hash_cmp names) self.index.changes
+            → AppliesAtMost (cover_cost hash_cmp self.index.items names) work.old work.new }
+        ensures reads { ReadsNothing work.old work.new }
     {
         let Kept {
             bounds,
             waiting,
-            states,
+            index,
         } = self;
-        Going {
+        let index = index.settle(alloc, work)?;
+        let kept = Kept {
             bounds,
             waiting,
-            states: states.open(alloc),
-        }
+            index,
+        };
+        Ok(Boxed::new(alloc, kept)?)
     }
 }
 
-// What an entry of this number and height gives stands at its place from now on, and is applied.
-fn give_states(
-    alloc: Global,
-    n: u32,
-    height: u32,
-    bound: &Bound,
-    states: States,
-    work: &mut Work,
-) -> Result<States, WantOfMemory>
-    ensures step { IfOk result (PutsGiven n height (given bound.now) states) }
-    ensures bound { AppliesAtMost (given_cost n height (given bound.now) states.items) work.old work.new }
-{
-    let start = states.open(alloc);
-    let changing = put_given(alloc, n, height, bound, start)?;
-    let states = changing.settle(alloc, work)?;
-    Ok(states)
-}
-
 // What an entry of this number and height gives stands at its place from now on.
-pub fn put_given(
+fn put_given(
     alloc: Global,
     n: u32,
     height: u32,
     bound: &Bound,
-    states: OpenStates,
-) -> Result<OpenStates, WantOfMemory>
-    ensures step { IfOk result (λ changing. PutsGiven n height (given bound.now) states.states changing.states) }
-    ensures changes { IfOk result (λ changing. (names : List (HashValue × ℕ)) → AreNamed hash_cmp states.changes names
-        → AreNamedAt n (suffixes_given (given bound.now)) names → AreNamed hash_cmp changing.changes names) }
+    index: Index<Hash, Steps>,
+) -> Result<Index<Hash, Steps>, WantOfMemory>
+    ensures { IfOk result (PutsGiven n height (given bound.now) index) }
 {
     let given = bound.give(alloc)?;
-    let states = states.put(alloc, n, height, given)?;
-    Ok(states)
+    let index = put_all(alloc, index, n, height, given.into_vec())?;
+    Ok(index)
+}
+
+// Takes out what is known of an entry. What is known of the last stands in its place until it is put back.
+fn take_out(bounds: &mut Vec<Bound>, n: u32) -> Bound
+    requires { n < length bounds.old.items }
+    ensures value { result ≡ bound_at n bounds.old.items }
+    ensures rest { bounds.new.items ≡ swap_remove bounds.old.items n result }
+    ensures fewer { length bounds.new.items + 1 ≡ length bounds.old.items }
+{
+    bounds.swap_remove(n as usize)
+}
+
+// Puts it back, as it is known now.
+fn put_back(bounds: &mut Vec<Bound>, n: u32, bound: Bound) -> Result<(), WantOfMemory>
+    requires { n ≤ length bounds.old.items }
+    ensures { OnOk result ((all : List Known) (out : Known) → n < length all → bounds.old.items ≡ swap_remove all n out
+        → bounds.new.items ≡ slice_set all n bound) }
+{
+    let last = bounds.len();
+    bounds.push(bound)?;
+    bounds.swap(n as usize, last);
+    Ok(())
 }

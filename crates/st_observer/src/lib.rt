@@ -5,9 +5,7 @@
 #![tactic(auto)]
 
 mod arriving;
-mod boxing;
 mod cutting;
-mod going;
 mod kept;
 mod laws;
 mod observer;

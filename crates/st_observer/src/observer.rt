@@ -17,10 +17,9 @@ ghost use Rattle.st_observer.specs.Wanted.{IsMissed, is_wanted, text_cmp, wanted
 ghost use Rattle.st_observer.specs.Work.{GrewAtMost, ReadExactly, arrival_cost, decided_in, entry_cost, losing, opened_in};
 
 use crate::arriving::settle_waiting;
-use crate::boxing::{cut, push};
 use crate::kept::Kept;
 use crate::stands::roles_of;
-use crate::states::Held;
+use crate::states::{Held, copy_items};
 use st_anchor::{Bound, RoleState};
 use st_apply::DidState;
 use st_base::{Boxed, Bytes, List, WantOfMemory, Work};
@@ -43,14 +42,14 @@ pub struct Observer {
 }
 
 impl Model for Observer {
-    ghost use Rattle.st_observer.specs.Kept.{IsKept};
+    ghost use Rattle.st_observer.specs.Kept.{IsObserved};
     ghost use Rattle.st_observer.specs.Observed.{Observed};
 
     ghost Value = { Observed };
 
     ghost view = { λ o. record { schedule = o.schedule; ledger = o.ledger; files = o.content } };
 
-    ghost invariant = { λ o. IsKept (record { schedule = o.schedule; ledger = o.ledger; files = o.content }) o.kept };
+    ghost invariant = { λ o. IsObserved (record { schedule = o.schedule; ledger = o.ledger; files = o.content }) o.kept };
 }
 
 impl Observer {
@@ -123,7 +122,8 @@ impl Observer {
         } = self;
         let anchored = Bound::new(alloc, text.as_slice(), &schedule.at(height))?;
         let bound = anchored.settle(alloc, &content, work)?;
-        let kept = push(alloc, kept, ledger.len(), height, bound, work)?;
+        let later = kept.take().push(alloc, ledger.len(), height, bound)?;
+        let kept = later.fold(alloc, work)?;
         let number = ledger.append(alloc, height, text)?;
         let observer = Observer {
             schedule,
@@ -153,7 +153,8 @@ impl Observer {
             content,
             kept,
         } = self;
-        let kept = cut(alloc, kept, n, ledger.len(), work)?;
+        let later = kept.take().cut(alloc, n, ledger.len())?;
+        let kept = later.fold(alloc, work)?;
         let removed = ledger.cut(n);
         let observer = Observer {
             schedule,
@@ -240,7 +241,7 @@ impl Observer {
     pub fn state(&self, suffix: &Hash) -> &DidState
         ensures { result.now ≡ state_of suffix.now self.now }
     {
-        self.kept.get().states.state(suffix)
+        self.kept.get().index.state(suffix)
     }
 
     /// The operations of an identifier, by its suffix, in the order of the ledger. They share proofs
@@ -249,7 +250,7 @@ impl Observer {
         ensures items { IfOk result (λ items. map plain_held items ≡ operations suffix.now self.now) }
         ensures ascend { PlacesAscend place_of (operations suffix.now self.now) }
     {
-        let items = self.kept.get().states.items(alloc, suffix)?;
+        let items = copy_items(alloc, self.kept.get().index.items(suffix))?;
         Ok(items)
     }
 

@@ -1,53 +1,30 @@
 -- Keys that were changed are folded one after another.
-use Rattle.std.proofs.Common.{◌==◌, ◌≡◌, ◌∙◌, ◌+◌, ◌<◌, ◌≤◌, ℕ, Bool, true, false, cond, leb, List, [], ◌∷◌, ◌++◌, ◌&&◌, length, min, Option, Some, None, sym, ap, refl, arith, Ordering, inl, inr}
+use Rattle.std.proofs.Common.{◌==◌, ◌≡◌, ◌∙◌, ◌+◌, ◌<◌, ◌≤◌, ℕ, Bool, true, false, cond, leb, List, [], ◌∷◌, ◌++◌, ◌&&◌, length, min, sym, ap, refl, arith, Ordering, inl, inr}
 use Rattle.std.proofs.lemmas.Bool.{and_parts, cases_Bool, cases_lt, eqb-true, false≢true, leb-true, or_cases, or_left, or_right}
 use Rattle.std.proofs.lemmas.List.Sums.{sum_by-cons, sum_by-le-sum_by}
 use Rattle.std.specs.BTreeMap.{is_at}
 use Rattle.std.specs.Cmp.{IsTotalOrder, eq_by_cmp_equiv}
 use Rattle.std.specs.List.{AllByRecursion, list_any, sum_by}
-use Rattle.std.specs.Map.{lookup}
-use Rattle.std.specs.Option.{IfSome}
 use Rattle.st_base.specs.Work.{AppliesAtMost, Counts}
 use Rattle.st_base.proofs.Quantifiers.{any_push}
 use Rattle.st_opindex.specs.declared.row.Row.{Row}
 use Rattle.st_opindex.specs.Items.{from}
-use Rattle.st_opindex.specs.ByKey.{ByKey, ChangesAt, items_at}
-use Rattle.st_opindex.specs.Changed.{AreNamed, names_cost}
-use Rattle.st_opindex.specs.Kept.{IsFolded, IsRow}
-use Rattle.st_opindex.specs.Seen.{AreFolded, AreOwed, AreRows, FoldsKey, left_at, left_of, seen_items}
-use Rattle.st_opindex.proofs.Keyed.{items_at-same, left_at-same, left_in}
+use Rattle.st_opindex.specs.ByKey.{ByKey, ChangesAt, Covers, cover_cost, items_at}
+use Rattle.st_opindex.specs.Seen.{AreOwed, FoldsKey, left_at, seen_items}
+use Rattle.st_opindex.proofs.Keyed.{items_at-same, left_at-same}
 use Rattle.st_opindex.proofs.Owing.{from-falls}
 
--- ---- rows of which nothing is left to be folded
+module _ {K State Item : Type 0} {cmp : K → K → Ordering} {entries : List (K × Row Item State)} where
+  -- where no change has to account for anything, nothing is left,
+  pub nothing_left : AreOwed cmp [] entries → (key : K) → left_at cmp key entries ≡ 0
+  nothing_left owed key = elim (cases_lt 0 (left_at cmp key entries)) [
+    | inl some ↦ absurd (false≢true (owed.each key some).changed)
+    | inr none ↦ omega (arith, none)
+  ]
 
-module _ {State Item : Type 0} (next : State → Item → State) (start : State) where
-  found_folded : (found : Option (Row Item State)) → IfSome found (IsRow next start) → left_in found ≡ 0 → IfSome found (IsFolded next start)
-  found_folded None is none = tt
-  found_folded (Some row) is none = record { is = is; all = omega (arith, is.within, none) }
-
-  found_row : (found : Option (Row Item State)) → IfSome found (IsFolded next start) → IfSome found (IsRow next start)
-  found_row None folds = tt
-  found_row (Some row) folds = folds.is
-
-  found_none : (found : Option (Row Item State)) → IfSome found (IsFolded next start) → left_in found ≡ 0
-  found_none None folds = refl
-  found_none (Some row) folds = let none : left_of row ≡ 0 = omega (arith, folds.all) in none
-
-module _ {K State Item : Type 0} {cmp : K → K → Ordering} {next : State → Item → State} {start : State} {entries : List (K × Row Item State)} where
-  -- rows are folded where nothing is left,
-  folded_all : AreRows cmp next start entries → ((key : K) → left_at cmp key entries ≡ 0) → AreFolded cmp next start entries
-  folded_all rows none = record { each = λ key. found_folded next start (lookup (is_at (cmp key)) entries) (rows.each key) (none key) }
-
-  -- and nothing is left of those that are,
-  pub folded_rows : AreFolded cmp next start entries → AreRows cmp next start entries
-  folded_rows folds = record { each = λ key. found_row next start (lookup (is_at (cmp key)) entries) (folds.each key) }
-
-  -- so no change has to account for it
-  pub folded_owed : AreFolded cmp next start entries → AreOwed cmp [] entries
-  folded_owed folds = record {
-    each = λ key some. let none : left_at cmp key entries ≡ 0 = found_none next start (lookup (is_at (cmp key)) entries) (folds.each key) in
-        absurd (omega (arith, none, some));
-  }
+  -- and the other way round
+  pub nothing_owed : ((key : K) → left_at cmp key entries ≡ 0) → AreOwed cmp [] entries
+  nothing_owed none = record { each = λ key some. absurd (omega (arith, none key, some)) }
 
 -- ---- sums
 
@@ -89,7 +66,7 @@ module _ {K State Item : Type 0} (cmp : K → K → Ordering) where
     pub files : work.files ≡ first.files
     pub proofs : work.proofs ≡ first.proofs
     pub least : first.applies ≤ work.applies
-    pub applies : work.applies + owing (seen_items old) now names ≤ first.applies + names_cost cmp (seen_items old) names
+    pub applies : work.applies + owing (seen_items old) now names ≤ first.applies + cover_cost cmp (seen_items old) names
 
 module _ {K State Item : Type 0} {cmp : K → K → Ordering} where
   pub folding_start : (old : List (K × Row Item State)) → IsFolding cmp [] old old
@@ -108,13 +85,13 @@ module _ {K State Item : Type 0} {cmp : K → K → Ordering} where
   }
 
   pub paid_folded : {names : List (K × ℕ)} {old now : List (K × Row Item State)} {first work : Counts} → HasPaid cmp names old now first work
-      → AppliesAtMost (names_cost cmp (seen_items old) names) first work
+      → AppliesAtMost (cover_cost cmp (seen_items old) names) first work
   paid_folded paid = record { files = paid.files; proofs = paid.proofs; least = paid.least; applies = omega (arith, paid.applies) }
 
 -- the next key is folded
 module _ {K State Item : Type 0} {cmp : K → K → Ordering} (order : IsTotalOrder cmp) {taken : List (K × ℕ)} {old now : List (K × Row Item State)}
     (folding : IsFolding cmp taken old now) (key : K) where
-  module _ {all : List (K × ℕ)} (owed : AreOwed cmp all old) (names : List (K × ℕ)) (named : AreNamed cmp all names) where
+  module _ {all : List (K × ℕ)} (owed : AreOwed cmp all old) (names : List (K × ℕ)) (named : AllByRecursion (Covers cmp names) all) where
     -- what is left of it was left at the start
     left_first : 0 < left_at cmp key now → left_at cmp key now ≡ left_at cmp key old
     left_first some = elim (cases_Bool (list_any (λ change. is_at (cmp change.0) key) taken)) [
@@ -154,7 +131,7 @@ module _ {K State Item : Type 0} {cmp : K → K → Ordering} (order : IsTotalOr
 
     module _ {first work after : Counts} (paid : HasPaid cmp names old now first work) (step : AppliesAtMost (left_at cmp key now) work after) where
       -- where memory is wanting on the way
-      pub fold_stopped : AppliesAtMost (names_cost cmp (seen_items old) names) first after
+      pub fold_stopped : AppliesAtMost (cover_cost cmp (seen_items old) names) first after
       fold_stopped = record {
         files = step.files ∙ paid.files;
         proofs = step.proofs ∙ paid.proofs;
@@ -216,7 +193,7 @@ module _ {K State Item : Type 0} {cmp : K → K → Ordering} (order : IsTotalOr
 -- once the keys of all changes are folded, all keys are
 module _ {K State Item : Type 0} {cmp : K → K → Ordering} {all : List (K × ℕ)}
     {old now : List (K × Row Item State)} (owed : AreOwed cmp all old) (folding : IsFolding cmp all old now) where
-  none_left : (key : K) → left_at cmp key now ≡ 0
+  pub none_left : (key : K) → left_at cmp key now ≡ 0
   none_left key = elim (cases_Bool (list_any (λ change. is_at (cmp change.0) key) all)) [
     | inl was ↦ folding.left key ∙ rw was refl
     | inr not ↦
@@ -235,6 +212,3 @@ module _ {K State Item : Type 0} {cmp : K → K → Ordering} {all : List (K × 
         | inl here ↦ or_left (test x) (list_any test xs) (and_parts (test x) (other x) here).0
         | inr later ↦ or_right (test x) (list_any test xs) (any_first test other xs later)
       ]
-
-  pub all_folded : {next : State → Item → State} {start : State} → AreRows cmp next start now → AreFolded cmp next start now
-  all_folded rows = folded_all rows none_left

@@ -4,7 +4,7 @@ use Rattle.std.proofs.lemmas.Bool.{cases_lt}
 use Rattle.std.proofs.lemmas.List.{take-take, take_all}
 use Rattle.st_opindex.specs.declared.row.Row.{Row}
 use Rattle.st_opindex.specs.Items.{Held, folded}
-use Rattle.st_opindex.specs.Kept.{IsFolded, IsKeptBefore, IsRow, Reached}
+use Rattle.st_opindex.specs.Kept.{IsKeptBefore, IsRow, Reached, left_of}
 
 -- the first items are the same in a list that begins alike
 take_alike : {X : Type 0} (items other : List X) (n at : ℕ) → n ≤ at → take at other ≡ take at items → take n items ≡ take n other
@@ -26,8 +26,8 @@ module _ {State Item : Type 0} {next : State → Item → State} {start : State}
   row_alike {row} is other at within alike = reached_alike other (sym (take_alike row.items.items other row.done at within alike)) is.reached
 
   -- where all are folded, the last state of a row is what its items fold to
-  pub row_folds : {row : Row Item State} → IsFolded next start row → row.last ≡ folded next start row.items.items
-  row_folds {row} folds = folds.is.reached.now ∙ ap (folded next start) (take_all row.done row.items.items (omega (arith, folds.all)))
+  pub row_folds : {row : Row Item State} → IsRow next start row → left_of row ≡ 0 → row.last ≡ folded next start row.items.items
+  row_folds {row} is none = is.reached.now ∙ ap (folded next start) (take_all row.done row.items.items (omega (arith, is.within, none)))
 
   -- what a row keeps is kept before a place in a list that begins alike
   pub kept_before : {row : Row Item State} → IsRow next start row

@@ -1,6 +1,6 @@
 -- Rows by key, and what they are seen as.
-use Rattle.std.proofs.Common.{◌≡◌, ◌∙◌, ◌⊎◌, ◌+◌, ◌≤◌, ℕ, Bool, true, false, cond, List, [], ◌∷◌, length, Option, Some, unwrap_or, sym, ap, refl, Ordering}
-use Rattle.std.proofs.lemmas.Bool.{cond_both}
+use Rattle.std.proofs.Common.{◌≡◌, ◌∙◌, ◌⊎◌, ◌+◌, ◌≤◌, ℕ, Bool, true, false, cond, List, [], ◌∷◌, length, Option, Some, unwrap_or, sym, ap, refl, arith, Ordering, inl, inr}
+use Rattle.std.proofs.lemmas.Bool.{cases_Bool, cond_both}
 use Rattle.std.proofs.lemmas.Map.Made.{lookup-map_values}
 use Rattle.std.proofs.lemmas.Option.{MatchOption-at_some}
 use Rattle.std.specs.BTreeMap.{is_at}
@@ -10,7 +10,8 @@ use Rattle.std.specs.Option.{option_map, IfSome}
 use Rattle.st_opindex.specs.declared.row.Row.{Row}
 use Rattle.st_opindex.specs.Items.{Held, from}
 use Rattle.st_opindex.specs.ByKey.{ByKey, items_at, ChangesAt}
-use Rattle.st_opindex.specs.Seen.{EachRow, FoldsKey, LeavesMore, left_at, left_of, seen_items}
+use Rattle.st_opindex.specs.Kept.{left_of}
+use Rattle.st_opindex.specs.Seen.{EachRow, FoldsKey, LeavesMore, LeavesNoMore, left_at, seen_items}
 
 -- two tests that agree find the same
 lookup_alike : {K X : Type 0} (test other : K → Bool) → ((k : K) → test k ≡ other k) → (entries : List (K × X)) → lookup test entries ≡ lookup other entries
@@ -149,3 +150,28 @@ module _ {K State Item : Type 0} {cmp : K → K → Ordering} {key : K} {row : O
 
       own_items : items_at cmp key (seen_items new) ≡ items_in row
       own_items = seen_updated key ∙ rw itself refl
+
+  -- or as much as before, where the row is none that has something left, or the one that was there
+  pub left_none : IsTotalOrder cmp → {was : Option (Row Item State)} → was ≡ lookup (is_at (cmp key)) old → (row ≡ was) ⊎ (left_in row ≡ 0)
+      → LeavesNoMore cmp old new
+  left_none order {was} found none = record {
+    left = λ other some. elim (cases_Bool (is_at (cmp key) other)) [
+      | inr apart ↦ left_updated other ∙ rw apart refl
+      | inl same ↦
+          let is : left_at cmp other new ≡ left_in row = left_updated other ∙ rw same refl in
+          elim none [
+            | inl kept ↦ is ∙ ap left_in (kept ∙ found) ∙ left_at-same order key other old same
+            | inr gone ↦ absurd (omega (arith, is, gone, some))
+          ]
+    ];
+    items = λ other some. elim (cases_Bool (is_at (cmp key) other)) [
+      | inr apart ↦ seen_updated other ∙ rw apart refl
+      | inl same ↦
+          let is : items_at cmp other (seen_items new) ≡ items_in row = seen_updated other ∙ rw same refl in
+          let left : left_at cmp other new ≡ left_in row = left_updated other ∙ rw same refl in
+          elim none [
+            | inl kept ↦ is ∙ ap items_in kept ∙ sym (seen_found cmp key old was found) ∙ items_at-same order key other (seen_items old) same
+            | inr gone ↦ absurd (omega (arith, left, gone, some))
+          ]
+    ];
+  }

@@ -3,7 +3,6 @@ mod Cutting
 mod Folding
 mod Kept
 mod Keyed
-mod Losing
 mod Owing
 mod Placed
 mod Splits

@@ -1,18 +1,17 @@
--- Items that are put into an index that is being changed: what is left to be folded is accounted for.
+-- Items that are put into an index, or cut: what is left to be folded is accounted for.
 use Rattle.std.proofs.Common.{◌==◌, ◌≡◌, ◌∙◌, ◌+◌, ◌≤◌, ℕ, true, false, not, ltb, leb, List, [], ◌∷◌, ◌++◌, ◌&&◌, length, ap, refl, arith, Ordering, inl, inr}
 use Rattle.std.proofs.lemmas.Bool.{cases_Bool, cases_lt, eq-eqb, le-leb, le-ltb, leb-true, lt-leb, lt-ltb, ltb-true}
 use Rattle.std.proofs.lemmas.List.Elements.{filter-append}
 use Rattle.std.proofs.lemmas.List.Filters.{length-filter_both}
-use Rattle.std.proofs.lemmas.List.Sums.{length-filter, sum_by-cons}
+use Rattle.std.proofs.lemmas.List.Sums.{length-filter}
 use Rattle.std.specs.BTreeMap.{is_at}
-use Rattle.std.specs.Cmp.{IsTotalOrder, eq_by_cmp_equiv}
+use Rattle.std.specs.Cmp.{IsTotalOrder}
 use Rattle.st_base.proofs.Counted.{count_by-le}
 use Rattle.st_base.proofs.Quantifiers.{any_before, any_last, each-passes, each-weaker, filter_none}
 use Rattle.st_opindex.specs.declared.row.Row.{Row}
 use Rattle.st_opindex.specs.Items.{Held, after, before, from, with_item}
-use Rattle.st_opindex.specs.ByKey.{ByKey, ChangesAt, items_at}
-use Rattle.st_opindex.specs.Changed.{AreNamed, names_cost}
-use Rattle.st_opindex.specs.Seen.{AreOwed, IsOwed, LeavesMore, left_at, seen_items}
+use Rattle.st_opindex.specs.ByKey.{ChangesAt, items_at}
+use Rattle.st_opindex.specs.Seen.{AreOwed, IsOwed, LeavesMore, LeavesNoMore, left_at, seen_items}
 use Rattle.st_opindex.proofs.Ascending.{le_of_lt}
 use Rattle.st_opindex.proofs.Keyed.{items_at-same, left_at-same}
 
@@ -69,6 +68,23 @@ module _ {Item : Type 0} where
     from-put item items =
         omega (arith, parts early items, parts early (with_item place item items), ap length (before-put item items))
 
+    -- a cut leaves as much, and takes its items from those from an earlier place on
+    from-cut : (items : List (Held Item))
+        → length (from early (before place items)) + length items ≡ length (from early items) + length (before place items)
+    from-cut items = omega (arith, parts early items, parts early (before place items), ap length (before-early items))
+
+  -- a change of the items at a place and later, which leaves those before it
+  abbrev pub Counts : ℕ → (List (Held Item) → List (Held Item)) → Type 0
+  Counts place change = (early : ℕ) → early ≤ place → (items : List (Held Item))
+      → length (from early (change items)) + length items ≡ length (from early items) + length (change items)
+
+  -- a put is one, and a cut
+  pub put_counts : (place : ℕ) (item : Item) → Counts place (with_item place item)
+  put_counts place item early le items = from-put early place le item items
+
+  pub cut_counts : (place : ℕ) → Counts place (before place)
+  cut_counts place early le items = from-cut early place le items
+
 module _ {K : Type 0} {cmp : K → K → Ordering} where
   -- what is accounted for stays so after one change more
   owed_still : {Item : Type 0} {changes : List (K × ℕ)} {key : K} {left : ℕ} {items : List (Held Item)} (change : K × ℕ)
@@ -80,8 +96,8 @@ module _ {K : Type 0} {cmp : K → K → Ordering} where
   }
 
   module _ {State Item : Type 0} (order : IsTotalOrder cmp) {changes : List (K × ℕ)} {old new : List (K × Row Item State)} (owed : AreOwed cmp changes old)
-      (key : K) (place : ℕ) (item : Item) (puts : ChangesAt cmp key (with_item place item) (seen_items old) (seen_items new))
-      (more : LeavesMore cmp key place old new) where
+      (key : K) (place : ℕ) (change : List (Held Item) → List (Held Item)) (counts : Counts place change)
+      (puts : ChangesAt cmp key change (seen_items old) (seen_items new)) (more : LeavesMore cmp key place old new) where
     -- the change of this place accounts for what is left of its key,
     here : (other : K) → is_at (cmp key) other ≡ true → left_at cmp other new ≤ 7 + length (from place (items_at cmp other (seen_items new)))
         → IsOwed cmp (changes ++ (key, place) ∷ []) other (left_at cmp other new) (items_at cmp other (seen_items new))
@@ -98,13 +114,13 @@ module _ {K : Type 0} {cmp : K → K → Ordering} where
     own other same =
         let was : List (Held Item) = items_at cmp other (seen_items old) in
         let now : List (Held Item) = items_at cmp other (seen_items new) in
-        let is : now ≡ with_item place item was = puts other ∙ rw same refl in
+        let is : now ≡ change was = puts other ∙ rw same refl in
         let left : left_at cmp key new ≡ left_at cmp other new = left_at-same order key other new same in
         let before_left : left_at cmp key old ≡ left_at cmp other old = left_at-same order key other old same in
         let items : items_at cmp key (seen_items new) ≡ now = items_at-same order key other (seen_items new) same in
         let before_items : items_at cmp key (seen_items old) ≡ was = items_at-same order key other (seen_items old) same in
         let at_place : length (from place now) + length was ≡ length (from place was) + length now =
-        rw is (from-put place place (omega arith) item was) in
+        rw is (counts place (omega arith) was) in
         elim more.own [
           | inr few ↦ here other same (omega (arith, few, left, ap (λ xs. length (from place xs)) items))
           | inl grows ↦
@@ -120,7 +136,7 @@ module _ {K : Type 0} {cmp : K → K → Ordering} where
                           here other same (omega (arith, many, account.few, falls, at_place))
                       | inr le ↦
                           let at_other : length (from account.place now) + length was ≡ length (from account.place was) + length now =
-                          rw is (from-put account.place place le item was) in
+                          rw is (counts account.place le was) in
                           record {
                             place = account.place;
                             changed = (owed_still (key, place) account).changed;
@@ -130,9 +146,9 @@ module _ {K : Type 0} {cmp : K → K → Ordering} where
               ]
         ]
 
-    -- so after a put what is left is accounted for
-    pub owed_put : AreOwed cmp (changes ++ (key, place) ∷ []) new
-    owed_put = record {
+    -- so after the change what is left is accounted for
+    pub owed_more : AreOwed cmp (changes ++ (key, place) ∷ []) new
+    owed_more = record {
       each = λ other some. elim (cases_Bool (is_at (cmp key) other)) [
         | inl same ↦ own other same
         | inr apart ↦
@@ -142,18 +158,9 @@ module _ {K : Type 0} {cmp : K → K → Ordering} where
       ];
     }
 
--- one put: the name of its key pays for it
-module _ {K : Type 0} {cmp : K → K → Ordering} (order : IsTotalOrder cmp) (key : K) (place : ℕ) where
-  itself : is_at (cmp key) key ≡ true
-  itself = (eq_by_cmp_equiv order).refl key
-
-  pub put_named : AreNamed cmp ((key, place) ∷ []) ((key, place) ∷ [])
-  put_named = (rw (itself, le-leb place place (omega arith)) refl, tt)
-
-  pub put_cost : {Item : Type 0} (old new : ByKey K Item) (item : Item) → ChangesAt cmp key (with_item place item) old new
-      → names_cost cmp new ((key, place) ∷ []) ≡ 7 + length (from place (with_item place item (items_at cmp key old)))
-  put_cost old new item puts =
-      let is : items_at cmp key new ≡ with_item place item (items_at cmp key old) = puts key ∙ rw itself refl in
-      let all : names_cost cmp new ((key, place) ∷ []) ≡ 7 + length (from place (items_at cmp key new)) + 0 =
-      sum_by-cons (λ (name : K × ℕ). 7 + length (from name.1 (items_at cmp name.0 new))) (key, place) [] in
-      omega (arith, all, ap (λ items. length (from place items)) is)
+  -- and where nothing more is left, it stays so
+  pub owed_same : {State Item : Type 0} {changes : List (K × ℕ)} {old new : List (K × Row Item State)} → AreOwed cmp changes old → LeavesNoMore cmp old new
+      → AreOwed cmp changes new
+  owed_same owed leaves = record {
+    each = λ key some. rw (leaves.left key some, leaves.items key some) (owed.each key (omega (arith, leaves.left key some, some)));
+  }

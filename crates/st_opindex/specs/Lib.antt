@@ -1,5 +1,4 @@
 pub mod ByKey
-pub mod Changed
 pub mod Items
 pub mod Kept
 pub mod Placed

@@ -12,4 +12,4 @@ mod rows;
 mod tests;
 
 pub use folder::Folder;
-pub use index::{Changing, Index};
+pub use index::Index;

@@ -1,8 +1,7 @@
-ghost use Rattle.std.specs.Prelude.{◌≡◌, ◌+◌, ◌-◌, ◌≤◌, ◌<◌, ◌⊎◌, length, slice_index_or, IfOk, OnOk, if◌then◌else◌, []};
+ghost use Rattle.std.specs.Prelude.{◌≡◌, ◌+◌, ◌-◌, ◌≤◌, ◌<◌, ◌⊎◌, true, false, length, slice_index_or, IfOk, IsTrue, OnOk, []};
 ghost use Rattle.st_base.specs.Work.{AppliesAtMost};
-ghost use Rattle.st_opindex.specs.Items.{Ascend, SplitsAt, before, from, with_item, reaches};
-ghost use Rattle.st_opindex.specs.Kept.{IsFolded, IsKeptBefore, IsRow};
-ghost use Rattle.st_opindex.specs.Seen.{left_of};
+ghost use Rattle.st_opindex.specs.Items.{Ascend, SplitsAt, before, with_item, reaches};
+ghost use Rattle.st_opindex.specs.Kept.{IsRow, IsRowUpTo, LeavesOf, left_of};
 
 use crate::folder::Folder;
 use st_base::{WantOfMemory, Work};
@@ -51,37 +50,35 @@ pub fn put_row<F: Folder>(
     requires { IsRow (F.next folder.now) (F.first folder.now) row.old }
     ensures items { OnOk result (row.new.items.items ≡ with_item place item row.old.items.items) }
     ensures row { OnOk result (IsRow (F.next folder.now) (F.first folder.now) row.new) }
-    ensures left { OnOk result ((row.new.done ≡ row.old.done) ⊎ (left_of row.new ≤ 7 + length (from place row.new.items.items))) }
+    ensures left { OnOk result (LeavesOf place row.old row.new) }
 {
     let at = count_before(row.items.as_slice(), place);
     set_item(&mut row.items, at, place, item)?;
-    if at < row.done {
-        go_back(alloc, folder, row, at)?;
-    }
+    go_back(alloc, folder, row, at)?;
     Ok(())
 }
 
-// Drops the items at this place or later. Where there are none, nothing is folded.
+// Drops the items at this place or later, and says whether there were any. The row goes back likewise.
 pub fn cut_row<F: Folder>(
     alloc: Global,
     folder: &F,
     row: &mut Row<F::Item, F::State>,
     place: u32,
-    work: &mut Work,
-) -> Result<(), WantOfMemory>
-    requires { IsFolded (F.next folder.now) (F.first folder.now) row.old }
+) -> Result<bool, WantOfMemory>
+    requires { IsRow (F.next folder.now) (F.first folder.now) row.old }
     ensures items { OnOk result (row.new.items.items ≡ before place row.old.items.items) }
-    ensures folded { OnOk result (IsFolded (F.next folder.now) (F.first folder.now) row.new) }
-    ensures bound { AppliesAtMost (if reaches place row.old.items.items then 7 else 0) work.old work.new }
+    ensures row { OnOk result (IsRow (F.next folder.now) (F.first folder.now) row.new) }
+    ensures left { OnOk result (LeavesOf place row.old row.new) }
+    ensures none { IfOk result (λ any. any ≡ false → row.new ≡ row.old) }
+    ensures some { IfOk result (λ any. any ≡ true → IsTrue (reaches place row.old.items.items)) }
 {
     let at = count_before(row.items.as_slice(), place);
     if at == row.items.len() {
-        return Ok(());
+        return Ok(false);
     }
     row.items.truncate(at);
     go_back(alloc, folder, row, at)?;
-    fold_row(alloc, folder, row, work)?;
-    Ok(())
+    Ok(true)
 }
 
 // How many items stand before this place.
@@ -110,20 +107,22 @@ fn set_item<I: Drop>(
     Ok(())
 }
 
-// Goes back to the last state that was kept before `at`. What stands from it on is to be folded again.
+// Where more than the first `at` items were folded, goes back to the last state that was kept before them.
+// What stands from there on is to be folded again.
 fn go_back<F: Folder>(
     alloc: Global,
     folder: &F,
     row: &mut Row<F::Item, F::State>,
     at: usize,
 ) -> Result<(), WantOfMemory>
-    requires ascends { Ascend row.old.items.items }
-    requires at { at ≤ length row.old.items.items }
-    requires kept { IsKeptBefore (F.next folder.now) (F.first folder.now) row.old.items.items at row.old.kept.items }
+    requires { IsRowUpTo (F.next folder.now) (F.first folder.now) at row.old }
     ensures items { OnOk result (row.new.items.items ≡ row.old.items.items) }
     ensures row { OnOk result (IsRow (F.next folder.now) (F.first folder.now) row.new) }
-    ensures left { OnOk result (left_of row.new ≤ 7 + (length row.old.items.items - at)) }
+    ensures left { OnOk result ((row.new.done ≡ row.old.done) ⊎ (left_of row.new ≤ 7 + (length row.old.items.items - at))) }
 {
+    if row.done <= at {
+        return Ok(());
+    }
     let states = at / STRIDE;
     row.kept.truncate(states);
     row.last = last_kept(alloc, folder, row.kept.as_slice())?;
@@ -155,7 +154,8 @@ pub fn fold_row<F: Folder>(
 ) -> Result<(), WantOfMemory>
     requires { IsRow (F.next folder.now) (F.first folder.now) row.old }
     ensures items { OnOk result (row.new.items.items ≡ row.old.items.items) }
-    ensures folded { OnOk result (IsFolded (F.next folder.now) (F.first folder.now) row.new) }
+    ensures row { OnOk result (IsRow (F.next folder.now) (F.first folder.now) row.new) }
+    ensures none { OnOk result (left_of row.new ≡ 0) }
     ensures bound { AppliesAtMost (left_of row.old) work.old work.new }
 {
     for at in row.done..row.items.len() {

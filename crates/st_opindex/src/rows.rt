@@ -1,10 +1,10 @@
-ghost use Rattle.std.specs.Prelude.{◌≡◌, ℕ, ◌*◌, List, [], length, IfOk, OnOk, if◌then◌else◌};
+ghost use Rattle.std.specs.Prelude.{◌≡◌, ℕ, List, [], true, false, IfOk, IsTrue, OnOk};
+ghost use Rattle.std.specs.List.{AllByRecursion};
 ghost use Rattle.st_base.specs.Work.{AppliesAtMost};
 ghost use Rattle.st_opindex.specs.Items.{with_item, before, reaches};
-ghost use Rattle.st_opindex.specs.ByKey.{items_at, ChangesAt, NamesLosing, AreCut};
-ghost use Rattle.st_opindex.specs.Changed.{AreNamed, names_cost};
+ghost use Rattle.st_opindex.specs.ByKey.{AreCut, ChangesAt, Covers, CoversLosing, cover_cost, items_at};
 ghost use Rattle.st_opindex.specs.Kept.{IsRow};
-ghost use Rattle.st_opindex.specs.Seen.{AreFolded, AreOwed, AreRows, FoldsKey, LeavesMore, left_at, seen_items};
+ghost use Rattle.st_opindex.specs.Seen.{AreOwed, AreRows, FoldsKey, LeavesMore, LeavesNoMore, left_at, seen_items};
 
 use crate::folder::Folder;
 use crate::row::{Row, cut_row, empty_row, fold_row, put_row};
@@ -70,10 +70,11 @@ pub fn fold_keys<K: Copy + Ord, F: Folder>(
 ) -> Result<(), WantOfMemory>
     requires rows { AreRows K.cmp (F.next folder.now) (F.first folder.now) rows.old.entries }
     requires owed { AreOwed K.cmp changes.now rows.old.entries }
-    ensures rows { OnOk result (AreFolded K.cmp (F.next folder.now) (F.first folder.now) rows.new.entries) }
+    ensures rows { OnOk result (AreRows K.cmp (F.next folder.now) (F.first folder.now) rows.new.entries) }
+    ensures owed { OnOk result (AreOwed K.cmp [] rows.new.entries) }
     ensures items { OnOk result ((key : K) → items_at K.cmp key (seen_items rows.new.entries) ≡ items_at K.cmp key (seen_items rows.old.entries)) }
-    ensures bound { (names : List (K × ℕ)) → AreNamed K.cmp changes.now names
-        → AppliesAtMost (names_cost K.cmp (seen_items rows.old.entries) names) work.old work.new }
+    ensures bound { (names : List (K × ℕ)) → AllByRecursion (Covers K.cmp names) changes.now
+        → AppliesAtMost (cover_cost K.cmp (seen_items rows.old.entries) names) work.old work.new }
 {
     'changes: for change in changes {
         fold_key(alloc, folder, rows, change.0, work)?;
@@ -102,47 +103,56 @@ fn fold_key<K: Copy + Ord, F: Folder>(
     Ok(())
 }
 
-// Drops the items of these keys at this place or later.
+// Drops the items of these keys at this place or later. The keys of which something is to be folded again
+// come to the changes.
 pub fn cut_keys<K: Copy + Ord, F: Folder>(
     alloc: Global,
     folder: &F,
     rows: &mut Rows<K, F>,
     keys: &[K],
     place: u32,
-    work: &mut Work,
+    changes: &mut Vec<(K, u32)>,
 ) -> Result<(), WantOfMemory>
-    requires { AreFolded K.cmp (F.next folder.now) (F.first folder.now) rows.old.entries }
-    ensures rows { OnOk result (AreFolded K.cmp (F.next folder.now) (F.first folder.now) rows.new.entries) }
+    requires rows { AreRows K.cmp (F.next folder.now) (F.first folder.now) rows.old.entries }
+    requires owed { AreOwed K.cmp changes.old.items rows.old.entries }
+    ensures rows { OnOk result (AreRows K.cmp (F.next folder.now) (F.first folder.now) rows.new.entries) }
     ensures items { OnOk result (AreCut K.cmp place keys.now (seen_items rows.old.entries) (seen_items rows.new.entries)) }
-    ensures bound { (names : List K) → NamesLosing K.cmp place (seen_items rows.old.entries) names → AppliesAtMost (7 * length names) work.old work.new }
+    ensures owed { OnOk result (AreOwed K.cmp changes.new.items rows.new.entries) }
+    ensures changes { OnOk result ((names : List (K × ℕ)) → AllByRecursion (Covers K.cmp names) changes.old.items
+        → CoversLosing K.cmp names place (seen_items rows.old.entries) → AllByRecursion (Covers K.cmp names) changes.new.items) }
 {
     'keys: for key in keys {
-        cut_key(alloc, folder, rows, *key, place, work)?;
+        if cut_key(alloc, folder, rows, *key, place)? {
+            changes.push((*key, place))?;
+        }
     }
     Ok(())
 }
 
-// Drops the key's items at this place or later, and its row where none is left.
+// Drops the key's items at this place or later, and its row where none is left. Says whether something of
+// it is to be folded again.
 fn cut_key<K: Copy + Ord, F: Folder>(
     alloc: Global,
     folder: &F,
     rows: &mut Rows<K, F>,
     key: K,
     place: u32,
-    work: &mut Work,
-) -> Result<(), WantOfMemory>
-    requires { AreFolded K.cmp (F.next folder.now) (F.first folder.now) rows.old.entries }
-    ensures rows { OnOk result (AreFolded K.cmp (F.next folder.now) (F.first folder.now) rows.new.entries) }
+) -> Result<bool, WantOfMemory>
+    requires { AreRows K.cmp (F.next folder.now) (F.first folder.now) rows.old.entries }
+    ensures rows { OnOk result (AreRows K.cmp (F.next folder.now) (F.first folder.now) rows.new.entries) }
     ensures items { OnOk result (ChangesAt K.cmp key (before place) (seen_items rows.old.entries) (seen_items rows.new.entries)) }
-    ensures bound { AppliesAtMost (if reaches place (items_at K.cmp key (seen_items rows.old.entries)) then 7 else 0) work.old work.new }
+    ensures left { OnOk result (LeavesMore K.cmp key place rows.old.entries rows.new.entries) }
+    ensures none { IfOk result (λ again. again ≡ false → LeavesNoMore K.cmp rows.old.entries rows.new.entries) }
+    ensures some { IfOk result (λ again. again ≡ true → IsTrue (reaches place (items_at K.cmp key (seen_items rows.old.entries)))) }
 {
     let Some(row) = rows.get_mut(&key) else {
-        return Ok(());
+        return Ok(false);
     };
     let row = row.get_mut();
-    cut_row(alloc, folder, row, place, work)?;
+    let any = cut_row(alloc, folder, row, place)?;
     if row.items.is_empty() {
         rows.remove(&key);
+        return Ok(false);
     }
-    Ok(())
+    Ok(any)
 }

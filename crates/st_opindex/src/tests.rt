@@ -79,14 +79,14 @@ fn a_change_folds_on_from_a_kept_state(rt: HostRuntime) -> Result<(), Fail> {
     let mut work = Work::new(&rt);
     let mut index: Index<u64, Adds> = Index::new(alloc, Adds)?;
     for place in 0..10u32 {
-        index = index.put(alloc, 5, place, 1, &mut work)?;
+        index = index.put(alloc, 5, place, 1)?.settle(alloc, &mut work)?;
     }
     let before_put = work.applies();
-    index = index.put(alloc, 5, 3, 4, &mut work)?;
+    index = index.put(alloc, 5, 3, 4)?.settle(alloc, &mut work)?;
     assert_eq!(rt; *index.state(&5), 13);
     assert!(rt; work.applies() <= before_put.saturating_add(14));
     let before_cut = work.applies();
-    index = index.cut(alloc, 8, &mut work)?;
+    index = index.cut(alloc, 8)?.settle(alloc, &mut work)?;
     assert_eq!(rt; *index.state(&5), 11);
     assert!(rt; work.applies() <= before_cut.saturating_add(7));
     assert_eq!(rt; *index.state(&6), 0);
@@ -97,21 +97,19 @@ fn a_change_folds_on_from_a_kept_state(rt: HostRuntime) -> Result<(), Fail> {
 fn many_changes_of_a_key_are_folded_once(rt: HostRuntime) -> Result<(), Fail> {
     let alloc = rt.alloc();
     let mut work = Work::new(&rt);
-    let index: Index<u64, Adds> = Index::new(alloc, Adds)?;
-    let mut changing = index.open(alloc);
+    let mut index: Index<u64, Adds> = Index::new(alloc, Adds)?;
     for place in 0..40u32 {
-        changing = changing.put(alloc, 5, place, 1)?;
+        index = index.put(alloc, 5, place, 1)?;
     }
-    let index = changing.settle(alloc, &mut work)?;
+    index = index.settle(alloc, &mut work)?;
     assert_eq!(rt; *index.state(&5), 40);
     assert!(rt; work.applies() <= 47);
     let before_changes = work.applies();
-    let mut changing = index.open(alloc);
     for place in 10..40u32 {
-        changing = changing.put(alloc, 5, place, 2)?;
+        index = index.put(alloc, 5, place, 2)?;
     }
-    changing = changing.put(alloc, 6, 3, 7)?;
-    let index = changing.settle(alloc, &mut work)?;
+    index = index.put(alloc, 6, 3, 7)?;
+    index = index.settle(alloc, &mut work)?;
     assert_eq!(rt; *index.state(&5), 70);
     assert_eq!(rt; *index.state(&6), 7);
     assert!(rt; work.applies() <= before_changes.saturating_add(37 + 8));
@@ -125,14 +123,16 @@ fn a_state_may_own_memory(rt: HostRuntime) -> Result<(), Fail> {
     let mut index: Index<u64, Gathers> = Index::new(alloc, Gathers)?;
     for item in 0..20u64 {
         let place = 40 - 2 * item as u32;
-        index = index.put(alloc, item % 2, place, item, &mut work)?;
+        index = index
+            .put(alloc, item % 2, place, item)?
+            .settle(alloc, &mut work)?;
     }
-    index = index.put(alloc, 1, 6, 100, &mut work)?;
-    index = index.cut(alloc, 14, &mut work)?;
+    index = index.put(alloc, 1, 6, 100)?;
+    index = index.cut(alloc, 14)?.settle(alloc, &mut work)?;
     assert_eq!(rt; index.state(&0).as_slice(), [18, 16, 14].as_slice());
     assert_eq!(rt; index.state(&1).as_slice(), [19, 100, 15].as_slice());
     assert_eq!(rt; index.items(&1), [(2, 19), (6, 100), (10, 15)].as_slice());
-    index = index.cut(alloc, 0, &mut work)?;
+    index = index.cut(alloc, 0)?.settle(alloc, &mut work)?;
     assert_eq!(rt; index.state(&1).len(), 0);
     assert_eq!(rt; index.items(&1).len(), 0);
     Ok(())
@@ -174,7 +174,7 @@ fn puts_and_cuts_in_any_order_leave_the_plain_fold(rt: HostRuntime) -> Result<()
         let at = (seed >> 33) as usize % (3 * PLACES);
         let place = at % PLACES;
         if item % 97 == 0 {
-            index = index.cut(alloc, place as u32, &mut work)?;
+            index = index.cut(alloc, place as u32)?;
             for (other, held) in items.iter_mut().enumerate() {
                 if other % PLACES >= place {
                     *held = 0;
@@ -182,11 +182,12 @@ fn puts_and_cuts_in_any_order_leave_the_plain_fold(rt: HostRuntime) -> Result<()
             }
         } else {
             let key = (at / PLACES) as u64;
-            index = index.put(alloc, key, place as u32, item, &mut work)?;
+            index = index.put(alloc, key, place as u32, item)?;
             if let Some(held) = items.get_mut(at) {
                 *held = item;
             }
         }
+        index = index.settle(alloc, &mut work)?;
         for key in 0..3usize {
             let plain = plain_fold(alloc, items.as_slice(), key)?;
             assert_eq!(rt; index.state(&(key as u64)).as_slice(), plain.as_slice());

@@ -1,25 +1,14 @@
 -- What a long form holds.
 use Rattle.std.proofs.Common.{◌≡◌, ℕ, List, Bool, not, true, false, Some, Ok, Err, refl}
-use Rattle.std.specs.Prelude.{bytes_eq, is_some}
+use Rattle.std.specs.Prelude.{bytes_eq}
 use Rattle.st_canon.specs.Canonical.{canonical}
-use Rattle.st_canon.specs.Entries.{members_in}
-use Rattle.st_canon.specs.Plain.{Plain, null, boolean, whole, text, list, object}
+use Rattle.st_canon.specs.Plain.{Plain}
 use Rattle.st_canon.specs.Shapes.{json_in}
-use Rattle.st_doc.specs.Entries.{is_object}
 use Rattle.st_hash.specs.Hash.{HashValue, same_hash}
 use Rattle.st_indexfiles.specs.SuffixData.{suffix_of}
 use Rattle.st_resolve.specs.Identifier.{long_of}
 use Rattle.st_resolve.specs.LongForm.{PlainLong, long_in}
 use Rattle.st_resolve.specs.declared.refused.DidRefused.TheVariants.{SuffixDiffers}
-
--- an object is what has members
-pub object_is : (value : Plain) → is_some (members_in value) ≡ is_object (Some value)
-object_is null = refl
-object_is (boolean b) = refl
-object_is (whole z) = refl
-object_is (text t) = refl
-object_is (list ps) = refl
-object_is (object ms) = refl
 
 pub other : (same : Bool) → not same ≡ true → same ≡ false
 other true e = cc

@@ -62,6 +62,15 @@ opened-blank image is = by_kind (kind_of image) refl (sym (opened-by image) ∙ 
     by_kind Damaged damaged same = absurd (cc)
     by_kind (Whole key map) whole same = absurd (cc)
 
+-- no image is opened with a fault
+pub never_faulty : (image : List ℕ) → opened image ≡ Err refused.DiskFault → ⊥
+never_faulty image is = by_kind (kind_of image) (sym (opened-by image) ∙ is)
+  where
+    by_kind : (kind : Kind) → opened_kind image kind ≡ Err refused.DiskFault → ⊥
+    by_kind Blank same = absurd (cc)
+    by_kind Damaged same = absurd (cc)
+    by_kind (Whole key map) same = absurd (cc)
+
 pub blank-opened : (image : List ℕ) → kind_of image ≡ Blank → opened image ≡ Err refused.Blank
 unfolding key_of
 blank-opened image blank = opened-err image refused.Blank (ap key_by_kind blank)

@@ -37,6 +37,9 @@ pub fn format_vault<D: Disk>(disk: &mut D, secret: Secret) -> Result<Vault, Form
     ensures told { OnOk result (IfTold (D.reads disk.old) (λ old. IsSome (D.reads disk.new))) }
     ensures durable { OnOk result (IfTold (D.reads disk.new) (Only (D.past disk.new))) }
 
+    // What is refused so was looked at behind a good sync: a stop leaves what the disk reads as.
+    ensures settled { IsErrOf result FormatRefused.Formatted → IfTold (D.reads disk.new) (Only (D.past disk.new)) }
+
     // What was spent in every image stays so at each moment of the call.
     ensures stays { IfTold (D.reads disk.old) (λ old. KeepsSpent (D.past disk.old) (D.past disk.new)) }
 
@@ -68,6 +71,7 @@ fn format_synced<D: Disk>(disk: &mut D, secret: &Secret) -> Result<(), FormatRef
     ensures new { OnOk result (Turns (D.reads disk.old) (D.reads disk.new) (λ old image. IsNew secret.now image)) }
     ensures written { OnOk result (Turns (D.reads disk.old) (D.reads disk.new) (λ old image. image ≡ formatted_image secret.now old)) }
     ensures durable { OnOk result (IfTold (D.reads disk.new) (Only (D.past disk.new))) }
+    ensures settled { IsErrOf result FormatRefused.Formatted → IfTold (D.reads disk.new) (Only (D.past disk.new)) }
     ensures moments { IfTold (D.reads disk.old) (λ old. Leaves (IsOldOrFresh secret.now old) (D.past disk.old) (D.past disk.new)) }
     ensures fault { IsErrOf result FormatRefused.DiskFault → Rose (D.faults disk.old) (D.faults disk.new) }
     ensures later { D.faults disk.old ≤ D.faults disk.new }
@@ -118,6 +122,7 @@ fn shut_gate<D: Disk>(disk: &mut D) -> Result<(), FormatRefused>
     ensures shut { OnOk result (Turns (D.reads disk.old) (D.reads disk.new) (λ old image. IsShut image)) }
     ensures same { OnOk result (Turns (D.reads disk.old) (D.reads disk.new) (λ old image. drop 1 image ≡ drop 1 old)) }
     ensures durable { OnOk result (IfTold (D.reads disk.new) (Only (D.past disk.new))) }
+    ensures settled { IsErrOf result FormatRefused.Formatted → IfTold (D.reads disk.new) (Only (D.past disk.new)) }
     ensures moments { IfTold (D.reads disk.old) (λ old. Leaves (IsOldOrBlank old) (D.past disk.old) (D.past disk.new)) }
     ensures fault { IsErrOf result FormatRefused.DiskFault → Rose (D.faults disk.old) (D.faults disk.new) }
     ensures later { D.faults disk.old ≤ D.faults disk.new }

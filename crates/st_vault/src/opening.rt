@@ -1,7 +1,7 @@
 ghost use Rattle.std.specs.Prelude.{◌≡◌, ◌+◌, ◌≤◌, List, ℕ, length, take, drop, IfOk, OnOk, IsErrOf};
 ghost use Rattle.st_base.specs.Answers.{Gives};
 ghost use Rattle.st_io.specs.Causes.{HasCause, Rose};
-ghost use Rattle.st_io.specs.Past.{AddsNoImage, Only};
+ghost use Rattle.st_io.specs.Past.{AddsNoImage, Leaves, LeftSinceSync, Only};
 ghost use Rattle.st_io.specs.Tears.{IfTold};
 ghost use Rattle.st_vault.specs.Image.{map_in, nonzero_from, one_past};
 ghost use Rattle.st_vault.specs.Opening.{ReadsAs, key_of, opened, refusal_of};
@@ -26,11 +26,29 @@ pub fn open_vault<D: Disk>(disk: &mut D) -> Result<Vault, OpenRefused>
     ensures reads { D.reads disk.new ≡ D.reads disk.old }
     ensures durable { (IsErrOf result OpenRefused.DiskFault → ⊥) → IfTold (D.reads disk.new) (Only (D.past disk.new)) }
     ensures images { AddsNoImage (D.past disk.old) (D.past disk.new) }
+
+    // From the first good sync on, a stop leaves what the disk read as.
+    ensures synced { IfTold (D.reads disk.old) (λ old. (image : List ℕ)
+        → LeftSinceSync (D.past disk.new) (D.past disk.old).now image → image ≡ old) }
     ensures stays { KeepsSpent (D.past disk.old) (D.past disk.new) }
     ensures fault { IsErrOf result OpenRefused.DiskFault → Rose (D.faults disk.old) (D.faults disk.new) }
     ensures later { D.faults disk.old ≤ D.faults disk.new }
 {
     disk.sync()?;
+    open_synced(disk)
+}
+
+/// The vault of a disk of which a stop leaves just what it reads as.
+fn open_synced<D: Disk>(disk: &mut D) -> Result<Vault, OpenRefused>
+    requires { IfTold (D.reads disk.old) (Only (D.past disk.old)) }
+    ensures gives { IfTold (D.reads disk.old) (λ image. Gives refusal_of (opened image) result) }
+    ensures reads_as { IfOk result (ReadsAs (D.reads disk.new)) }
+    ensures reads { D.reads disk.new ≡ D.reads disk.old }
+    ensures images { AddsNoImage (D.past disk.old) (D.past disk.new) }
+    ensures moments { IfTold (D.reads disk.old) (λ old. Leaves (λ image. image ≡ old) (D.past disk.old) (D.past disk.new)) }
+    ensures fault { IsErrOf result OpenRefused.DiskFault → Rose (D.faults disk.old) (D.faults disk.new) }
+    ensures later { D.faults disk.old ≤ D.faults disk.new }
+{
     let secret = read_key(disk)?;
     let next = read_next(disk, secret.leaf_count())?;
     Ok(Vault::new(secret, next))

@@ -1,6 +1,6 @@
 -- The reference machine of the wallet: what it answers to a line, and what its disk is then. It keeps
 -- what the disk was found to be, and nothing else.
-use Rattle.std.specs.Prelude.{◌≡◌, ◌⊎◌, ⊤, ℕ, ◌==◌, nat_le, List, [], ◌∷◌, ◌++◌, codes, if◌then◌else◌, Option, Some, None, Result, Ok, Err}
+use Rattle.std.specs.Prelude.{◌≡◌, ◌⊎◌, ⊤, ℕ, ◌==◌, IsSome, nat_le, List, [], ◌∷◌, ◌++◌, codes, if◌then◌else◌, Option, Some, None, Result, Ok, Err}
 use Rattle.std.specs.Fmt.{decimal}
 use Rattle.st_base.specs.Replies.{reply, spaced}
 use Rattle.st_canon.specs.Canonical.{canonical}
@@ -213,6 +213,11 @@ pub record IsRefusedUntold (told : Option (List ℕ)) (found : Found) (done : Fo
   pub blank : found ≡ Blank
   pub answers : AnswersWith (refused Blank (codes "formatted")) done
 
--- the answer, but for that
-abbrev pub AnswersOrRefuses : Option (List ℕ) → Found → Answered → Found × List ℕ → Type 0
-AnswersOrRefuses told found answer done = AnswersWith answer done ⊎ IsRefusedUntold told found done
+-- the answer, but for that where a vault of some key was asked for
+abbrev pub AnswersOrRefuses : Option (List ℕ) → Found → (asked : Option SecretKey) → Answered → Found × List ℕ → Type 0
+AnswersOrRefuses told found asked answer done = AnswersWith answer done ⊎ (IsSome asked × IsRefusedUntold told found done)
+
+-- the key of the vault that a line asks for by `format`
+abbrev pub asked_by : Result Command LineCause → Option SecretKey
+asked_by (Ok command) = format_in command
+asked_by (Err cause) = None

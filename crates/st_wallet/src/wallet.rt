@@ -1,14 +1,14 @@
-ghost use Rattle.std.specs.Prelude.{◌≡◌, ◌≤◌, IfErr, IfOk, IsErrOf, IsSome, OnOk};
+ghost use Rattle.std.specs.Prelude.{◌≡◌, ◌≤◌, IfErr, IfOk, IsErrOf, IsSome, List, OnOk, Some, ℕ};
 ghost use Rattle.st_io.specs.Causes.{Rose};
-ghost use Rattle.st_io.specs.Past.{AddsNoImage, Leaves};
+ghost use Rattle.st_io.specs.Past.{AddsNoImage, LeftSinceSync, Leaves};
 ghost use Rattle.st_io.specs.Tears.{IfTold};
-ghost use Rattle.st_vault.specs.Opening.{ReadsAs};
+ghost use Rattle.st_vault.specs.Opening.{ReadsAs, opened};
 ghost use Rattle.st_vault.specs.Spent.{KeepsSpent};
-ghost use Rattle.st_wallet.specs.Command.{format_in};
+ghost use Rattle.st_wallet.specs.Command.{command_of, format_in};
 ghost use Rattle.st_wallet.specs.Drafts.{HasInput};
 ghost use Rattle.st_wallet.specs.Found.Found.{Blank, Damaged, Opened};
 ghost use Rattle.st_wallet.specs.Found.{IsFoundOn};
-ghost use Rattle.st_wallet.specs.Machine.{AnswersOrRefuses, AnswersWith, answered, answered_blank, answered_command, answered_draft, answered_format, answered_hss, answered_plan, plan_of};
+ghost use Rattle.st_wallet.specs.Machine.{AnswersOrRefuses, AnswersWith, answered, answered_blank, answered_command, answered_draft, answered_format, answered_hss, answered_plan, asked_by, plan_of};
 ghost use Rattle.st_wallet.specs.Steps.{AllFound, IsBeforeOrAfter, IsCounterFresh, IsCounterSpent};
 
 use crate::command::{Command, LineRefused, read_command, secret_in};
@@ -93,6 +93,8 @@ impl Wallet {
 
         // A stop at any moment of the call leaves nothing that it did not leave before.
         ensures images { AddsNoImage (D.past disk.old) (D.past disk.new) }
+        ensures synced { IfTold (D.reads disk.old) (λ old. (image : List ℕ)
+            → LeftSinceSync (D.past disk.new) (D.past disk.old).now image → opened image ≡ opened old) }
         ensures stays { KeepsSpent (D.past disk.old) (D.past disk.new) }
         ensures refused { IfErr result (λ refused. refused ≡ WalletRefused.DiskFault) }
         ensures fault { IsErrOf result WalletRefused.DiskFault → Rose (D.faults disk.old) (D.faults disk.new) }
@@ -125,9 +127,10 @@ impl Wallet {
     ) -> Result<(Wallet, Bytes), WalletRefused>
         requires { IsFoundOn (D.reads disk.old) self }
 
-        // The reply of the reference machine, and what it leaves, which the disk then reads as.
+        // The reply of the reference machine, and what it leaves, which the disk then reads as. On a disk that
+        // doesn't tell, a `format` may be refused instead.
         ensures answer { IfOk result (AnswersOrRefuses (D.reads disk.old) self
-            (answered self line.now)) }
+            (asked_by (command_of line.now)) (answered self line.now)) }
         ensures answer_told { IfTold (D.reads disk.old) (λ image.
             IfOk result (AnswersWith (answered self line.now))) }
         ensures reads { IfOk result (λ done. IsFoundOn (D.reads disk.new) done.0) }
@@ -173,7 +176,7 @@ impl Wallet {
     ) -> Result<(Wallet, Bytes), WalletRefused>
         requires { IsFoundOn (D.reads disk.old) self }
         ensures answer { IfOk result (AnswersOrRefuses (D.reads disk.old) self
-            (answered_command self command)) }
+            (format_in command) (answered_command self command)) }
         ensures answer_told { IfTold (D.reads disk.old) (λ image.
             IfOk result (AnswersWith (answered_command self command))) }
         ensures untouched { (answered_command self command).next ≡ self → disk.new ≡ disk.old }
@@ -212,7 +215,7 @@ fn carry_out_blank<D: Disk>(
 ) -> Result<(Wallet, Bytes), WalletRefused>
     requires { IsFoundOn (D.reads disk.old) Blank }
     ensures answer { IfOk result (AnswersOrRefuses (D.reads disk.old) Blank
-        (answered_blank (format_in command))) }
+        (format_in command) (answered_blank (format_in command))) }
     ensures answer_told { IfTold (D.reads disk.old) (λ image.
         IfOk result (AnswersWith (answered_blank (format_in command)))) }
     ensures untouched { (answered_blank (format_in command)).next ≡ Blank → disk.new ≡ disk.old }
@@ -248,7 +251,7 @@ fn format<D: Disk>(
 ) -> Result<(Wallet, Bytes), WalletRefused>
     requires { IsFoundOn (D.reads disk.old) Blank }
     ensures answer { IfOk result (AnswersOrRefuses (D.reads disk.old) Blank
-        (answered_format secret)) }
+        (Some secret) (answered_format secret)) }
     ensures answer_told { IfTold (D.reads disk.old) (λ image.
         IfOk result (AnswersWith (answered_format secret))) }
     ensures untouched { (answered_format secret).next ≡ Blank → disk.new ≡ disk.old }

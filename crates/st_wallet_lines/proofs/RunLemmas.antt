@@ -1,122 +1,154 @@
 -- A run of the wallet, from before its disk is opened:
 --     replies_are       what the driver's rules reply is what the reference machine replies
---     kept_opened       the counters of a run whose disk was opened
---     kept_unopened     of one whose disk could not be opened
---     keeps_opened, keeps_unopened    that it is one of the runs over which no counter comes twice
---     stays_opened      what was spent stays so at each moment
---     table_opened, table_unopened    the table of the run
-use Rattle.std.proofs.Common.{◌≡◌, ◌∙◌, ◌++◌, ℕ, List, [], ◌∷◌, Option, Some, refl, ap, sym, subst, arith}
-use Rattle.std.specs.Prelude.{⊤}
-use Rattle.std.specs.Io.KnownBytes.{Consumes, Appends}
-use Rattle.st_io.specs.Past.{Past, Images, Only}
+--     opened_run        what is promised where the disk was opened
+--     unopened_run      and where it could not be opened
+use Rattle.std.proofs.Common.{◌≡◌, ◌∙◌, inl, inr, ◌++◌, ◌≤◌, ℕ, List, [], ◌∷◌, Option, Some, None, is_some, refl, ap, sym, subst, arith}
+use Rattle.std.proofs.lemmas.Bool.{false≢true}
+use Rattle.std.specs.Prelude.{IsSome}
+use Rattle.st_io.specs.Causes.{Rose}
+use Rattle.st_io.specs.Past.{AddsNoImage, Past, LeftSinceSync}
+use Rattle.st_io.specs.Tears.{IfTold}
 use Rattle.st_drive.specs.Lines.{all_lines}
-use Rattle.st_drive.specs.OnDisk.{AllHold, IsTold, RunLeaves, Store, disk_meaning, replies}
-use Rattle.st_drive.specs.Released.{KeepsNumbers}
-use Rattle.st_drive.specs.Runs.{Course, course}
+use Rattle.st_drive.specs.OnDisk.{AllHold, IsTold, Opens, RunLeaves, Store, disk_meaning, replies}
+use Rattle.st_drive.specs.Runs.{course}
 use Rattle.st_drive.specs.Spending.{spending}
-use Rattle.st_drive.specs.Tables.{AnsweredFirst, SoFar}
-use Rattle.st_drive.proofs.InputLemmas.{Tells, answered_input, nothing_written}
+use Rattle.st_drive.specs.Streams.{Storage, Streams, Unread, storage}
+use Rattle.st_drive.specs.Tables.{AnsweredFirst, AnswersLines}
+use Rattle.st_drive.proofs.InputLemmas.{answered_input, answered_source, nothing_written}
+use Rattle.st_drive.proofs.OnDiskLemmas.{run_opens}
 use Rattle.st_drive.proofs.ReleasedLemmas.{none_in}
-use Rattle.st_drive.proofs.SpendingLemmas.{keeps_numbers, kept_numbers, spending_leaves, spending_opened, stays_spent}
-use Rattle.st_status.proofs.TableLemmas.{not_begun, table_by}
-use Rattle.st_status.specs.Status.{StatusTable}
-use Rattle.st_vault.specs.Image.{IsSpent}
+use Rattle.st_drive.proofs.SpendingLemmas.{ends_standing, keeps_numbers, keeps_standing, kept_numbers, loses_one, spending_leaves, spending_opened, standing_leaves, stays_spent}
+use Rattle.st_drive.proofs.TableLemmas.{IsUnread, lines_by, not_begun, rose_before}
 use Rattle.st_vault.specs.Opening.{opened}
 use Rattle.st_vault.specs.Spent.{KeepsSpent}
-use Rattle.st_wallet.proofs.CountersLemmas.{spent_lie_below}
+use Rattle.st_wallet.proofs.CountersLemmas.{found_is, found_opens, spent_lie_below}
 use Rattle.st_wallet.specs.Counters.{next_in}
-use Rattle.st_wallet.specs.Found.{Found, found_by, found_in, opens}
-use Rattle.st_wallet.specs.Found.Found.{Blank, Damaged, Opened}
+use Rattle.st_wallet.specs.Found.{Found, IsFoundOn, found_in, opens}
 use Rattle.st_wallet.specs.Machine.{answered, replies as found_replies}
+use Rattle.st_wallet.specs.Steps.{AllFound}
 use Rattle.st_wallet_lines.proofs.StepLemmas.{as_stays}
-use Rattle.st_wallet_lines.specs.Run.{KeptCounters, WalletTable, wallet_run}
+use Rattle.st_wallet_lines.specs.Run.{KeepsVault, WalletEnds, WalletFrom, WalletRun, found_told, wallet_course}
 use Rattle.st_wallet_lines.specs.Spender.{wallet_spender}
-use Rattle.st_wallet_lines.specs.SpenderLaws.{number_laws}
+use Rattle.st_wallet_lines.specs.SpenderLaws.{next_laws, number_laws}
 
 pub replies_are : (found : Found) (lines : List (List ℕ)) → replies (spending wallet_spender) found lines ≡ found_replies found lines
 replies_are found [] = refl
 replies_are found (line ∷ lines) = ap (λ more. (answered found line).reply ++ more) (replies_are (answered found line).next lines)
 
-back : (found : Found) → found_by (opens found) ≡ found
-back Blank = refl
-back Damaged = refl
-back (Opened vault) = refl
+replies_told : (found : Found) (told : Option (List ℕ)) → IsSome told → IsFoundOn told found → (lines : List (List ℕ))
+    → replies (spending wallet_spender) found lines ≡ found_replies (found_told told) lines
+replies_told found None some is lines = absurd (false≢true some)
+replies_told found (Some image) some is lines =
+    replies_are found lines ∙ ap (λ f. found_replies f lines) (found_is image found (is image refl))
 
--- what an image is found to be is what is found in it
-pub found_is : (image : List ℕ) (found : Found) → opened image ≡ opens found → found ≡ found_in image
-found_is image found is = sym (back found) ∙ ap found_by (sym is)
+-- ---- the end of a run
 
-module _ (image input written : List ℕ) (old new : Past)
-    (leaves : (k : List ℕ) → AllHold (spending wallet_spender) k old
-    → RunLeaves (spending wallet_spender) (found_in image) k (all_lines input) written old new) where
-  kept : KeptCounters image input written new
-  kept = kept_numbers wallet_spender (found_in image) (all_lines input) written old new leaves next_in number_laws image (spent_lie_below image)
+-- what a run leaves of the numbers that it found spent, and of the wallet
+pub record Leaving (image : List ℕ) (lines : List (List ℕ)) (written : List ℕ) (old new : Past) : Type 0 where
+  pub numbers : (k : List ℕ) → AllHold (spending wallet_spender) (inl k) old
+      → RunLeaves (spending wallet_spender) (found_in image) (inl k) lines written old new
+  pub wallet : RunLeaves (spending wallet_spender) (found_in image) (inr (found_in image)) lines written old new
 
-  keeps : Only old image → (left : List ℕ) → Images new left → KeepsNumbers IsSpent (wallet_run image input written left)
-  keeps = keeps_numbers wallet_spender (found_in image) (all_lines input) written old new leaves next_in number_laws image (spent_lie_below image)
+ends_of : {image input written : List ℕ} {old new : Past} → Leaving image (all_lines input) written old new
+    → WalletEnds image input written old new
+ends_of {image} {input} {written} {old} {new} leaving = record {
+  counters = kept_numbers wallet_spender (found_in image) (all_lines input) written old new leaving.numbers next_in number_laws image (spent_lie_below image);
+  vault = ends_standing wallet_spender (found_in image) (all_lines input) written old new leaving.wallet;
+  loses_one = loses_one wallet_spender next_laws (found_in image) (all_lines input) written old new leaving.wallet;
+  runs = keeps_numbers wallet_spender (found_in image) (all_lines input) written old new leaving.numbers next_in number_laws image (spent_lie_below image);
+}
+
+vault_of : {image written : List ℕ} {old new : Past} (input : List ℕ) → Leaving image (all_lines input) written old new → KeepsVault image input old new
+vault_of {image} {written} {old} {new} input leaving =
+    keeps_standing wallet_spender (found_in image) (all_lines input) written old new leaving.wallet
+
+-- how the disk was opened: no image was added, from the first good sync on each is what the disk read as, and what was
+-- spent stays so
+pub record OpensAs (image : List ℕ) (old new : Past) : Type 0 where
+  pub images : AddsNoImage old new
+  pub synced : (x : List ℕ) → LeftSinceSync new old.now x → opened x ≡ opened image
+  pub spent : KeepsSpent old new
+
+opens_standing : (image : List ℕ) (old new : Past) → OpensAs image old new → Opens (spending wallet_spender) (inr (found_in image)) old new
+opens_standing image old new opens = record {
+  goes = opens.images.goes;
+  moments = λ x left. inl (opens.images.none x left);
+  synced = λ x left. opens.synced x left ∙ found_opens image;
+}
 
 -- ---- the disk could not be opened
 
-module _ (image input : List ℕ) (old new : Past) (spent : KeepsSpent old new) where
-  leaves_none : (k : List ℕ) → AllHold (spending wallet_spender) k old
-      → RunLeaves (spending wallet_spender) (found_in image) k (all_lines input) [] old new
-  leaves_none = spending_opened wallet_spender (found_in image) (all_lines input) old new (as_stays old new spent)
-
-  pub kept_unopened : {held : Option (List ℕ)} {before written : List ℕ} → held ≡ Some before → held ≡ Some (before ++ written)
-      → KeptCounters image input written new
-  kept_unopened was is = subst (λ w. KeptCounters image input w new) (sym (nothing_written was is)) (kept image input [] old new leaves_none)
-
-  pub keeps_unopened : {held : Option (List ℕ)} {before : List ℕ} (written : List ℕ) → held ≡ Some before → held ≡ Some (before ++ written)
-      → Only old image → (left : List ℕ) → Images new left → KeepsNumbers IsSpent (wallet_run image input written left)
-  keeps_unopened written was is only left here =
-      subst (λ w. KeepsNumbers IsSpent (wallet_run image input w left)) (sym (nothing_written was is))
-      (keeps image input [] old new leaves_none only left here)
+pub unopened_run : {limit : ℕ} {io : Streams} {disk : Storage} → disk.failed → Unread io
+    → IfTold disk.reads (λ image. OpensAs image disk.before disk.behind) → WalletRun limit io disk 4
+unopened_run {limit} {io} {disk} failed unread opens =
+    let late : IsUnread disk.failed 4 = search arith in
+    let leaving : (image : List ℕ) → disk.reads ≡ Some image → (lines : List (List ℕ)) → Leaving image lines [] disk.before disk.behind =
+    λ image told lines. record {
+      numbers = spending_opened wallet_spender (found_in image) lines disk.before disk.behind (as_stays disk.before disk.behind (opens image told).spent);
+      wallet = run_opens (spending wallet_spender) (found_in image) (inr (found_in image)) lines disk.before disk.behind
+          (opens_standing image disk.before disk.behind (opens image told));
+    } in
+    record {
+      lines = not_begun late unread (wallet_course disk.reads) tt (λ some. refl) refl;
+      from = λ image told. record {
+        stays = (opens image told).spent;
+        vault = λ input had. vault_of input (leaving image told (all_lines input));
+        ends = λ input written tells. subst (λ w. WalletEnds image input w disk.before disk.behind) (sym (nothing_written tells unread.holds_is))
+            (ends_of (leaving image told (all_lines input)));
+      };
+    }
 
 -- ---- it was opened, and lines were answered
 
-module _ {D : Type 0} (store : Store D) (image : List ℕ) (found : Found) (old : Past) (b c : D) (told : IsTold store b)
-    (here : opened image ≡ opens found) (spent : KeepsSpent old (store.past b)) where
-  -- the course of the run
-  abbrev Went : Found → Course
-  Went of = course (disk_meaning (spending wallet_spender) store) of (tt, b) (tt, c)
+-- the disk of a was opened, as b: it is this, and reads as it did
+pub record OpenedOn {D : Type 0} (store : Store D) (a b : D) (found : Found) : Type 0 where
+  pub same : store.reads b ≡ store.reads a
+  pub found_is : IsFoundOn (store.reads a) found
+  pub all : IfTold (store.reads b) (λ image. AllFound found (store.past b))
+  pub opens : IfTold (store.reads a) (λ image. OpensAs image (store.past a) (store.past b))
 
-  leaves_some : (lines : List (List ℕ)) (written : List ℕ) → AnsweredFirst (Went found) written lines
-      → (k : List ℕ) → AllHold (spending wallet_spender) k old
-      → RunLeaves (spending wallet_spender) (found_in image) k lines written old (store.past c)
-  leaves_some lines written first k all =
-      subst (λ f. RunLeaves (spending wallet_spender) f k lines written old (store.past c)) (found_is image found here)
-      (spending_leaves wallet_spender store old told (as_stays old (store.past b) spent) first k all)
-
-  pub stays_opened : {left : Option (List ℕ)} {taken wrote : List ℕ} → SoFar (Went found) left taken wrote
-      → KeepsSpent old (store.past c)
-  stays_opened {taken = taken} {wrote = wrote} so_far =
-      let leaves = leaves_some (all_lines taken) wrote so_far.of_taken in
+module _ {D : Type 0} (store : Store D) (faults : D → ℕ) {a b d : D} {found : Found} {limit : ℕ} {io : Streams} {status : ℕ}
+    (opening : OpenedOn store a b found) (later : faults a ≤ faults b)
+    (answered : AnswersLines (course (disk_meaning (spending wallet_spender) store) found (tt, b) (tt, d)) limit io (Rose (faults b) (faults d)) status) where
+  leaving : {image : List ℕ} → store.reads a ≡ Some image → (lines : List (List ℕ)) (written : List ℕ)
+      → AnsweredFirst (course (disk_meaning (spending wallet_spender) store) found (tt, b) (tt, d)) written lines
+      → Leaving image lines written (store.past a) (store.past d)
+  leaving {image} told lines written first =
+      let old = store.past a in
+      let still : IsTold store b = ap is_some (opening.same ∙ told) in
+      let opens = opening.opens image told in
+      let is = found_is image found (opening.found_is image told) in
+      let stood : Opens (spending wallet_spender) (inr found) old (store.past b) =
+      subst (λ (f : Found). Opens (spending wallet_spender) (inr f) old (store.past b)) (sym is) (opens_standing image old (store.past b) opens) in
       record {
-        goes = (leaves [] (λ x is q has. absurd (none_in q has))).goes;
-        stays = stays_spent wallet_spender (found_in image) (all_lines taken) wrote old (store.past c) leaves;
+        numbers = λ k all. subst (λ f. RunLeaves (spending wallet_spender) f (inl k) lines written old (store.past d)) is
+            (spending_leaves wallet_spender store old still (as_stays old (store.past b) opens.spent) first k all);
+        wallet = subst (λ (f : Found). RunLeaves (spending wallet_spender) f (inr f) lines written old (store.past d)) is
+            (standing_leaves wallet_spender store old still stood (opening.all image (opening.same ∙ told)) first);
       }
 
-  module _ {had left held holds : Option (List ℕ)} {taken wrote input before written : List ℕ} (tells : Tells had held holds input before written)
-      (takes : Consumes had left taken) (writes : Appends held holds wrote) (so_far : SoFar (Went found) left taken wrote) where
-    leaves_input : (k : List ℕ) → AllHold (spending wallet_spender) k old
-        → RunLeaves (spending wallet_spender) (found_in image) k (all_lines input) written old (store.past c)
-    leaves_input = leaves_some (all_lines input) written (answered_input tells takes writes so_far)
+  from_opened : {image : List ℕ} → store.reads a ≡ Some image → WalletFrom image io (storage store.reads store.past faults a d)
+  from_opened {image} told =
+      let table = answered.table in
+      let taken = all_lines table.took.taken in
+      let so_far = leaving told taken table.written table.so_far.of_taken in
+      record {
+        stays = record {
+          goes = (so_far.numbers [] (λ x is q has. absurd (none_in q has))).goes;
+          stays = stays_spent wallet_spender (found_in image) taken table.written (store.past a) (store.past d) so_far.numbers;
+        };
+        vault = λ input had. vault_of input (leaving told (all_lines input) table.written (answered_source table had));
+        ends = λ input written tells. ends_of (leaving told (all_lines input) written (answered_input table tells));
+      }
 
-    pub kept_opened : KeptCounters image input written (store.past c)
-    kept_opened = kept image input written old (store.past c) leaves_input
-
-    pub keeps_opened : Only old image → (x : List ℕ) → Images (store.past c) x → KeepsNumbers IsSpent (wallet_run image input written x)
-    keeps_opened = keeps image input written old (store.past c) leaves_input
-
-  pub table_opened : {limit : ℕ} {had left held holds : Option (List ℕ)} {status : ℕ} → StatusTable (Went found) limit had left held holds status
-      → WalletTable image limit had left held holds status
-  table_opened = table_by (record {
-    told = λ t. told;
-    answers = λ lines. replies_are found lines ∙ ap (λ f. found_replies f lines) (found_is image found here);
-    ran_over = λ lines ran. tt;
-    gave_up_over = λ lines gave. tt;
-  })
-
-pub table_unopened : (image : List ℕ) (limit : ℕ) (left holds : Option (List ℕ)) → WalletTable image limit left left holds holds 4
-table_unopened image limit left holds =
-    not_begun (found_replies (found_in image)) (λ lines. ⊤) tt limit left holds 4 (record { late = omega arith; within = λ e. absurd (omega arith) })
+  pub opened_run : WalletRun limit io (storage store.reads store.past faults a d) status
+  opened_run = record {
+    lines = lines_by (record {
+      told = λ some. ap is_some opening.same ∙ some;
+      prompt = λ now. tt;
+      answers = λ some lines. replies_told found (store.reads a) some opening.found_is lines;
+      ran_over = λ lines ran. tt;
+      gave_up_over = λ lines gave. tt;
+    }) (rose_before (faults a) (faults b) (faults d) later) answered;
+    from = λ image told. from_opened told;
+  }

@@ -1,18 +1,18 @@
 -- One line of the wallet.
-use Rattle.std.proofs.Common.{◌≡◌, ◌∙◌, ◌++◌, ℕ, List, [], ◌∷◌, Option, Some, None, refl, subst, ap, sym}
+use Rattle.std.proofs.Common.{◌≡◌, ◌∙◌, inl, inr, ⊎_elim, ◌++◌, ℕ, List, [], ◌∷◌, Option, Some, None, refl, subst, ap, sym}
 use Rattle.std.specs.Prelude.{IsSome}
 use Rattle.std.proofs.lemmas.Bool.{false≢true}
-use Rattle.st_io.specs.Past.{Past}
+use Rattle.st_io.specs.Past.{Past, Images, Leaves}
 use Rattle.st_io.specs.Tears.{IfTold}
 use Rattle.st_drive.specs.OnDisk.{GaveUpOnDisk, IsTold, RanOnDisk, Store, replies}
-use Rattle.st_drive.specs.Spending.{SpentInAll, StaysSpent, spending}
+use Rattle.st_drive.specs.Spending.{SpentInAll, StandsForEither, StaysSpent, spending}
 use Rattle.st_drive.proofs.OnDiskLemmas.{replied}
 use Rattle.st_drive.proofs.SpendingLemmas.{gave_up_spending, has_spent}
 use Rattle.st_vault.specs.Image.{IsSpent}
 use Rattle.st_vault.specs.Spent.{KeepsSpent}
-use Rattle.st_wallet.specs.Found.{Found}
+use Rattle.st_wallet.specs.Found.{Found, IsFoundOn, opens}
 use Rattle.st_wallet.specs.Machine.{AnswersWith, answered}
-use Rattle.st_wallet.specs.Steps.{IsCounterSpent}
+use Rattle.st_wallet.specs.Steps.{AllFound, IsBeforeOrAfter, IsCounterSpent}
 use Rattle.st_wallet_lines.specs.Spender.{wallet_spender}
 
 -- a fact that doesn't speak of what is told
@@ -28,28 +28,56 @@ as_stays a b keeps = record { goes = keeps.goes; stays = keeps.stays }
 spent_by : (counter : Option ℕ) (past : Past) → IsCounterSpent counter past → (q : ℕ) → counter ≡ Some q → SpentInAll IsSpent past q
 spent_by counter past spent q is = subst (λ c. IsCounterSpent c past) is spent
 
+-- what each image is found to be is what the disk reads as
+same_found : (told : Option (List ℕ)) (past : Past) (found before : Found) → IsSome told → IfTold told (Images past) → IsFoundOn told found
+    → AllFound before past → opens before ≡ opens found
+same_found None past found before some is_image is all = absurd (false≢true some)
+same_found (Some image) past found before some is_image is all = sym (all image (is_image image refl)) ∙ is image refl
+
 module _ {D : Type 0} (store : Store D) (found : Found) (line : List ℕ) (a b : D)
+    (is_image : IfTold (store.reads a) (Images (store.past a))) (is : IsFoundOn (store.reads a) found)
+    (leaves : IfTold (store.reads a) (λ image. AllFound found (store.past a)
+    → Leaves (IsBeforeOrAfter found (answered found line).next) (store.past a) (store.past b)))
     (keeps : IfTold (store.reads a) (λ image. KeepsSpent (store.past a) (store.past b))) where
   stays : IsTold store a → StaysSpent IsSpent (store.past a) (store.past b)
   stays told = as_stays (store.past a) (store.past b) (told_of (KeepsSpent (store.past a) (store.past b)) (store.reads a) told keeps)
+
+  -- all images are found to be this wallet, where they are found to be one
+  all_found : IsTold store a → (before : Found) → AllFound before (store.past a) → AllFound found (store.past a)
+  all_found told before all image left =
+      all image left ∙ same_found (store.reads a) (store.past a) found before told is_image is all
+
+  moments : IsTold store a → (before : Found) → AllFound before (store.past a)
+      → Leaves (StandsForEither wallet_spender before (answered found line).next) (store.past a) (store.past b)
+  moments told before all =
+      let left = told_of (AllFound found (store.past a) → Leaves (IsBeforeOrAfter found (answered found line).next) (store.past a) (store.past b))
+      (store.reads a) told leaves (all_found told before all) in
+      let same = same_found (store.reads a) (store.past a) found before told is_image is all in
+      record { goes = left.goes; each = λ image since. ⊎_elim (λ was. inl (was ∙ sym same)) inr (left.each image since) }
 
   -- it was answered
   pub ran_line : (next : Found) → IfTold (store.reads a) (λ image. IsSome (store.reads b))
       → IfTold (store.reads a) (λ image. next ≡ (answered found line).next)
       → IfTold (store.reads a) (λ image. IsCounterSpent (answered found line).counter (store.past b))
+      → IfTold (store.reads b) (λ image. AllFound found (store.past a) → AllFound next (store.past b))
       → RanOnDisk (spending wallet_spender) store found (tt, a) (line ∷ []) next (tt, b)
-  ran_line next told came spent = has_spent wallet_spender (record {
+  ran_line next told came spent now = has_spent wallet_spender (record {
     effect = tt;
     told = λ t. told_of (IsSome (store.reads b)) (store.reads a) t told;
     came = λ t. told_of (next ≡ (answered found line).next) (store.reads a) t came;
     stays = stays;
     given = λ t. spent_by (answered found line).counter (store.past b)
         (told_of (IsCounterSpent (answered found line).counter (store.past b)) (store.reads a) t spent);
+    moments = moments;
+    now = λ t before all.
+        let then = told_of (AllFound found (store.past a) → AllFound next (store.past b)) (store.reads b)
+        (told_of (IsSome (store.reads b)) (store.reads a) t told) now (all_found t before all) in
+        subst (λ (f : Found). AllFound f (store.past b)) (told_of (next ≡ (answered found line).next) (store.reads a) t came) then;
   })
 
   -- the wallet gave up at it
   pub gave_line : GaveUpOnDisk (spending wallet_spender) store found (tt, a) (line ∷ []) (tt, b)
-  gave_line = gave_up_spending wallet_spender (record { effect = tt; stays = stays })
+  gave_line = gave_up_spending wallet_spender (record { effect = tt; stays = stays; moments = moments })
 
 -- the reply, and what comes behind it, of a wallet that is seen as another and goes on as one that is
 pub replied_line : (told : Option (List ℕ)) (found self next after : Found) (line reply : List ℕ) → found ≡ self → after ≡ next
@@ -59,6 +87,12 @@ replied_line told found self next after line reply is came answers some =
     let both = told_of (AnswersWith (answered found line) (next, reply)) told some answers in
     replied (spending wallet_spender) self after line reply
     (both.1 ∙ ap (λ (f : Found). (answered f line).reply) is) (came ∙ both.0 ∙ ap (λ (f : Found). (answered f line).next) is)
+
+-- the same of where it gave up
+pub gave_as : {D : Type 0} {store : Store D} {found self : Found} {c d : Unit {0} × D} {lines : List (List ℕ)} → found ≡ self
+    → GaveUpOnDisk (spending wallet_spender) store found c lines d → GaveUpOnDisk (spending wallet_spender) store self c lines d
+gave_as {store = store} {c = c} {d = d} {lines = lines} is gave =
+    subst (λ (x : Found). GaveUpOnDisk (spending wallet_spender) store x c lines d) is gave
 
 -- the same of what it did
 pub ran_as : {D : Type 0} {store : Store D} {found self next after : Found} {c d : Unit {0} × D} {lines : List (List ℕ)} → found ≡ self → after ≡ next

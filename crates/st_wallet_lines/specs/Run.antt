@@ -1,13 +1,20 @@
--- A run of the wallet over an input, from a disk that reads as this image: what it replies, and the counters that
--- it gives out.
-use Rattle.std.specs.Prelude.{⊤, ℕ, List}
+-- A run of the wallet over an input: what it replies, the counters that it gives out, and the vault that the disk
+-- holds behind it.
+use Rattle.std.specs.Prelude.{◌≡◌, ⊤, ℕ, List, Some, None, IsSome}
 use Rattle.std.specs.declared.option.Option.{Option}
-use Rattle.st_io.specs.Past.{Past}
+use Rattle.st_io.specs.Past.{Images, Only, Past}
+use Rattle.st_io.specs.Tears.{IfTold}
 use Rattle.st_drive.specs.Lines.{all_lines}
-use Rattle.st_drive.specs.Released.{Run}
-use Rattle.st_drive.specs.Spending.{KeptNumbers, run_of}
-use Rattle.st_status.specs.Status.{StatusTable, replying}
-use Rattle.st_wallet.specs.Found.{found_in}
+use Rattle.st_drive.specs.Released.{KeepsNumbers, Run}
+use Rattle.st_drive.specs.Runs.{Course}
+use Rattle.st_drive.specs.Spending.{EndsStanding, KeepsStanding, KeptNumbers, LosesOne, run_of}
+use Rattle.st_drive.specs.Streams.{Storage, Streams, Tells}
+use Rattle.st_drive.specs.Tables.{AnswersLines}
+use Rattle.st_vault.specs.Image.{IsSpent}
+use Rattle.st_vault.specs.Spent.{KeepsSpent}
+use Rattle.st_wallet.specs.Counters.{next_in}
+use Rattle.st_wallet.specs.Found.{Found, found_in}
+use Rattle.st_wallet.specs.Found.Found.{Blank}
 use Rattle.st_wallet.specs.Machine.{replies}
 use Rattle.st_wallet_lines.specs.Spender.{wallet_spender}
 
@@ -15,9 +22,20 @@ use Rattle.st_wallet_lines.specs.Spender.{wallet_spender}
 abbrev pub wallet_replies : (image : List ℕ) → List (List ℕ) → List ℕ
 wallet_replies image lines = replies (found_in image) lines
 
--- what the run has taken and written, by its status
-abbrev pub WalletTable : (image : List ℕ) → (limit : ℕ) → (had left held holds : Option (List ℕ)) → ℕ → Type 0
-WalletTable image = StatusTable (replying (wallet_replies image) (λ lines. ⊤))
+-- what a disk is found to be by what it reads as; where it doesn't tell that, nothing is said of replies
+abbrev pub found_told : Option (List ℕ) → Found
+found_told None = Blank
+found_told (Some image) = found_in image
+
+-- The course of a run from a disk that reads so: each reply is written before the next line is carried out.
+abbrev pub wallet_course : Option (List ℕ) → Course
+wallet_course told = record {
+  told = IsSome told;
+  prompt = ⊤;
+  answers = replies (found_told told);
+  ran_over = λ lines. ⊤;
+  gave_up_over = λ lines. ⊤;
+}
 
 -- A counter is released where at least the first byte of its reply is among those that were written. No counter
 -- that is released was spent at the start, no two are equal, and each is spent in every image at the end.
@@ -27,3 +45,45 @@ KeptCounters image input written new = KeptNumbers wallet_spender (found_in imag
 -- such a run, to an image that a stop at its end may leave
 abbrev pub wallet_run : (image input written left : List ℕ) → Run
 wallet_run image input written left = run_of wallet_spender (found_in image) image (all_lines input) written left
+
+-- The vault is there. At each moment an image is one of the start, or is opened as what the wallet is behind some
+-- first lines: blank, or a vault with that key and that next counter. From the first good sync on it is the latter.
+abbrev pub KeepsVault : (image input : List ℕ) → (old new : Past) → Type 0
+KeepsVault image input old new = KeepsStanding wallet_spender (found_in image) (all_lines input) old new
+
+-- At the end these lines have each line of whose reply a byte was written, and at most one besides.
+abbrev pub EndsWithVault : (image input written : List ℕ) → (old new : Past) → Type 0
+EndsWithVault image input written old new = EndsStanding wallet_spender (found_in image) (all_lines input) written old new
+
+-- A stop costs at most one: a counter that is spent at the end lay below the next one at the start, or was released,
+-- or is the one behind those.
+abbrev pub LosesOneCounter : (image input written : List ℕ) → (old new : Past) → Type 0
+LosesOneCounter image input written old new = LosesOne wallet_spender next_in (found_in image) (all_lines input) written old new
+
+-- ---- what is promised of a run
+
+-- by its end, of an input and what was written
+pub record WalletEnds (image input written : List ℕ) (old new : Past) : Type 0 where
+  -- the counters that were released were not spent before, no two are equal, and each is spent in every image
+  pub counters : KeptCounters image input written new
+  -- the disk holds what the wallet is behind all lines of whose reply a byte was written, and at most one besides
+  pub vault : EndsWithVault image input written old new
+  -- so a stop costs at most one counter
+  pub loses_one : LosesOneCounter image input written old new
+  -- so it is one of the runs over which no counter comes twice, to each image that a stop at its end may leave
+  pub runs : Only old image → (left : List ℕ) → Images new left → KeepsNumbers IsSpent (wallet_run image input written left)
+
+-- from a disk that reads as this image
+pub record WalletFrom (image : List ℕ) (io : Streams) (disk : Storage) : Type 0 where
+  -- what was spent in every image before the run is so in every image at each moment of it
+  pub stays : KeepsSpent disk.before disk.behind
+  -- at each moment the disk holds what it held before, or what the wallet is behind some first lines
+  pub vault : (input : List ℕ) → io.had ≡ Some input → KeepsVault image input disk.before disk.behind
+  -- and at the end, whatever the status
+  pub ends : (input written : List ℕ) → Tells io input written → WalletEnds image input written disk.before disk.behind
+
+-- What is promised of each run of the wallet: that it answers the lines of the source, and what follows where the disk
+-- tells what it reads as.
+pub record WalletRun (limit : ℕ) (io : Streams) (disk : Storage) (status : ℕ) : Type 0 where
+  pub lines : AnswersLines (wallet_course disk.reads) limit io disk.failed status
+  pub from : IfTold disk.reads (λ image. WalletFrom image io disk)

@@ -1,4 +1,4 @@
-ghost use Rattle.std.specs.Prelude.{◌≡◌};
+ghost use Rattle.std.specs.Prelude.{◌≡◌, refl, true};
 ghost use Rattle.st_drive.specs.OnDisk.{disk_meaning};
 ghost use Rattle.st_drive.specs.Spending.{spending};
 ghost use Rattle.st_wallet.specs.Found.{IsFoundOn};
@@ -55,6 +55,10 @@ impl<D: Disk> Machine for WalletLines<D> {
 
     const CAP: usize = LONGEST_LINE + 1;
 
+    ghost PROMPT = { true };
+
+    const PROMPT: bool = true;
+
     ghost fits = { λ m c more. IsFoundOn (D.reads c.1) m };
 
     ghost faults = { λ c. D.faults c.1 };
@@ -74,6 +78,8 @@ impl<D: Disk> Machine for WalletLines<D> {
     }
 
     ghost fewer = { λ m c many few le fits. fits };
+
+    ghost prompt = { λ now. refl };
 
     ghost laws = { machine_laws (record { reads = D.reads; past = D.past }) };
 }

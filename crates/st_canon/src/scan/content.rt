@@ -108,6 +108,18 @@ pub(crate) fn size(canonical: &[u8]) -> usize
     canonical.len()
 }
 
+// The value as a tree.
+#[tactic(auto, unfolding(crate::specs::Standing::value_of))]
+pub(crate) fn json_of(alloc: Global, canonical: &[u8]) -> Result<Json, WantOfMemory>
+    requires { IsText canonical.now }
+    ensures { IfOk result (λ json. plain json ≡ value_of canonical.now) }
+{
+    match read(alloc, canonical) {
+        Ok(json) => Ok(json),
+        Err(_) => Err(WantOfMemory),
+    }
+}
+
 // The value, kept in little memory.
 pub(crate) fn keep(alloc: Global, canonical: &[u8]) -> Result<PackedJson, WantOfMemory>
     requires { IsText canonical.now }

@@ -43,7 +43,7 @@ fn is_closing(text: &[u8]) -> bool
 
 // What stands behind the byte as JSON writes it in a text, where that stands in front.
 #[tactic(auto, unfolding(crate::specs::Canonical::escape))]
-fn strip_escaped(text: &[u8], byte: u8) -> Option<&[u8]>
+pub(crate) fn strip_escaped(text: &[u8], byte: u8) -> Option<&[u8]>
     ensures some { IfSome result (λ behind. text.now ≡ escape byte ++ behind.now) }
     ensures none { IfNone result ((behind : List ℕ) → text.now ≢ escape byte ++ behind) }
 {

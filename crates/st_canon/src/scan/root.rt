@@ -1,13 +1,18 @@
-ghost use Rattle.std.specs.Prelude.{◌≡◌, IfOk};
+ghost use Rattle.std.specs.Prelude.{◌≡◌, ◌≤◌, IfOk};
 ghost use Rattle.st_base.specs.Answers.{GivesAs};
 ghost use Rattle.st_canon.specs.Canonical.{canonical};
+ghost use Rattle.st_canon.specs.Depth.{depth_of};
+ghost use Rattle.st_canon.specs.Packed.{IsReadAgain, value_read};
 ghost use Rattle.st_canon.specs.Proper.{IsProper};
 ghost use Rattle.st_canon.specs.Reading.{json_of, refusal_of};
 ghost use Rattle.st_canon.specs.Shapes.{json_in};
+ghost use Rattle.st_canon.specs.View.{plain};
 
 use crate::refused::ReadRefused;
 use crate::scan::scanned::Scanned;
 use crate::scan::spelled::text_of;
+use crate::value::Json;
+use crate::writing::write;
 use st_base::{Bytes, WantOfMemory};
 use std::alloc::Global;
 use std::marker::Model;
@@ -56,6 +61,24 @@ impl CanonicalText {
             Err(ReadRefused::NotWhole) => Ok(None),
             Err(ReadRefused::WantOfMemory) => Err(WantOfMemory),
         }
+    }
+
+    /// The canonical text of a value that does not nest too deep to be read again.
+    pub fn of(alloc: Global, value: &Json) -> Result<CanonicalText, WantOfMemory>
+        requires { depth_of (plain value.now) ≤ 127 }
+        ensures { IfOk result (λ text. text ≡ plain value.now) }
+    {
+        let text = write(alloc, value)?;
+        Ok(CanonicalText::again(text))
+    }
+
+    // The value whose canonical text this is.
+    #[tactic(auto, unfolding(crate::specs::Standing::value_of), using(crate::proofs::ReadLemmas::text_from_read))]
+    fn again(text: Bytes) -> CanonicalText
+        requires { IsReadAgain text }
+        ensures { result ≡ value_read (json_of text) }
+    {
+        CanonicalText { text }
     }
 
     /// The text.

@@ -10,11 +10,13 @@ ghost use Rattle.st_canon.specs.Plain.{text};
 ghost use Rattle.st_canon.specs.Reading.{json_of};
 ghost use Rattle.st_canon.specs.Shapes.{both_members, is_object_of, member_in, only_member};
 ghost use Rattle.st_canon.specs.Texts.{is_text_of};
+ghost use Rattle.st_canon.specs.View.{plain};
 
 use crate::kept_text::KeptText;
 use crate::packed::PackedJson;
 use crate::scan::members_left::Members;
 use crate::scan::{brackets, content, kind, object};
+use crate::value::Json;
 use st_base::{Bytes, Shared, Text, WantOfMemory};
 use std::alloc::Global;
 use std::marker::Model;
@@ -180,6 +182,13 @@ impl<'a> Scanned<'a> {
         ensures depth { depth_of self.now ≤ result }
     {
         brackets::depth_bound(self.text)
+    }
+
+    /// The value as a tree.
+    pub fn json(&self, alloc: Global) -> Result<Json, WantOfMemory>
+        ensures { IfOk result (λ json. plain json ≡ self.now) }
+    {
+        Ok(content::json_of(alloc, self.text)?)
     }
 
     /// The same value, kept in little memory.

@@ -28,12 +28,12 @@ fn told(rt: &HostRuntime, entries: &List<PackedJson>) -> Result<String, Fail> {
 }
 
 // A file and its entries, two spaces apart, of which three at most are wanted. The first is canonical, the second
-// has spaces and an escape, the third is empty; all others are left, the first of them for names out of order,
-// the next for a fourth entry.
+// has spaces and an escape, the third is empty, and in the fourth names are out of order; all others are left, the
+// first of them for a fourth entry.
 const FILES: &str = r#"{"deltas":[{"a":1,"b":"x"},null,[]]}  {"a":1,"b":"x"},null,[],
 {"deltas": [ {"a":1, "b":"\u0078"},[ 2 ] ] }  {"a":1,"b":"x"},[2],
 {"deltas":[]}  
-{"deltas": [ {"b":"\u0078" , "a":1},[ 2 ] ] }  left
+{"deltas": [ {"b":"\u0078" , "a":1},[ 2 ] ] }  {"a":1,"b":"x"},[2],
 {"deltas":[1,2,3,4]}  left
 {"deltas":[1.5]}  left
 {"deltas":[1],"more":[]}  left

@@ -79,7 +79,7 @@ fn second_fails(alloc: Global, document: &Document, delta: &Delta, params: &Para
 
 fn delta_fails(alloc: Global, document: &Document, params: &Params) -> bool {
     match framed(alloc, PATCHES, FAILING) {
-        Some(delta) => match check_delta(alloc, delta, params) {
+        Some(delta) => match check_delta(alloc, &delta, params) {
             Ok(delta) => second_fails(alloc, document, &delta, params),
             Err(_) => false,
         },

@@ -31,6 +31,7 @@ const KEYS: &str = r#"2  accepted  {"id":"k","publicKeyJwk":{},"type":"T"}
 2  bad patch 0  {"id":"k","publicKeyJwk":{},"purposes":"authentication","type":"T"}
 2  bad patch 0  {"id":"k","publicKeyJwk":{},"purposes":["Authentication"],"type":"T"}
 2  bad patch 0  {"id":"k","publicKeyJwk":{},"purposes":["keyAgreement","keyAgreement"],"type":"T"}
+2  bad patch 0  {"id":"k","publicKeyJwk":{},"purposes":["\n"],"type":"T"}
 2  bad patch 0  {"controller":"","id":"k","publicKeyJwk":{},"type":"T"}
 2  accepted  {"controller":"aaaaaaaaaaaaaaaaaaaaaaaaaaaaaaaaaaaaaaaaaaaaaaaaaaaaaaaaaaaaaaaaaaaaaaaaaaaaaaaaaaaaaaaaaaaaaaaaaaaaaaaaaaaaaaaaaaaaaaaaaaaaaaaaaaaaaaaaaaaaaaaaaaaaaaaaaaaaaaaaaaaaaaaaaaaaaaaaaaaaaaaaaaaaaaaaaaaaaaaa","id":"k","publicKeyJwk":{},"type":"T"}
 2  bad patch 0  {"controller":"aaaaaaaaaaaaaaaaaaaaaaaaaaaaaaaaaaaaaaaaaaaaaaaaaaaaaaaaaaaaaaaaaaaaaaaaaaaaaaaaaaaaaaaaaaaaaaaaaaaaaaaaaaaaaaaaaaaaaaaaaaaaaaaaaaaaaaaaaaaaaaaaaaaaaaaaaaaaaaaaaaaaaaaaaaaaaaaaaaaaaaaaaaaaaaaaaaaaaaaaa","id":"k","publicKeyJwk":{},"type":"T"}
@@ -50,7 +51,11 @@ const SERVICES: &str = r#"2  accepted  {"id":"s","serviceEndpoint":"e","type":"T
 2  bad patch 0  {"id":"s","serviceEndpoint":"aaaaaaaaaaaaaaaaaaaaaaaaaaaaaaaaaaaaaaaaaaaaaaaaaaaaaaaaaaaaaaaaaaaaaaaaaaaaaaaaaaaaaaaaaaaaaaaaaaaaa","type":"T"}
 2  bad patch 0  {"id":"s","serviceEndpoint":["e"],"type":"T"}
 2  bad patch 0  {"id":"s","serviceEndpoint":"e","type":"T","x":1}
-2  bad patch 0  {"id":"s","serviceEndpoint":"e","type":"T"},{"id":"s","serviceEndpoint":"f","type":"T"}"#;
+2  bad patch 0  {"id":"s","serviceEndpoint":"e","type":"T"},{"id":"s","serviceEndpoint":"f","type":"T"}
+2  bad patch 0  {"id":"\u0001","serviceEndpoint":"e","type":"T"}
+2  accepted  {"id":"s","serviceEndpoint":"[[[[[[[[[[[[[[[[[[[[[[[[[[[[[[[[[[[[[[[[[[[[[[[[[[[[[[[[[[[[[[[[[[[[","type":"T"}
+2  accepted  {"id":"s","serviceEndpoint":"e","type":"\"\"\"\"\"\"\"\"\"\"\"\"\"\"\"\"\"\"\"\"\"\"\"\"\"\"\"\"\"\""}
+2  bad patch 0  {"id":"s","serviceEndpoint":"e","type":"\"\"\"\"\"\"\"\"\"\"\"\"\"\"\"\"\"\"\"\"\"\"\"\"\"\"\"\"\"\"\""}"#;
 
 const NAMES: &str = r#"2  accepted  "https://a/"
 2  accepted  "aaaaaaaaaaaaaaaaaaaaaaaaaaaaaaaaaaaaaaaaaaaaaaaaaaaaaaaaaaaaaaaaaaaaaaaaaaaaaaaaaaaaaaaaaaaaaaaaaaaa"
@@ -93,6 +98,7 @@ const DELTAS: &str =
 1  bad delta  {"updateCommitment":"EiC6eBa_jwHP6kFBQN5driIjsANho5YXepy0EP9h8gAVrQ"}
 1  bad delta  {"patches":{},"updateCommitment":"EiC6eBa_jwHP6kFBQN5driIjsANho5YXepy0EP9h8gAVrQ"}
 1  bad delta  {"patches":[],"updateCommitment":"x"}
+1  bad delta  {"patches":[],"updateCommitment":"\t"}
 1  bad delta  {"patches":[],"updateCommitment":"EiC6eBa_jwHP6kFBQN5driIjsANho5YXepy0EP9h8gAVrQ","x":1}
 1  bad delta  {"patches":[{}],"updateCommitment":7}
 1  bad delta  {"patches":[],"updateCommitment":"E0DdrzWhk2F6usxBc0muIEExEub6TompfqIKnu7mS1XTmiGSmSonT8GoNro8I6P-671FTUQjZDzoDiqayU-lTKSf"}

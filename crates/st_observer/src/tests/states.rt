@@ -1,16 +1,20 @@
 ghost use Rattle.std.specs.Prelude.{◌≡◌, [], ◌∷◌, IfOk, map};
 ghost use Rattle.st_anchor.specs.Gives.{plain_given, suffixes_given};
 
-use crate::states::States;
+use crate::states::{copy_items, put_all};
+use crate::steps::Steps;
 use st_anchor::Given;
 use st_apply::StateParts;
 use st_base::{List, WantOfMemory, Work};
 use st_hash::{Hash, hash256};
 use st_indexfiles::SuffixData;
+use st_opindex::Index;
 use st_ops::Operation;
 use st_params::Schedule;
 use std::alloc::Global;
 use std::test::Fail;
+
+type States = Index<Hash, Steps>;
 
 fn hash_of(text: &str) -> Hash {
     hash256(text.as_bytes())
@@ -54,32 +58,45 @@ fn with_two(
     second: &str,
     recovery: &str,
     work: &mut Work,
-) -> Result<States, WantOfMemory> {
+) -> Result<States, WantOfMemory>
+    requires { states.changes ≡ [] }
+    ensures { IfOk result (λ states. states.changes ≡ []) }
+{
     let first = hash_of(first);
     let second = hash_of(second);
     if first == second {
         return Ok(states);
     }
     let given = two(alloc, first, second, recovery)?;
-    let changing = states.open(alloc).put(alloc, place, 100, given)?;
-    changing.settle(alloc, work)
+    let states = put_all(alloc, states, place, 100, given.into_vec())?;
+    Ok(states.settle(alloc, work)?)
 }
 
 // After three puts, the last of which replaces what the second put.
-fn three_puts(alloc: Global, work: &mut Work) -> Result<States, WantOfMemory> {
-    let states = States::new(alloc, Schedule::new())?;
+fn three_puts(alloc: Global, work: &mut Work) -> Result<States, WantOfMemory>
+    ensures { IfOk result (λ states. states.changes ≡ []) }
+{
+    let steps = Steps {
+        schedule: Schedule::new(),
+    };
+    let states = Index::new(alloc, steps)?;
     let states = with_two(alloc, states, 3, "a", "b", "late", work)?;
     let states = with_two(alloc, states, 1, "c", "a", "early", work)?;
-    with_two(alloc, states, 1, "a", "c", "again", work)
+    Ok(with_two(alloc, states, 1, "a", "c", "again", work)?)
 }
 
-fn then_cut(alloc: Global, work: &mut Work) -> Result<States, WantOfMemory> {
+fn then_cut(alloc: Global, work: &mut Work) -> Result<States, WantOfMemory>
+    ensures { IfOk result (λ states. states.changes ≡ []) }
+{
     let states = three_puts(alloc, work)?;
-    states.cut(alloc, 3, work)
+    let states = states.cut(alloc, 3)?;
+    Ok(states.settle(alloc, work)?)
 }
 
 // The recovery commitment that stands for a name is this one.
-fn commits(rt: &HostRuntime, states: &States, name: &str, recovery: &str) -> bool {
+fn commits(rt: &HostRuntime, states: &States, name: &str, recovery: &str) -> bool
+    requires { states.now.changes ≡ [] }
+{
     let state = states.state(&hash_of(name));
     let Ok(parts) = state.open(rt.alloc(), &mut Work::new(rt)) else {
         return false;
@@ -92,7 +109,7 @@ fn commits(rt: &HostRuntime, states: &States, name: &str, recovery: &str) -> boo
 
 // The operations of a name stand at these places.
 fn stands_at(alloc: Global, states: &States, name: &str, places: &[u32]) -> bool {
-    match states.items(alloc, &hash_of(name)) {
+    match copy_items(alloc, states.items(&hash_of(name))) {
         Ok(items) => items
             .as_slice()
             .iter()

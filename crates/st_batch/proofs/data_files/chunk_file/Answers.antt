@@ -4,6 +4,7 @@ use Rattle.st_datafiles.specs.Chunk.{chunk_json}
 use Rattle.st_datafiles.specs.declared.role.Role.TheVariants.{Chunk}
 use Rattle.st_batch.specs.BatchFiles.{chunk_text, filed}
 use Rattle.st_batch.specs.Grouping.{plain_groups}
+use Rattle.st_batch.specs.Prefix.{where_small}
 use Rattle.st_batch.proofs.WrittenLemmas.{are_some, chunk_some}
 use Rattle.st_batch.proofs.data_files.chunk_file.Goals as goal
 
@@ -11,6 +12,6 @@ pub returns : goal.returns
 unfolding chunk_text
 returns c =
     let some = are_some _ _ c.has_chunk.ensures c.if-not-has_chunk.false in
-    c.in_ok-filed.ensures ∙ ap (filed Chunk) (ap Some (c.in_ok-bytes.ensures
+    c.in_ok-filed.ensures ∙ ap (λ file. where_small c.args.params.now (filed Chunk file)) (ap Some (c.in_ok-bytes.ensures
     ∙ ap (λ deltas. canonical (chunk_json deltas)) (c.as_slice.ensures ∙ c.in_ok-deltas.ensures))
     ∙ sym (chunk_some (plain_groups c.args.groups.now) some))

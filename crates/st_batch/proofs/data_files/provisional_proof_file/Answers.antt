@@ -8,19 +8,20 @@ use Rattle.st_ops.specs.Operation.{plain_operation}
 use Rattle.st_batch.specs.BatchFiles.{filed}
 use Rattle.st_batch.specs.Grouping.{plain_groups}
 use Rattle.st_batch.specs.Groups.{signed_text_in}
+use Rattle.st_batch.specs.Prefix.{where_small}
 use Rattle.st_batch.proofs.WrittenLemmas.{provisional_proof_none, provisional_proof_some}
 use Rattle.st_batch.proofs.data_files.provisional_proof_file.Goals as goal
 
 pub returns-then-len-eq0 : goal.returns-then-len-eq0
 returns-then-len-eq0 c =
     let none : length (plain_groups c.args.groups.now).updates ≡ 0 = simp length-map (omega (arith, c.len.ensures, c.if-len-eq0.true)) in
-    c.new.ensures ∙ ap (filed ProvisionalProof) (sym (provisional_proof_none (plain_groups c.args.groups.now) none))
+    ap Some c.new.ensures ∙ ap (λ file. where_small c.args.params.now (filed ProvisionalProof file)) (sym (provisional_proof_none (plain_groups c.args.groups.now) none))
 
 pub returns : goal.returns
 returns c =
     let some : 1 ≤ length (plain_groups c.args.groups.now).updates =
     simp length-map (omega (arith, c.len.ensures, c.if-len-eq0.false)) in
-    c.in_ok-filed.ensures ∙ ap (filed ProvisionalProof) (ap Some (c.in_ok-bytes.ensures.text
+    c.in_ok-filed.ensures ∙ ap (λ file. where_small c.args.params.now (filed ProvisionalProof file)) (ap Some (c.in_ok-bytes.ensures.text
     ∙ ap (λ proofs. canonical (provisional_proof_json proofs)) (c.as_slice-2.ensures ∙ (c.in_ok-proofs.ensures
     ∙ ap (λ operations. filter_map signed_text_in (map plain_operation operations)) c.as_slice.ensures)))
     ∙ sym (provisional_proof_some (plain_groups c.args.groups.now) some))

@@ -1,11 +1,21 @@
 use Rattle.std.proofs.Common.{◌∙◌, sym, ap, subst, arith}
 use Rattle.st_params.specs.Limits.{limits_of}
 use Rattle.st_batch.specs.Kept.{IsKept}
-use Rattle.st_batch.proofs.FlushLemmas.{MayFlush, count_within, flushed, kept_left}
+use Rattle.st_batch.proofs.FlushLemmas.{MayFlush, count_within, flushed, kept_left, some_taken}
 use Rattle.st_batch.proofs.flushing.flush.Goals as goal
 
-pub split-requires : goal.split-requires
-split-requires c = omega (arith, c.batch_count-count.ensures, count_within c.args.params.now c.args.queued.entries)
+pub longest_batch-requires : goal.longest_batch-requires
+longest_batch-requires c =
+    let may : MayFlush c.args.params.now c.args.queued.entries = record {
+      kept = c.requires.kept;
+      some = c.requires.some;
+      apart = c.len-length.ensures.unique;
+      versioned = c.version-version.ensures.limits ∙ ap limits_of c.version-version.ensures.value;
+    } in
+    some_taken c.args.params.now c.args.queued.entries may
+
+pub behind-requires : goal.behind-requires
+behind-requires c = omega (arith, c.in_ok-count.ensures.count, count_within c.args.params.now c.args.queued.entries)
 
 pub returns-clause-flushed : goal.returns-clause-flushed
 returns-clause-flushed c =
@@ -15,9 +25,7 @@ returns-clause-flushed c =
       apart = c.len-length.ensures.unique;
       versioned = c.version-version.ensures.limits ∙ ap limits_of c.version-version.ensures.value;
     } in
-    flushed c.args.params.now c.args.queued.entries may c.batch_count-count.ensures c.in_ok-taken.ensures.first c.in_ok-taken.ensures.others
-    c.in_ok-groups.ensures c.in_ok-batch.ensures
+    flushed c.args.params.now c.args.queued.entries may c.in_ok-count.ensures.count c.in_ok-rest.ensures c.in_ok-count.ensures.batch
 
 pub returns-clause-kept : goal.returns-clause-kept
-returns-clause-kept c =
-    subst IsKept (sym c.in_ok-taken.ensures.others) (kept_left c.batch_count-count.result c.args.queued.entries c.requires.kept)
+returns-clause-kept c = subst IsKept (sym c.in_ok-rest.ensures) (kept_left c.in_ok-count.count c.args.queued.entries c.requires.kept)

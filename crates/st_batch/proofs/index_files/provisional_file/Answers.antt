@@ -4,6 +4,7 @@ use Rattle.st_datafiles.specs.declared.role.Role.TheVariants.{Chunk, Provisional
 use Rattle.st_indexfiles.specs.ProvisionalIndex.{provisional_json}
 use Rattle.st_batch.specs.BatchFiles.{chunk_file, filed, provisional_proof_file}
 use Rattle.st_batch.specs.Grouping.{plain_groups}
+use Rattle.st_batch.specs.Prefix.{where_small}
 use Rattle.st_batch.proofs.WrittenLemmas.{provisional_none, provisional_said, provisional_some, uri_said}
 use Rattle.st_batch.proofs.index_files.provisional_file.Goals as goal
 
@@ -11,7 +12,7 @@ pub returns-in_default : goal.returns-in_default
 returns-in_default c =
     let groups = plain_groups c.args.groups.now in
     let uri = uri_said Chunk (chunk_file groups) c.requires.chunk c.first_uri.ensures in
-    c.new.ensures ∙ ap (filed Provisional) (sym (provisional_none groups (sym uri ∙ c.in_default.is)))
+    ap Some c.new.ensures ∙ ap (λ file. where_small c.args.params.now (filed Provisional file)) (sym (provisional_none groups (sym uri ∙ c.in_default.is)))
 
 pub returns : goal.returns
 returns c =
@@ -19,5 +20,5 @@ returns c =
     let uri = uri_said Chunk (chunk_file groups) c.requires.chunk c.first_uri.ensures in
     let there = provisional_some groups c.in-Some.chunk (sym uri ∙ c.in-Some.is) in
     let proof = uri_said ProvisionalProof (provisional_proof_file groups) c.requires.proof c.first_uri-2.ensures in
-    c.in_ok-filed.ensures ∙ ap (filed Provisional) (ap Some (c.in_ok-bytes.ensures.text
+    c.in_ok-filed.ensures ∙ ap (λ file. where_small c.args.params.now (filed Provisional file)) (ap Some (c.in_ok-bytes.ensures.text
     ∙ ap (λ index. canonical (provisional_json index)) (c.in_ok-index.ensures ∙ provisional_said groups proof there.1)) ∙ sym there.0)

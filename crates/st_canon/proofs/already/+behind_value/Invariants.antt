@@ -1,4 +1,6 @@
-use Rattle.std.proofs.Common.{◌+◌, ◌*◌, ◌≤◌, length, option_map}
+use Rattle.std.proofs.Common.{◌+◌, ◌*◌, ◌≤◌, length, option_map, IfSome}
+use Rattle.std.specs.Str.{IsUtf8}
+use Rattle.st_canon.specs.InFront.{name_of}
 use denote.Shadow.{shadow}
 use denote.Text.{Utf8}
 use Rattle.st_canon.proofs.AlreadyLemmas.{ItemsGoOn, MembersGoOn}
@@ -27,7 +29,8 @@ abbrev pub invariant-behind_members-members : goal.invariant-behind_members-memb
 invariant-behind_members-members l = record {
   text : shadow (Utf8 l.rest);
   shorter : length l.rest ≤ length l.text;
-  whole : MembersGoOn l.depth l.text (option_map (λ name. name.now) l.last) l.rest;
+  named : IfSome (option_map (λ name. name_of name.now) l.last) IsUtf8;
+  whole : MembersGoOn l.depth l.text (option_map (λ name. name_of name.now) l.last) l.rest;
 }
 
 abbrev pub decreases-behind_members-members : goal.decreases-behind_members-members

@@ -1,4 +1,4 @@
-use Rattle.std.proofs.Common.{◌≡◌, ℕ, ◌+◌, ◌*◌, ◌≤◌, List, length}
+use Rattle.std.proofs.Common.{◌≡◌, ℕ, ◌+◌, ◌*◌, ◌≤◌, List, length, is_some, option_map}
 use Rattle.json.specs.Json.{items, members, value, parse_map}
 use Rattle.serde_json.specs.Data.{Data, Members, no_members}
 use Rattle.serde_json.specs.Read.{converted, of_items, of_members}
@@ -8,16 +8,13 @@ use Rattle.st_canon.proofs.RespellingLemmas.{ItemsStand, items_before, items_tex
 use Rattle.st_canon.proofs.respelling.+respell.Given as goal
 
 abbrev pub decreases-respell : goal.decreases-respell
-decreases-respell l = 3 * l.depth
+decreases-respell l = 2 * l.depth
 
 abbrev pub decreases-respell_items : goal.decreases-respell_items
-decreases-respell_items l = 3 * l.depth + 2
+decreases-respell_items l = 2 * l.depth + 1
 
 abbrev pub decreases-respell_members : goal.decreases-respell_members
-decreases-respell_members l = 3 * l.depth + 2
-
-abbrev pub decreases-gather_members : goal.decreases-gather_members
-decreases-gather_members l = 3 * l.depth + 1
+decreases-respell_members l = 2 * l.depth + 1
 
 -- these items were read, and so many turns are enough for the tokens that are left
 abbrev pub invariant-respell_items-items : goal.invariant-respell_items-items
@@ -26,19 +23,19 @@ invariant-respell_items-items l =
     × (converted of_items (items (value l.depth) (length l.initial.reader) l.initial.reader)
     ≡ parse_map (items_before ds) (converted of_items (items (value l.depth) n l.reader)))
     × (length l.reader ≤ length l.initial.reader)
-    × IsWritten (ItemsStand l.comma) items_text (wholes ds) l.whole l.initial.out l.out
-    × (l.side ≡ l.initial.side)
+    × IsWritten (ItemsStand l.comma) items_text (wholes ds) l.initial.out l.out
 
 abbrev pub decreases-respell_items-items : goal.decreases-respell_items-items
 decreases-respell_items-items l = length l.reader
 
-abbrev pub invariant-gather_members-members : goal.invariant-gather_members-members
-invariant-gather_members-members l =
+abbrev pub invariant-respell_members-members : goal.invariant-respell_members-members
+invariant-respell_members-members l =
     (ds : Members) × (n : ℕ) × (length l.reader ≤ n)
     × (converted (λ ms. of_members ms no_members) (members (value l.depth) (length l.initial.reader) l.initial.reader)
     ≡ converted (λ ms. of_members ms ds) (members (value l.depth) n l.reader))
     × (length l.reader ≤ length l.initial.reader)
-    × IsGathered ds l.initial.side l.side l.gathered.from l.gathered.to l.gathered.runs.items l.gathered.places.items × (l.out ≡ l.initial.out)
+    × IsGathered ds l.initial.out l.out l.places.items l.up (option_map (λ name. name.now) l.last)
+    × (is_some l.last ≡ is_some (option_map (λ name. name.now) l.last))
 
-abbrev pub decreases-gather_members-members : goal.decreases-gather_members-members
-decreases-gather_members-members l = length l.reader
+abbrev pub decreases-respell_members-members : goal.decreases-respell_members-members
+decreases-respell_members-members l = length l.reader

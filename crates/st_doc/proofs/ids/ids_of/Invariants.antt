@@ -1,7 +1,9 @@
-use Rattle.std.proofs.Common.{◌≡◌, take, map}
-use Rattle.st_canon.specs.View.{plain}
+use Rattle.std.proofs.Common.{◌≡◌, ◌++◌, length, map}
 use Rattle.st_doc.specs.Entries.{id_of}
 use Rattle.st_doc.proofs.ids.ids_of.Given as goal
 
-abbrev pub invariant-loop-entry : goal.invariant-loop-entry
-invariant-loop-entry l = map (λ id. id.now) l.ids.items ≡ map id_of (map plain (take l.entry-index l.entries))
+abbrev pub invariant-entries : goal.invariant-entries
+invariant-entries l = map id_of l.fn.entries ≡ l.ids ++ map id_of l.left
+
+abbrev pub decreases-entries : goal.decreases-entries
+decreases-entries l = length l.left

@@ -1,8 +1,10 @@
-use Rattle.std.proofs.Common.{◌≡◌, drop, map}
+use Rattle.std.proofs.Common.{◌≡◌, length}
 use Rattle.std.specs.List.{list_all}
-use Rattle.st_canon.specs.View.{plain}
 use Rattle.st_doc.specs.Entries.{is_purpose}
 use Rattle.st_doc.proofs.key.are_all_purposes.Given as goal
 
-abbrev pub invariant-loop-value : goal.invariant-loop-value
-invariant-loop-value l = list_all is_purpose (map plain l.values) ≡ list_all is_purpose (map plain (drop l.value-index l.values))
+abbrev pub invariant-purposes : goal.invariant-purposes
+invariant-purposes l = list_all is_purpose l.fn.purposes ≡ list_all is_purpose l.left
+
+abbrev pub decreases-purposes : goal.decreases-purposes
+decreases-purposes l = length l.left

@@ -54,21 +54,21 @@ pieces-preserved g c =
     record {
       fits = fed_piece g.met.M.Machine.fewer (vec_len c.pieces.progress.line) (length (take count buffer)) c.pieces.room (c.pieces.room - count)
           (vec_len c.in-Ok-feed-2.next.line) fed.fits i.fits (omega arith);
-      context_later = omega (arith, fed.faults.context_later);
+      context_later = omega (arith, fed.orderly.context_later);
       source_later = omega (arith, read.cause.later);
-      sink_later = omega (arith, fed.faults.later);
-      unfinished = λ done. i.unfinished (fed.unfinished done);
+      sink_later = omega (arith, fed.orderly.later);
+      unfinished = λ done. i.unfinished (fed.orderly.unfinished done);
       taken = taken_more g.met.M.Machine.laws (record {
         machine = c.in-Ok-feed-2.next.machine;
         context =
             (c.feed-in-pieces.new.context, c.feed-in-pieces.new.device);
         left = g.S.Source.left c.read_some.new.source;
         holds = g.K.Sink.written c.feed-in-pieces.new.sink;
-      }) (take count buffer) i.taken read.bytes (omega arith) fed.ok fed.line;
+      }) (take count buffer) i.taken read.bytes (omega arith) fed.writes.ok fed.line;
     }
 
 pub returns-in-Err-clause-table : goal.returns-in-Err-clause-table
-returns-in-Err-clause-table g c = table_read_fault g.met.M.Machine.laws _ c.requires.limit c.pieces.invariant.taken c.in-Err.ensures.err
+returns-in-Err-clause-table g c = table_read_fault g.met.M.Machine.laws c.requires.limit c.pieces.invariant.taken c.in-Err.ensures.err
 
 pub returns-then-count-eq0-clause-table : goal.returns-then-count-eq0-clause-table
 returns-then-count-eq0-clause-table g c =
@@ -77,7 +77,7 @@ returns-then-count-eq0-clause-table g c =
     let zero = c.if-count-eq0.true in
     let none = subst (λ n. Consumes (g.S.Source.left c.pieces.source) (g.S.Source.left c.read_some.new.source)
     (take n c.read_some.new.buffer)) zero read.bytes in
-    table_of_end g.met.M.Machine.laws _ _ c.end_run.result c.requires.limit c.pieces.invariant.taken (none, read.end zero) end.ok (end.err, end.faults.cause)
+    table_of_end g.met.M.Machine.laws _ _ c.end_run.result c.requires.limit c.pieces.invariant.taken (none, read.end zero) end.ok (end.err, end.orderly.cause)
 
 pub returns-in-Ok-feed-clause-table : goal.returns-in-Ok-feed-clause-table
 returns-in-Ok-feed-clause-table g c =
@@ -89,7 +89,7 @@ returns-in-Ok-feed-clause-table g c =
     let over : count ≡ room + 1 = omega (arith, read.count) in
     let len : length (take count buffer) ≡ count = length-take-le count buffer bound in
     table_over g.met.M.Machine.laws c.requires.limit c.pieces.invariant.taken (read_over buffer room count _ _ bound over read.bytes)
-    (length-take-le room buffer (omega arith)) (omega (arith, length-drop room (take count buffer))) c.in-Ok-feed.ensures.ok
+    (length-take-le room buffer (omega arith)) (omega (arith, length-drop room (take count buffer))) c.in-Ok-feed.ensures.writes.ok
 
 pub returns-in-Err-feed-clause-table : goal.returns-in-Err-feed-clause-table
 returns-in-Err-feed-clause-table g c =
@@ -98,7 +98,7 @@ returns-in-Err-feed-clause-table g c =
     let bound : c.in-Ok.count ≤ length c.read_some.new.buffer = omega (arith, read.count) in
     let over : c.in-Ok.count ≡ c.pieces.room + 1 = omega (arith, read.count) in
     table_cut g.met.M.Machine.laws _ _ c.in-Err-feed.stop c.requires.limit c.pieces.invariant.taken
-    (read_over c.read_some.new.buffer c.pieces.room c.in-Ok.count _ _ bound over read.bytes) fed.err fed.faults.cause
+    (read_over c.read_some.new.buffer c.pieces.room c.in-Ok.count _ _ bound over read.bytes) fed.writes.err fed.orderly.cause
 
 pub returns-in-Err-feed-2-clause-table : goal.returns-in-Err-feed-2-clause-table
 returns-in-Err-feed-2-clause-table g c =
@@ -106,4 +106,4 @@ returns-in-Err-feed-2-clause-table g c =
     let fed = c.in-Err-feed-2.ensures in
     let bound : c.in-Ok.count ≤ length c.read_some.new.buffer = omega (arith, read.count) in
     table_cut g.met.M.Machine.laws _ _ c.in-Err-feed-2.stop c.requires.limit c.pieces.invariant.taken
-    (read_within c.read_some.new.buffer c.pieces.room c.in-Ok.count _ _ bound (omega arith) read.bytes) fed.err fed.faults.cause
+    (read_within c.read_some.new.buffer c.pieces.room c.in-Ok.count _ _ bound (omega arith) read.bytes) fed.writes.err fed.orderly.cause

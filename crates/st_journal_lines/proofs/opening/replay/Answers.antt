@@ -1,14 +1,16 @@
-use Rattle.std.proofs.Common.{◌∙◌, [], ◌∷◌, Ok, refl, ap, sym, subst, arith}
+use Rattle.std.proofs.Common.{◌≡◌, ◌∙◌, ◌+◌, ◌<◌, ℕ, List, length, [], ◌∷◌, Ok, Some, refl, ap, sym, subst, arith}
+use Rattle.std.specs.Prelude.{IfSome}
 use Rattle.st_io.proofs.MomentLemmas.{no_image_on}
 use Rattle.st_io.proofs.PastLemmas.{stands}
-use Rattle.st_journal.specs.Coming.{Comes, coming, put_before}
-use Rattle.st_journal_lines.proofs.ReplayLemmas.{gave_within, ran_all, refused_as, replayed_all, replayed_more, replayed_none, stayed_within}
+use Rattle.st_journal.specs.Coming.{Comes, coming, left_of, put_before}
+use Rattle.st_journal_lines.proofs.ReplayLemmas.{first_gave, first_within, gave_within, ran_all, refused_as, replayed_all, replayed_more, replayed_none, stayed_within}
 use Rattle.st_journal_lines.proofs.opening.replay.Goals as goal
 
 pub records-init : goal.records-init
 records-init g c = record {
   reading = c.requires;
-  replayed = λ image told. replayed_none g.met.N.Replayable.laws c.args.machine c.args.context.now (coming c.args.opening image);
+  replayed = λ image told. replayed_none g.met.N.Replayable.laws c.args.machine c.args.context.now c.args.opening.place image (coming c.args.opening image);
+  left = λ left. left;
   reads = refl;
   images = record { goes = stands _; none = λ x left. left };
   later = omega arith;
@@ -18,11 +20,17 @@ pub records-preserved : goal.records-preserved
 records-preserved g c = record {
   reading = c.next.ensures.reading;
   replayed = λ image told.
+      let place = subst (λ next. IfSome next (λ (body : List ℕ). c.next.new.self.place ≡ c.records.opening.place + (5 + length body))) c.in-Ok-Some.field-0-is c.in-Ok-Some.ensures.place in
       let came = subst (λ next. Comes (coming c.records.opening image) (coming c.next.new.self image) (Ok next)) c.in-Ok-Some.field-0-is
       (c.in-Ok-Some.ensures.comes image (c.records.invariant.reads ∙ told)) in
       replayed_more g.met.N.Replayable.laws (c.records.invariant.replayed image told)
       (came ∙ ap (λ l. put_before (l ∷ []) (coming c.next.new.self image)) (sym c.as_slice.ensures))
+      (c.in-Ok-Some.ensures.gives image (c.records.invariant.reads ∙ told) ∙ ap Some c.in-Ok-Some.field-0-is ∙ ap (λ l. Some (Some l)) (sym c.as_slice.ensures))
+      (place ∙ ap (λ l. c.records.opening.place + (5 + length l)) (sym c.as_slice.ensures))
       c.in-Ok.ensures.next c.in-Ok.ensures.ran;
+  left = λ left.
+      let less = subst (λ next. IfSome next (λ body. left_of c.next.new.self < left_of c.records.opening)) c.in-Ok-Some.field-0-is c.in-Ok-Some.ensures.shorter in
+      c.records.invariant.left (omega (arith, less));
   reads = c.next.ensures.reads ∙ c.records.invariant.reads;
   images = no_image_on _ _ _ c.records.invariant.images c.next.ensures.images;
   later = omega (arith, c.records.invariant.later, c.next.ensures.later);
@@ -57,3 +65,12 @@ returns-in-Err-clause-gives g c image told =
 pub returns-in-Err-clause-gave_up : goal.returns-in-Err-clause-gave_up
 returns-in-Err-clause-gave_up g c image told r is =
     stayed_within g.met.N.Replayable.laws (c.records.invariant.replayed image told) r is
+
+pub returns-in-Err-answer-clause-within : goal.returns-in-Err-answer-clause-within
+returns-in-Err-answer-clause-within g c image told =
+    first_gave g.met.N.Replayable.laws (c.records.invariant.replayed image told)
+    (c.in-Ok-Some.ensures.gives image (c.records.invariant.reads ∙ told) ∙ ap Some c.in-Ok-Some.field-0-is ∙ ap (λ l. Some (Some l)) (sym c.as_slice.ensures))
+    c.in-Err-answer.ensures.gave_up
+
+pub returns-in-Err-clause-within : goal.returns-in-Err-clause-within
+returns-in-Err-clause-within g c image told = first_within g.met.N.Replayable.laws (c.records.invariant.replayed image told)

@@ -1,4 +1,4 @@
-use Rattle.std.proofs.Common.{◌≡◌, ◌≤◌}
+use Rattle.std.proofs.Common.{◌≡◌, ◌<◌, ◌≤◌}
 use Rattle.st_io.specs.Past.{AddsNoImage}
 use Rattle.st_io.specs.Tears.{IfTold}
 use Rattle.st_journal.specs.Coming.{IsReading, coming, left_of}
@@ -10,7 +10,8 @@ abbrev pub invariant-records : goal.invariant-records
 invariant-records g l = record {
   reading : IsReading l.opening (g.D.Disk.reads l.disk) (g.D.Disk.past l.disk);
   replayed : IfTold (g.D.Disk.reads l.fn.disk) (λ image.
-      Replayed g.N.Replayable.answering l.fn.machine l.fn.context (coming l.fn.opening image) (coming l.opening image) l.machine l.context);
+      Replayed g.N.Replayable.answering l.fn.machine l.fn.context l.fn.opening.place l.opening.place image (coming l.fn.opening image) (coming l.opening image) l.machine l.context);
+  left : 0 < left_of l.opening → 0 < left_of l.fn.opening;
   reads : g.D.Disk.reads l.disk ≡ g.D.Disk.reads l.fn.disk;
   images : AddsNoImage (g.D.Disk.past l.fn.disk) (g.D.Disk.past l.disk);
   later : g.D.Disk.faults l.fn.disk ≤ g.D.Disk.faults l.disk;

@@ -15,7 +15,7 @@ pub ends-preserved : goal.ends-preserved
 ends-preserved c =
     let start = c.args.id.now ++ u32str c.args.q ++ u16str d_pblc in
     let end = end_of_value (one_time_number c.args.kind) c.args.id.now c.args.q c.args.digits.now c.args.values.now in
-    rw (joined_behind start end c.ends.i c.end_of_value.result c.end_of_value.ensures) at (c.update.ensures (start ++ joined end c.ends.i) c.ends.invariant)
+    rw (joined_behind start end c.ends.i c.known_end.result c.known_end.ensures) at (c.update.ensures (start ++ joined end c.ends.i) c.ends.invariant)
 
 pub returns : goal.returns
 unfolding candidate_key key_of_ends

@@ -15,7 +15,7 @@ pub ends-preserved : goal.ends-preserved
 ends-preserved c =
     let start = c.args.id.now ++ u32str c.args.q ++ u16str d_pblc in
     let end = end_of_secret (one_time_number c.args.kind) c.args.id.now c.args.q c.args.seed.now in
-    rw (joined_behind start end c.ends.i c.end_of_secret.result c.end_of_secret.ensures) at (c.update.ensures (start ++ joined end c.ends.i) c.ends.invariant)
+    rw (joined_behind start end c.ends.i c.known_end_of_secret.result c.known_end_of_secret.ensures) at (c.update.ensures (start ++ joined end c.ends.i) c.ends.invariant)
 
 pub returns : goal.returns
 unfolding one_time_public key_of_ends

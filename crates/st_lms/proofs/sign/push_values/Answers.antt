@@ -13,11 +13,11 @@ digits-init c =
 pub digits-preserved : goal.digits-preserved
 digits-preserved c =
     let value = signed_value c.args.secret.now.ots c.args.secret.now.id c.args.q c.args.secret.now.seed c.args.digits.now in
-    let next : c.signed_value-value.result ≡ value c.digits.i =
-    c.signed_value-value.ensures
+    let next : c.known_signed_value-value.result ≡ value c.digits.i =
+    c.known_signed_value-value.ensures
     ∙ ap (λ secret. signed_value secret.ots secret.id c.args.q secret.seed c.args.digits.now c.digits.i) c.secret.view_is in
-    c.in_ok-push_all.ensures.ok ∙ ap (λ xs. xs ++ c.signed_value-value.result) c.digits.invariant
-    ∙ joined_behind c.args.out.now value c.digits.i c.signed_value-value.result next
+    c.in_ok-push_all.ensures.ok ∙ ap (λ xs. xs ++ c.known_signed_value-value.result) c.digits.invariant
+    ∙ joined_behind c.args.out.now value c.digits.i c.known_signed_value-value.result next
 
 pub returns : goal.returns
 unfolding signed_values

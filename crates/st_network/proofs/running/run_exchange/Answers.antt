@@ -1,10 +1,9 @@
-use Rattle.st_network.proofs.RunLemmas.{table_of, table_unbegun}
+use Rattle.std.proofs.Common.{refl}
+use Rattle.st_network.proofs.RunLemmas.{exchange_run, unbegun_run}
 use Rattle.st_network.proofs.running.run_exchange.Goals as goal
 
-pub returns-in-Ok-clause-table : goal.returns-in-Ok-clause-table
-returns-in-Ok-clause-table g c =
-    table_of _ (c.args.work.now, tt) (c.run_machine.new.context, tt) c.in-Ok.ensures c.run_machine.ensures.table
+pub returns-in-Ok : goal.returns-in-Ok
+returns-in-Ok g c = exchange_run (c.args.work.now, tt) (c.run_machine.new.context, tt) c.in-Ok.ensures c.run_machine.ensures
 
-pub returns-in-Err-clause-table : goal.returns-in-Err-clause-table
-returns-in-Err-clause-table g c =
-    table_unbegun c.args.limit (g.S.Source.left c.args.source.now) (g.K.Sink.written c.args.sink.now)
+pub returns-in-Err : goal.returns-in-Err
+returns-in-Err g c = unbegun_run (record { left_is = refl; holds_is = refl; finished_is = refl })

@@ -1,31 +1,31 @@
-use Rattle.std.proofs.Common.{◌≡◌, ◌∙◌, length, sym, ap, refl, Some, None, arith, rules}
+use Rattle.std.proofs.Common.{◌≡◌, ◌∙◌, length, sym, ap, refl, Some, None, arith, rules, inl, inr}
 use Rattle.std.proofs.lemmas.Bool.{eqb-true}
 use Rattle.std.proofs.lemmas.List.{nil_from_length}
 use Rattle.st_opindex.specs.Items.{before}
-use Rattle.st_opindex.proofs.Keyed.{IsUpdated, row_found, rows_updated, seen_changed, seen_found, updated_by_itself, updated_twice}
+use Rattle.st_opindex.proofs.Keyed.{IsUpdated, left_more, left_none, row_found, rows_updated, seen_changed, seen_found, updated_by_itself, updated_twice}
 use Rattle.st_opindex.proofs.rows.cut_key.Goals as goal
 
-pub returns-in_default-clause-rows : goal.returns-in_default-clause-rows
-returns-in_default-clause-rows g c = rw c.get_mut.follows.holds-at-none c.requires
-
-pub returns-in_default-clause-items : goal.returns-in_default-clause-items
-returns-in_default-clause-items g c =
+pub returns-in_default : goal.returns-in_default
+returns-in_default g c =
     let order = g.met.K.Ord.total in
     let missing = c.in_default.ensures.value in
-    rw c.get_mut.follows.holds-at-none (seen_changed (updated_by_itself order missing) order (before c.args.place) missing refl)
+    let itself = updated_by_itself order missing in
+    rw c.get_mut.follows.holds-at-none (record {
+      rows = c.requires;
+      items = seen_changed itself order (before c.args.place) missing refl;
+      left = left_more itself order c.args.place missing (inr (omega arith));
+      none = λ no. left_none itself order missing (inl refl);
+      some = search rules;
+    })
 
 pub cut_row-requires : goal.cut_row-requires
 cut_row-requires g c = row_found c.requires c.args.key c.get_mut-row.result.now (ap Some c.get_mut-row.ensures.value ∙ c.in-Some.ensures.value)
-
-pub returns-in_err-cut_row-clause-bound : goal.returns-in_err-cut_row-clause-bound
-returns-in_err-cut_row-clause-bound g c =
-    let found = ap Some c.get_mut-row.ensures.value ∙ c.in-Some.ensures.value in
-    rw (seen_found g.K.Ord.cmp c.args.key c.args.rows.now.entries _ found) c.cut_row.ensures.bound
 
 pub returns-then-is_empty : goal.returns-then-is_empty
 returns-then-is_empty g c =
     let old = c.args.rows.now.entries in
     let row = c.cut_row.new.row in
+    let order = g.met.K.Ord.total in
     let found = ap Some c.get_mut-row.ensures.value ∙ c.in-Some.ensures.value in
     let cuts : IsUpdated g.K.Ord.cmp c.args.key (Some row) old (c.get_mut.follows.lender row).entries =
     record { each = ((c.get_mut.follows.holds row).3 (search rules)).0 } in
@@ -35,20 +35,25 @@ returns-then-is_empty g c =
     let empty : length row.items.items ≡ 0 = omega (arith, eqb-true _ 0 (sym c.if-is_empty.ensures), row.items.ok.0) in
     record {
       rows = rows_updated c.requires updates tt;
-      items = seen_changed updates g.met.K.Ord.total (before c.args.place) found
-          (sym (nil_from_length row.items.items empty) ∙ c.in_ok-cut_row.ensures.items);
-      bound = rw (seen_found g.K.Ord.cmp c.args.key old _ found) c.cut_row.ensures.bound;
+      items = seen_changed updates order (before c.args.place) found
+          (sym (nil_from_length row.items.items empty) ∙ c.in_ok-any.ensures.items);
+      left = left_more updates order c.args.place found (inr (omega arith));
+      none = λ no. left_none updates order found (inr refl);
+      some = search rules;
     }
 
-pub returns-else-is_empty : goal.returns-else-is_empty
-returns-else-is_empty g c =
+pub returns : goal.returns
+returns g c =
     let old = c.args.rows.now.entries in
     let row = c.cut_row.new.row in
+    let order = g.met.K.Ord.total in
     let found = ap Some c.get_mut-row.ensures.value ∙ c.in-Some.ensures.value in
     let updates : IsUpdated g.K.Ord.cmp c.args.key (Some row) old (c.get_mut.follows.lender row).entries =
     record { each = ((c.get_mut.follows.holds row).3 (search rules)).0 } in
     record {
-      rows = rows_updated c.requires updates c.in_ok-cut_row.ensures.folded;
-      items = seen_changed updates g.met.K.Ord.total (before c.args.place) found c.in_ok-cut_row.ensures.items;
-      bound = rw (seen_found g.K.Ord.cmp c.args.key old _ found) c.cut_row.ensures.bound;
+      rows = rows_updated c.requires updates c.in_ok-any.ensures.row;
+      items = seen_changed updates order (before c.args.place) found c.in_ok-any.ensures.items;
+      left = left_more updates order c.args.place found c.in_ok-any.ensures.left;
+      none = λ no. left_none updates order found (inl (ap Some (c.in_ok-any.ensures.none no)));
+      some = λ yes. rw (seen_found g.K.Ord.cmp c.args.key old _ found) (c.in_ok-any.ensures.some yes);
     }

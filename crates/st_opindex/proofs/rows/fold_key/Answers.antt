@@ -1,5 +1,4 @@
-use Rattle.std.proofs.Common.{◌≡◌, ◌∙◌, ap, Some, refl, arith, rules}
-use Rattle.st_opindex.specs.Seen.{left_of}
+use Rattle.std.proofs.Common.{◌∙◌, ap, Some, refl, rules}
 use Rattle.st_opindex.proofs.Keyed.{IsUpdated, left_folded, row_found, rows_updated, seen_changed, updated_by_itself}
 use Rattle.st_opindex.proofs.rows.fold_key.Goals as goal
 
@@ -30,10 +29,9 @@ returns g c =
     let found = ap Some c.get_mut-2.ensures.value ∙ c.in-Some.ensures.value in
     let updates : IsUpdated g.K.Ord.cmp c.args.key (Some row) c.args.rows.now.entries (c.get_mut.follows.lender row).entries =
     record { each = ((c.get_mut.follows.holds row).3 (search rules)).0 } in
-    let none : left_of row ≡ 0 = omega (arith, c.in_ok-fold_row.ensures.folded.all) in
     record {
-      rows = rows_updated c.requires updates c.in_ok-fold_row.ensures.folded.is;
+      rows = rows_updated c.requires updates c.in_ok-fold_row.ensures.row;
       items = seen_changed updates g.met.K.Ord.total (λ items. items) found c.in_ok-fold_row.ensures.items;
-      folds = left_folded updates none;
+      folds = left_folded updates c.in_ok-fold_row.ensures.none;
       bound = rw (← found) c.fold_row.ensures.bound;
     }

@@ -1,6 +1,6 @@
 use Rattle.std.proofs.Common.{◌≡◌, ◌∙◌, ◌+◌, ◌∷◌, [], ◌++◌, take, sym, ap}
 use Rattle.std.proofs.lemmas.List.{take_all, take_more}
-use Rattle.st_opindex.proofs.Folding.{all_folded, fold_paid, fold_stopped, folding_more, folding_start, paid_folded, paid_start}
+use Rattle.st_opindex.proofs.Folding.{fold_paid, fold_stopped, folding_more, folding_start, none_left, nothing_owed, paid_folded, paid_start}
 use Rattle.st_opindex.proofs.rows.fold_keys.Goals as goal
 
 pub changes-init : goal.changes-init
@@ -31,10 +31,10 @@ changes-preserved g c =
           c.fold_key.new.rows.entries c.in_ok-fold_key.ensures.folds;
     }
 
-pub returns-clause-rows : goal.returns-clause-rows
-returns-clause-rows g c =
+pub returns-clause-owed : goal.returns-clause-owed
+returns-clause-owed g c =
     let folding = rw (take_all c.changes.change-index c.args.changes.now c.changes-test.false) at c.changes.invariant.folding in
-    all_folded c.requires.owed folding c.changes.invariant.rows
+    nothing_owed (none_left c.requires.owed folding)
 
 pub returns-clause-items : goal.returns-clause-items
 returns-clause-items g c = c.changes.invariant.folding.items

@@ -1,5 +1,6 @@
 use Rattle.std.proofs.Common.{List, take, ℕ}
-use Rattle.st_opindex.specs.Changed.{AreNamed}
+use Rattle.std.specs.List.{AllByRecursion}
+use Rattle.st_opindex.specs.ByKey.{Covers}
 use Rattle.st_opindex.specs.Seen.{AreRows}
 use Rattle.st_opindex.proofs.Folding.{HasPaid, IsFolding}
 use Rattle.st_opindex.proofs.rows.fold_keys.Given as goal
@@ -10,5 +11,5 @@ invariant-changes g l =
     record {
       rows : AreRows cmp (g.F.Folder.next l.folder) (g.F.Folder.first l.folder) l.rows.entries;
       folding : IsFolding cmp (take l.change-index l.changes) l.fn.rows.entries l.rows.entries;
-      paid : (names : List (_ × ℕ)) → AreNamed cmp l.changes names → HasPaid cmp names l.fn.rows.entries l.rows.entries l.fn.work l.work;
+      paid : (names : List (_ × ℕ)) → AllByRecursion (Covers cmp names) l.changes → HasPaid cmp names l.fn.rows.entries l.rows.entries l.fn.work l.work;
     }

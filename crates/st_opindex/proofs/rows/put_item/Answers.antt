@@ -1,9 +1,8 @@
-use Rattle.std.proofs.Common.{◌≡◌, ◌+◌, ◌≤◌, ◌⊎◌, length, Some, None, arith, rules, inl, inr}
+use Rattle.std.proofs.Common.{◌≡◌, Some, None, rules}
 use Rattle.std.specs.BTreeMap.{is_at}
 use Rattle.std.specs.BTreeMap.Entry.{map_with_value}
 use Rattle.std.specs.Map.{lookup}
-use Rattle.st_opindex.specs.Items.{from, with_item}
-use Rattle.st_opindex.specs.Seen.{left_of}
+use Rattle.st_opindex.specs.Items.{with_item}
 use Rattle.st_opindex.proofs.Keyed.{IsUpdated, left_more, row_found, rows_updated, seen_changed, updated_as}
 use Rattle.st_opindex.proofs.rows.put_item.Goals as goal
 
@@ -21,19 +20,13 @@ returns-in_ok-put_row-in-Occupied g c =
     let row = c.put_row.new.row in
     let put = c.in_ok-put_row-in-Occupied.ensures in
     let found : Some was ≡ lookup (is_at (g.K.Ord.cmp c.args.key)) old = search rules in
-    let is = row_found c.requires c.args.key was found in
-    let more : (left_of row + length was.items.items ≤ left_of was + length row.items.items) ⊎ (left_of row ≤ 7 + length (from place row.items.items)) =
-    elim put.left [
-      | inl same ↦ inl (omega (arith, same, is.within, put.row.within))
-      | inr few ↦ inr few
-    ] in
     let written : IsUpdated g.K.Ord.cmp c.args.key (Some row) old (map_with_value c.in_ok-entry.field-0 row).entries =
     record { each = (c.in_ok-entry.ensures.update.0 row).0 } in
     let updates : IsUpdated g.K.Ord.cmp c.args.key (Some row) old _ = updated_as written (search rules) in
     record {
       rows = rows_updated c.requires updates put.row;
       items = seen_changed updates order (with_item place c.args.item) found put.items;
-      left = left_more updates order place found more;
+      left = left_more updates order place found put.left;
     }
 
 pub returns-in_ok-row-in-Vacant-clause-items : goal.returns-in_ok-row-in-Vacant-clause-items

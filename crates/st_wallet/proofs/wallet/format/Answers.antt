@@ -14,13 +14,16 @@ returns-in-Err-Formatted-clause-answer_told g c xs told =
 pub returns-in-Err-Formatted-clause-answer : goal.returns-in-Err-Formatted-clause-answer
 returns-in-Err-Formatted-clause-answer g c =
     let refused = c.in-Err-Formatted in
-    inr (record {
-      untold = untold_if (g.D.Disk.reads c.args.disk.now)
-          (λ xs told. not_formatted c.args.secret xs refused.field-0 (c.requires xs told) refused.field-0-is
-          (refused.ensures.gives xs told));
-      blank = refl;
-      answers = (c.blank.ensures, c.in_ok-text-in-Err-Formatted.ensures);
-    })
+    inr (
+      refl,
+      record {
+        untold = untold_if (g.D.Disk.reads c.args.disk.now)
+            (λ xs told. not_formatted c.args.secret xs refused.field-0 (c.requires xs told) refused.field-0-is
+            (refused.ensures.gives xs told));
+        blank = refl;
+        answers = (c.blank.ensures, c.in_ok-text-in-Err-Formatted.ensures);
+      },
+    )
 
 pub returns-in-Ok-clause-all_found : goal.returns-in-Ok-clause-all_found
 returns-in-Ok-clause-all_found g c xs told all image there =

@@ -3,7 +3,6 @@ use Rattle.st_base.specs.Words.{HasNo}
 use Rattle.st_drive.specs.Parts.{Gathered, outlet}
 use Rattle.st_drive.proofs.LineLemmas.{open_append}
 use Rattle.st_drive.proofs.Fed.{no_pieces, one_more, all_pieces, gathered_none, gathered_more, gathered_less, gathered_some, some_of_all}
-use Rattle.st_drive.proofs.RunLemmas.{on_err}
 use Rattle.st_drive.proofs.FitsLemmas.{as_many, fed_line}
 use Rattle.st_drive.proofs.progress.Progress.answer_lines.Goals as goal
 
@@ -28,35 +27,35 @@ pub lines-preserved : goal.lines-preserved
 lines-preserved g c =
     let i = c.lines.invariant in
     let cut = c.in-Some.ensures in
-    let ended = c.in_ok-machine.ensures in
+    let ended = c.in-Ok.ensures in
     let pieces = one_more i.answered.1 (record { open_line = i.partial; open_front = cut.first; cut = cut.whole }) in
     record {
       fits = λ more fits. fed_line g.met.M.Machine.fewer more (vec_len c.lines.line) (length c.in-Some.front.now) (length c.lines.rest.now) (length c.in-Some.after.now) (vec_len c.end_line.new.line) ended.fits (i.fits more fits) (let whole = ap length cut.whole in omega (arith, length-append c.in-Some.front.now (10 ∷ c.in-Some.after.now))) (let none = ap length ended.emptied in omega arith);
       cap = (let n = ap length ended.emptied in omega arith);
       partial = subst (HasNo 10) (sym ended.emptied) tt;
-      later = omega (arith, ended.faults.later);
-      context_later = omega (arith, ended.faults.context_later);
-      unfinished = λ done. i.unfinished (ended.unfinished done);
-      answered = (_, rw ended.emptied pieces, gathered_more g.met.M.Machine.laws i.answered.2 ended.ok);
+      later = omega (arith, ended.orderly.later);
+      context_later = omega (arith, ended.orderly.context_later);
+      unfinished = λ done. i.unfinished (ended.orderly.unfinished done);
+      answered = (_, rw ended.emptied pieces, gathered_more g.met.M.Machine.laws i.answered.2 ended.gathers.ok);
     }
 
-pub returns-in_err-machine-clause-err : goal.returns-in_err-machine-clause-err
-returns-in_err-machine-clause-err g c =
+pub returns-in-Err-clause-gathers : goal.returns-in-Err-clause-gathers
+returns-in-Err-clause-gathers g c =
     let i = c.lines.invariant in
     let cut = c.in-Some.ensures in
     let pieces = one_more i.answered.1 (record { open_line = i.partial; open_front = cut.first; cut = cut.whole }) in
-    on_err _ (some_of_all g.met.M.Machine.laws pieces (gathered_less g.met.M.Machine.laws i.answered.2 c.in_err-machine.ensures.err))
+    record { ok = tt; err = some_of_all g.met.M.Machine.laws pieces (gathered_less g.met.M.Machine.laws i.answered.2 c.in-Err.ensures.gathers.err) }
 
-pub returns-then-is_err-clause-err : goal.returns-then-is_err-clause-err
-returns-then-is_err-clause-err g c =
+pub returns-then-is_err-clause-gathers : goal.returns-then-is_err-clause-gathers
+returns-then-is_err-clause-gathers g c =
     let i = c.lines.invariant in
-    some_of_all g.met.M.Machine.laws i.answered.1 (gathered_some g.met.M.Machine.laws i.answered.2)
+    record { ok = tt; err = some_of_all g.met.M.Machine.laws i.answered.1 (gathered_some g.met.M.Machine.laws i.answered.2) }
 
-pub returns-clause-ok : goal.returns-clause-ok
-returns-clause-ok g c =
+pub returns-clause-gathers : goal.returns-clause-gathers
+returns-clause-gathers g c =
     let i = c.lines.invariant in
     let all = all_pieces i.answered.1 (open_append c.lines.line.items c.lines.rest.now i.partial c.in_default.ensures.none) in
-    subst (λ ls. Gathered g.M.Machine.meaning g.M.Machine.CAP c.args.self.machine (c.args.context.now, c.args.device.now) ls c.lines.machine (c.lines.context, c.lines.device) (outlet (g.K.Sink.written c.args.sink.now) c.args.gathered.now.items (g.K.Sink.written c.lines.sink) c.lines.gathered.items)) (sym (ap (λ p. p.0) all)) i.answered.2
+    record { ok = subst (λ ls. Gathered g.M.Machine.meaning g.M.Machine.CAP c.args.self.machine (c.args.context.now, c.args.device.now) ls c.lines.machine (c.lines.context, c.lines.device) (outlet (g.K.Sink.written c.args.sink.now) c.args.gathered.now.items (g.K.Sink.written c.lines.sink) c.lines.gathered.items)) (sym (ap (λ p. p.0) all)) i.answered.2; err = tt }
 
 pub returns-clause-line : goal.returns-clause-line
 returns-clause-line g c =

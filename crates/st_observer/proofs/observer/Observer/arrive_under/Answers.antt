@@ -5,34 +5,39 @@ use Rattle.st_observer.specs.Work.{GrewAtMost, ReadExactly, arrival_cost, decide
 use Rattle.st_observer.proofs.ArriveLemmas.{arrived-exact, arrived-few, arrived-kept, arrived-start}
 use Rattle.st_observer.proofs.observer.Observer.arrive_under.Goals as goal
 
-pub settle_waiting-requires : goal.settle_waiting-requires
-settle_waiting-requires c =
-    arrived-start c.args.bytes (over c.self.inside.schedule c.self.inside.ledger c.self.inside.content) c.self.inside.kept c.args.uri c.put_under.new.self
-    c.self.invariant c.requires c.in_ok-put.ensures.ok
+pub settle_waiting-requires-clause-going : goal.settle_waiting-requires-clause-going
+settle_waiting-requires-clause-going c =
+    let observed = over c.self.inside.schedule c.self.inside.ledger c.self.inside.content in
+    arrived-start c.args.bytes observed c.self.inside.kept c.args.uri c.put_under.new.self
+    c.self.invariant.is c.requires c.in_ok-put.ensures.ok
 
 pub invariant_of-observer : goal.invariant_of-observer
 invariant_of-observer c =
-    arrived-kept c.args.bytes (over c.self.inside.schedule c.self.inside.ledger c.self.inside.content) c.self.inside.kept c.args.uri c.put_under.new.self
-    c.self.invariant c.requires c.in_ok-put.ensures.ok c.in_ok-kept.kept c.in_ok-kept.ensures.state
+    let observed = over c.self.inside.schedule c.self.inside.ledger c.self.inside.content in
+    arrived-kept c.args.bytes observed c.self.inside.kept c.args.uri c.put_under.new.self
+    c.self.invariant.is c.requires c.in_ok-put.ensures.ok c.in_ok-kept.kept c.in_ok-kept.ensures.state
 
 pub returns-clause-exact : goal.returns-clause-exact
 returns-clause-exact c =
+    let observed = over c.self.inside.schedule c.self.inside.ledger c.self.inside.content in
     subst (λ (s : Observed). ReadExactly (decided_in (arrived c.args.bytes s) - decided_in s)
     (opened_in (arrived c.args.bytes s) - opened_in s) c.args.work.now c.settle_waiting.new.work) c.self.view_is
-    (arrived-exact c.args.bytes (over c.self.inside.schedule c.self.inside.ledger c.self.inside.content) c.self.inside.kept c.args.uri c.put_under.new.self
-    c.self.invariant c.requires c.in_ok-put.ensures.ok c.in_ok-kept.kept c.args.work.now c.settle_waiting.new.work c.in_ok-kept.ensures.state
+    (arrived-exact c.args.bytes observed c.self.inside.kept c.args.uri c.put_under.new.self
+    c.self.invariant.is c.requires c.in_ok-put.ensures.ok c.in_ok-kept.kept c.args.work.now c.settle_waiting.new.work c.in_ok-kept.ensures.state
     c.in_ok-kept.ensures.exact)
 
 pub returns-clause-bound : goal.returns-clause-bound
 returns-clause-bound c =
+    let observed = over c.self.inside.schedule c.self.inside.ledger c.self.inside.content in
     subst (λ (s : Observed). GrewAtMost (decided_in (arrived c.args.bytes s) - decided_in s) (opened_in (arrived c.args.bytes s) - opened_in s)
     (arrival_cost c.args.bytes s) c.args.work.now c.settle_waiting.new.work) c.self.view_is
-    (arrived-few c.args.bytes (over c.self.inside.schedule c.self.inside.ledger c.self.inside.content) c.self.inside.kept c.args.uri c.put_under.new.self
-    c.self.invariant c.requires c.in_ok-put.ensures.ok c.args.work.now c.settle_waiting.new.work c.settle_waiting.ensures.bound)
+    (arrived-few c.args.bytes observed c.self.inside.kept c.args.uri c.put_under.new.self
+    c.self.invariant.is c.requires c.in_ok-put.ensures.ok c.args.work.now c.settle_waiting.new.work c.settle_waiting.ensures.bound)
 
 pub returns-in_err-kept-clause-bound : goal.returns-in_err-kept-clause-bound
 returns-in_err-kept-clause-bound c =
+    let observed = over c.self.inside.schedule c.self.inside.ledger c.self.inside.content in
     subst (λ (s : Observed). GrewAtMost (decided_in (arrived c.args.bytes s) - decided_in s) (opened_in (arrived c.args.bytes s) - opened_in s)
     (arrival_cost c.args.bytes s) c.args.work.now c.settle_waiting.new.work) c.self.view_is
-    (arrived-few c.args.bytes (over c.self.inside.schedule c.self.inside.ledger c.self.inside.content) c.self.inside.kept c.args.uri c.put_under.new.self
-    c.self.invariant c.requires c.in_ok-put.ensures.ok c.args.work.now c.settle_waiting.new.work c.settle_waiting.ensures.bound)
+    (arrived-few c.args.bytes observed c.self.inside.kept c.args.uri c.put_under.new.self
+    c.self.invariant.is c.requires c.in_ok-put.ensures.ok c.args.work.now c.settle_waiting.new.work c.settle_waiting.ensures.bound)

@@ -10,7 +10,7 @@ returns-in-Some g c =
       value = rw (← c.self.view_is)
           (c.as_slice.ensures.value ∙ ap (λ row. row.items.items) c.get-in-Some.ensures
           ∙ sym (seen_found g.K.Ord.cmp c.args.key.now c.self.inside.rows.entries (Some row) found));
-      ascend = rw c.as_slice.ensures.value (rw c.get-in-Some.ensures (row_found c.self.invariant.rows c.args.key.now row found).is.ascends);
+      ascend = rw c.as_slice.ensures.value (rw c.get-in-Some.ensures (row_found c.self.invariant.rows c.args.key.now row found).ascends);
     }
 
 pub returns-in-None-clause-value : goal.returns-in-None-clause-value

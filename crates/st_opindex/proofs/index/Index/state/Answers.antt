@@ -1,8 +1,10 @@
 use Rattle.std.proofs.Common.{◌≡◌, ◌∙◌, sym, ap, Some, None, rules}
 use Rattle.st_opindex.specs.Items.{folded}
 use Rattle.st_opindex.specs.ByKey.{items_at}
+use Rattle.st_opindex.specs.Kept.{left_of}
 use Rattle.st_opindex.specs.Seen.{seen_items}
-use Rattle.st_opindex.proofs.Keyed.{seen_found, row_found}
+use Rattle.st_opindex.proofs.Folding.{nothing_left}
+use Rattle.st_opindex.proofs.Keyed.{left_in, seen_found, row_found}
 use Rattle.st_opindex.proofs.Kept.{row_folds}
 use Rattle.st_opindex.proofs.index.Index.state.Goals as goal
 
@@ -11,8 +13,11 @@ returns-in-Some g c =
     let inside = c.self.inside in
     let row = c.in-Some.row.now in
     let found = c.in-Some.ensures.value in
+    let none : inside.changes.items ≡ _ = ap (λ index. index.changes) c.self.view_is ∙ c.requires in
+    let owed = rw none at c.self.invariant.owed in
+    let left : left_of row ≡ 0 = ap left_in found ∙ nothing_left owed c.args.key.now in
     let is : row.last ≡ folded (g.F.Folder.next inside.folder) (g.F.Folder.first inside.folder) (items_at g.K.Ord.cmp c.args.key.now (seen_items inside.rows.entries)) =
-    row_folds (row_found c.self.invariant.rows c.args.key.now row found)
+    row_folds (row_found c.self.invariant.rows c.args.key.now row found) left
     ∙ sym (ap (folded (g.F.Folder.next inside.folder) (g.F.Folder.first inside.folder)) (seen_found g.K.Ord.cmp c.args.key.now inside.rows.entries (Some row) found)) in
     rw (← c.self.view_is, ← is) (search rules)
 

@@ -1,8 +1,0 @@
-use Rattle.std.proofs.Common.{◌≡◌, drop, map}
-use Rattle.st_canon.specs.View.{plain}
-use Rattle.st_doc.specs.Alike.{is_among}
-use Rattle.st_doc.specs.Entries.{texts_of}
-use Rattle.st_doc.proofs.key.has_text.Given as goal
-
-abbrev pub invariant-loop-value : goal.invariant-loop-value
-invariant-loop-value l = is_among (texts_of (map plain l.values)) l.text ≡ is_among (texts_of (map plain (drop l.value-index l.values))) l.text

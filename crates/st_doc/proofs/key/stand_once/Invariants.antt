@@ -1,8 +1,0 @@
-use Rattle.std.proofs.Common.{◌≡◌, drop, map}
-use Rattle.st_canon.specs.View.{plain}
-use Rattle.st_doc.specs.Alike.{none_twice}
-use Rattle.st_doc.specs.Entries.{texts_of}
-use Rattle.st_doc.proofs.key.stand_once.Given as goal
-
-abbrev pub invariant-loop-at : goal.invariant-loop-at
-invariant-loop-at l = none_twice (texts_of (map plain l.values)) ≡ none_twice (texts_of (map plain (drop l.at l.values)))

@@ -1,0 +1,5 @@
+use Rattle.st_lanes.proofs.Lanes.{shift}
+use Rattle.st_lanes.proofs.words.shift_right.Goals as goal
+
+pub returns : goal.returns
+returns c = shift c.args.k c.requires c.args.x c.fits-x.0

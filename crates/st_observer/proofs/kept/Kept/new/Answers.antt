@@ -1,0 +1,20 @@
+use Rattle.std.proofs.Common.{◌≡◌, ◌∙◌, [], ap, refl, rules}
+use Rattle.st_hash.specs.Hash.{HashValue}
+use Rattle.st_observer.specs.States.{Operations, operations_at}
+use Rattle.st_observer.proofs.kept.Kept.new.Goals as goal
+
+-- nothing stands where nothing was put
+none_at : (suffix : HashValue) → operations_at suffix [] ≡ []
+unfolding operations_at
+none_at suffix = refl
+
+pub returns : goal.returns
+returns c = record {
+  is = record {
+    same = search rules;
+    waits = record { each = λ uri n. c.new-waiting.ensures uri n ∙ search rules };
+    schedule = ap (λ (index : Operations). index.folder.schedule) c.in_ok-index.ensures;
+    states = record { each = λ suffix. ap (λ (index : Operations). operations_at suffix index.items) c.in_ok-index.ensures ∙ none_at suffix };
+  };
+  none = ap (λ (index : Operations). index.changes) c.in_ok-index.ensures;
+}
