@@ -16,8 +16,6 @@ mod reading;
 mod role_state;
 mod rule;
 mod settling;
-#[cfg(test)]
-mod tests;
 
 pub use bound::Bound;
 pub use given::Given;

@@ -10,8 +10,6 @@ mod document;
 mod laws;
 mod opening;
 mod state;
-#[cfg(test)]
-mod tests;
 
 pub use applying::{apply, reveals};
 pub use counting::counts_for;

@@ -13,8 +13,6 @@ mod number;
 mod refused;
 mod replies;
 mod shared;
-#[cfg(test)]
-mod tests;
 mod text;
 mod want;
 mod words;

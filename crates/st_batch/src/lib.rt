@@ -21,8 +21,6 @@ mod longest;
 mod parts;
 mod queue;
 mod refused;
-#[cfg(test)]
-mod tests;
 mod writing;
 
 pub use batch::{Batch, BatchFile};

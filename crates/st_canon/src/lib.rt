@@ -29,8 +29,6 @@ mod runs;
 pub mod scan;
 mod shapes;
 mod some;
-#[cfg(test)]
-mod tests;
 mod there;
 mod value;
 mod whole;

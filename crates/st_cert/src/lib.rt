@@ -10,8 +10,6 @@ mod judging;
 mod laws;
 mod places;
 mod standing;
-#[cfg(test)]
-mod tests;
 mod verdict;
 
 pub use certificate::Certificate;

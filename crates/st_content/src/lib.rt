@@ -2,7 +2,5 @@
 #![tactic(auto)]
 
 mod content;
-#[cfg(test)]
-mod tests;
 
 pub use content::{Content, Put};

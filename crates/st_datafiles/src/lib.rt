@@ -13,8 +13,6 @@ mod proof_reading;
 mod proof_rule;
 mod proof_writing;
 mod role;
-#[cfg(test)]
-mod tests;
 
 pub use chunk_reading::read_chunk;
 pub use chunk_rule::{ChunkRefused, ChunkRule};

@@ -20,8 +20,6 @@ mod refused;
 mod scanned;
 mod service;
 mod taking;
-#[cfg(test)]
-mod tests;
 
 pub use applying::apply_all;
 pub use delta::Delta;

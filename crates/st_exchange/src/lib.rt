@@ -8,8 +8,6 @@ mod asking;
 mod decoding;
 mod encoding;
 mod message;
-#[cfg(test)]
-mod tests;
 mod wanting;
 
 pub use answering::answer;

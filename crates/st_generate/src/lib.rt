@@ -9,8 +9,6 @@ mod rounds;
 mod run;
 mod summary;
 mod talk;
-#[cfg(test)]
-mod tests;
 
 pub use plan::{Plan, read_plan};
 pub use run::run_generate;

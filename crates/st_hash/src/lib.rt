@@ -6,8 +6,6 @@ mod base64url;
 mod fixed;
 mod hash;
 mod hashing;
-#[cfg(test)]
-mod tests;
 mod text;
 
 pub use base64url::{DecRefused, dec, enc};

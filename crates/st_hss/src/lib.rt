@@ -7,8 +7,6 @@ mod public;
 mod refused;
 mod signing;
 mod strings;
-#[cfg(test)]
-mod tests;
 mod trees;
 mod vault;
 mod verification;

@@ -19,8 +19,6 @@ mod provisional_writing;
 mod suffix_data;
 mod suffixes;
 mod target;
-#[cfg(test)]
-mod tests;
 mod twice;
 
 pub use core_index::CoreIndex;

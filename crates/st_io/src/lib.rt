@@ -23,8 +23,6 @@ mod source;
 mod splits;
 mod std_sink;
 mod std_source;
-#[cfg(test)]
-mod tests;
 
 pub use disk::Disk;
 pub use durable::write_synced;

@@ -9,8 +9,6 @@ mod opening;
 mod payload;
 mod refused;
 mod signing;
-#[cfg(test)]
-mod tests;
 mod texts;
 
 pub use commit::{commitment, commitment_with, meets, reveal, reveal_with};

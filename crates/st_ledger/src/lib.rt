@@ -6,8 +6,6 @@ mod anchor;
 mod entry;
 mod ledger;
 mod refused;
-#[cfg(test)]
-mod tests;
 
 pub use anchor::{Anchor, AnchorRule, read_anchor};
 pub use entry::Entry;

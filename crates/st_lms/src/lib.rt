@@ -14,8 +14,6 @@ mod run;
 mod secret;
 mod sign;
 mod strings;
-#[cfg(test)]
-mod tests;
 mod tree;
 mod verification;
 

@@ -15,8 +15,6 @@ mod network;
 mod reading;
 mod running;
 mod telling;
-#[cfg(test)]
-mod tests;
 mod wanting;
 mod words;
 

@@ -14,8 +14,6 @@ mod node;
 mod resolving;
 mod submitting;
 mod telling;
-#[cfg(test)]
-mod tests;
 
 pub use changes::changing;
 pub use command::{Command, LONGEST_LINE, LineCause, LineRefused, read_command};

@@ -12,8 +12,6 @@ mod observer;
 mod stands;
 mod states;
 mod steps;
-#[cfg(test)]
-mod tests;
 mod waiting;
 
 pub use laws::isolation_law;

@@ -8,8 +8,6 @@ mod index;
 mod places;
 mod row;
 mod rows;
-#[cfg(test)]
-mod tests;
 
 pub use folder::Folder;
 pub use index::Index;

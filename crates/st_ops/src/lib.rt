@@ -9,8 +9,6 @@ mod operation;
 mod reading;
 mod refused;
 mod signed;
-#[cfg(test)]
-mod tests;
 mod writing;
 
 pub use claim::Claim;

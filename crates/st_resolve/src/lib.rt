@@ -12,8 +12,6 @@ mod refused;
 mod rendering;
 mod services;
 mod spelling;
-#[cfg(test)]
-mod tests;
 
 pub use identifier::{Did, LongForm};
 pub use reading::read_did;

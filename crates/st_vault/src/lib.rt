@@ -11,8 +11,6 @@ mod layout;
 mod map;
 mod opening;
 mod refused;
-#[cfg(test)]
-mod tests;
 mod vault;
 
 pub use counter::Counter;

@@ -14,8 +14,6 @@ mod refused;
 mod replies;
 mod requests;
 mod signing_vault;
-#[cfg(test)]
-mod tests;
 mod wallet;
 mod words;
 

@@ -8,8 +8,6 @@ mod identity;
 mod keys;
 mod order;
 mod requests;
-#[cfg(test)]
-mod tests;
 mod words;
 
 pub use identity::{Identity, all_identities};

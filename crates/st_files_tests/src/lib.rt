@@ -1,0 +1,9 @@
+//! The tests of files and requests: index files, proof files, chunk files, operations.
+#![tactic(auto)]
+
+#[cfg(test)]
+mod datafiles;
+#[cfg(test)]
+mod indexfiles;
+#[cfg(test)]
+mod ops;

@@ -1,0 +1,88 @@
+use st_canon::{Json, PackedJson, canonical_text, read, write};
+use st_base::{Bytes, Copied, List, Shared};
+use std::test::Fail;
+
+// The delta of a create that another program made.
+const DELTA: &str =
+    "{\"patches\":[],\"updateCommitment\":\"EiA-HpZ-m3k-kI-OroPHTbqbzMzmpVNbS0Yr2ZlFN7_hXA\"}";
+
+// So many lists, each in the one before.
+fn nested(rt: &HostRuntime, levels: u32) -> Result<Json, Fail> {
+    let mut value = Json::List(List::new(rt.alloc()));
+    for _ in 1..levels {
+        let mut items = List::new(rt.alloc());
+        items.push(rt.alloc(), value)?;
+        value = Json::List(items);
+    }
+    Ok(value)
+}
+
+// A copy of what is packed.
+fn packed_copy(rt: &HostRuntime, value: &Json) -> Result<PackedJson, Fail> {
+    let packed = PackedJson::pack(rt.alloc(), value)?;
+    Ok(packed.copy(rt.alloc())?)
+}
+
+// Whether it comes out as a value with this canonical text.
+fn comes_out(rt: &HostRuntime, packed: &PackedJson, text: &Bytes) -> Result<bool, Fail> {
+    let value = packed.unpack(rt.alloc())?;
+    let found = write(rt.alloc(), &value)?;
+    Ok(found.as_slice() == text.as_slice())
+}
+
+// Whether a value of this length comes out again, and its text, where it is kept as that.
+fn is(rt: &HostRuntime, packed: &PackedJson, value: &Json, long: u64) -> Result<bool, Fail> {
+    let text = write(rt.alloc(), value)?;
+    let is_text = match packed.text() {
+        Some(kept) => kept == text.as_slice(),
+        None => long > 254,
+    };
+    Ok(packed.size() == long && is_text && comes_out(rt, packed, &text)?)
+}
+
+// The same of a copy.
+fn is_kept(rt: &HostRuntime, value: &Json, long: u64) -> Result<bool, Fail> {
+    is(rt, &packed_copy(rt, value)?, value, long)
+}
+
+#[test]
+fn a_delta_is_kept_as_its_text(rt: HostRuntime) -> Result<(), Fail> {
+    let value = read(rt.alloc(), DELTA.as_bytes())?;
+    assert!(rt; is_kept(&rt, &value, 82)?);
+    Ok(())
+}
+
+// Two brackets open in it, so it nests three deep at most.
+#[test]
+fn a_delta_is_scanned_where_it_is_kept(rt: HostRuntime) -> Result<(), Fail> {
+    let value = read(rt.alloc(), DELTA.as_bytes())?;
+    let packed = packed_copy(&rt, &value)?;
+    let Some(delta) = packed.scanned() else {
+        return Err(Fail::from("no text"));
+    };
+    assert!(rt; delta.is_object_of(&["patches", "updateCommitment"]));
+    assert!(rt; delta.size() == 82 && delta.depth_bound() == 3);
+    Ok(())
+}
+
+// No text with more than 127 open brackets is read.
+#[test]
+fn a_value_of_any_depth_comes_out_again(rt: HostRuntime) -> Result<(), Fail> {
+    assert!(rt; is_kept(&rt, &nested(&rt, 127)?, 254)?);
+    assert!(rt; is_kept(&rt, &nested(&rt, 128)?, 256)?);
+    Ok(())
+}
+
+// It is the same value, whether its text stands at the place or not.
+#[test]
+fn a_delta_may_be_kept_in_its_file(rt: HostRuntime) -> Result<(), Fail> {
+    let value = read(rt.alloc(), DELTA.as_bytes())?;
+    let kept = canonical_text(rt.alloc(), DELTA.as_bytes())?;
+    let text = format!(in rt.alloc(); "{{\"deltas\":[{DELTA}]}}")?;
+    let file = Shared::new(rt.alloc(), Bytes::from_slice(rt.alloc(), text.as_bytes())?)?;
+    for at in [0, 10, 11, 12, 93, 94, 95, usize::MAX] {
+        let packed = PackedJson::keep_within(rt.alloc(), kept.as_slice(), &file, at)?;
+        assert!(rt; is(&rt, &packed, &value, 82)?);
+    }
+    Ok(())
+}

@@ -1,0 +1,152 @@
+use super::{is_header, object};
+use st_canon::{
+    Json, Object, entries_in, is_list_if_there, is_text_if_there, read, read_json, some_object,
+};
+use std::alloc::Global;
+use std::test::Fail;
+
+// What a value is, in a word.
+fn header(alloc: Global, text: &str) -> &'static str {
+    match read(alloc, text.as_bytes()) {
+        Ok(json) => if is_header(&json) { "header" } else { "other" },
+        Err(_) => "unread",
+    }
+}
+
+const HEADERS: &str = r#"header {"alg":"LMS","kid":"k"}
+header {"alg":"LMS"}
+other []
+other {"alg":1}
+other {"alg":"LMS","kid":null}
+other {"alg":"LMS","typ":"k"}"#;
+
+fn first_other(alloc: Global) -> Option<&'static str> {
+    for line in HEADERS.lines() {
+        let Some((word, text)) = line.split_once(' ') else {
+            return Some(line);
+        };
+        if header(alloc, text) != word {
+            return Some(line);
+        }
+    }
+    None
+}
+
+#[test]
+fn a_shape_is_told(rt: HostRuntime) -> Result<(), Fail> {
+    match first_other(rt.alloc()) {
+        Some(line) => Err(Fail::from(line)),
+        None => Ok(()),
+    }
+}
+
+const KINDS: &str = "{\"t\":\"x\",\"l\":[1],\"o\":{}}";
+
+fn has_texts(members: &Object) -> bool {
+    members.text("t") == Some("x") && members.text("l").is_none()
+}
+
+fn has_lists(members: &Object) -> bool {
+    match members.list("l") {
+        Some(list) => list.len() == 1 && members.list("o").is_none(),
+        None => false,
+    }
+}
+
+fn has_objects(members: &Object) -> bool {
+    match members.object("o") {
+        Some(inner) => inner.is_empty() && members.object("t").is_none(),
+        None => false,
+    }
+}
+
+fn finds_members(alloc: Global) -> bool {
+    match object(alloc, KINDS) {
+        Some(members) => has_texts(&members)
+            && has_lists(&members)
+            && has_objects(&members)
+            && members.only("t").is_none(),
+        None => false,
+    }
+}
+
+#[test]
+fn members_are_found_by_kind(rt: HostRuntime) -> Result<(), Fail> {
+    assert!(rt; finds_members(rt.alloc()));
+    Ok(())
+}
+
+fn are_of_their_kind(value: &Json) -> bool {
+    is_text_if_there(value.member("t"))
+        && is_text_if_there(value.member("z"))
+        && is_list_if_there(value.member("l"))
+        && !is_list_if_there(value.member("t"))
+}
+
+fn have_entries(value: &Json) -> bool {
+    entries_in(value.member("l")).len() == 1 && entries_in(value.member("o")).is_empty()
+}
+
+fn finds_kinds(alloc: Global) -> bool {
+    match read(alloc, KINDS.as_bytes()) {
+        Ok(value) => are_of_their_kind(&value) && have_entries(&value),
+        Err(_) => false,
+    }
+}
+
+#[test]
+fn what_may_be_absent_is_of_its_kind(rt: HostRuntime) -> Result<(), Fail> {
+    assert!(rt; finds_kinds(rt.alloc()));
+    Ok(())
+}
+
+fn is_list_reached(value: &Json) -> bool {
+    let Some(operations) = value.only_member("operations") else {
+        return false;
+    };
+    match operations.only_member("create") {
+        Some(creates) => creates.as_list().is_some(),
+        None => false,
+    }
+}
+
+fn reaches_the_only_member(alloc: Global) -> bool {
+    match read_json(alloc, b"{\"operations\":{\"create\":[null]}}") {
+        Ok(Some(value)) => is_list_reached(&value)
+            && value.is_object_of(&["operations"])
+            && !value.is_object_of(&["create"]),
+        _ => false,
+    }
+}
+
+fn is_nothing_read(alloc: Global) -> bool {
+    matches!(read_json(alloc, b"1.5"), Ok(None))
+}
+
+// What is left of an object, in a word.
+fn left(alloc: Global, text: &str) -> &'static str {
+    match object(alloc, text) {
+        Some(object) => word(some_object(object)),
+        None => "unread",
+    }
+}
+
+fn word(json: Option<Json>) -> &'static str {
+    match json {
+        Some(Json::Object(_)) => "object",
+        Some(_) => "other",
+        None => "none",
+    }
+}
+
+// What has no member is left out.
+fn are_left(alloc: Global) -> bool {
+    left(alloc, "{}") == "none" && left(alloc, "{\"a\":1}") == "object"
+}
+
+#[test]
+fn the_only_member_is_reached(rt: HostRuntime) -> Result<(), Fail> {
+    let alloc = rt.alloc();
+    assert!(rt; reaches_the_only_member(alloc) && is_nothing_read(alloc) && are_left(alloc));
+    Ok(())
+}

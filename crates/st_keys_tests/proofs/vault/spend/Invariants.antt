@@ -1,0 +1,5 @@
+use Rattle.st_vault.specs.Opening.{ReadsAs}
+use Rattle.st_keys_tests.proofs.vault.spend.Given as goal
+
+abbrev pub invariant-spent : goal.invariant-spent
+invariant-spent g l = ReadsAs (g.D.Disk.reads l.disk) l.vault

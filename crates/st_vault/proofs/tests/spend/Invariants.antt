@@ -1,5 +1,0 @@
-use Rattle.st_vault.specs.Opening.{ReadsAs}
-use Rattle.st_vault.proofs.tests.spend.Given as goal
-
-abbrev pub invariant-spent : goal.invariant-spent
-invariant-spent g l = ReadsAs (g.D.Disk.reads l.disk) l.vault

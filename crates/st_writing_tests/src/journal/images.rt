@@ -1,0 +1,198 @@
+use super::{append_line, disk_of};
+use st_journal::{JournalRefused, Opening, open_journal};
+use st_base::{Bytes, WantOfMemory};
+use st_io::Pick;
+use std::alloc::Global;
+use std::test::Fail;
+
+// In these tables `@` stands for an open gate, `.` for a byte of 0, `/` and `,` for the bytes 12 and 13,
+// and every other sign for itself.
+
+/// An image, and behind two spaces how many records it has and where its first closed gate then is, or
+/// that it is damaged. Fewer than 2 bytes become a closed gate.
+const OPENED: &str = "\
+@.../content YWJj.  1 17
+@.../content YWJj.@  1 17
+@.../content YWJj.@..../conten  1 17
+@.../content YWJj@.../content YWJj.  2 34
+@.../content YWJj@....x  2 22
+@.....  1 5
+@....@....x  2 10
+  0 0
+@  0 0
+.  0 0
+x  0 0
+.@  0 0
+x@@@@  0 0
+@...,content YWJj.  damaged
+@.../content YWJj  damaged
+@.../content YWJj@  damaged
+@.../content YWJj@...  damaged
+@.../content YWJj@....  damaged
+@.  damaged
+@...  damaged
+@....  damaged
+@....@...  damaged
+@@@@@@  damaged";
+
+/// An image, and what comes of it first and then.
+const COMING: &str = "\
+@.../content YWJj.  record none
+@.../content YWJj@.../content YWJj.  record record
+@....@...  record damaged
+@.../content YWJj@....  record damaged
+@.  damaged damaged
+.@  none none
+  none none
+@  none none";
+
+/// An image, and what it is once the line is appended.
+const APPENDED: &str = "\
+@  @.../content YWJj.
+  @.../content YWJj.
+x@@  @.../content YWJj.
+.@@@@@@@@@@@@@@@@@@@  @.../content YWJj.@@
+@.....@@  @....@.../content YWJj.
+@.../content YWJj..../conten  @.../content YWJj@.../content YWJj.";
+
+/// The byte that a sign of the table stands for.
+fn byte_of(sign: u8) -> u8 {
+    match sign {
+        b'@' => 0xa5,
+        b'.' => 0,
+        b'/' => 12,
+        b',' => 13,
+        other => other,
+    }
+}
+
+fn image_of(alloc: Global, text: &str) -> Result<Bytes, WantOfMemory> {
+    let mut image = Bytes::new(alloc);
+    'signs: for sign in text.as_bytes() {
+        image.push_all(alloc, &[byte_of(*sign)])?;
+    }
+    Ok(image)
+}
+
+/// What an image is opened as, in the table's words.
+fn seen(alloc: Global, image: &[u8]) -> Result<String, WantOfMemory> {
+    let mut disk = disk_of(alloc, image, u64::MAX)?;
+    match open_journal(alloc, &mut disk) {
+        Ok((journal, records)) => {
+            let len = records.len();
+            let end = journal.end();
+            Ok(format!(in alloc; "{len} {end}")?)
+        }
+        Err(JournalRefused::Damaged) => Ok(format!(in alloc; "damaged")?),
+        Err(_refused) => Ok(format!(in alloc; "refused")?),
+    }
+}
+
+/// The table's word for what came.
+fn word_of(came: Result<Option<Bytes>, JournalRefused>) -> &'static str {
+    match came {
+        Ok(Some(_body)) => "record",
+        Ok(None) => "none",
+        Err(JournalRefused::Damaged) => "damaged",
+        Err(_refused) => "refused",
+    }
+}
+
+/// What comes of an image first and then, in the table's words.
+fn coming(alloc: Global, image: &[u8]) -> Result<String, WantOfMemory> {
+    let mut disk = disk_of(alloc, image, u64::MAX)?;
+    match Opening::begin(alloc, &mut disk) {
+        Ok(mut opening) => {
+            let first = word_of(opening.next(alloc, &mut disk));
+            let then = word_of(opening.next(alloc, &mut disk));
+            Ok(format!(in alloc; "{first} {then}")?)
+        }
+        Err(_refused) => Ok(format!(in alloc; "refused")?),
+    }
+}
+
+/// What an image is once the line is appended.
+fn appended(alloc: Global, image: &[u8]) -> Result<Bytes, WantOfMemory> {
+    let mut disk = disk_of(alloc, image, u64::MAX)?;
+    let _done = append_line(alloc, &mut disk, b"content YWJj");
+    disk.crash(alloc, Pick::New)
+}
+
+fn is_opened_so(alloc: Global, line: &str) -> Result<bool, WantOfMemory> {
+    let Some((image, want)) = line.split_once("  ") else {
+        return Ok(false);
+    };
+    let image = image_of(alloc, image)?;
+    Ok(seen(alloc, image.as_slice())?.as_str() == want)
+}
+
+fn comes_so(alloc: Global, line: &str) -> Result<bool, WantOfMemory> {
+    let Some((image, want)) = line.split_once("  ") else {
+        return Ok(false);
+    };
+    let image = image_of(alloc, image)?;
+    Ok(coming(alloc, image.as_slice())?.as_str() == want)
+}
+
+fn is_appended_so(alloc: Global, line: &str) -> Result<bool, WantOfMemory> {
+    let Some((image, want)) = line.split_once("  ") else {
+        return Ok(false);
+    };
+    let image = image_of(alloc, image)?;
+    let want = image_of(alloc, want)?;
+    Ok(appended(alloc, image.as_slice())?.as_slice() == want.as_slice())
+}
+
+/// The first image that is opened otherwise.
+fn first_opened_otherwise(alloc: Global) -> Result<Option<&'static str>, WantOfMemory> {
+    'lines: for line in OPENED.lines() {
+        if !is_opened_so(alloc, line)? {
+            return Ok(Some(line));
+        }
+    }
+    Ok(None)
+}
+
+/// The first image of which something else comes.
+fn first_coming_otherwise(alloc: Global) -> Result<Option<&'static str>, WantOfMemory> {
+    'lines: for line in COMING.lines() {
+        if !comes_so(alloc, line)? {
+            return Ok(Some(line));
+        }
+    }
+    Ok(None)
+}
+
+/// The first image that is otherwise once the line is appended.
+fn first_appended_otherwise(alloc: Global) -> Result<Option<&'static str>, WantOfMemory> {
+    'lines: for line in APPENDED.lines() {
+        if !is_appended_so(alloc, line)? {
+            return Ok(Some(line));
+        }
+    }
+    Ok(None)
+}
+
+#[test]
+fn an_image_is_opened_or_damaged(rt: HostRuntime) -> Result<(), Fail> {
+    match first_opened_otherwise(rt.alloc())? {
+        Some(line) => Err(Fail::from(line)),
+        None => Ok(()),
+    }
+}
+
+#[test]
+fn records_come_before_the_damage(rt: HostRuntime) -> Result<(), Fail> {
+    match first_coming_otherwise(rt.alloc())? {
+        Some(line) => Err(Fail::from(line)),
+        None => Ok(()),
+    }
+}
+
+#[test]
+fn a_record_comes_over_what_was_torn(rt: HostRuntime) -> Result<(), Fail> {
+    match first_appended_otherwise(rt.alloc())? {
+        Some(line) => Err(Fail::from(line)),
+        None => Ok(()),
+    }
+}
