@@ -1,6 +1,6 @@
-ghost use Rattle.std.specs.Prelude.{◌≡◌, IfOk};
+ghost use Rattle.std.specs.Prelude.{◌≡◌, ◌≤◌, ◌+◌, ◌*◌, IfOk};
 ghost use Rattle.st_exchange.specs.Answer.{is_among};
-ghost use Rattle.st_exchange.specs.Peer.{Peer as Means, PeerLaws};
+ghost use Rattle.st_exchange.specs.Peer.{Peer as Means, PeerLaws, anchors_told};
 ghost use Rattle.st_hash.specs.Hash.{uri_of};
 
 use st_base::{Bytes, List, WantOfMemory, Work};
@@ -29,7 +29,7 @@ pub trait Peer: Sized + Drop {
     fn wants(&self, alloc: Global, uri: &Hash) -> Result<bool, WantOfMemory>
         ensures { IfOk result (λ found. found ≡ is_among (peer.wanted self.now) uri.now) };
 
-    /// Answers a line.
+    /// Answers a line. For an anchor that it accepts it may read five files more.
     fn answer(
         self,
         alloc: Global,
@@ -37,7 +37,9 @@ pub trait Peer: Sized + Drop {
         work: &mut Work,
     ) -> Result<(Self, Bytes), WantOfMemory>
         ensures next { IfOk result (λ done. done.0 ≡ peer.next self line.now) }
-        ensures reply { IfOk result (λ done. done.1 ≡ peer.reply self line.now) };
+        ensures reply { IfOk result (λ done. done.1 ≡ peer.reply self line.now) }
+        ensures paid { IfOk result (λ done. work.new.files + peer.due done.0
+            ≤ work.old.files + peer.due self + 5 * anchors_told (peer.reply self line.now)) };
 
     /// Keeps a file, and gives its URI.
     fn keep(
