@@ -10,4 +10,5 @@ returns g c =
     c.requires c.remove-node.ensures.item c.remove-node.ensures.rest c.in_ok-insert.ensures.ok
     (λ node. g.N.Peer.peer.stored node c.args.bytes) (λ node. reply (codes "stored ") (hash_text (uri_of c.args.bytes)))
     c.in_ok-text.text c.in_ok-node.ensures.next
-    ?
+    (c.in_ok-text.ensures
+    ∙ ap (reply (codes "stored ")) (c.as_bytes.ensures.value ∙ c.as_str.ensures ∙ c.in_ok-uri.ensures.value ∙ ap hash_text c.in_ok-node.ensures.uri))
