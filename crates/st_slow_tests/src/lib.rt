@@ -1,0 +1,5 @@
+//! The tests that take over 20 seconds where they are compiled without optimization.
+#![tactic(auto)]
+
+#[cfg(test)]
+mod signatures;
