@@ -2,4 +2,10 @@
 #![tactic(auto)]
 
 #[cfg(test)]
+mod batches;
+#[cfg(test)]
 mod signatures;
+#[cfg(test)]
+mod sizes;
+#[cfg(test)]
+mod wallets;
