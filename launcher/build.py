@@ -71,13 +71,13 @@ def memory():
         return None
 
 
-def has_room(running):
+def has_room(running, needed=A_CHECK):
     """Whether one more check fits beside those that are running: there is a processor, and memory for it and
     for those that have just begun."""
     growing = sum(time.time() - lane.began < GROWING for lane in running)
     free = memory()
     return not running or (len(running) < len(os.sched_getaffinity(0))
-                           and (free is None or free > (growing + 1) * A_CHECK))
+                           and (free is None or free > (growing + 1) * needed))
 
 
 def second_name(one, other):
