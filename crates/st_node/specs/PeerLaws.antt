@@ -1,5 +1,5 @@
--- A file that is wanted isn't there:
---     wanted-absent
+-- What is promised of the reference machine as others see it: a file that it wants isn't there, and it may read none before
+-- anything has come.
 use Rattle.std.proofs.Common.{◌≡◌, ℕ, true, List, [], ◌∷◌, Ordering, Less, Equal, Greater, Option, None, refl, sym, subst, ⊎_elim}
 use Rattle.std.proofs.lemmas.Bool.{or_cases, true≢false}
 use Rattle.std.specs.BTreeSet.{insert_key}
@@ -14,9 +14,11 @@ use Rattle.st_base.proofs.Quantifiers.{each-append}
 use Rattle.st_content.specs.Files.{Files, file_at}
 use Rattle.st_datafiles.specs.declared.role.Role.TheVariants.{Core, CoreProof, Provisional, ProvisionalProof, Chunk}
 use Rattle.st_exchange.specs.Answer.{is_among}
+use Rattle.st_exchange.specs.Peer.{PeerLaws}
 use Rattle.st_hash.proofs.SameHash.{same_hash-is}
 use Rattle.st_hash.specs.Hash.{HashValue, same_hash}
 use Rattle.st_ledger.specs.declared.entry.Entry.{Entry}
+use Rattle.st_node.specs.Peer.{node_peer}
 use Rattle.st_observer.specs.Observed.{Observed, verdicts_on}
 use Rattle.st_observer.specs.Wanted.{missed_files, missed_in, text_cmp, wanted}
 use Rattle.st_params.specs.Limits.{Limits}
@@ -89,8 +91,11 @@ module _ (files : Files) where
       each-append IsAbsent (flat_map missed_in (verdicts_on schedule files entry)) _
       (missed_by_all (verdicts_on schedule files entry) (roles_miss (params_at schedule entry.height) entry.text)) (entries_miss schedule ledger)
 
-pub wanted-absent : (observed : Observed) (uri : HashValue) → is_among (wanted observed) uri ≡ true → file_at uri observed.files ≡ None
+wanted-absent : (observed : Observed) (uri : HashValue) → is_among (wanted observed) uri ≡ true → file_at uri observed.files ≡ None
 unfolding wanted
 wanted-absent observed uri is =
     among (IsAbsent observed.files) (wanted observed) uri
     (put_all text_cmp (IsAbsent observed.files) [] (missed_files observed) tt (entries_miss observed.files observed.schedule observed.ledger)) is
+
+pub peer_laws : PeerLaws node_peer
+peer_laws = record { absent = λ machine uri is. wanted-absent machine.observed uri is; none_due = refl }

@@ -18,7 +18,7 @@ use Rattle.st_content.specs.Files.{Files, file_at}
 use Rattle.st_hash.specs.Hash.{HashValue}
 use Rattle.st_indexfiles.specs.declared.core_index.CoreIndex.{CoreIndex}
 use Rattle.st_ledger.specs.declared.entry.Entry.{Entry}
-use Rattle.st_network.specs.AlikeReplies.{ExplainsAlike, ResolvesAlike}
+use Rattle.st_node.specs.AlikeReplies.{ExplainsAlike, ResolvesAlike}
 use Rattle.st_node.specs.Command.{command_of}
 use Rattle.st_node.specs.Machine.{Machine, answered, answered_command, answered_read, asked_did, did_word, explain_reply, explained, or_word, resolution, resolve_reply, result_for, result_word}
 use Rattle.st_node.specs.declared.command.Command.{Command}
