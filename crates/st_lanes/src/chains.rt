@@ -10,6 +10,7 @@ use std::simd::u32x8;
 
 // The places of the lanes' chains in a table.
 #[inline(always)]
+#[tactic(auto, using(crate::proofs::Values::filled_none, crate::proofs::Values::filled_more))]
 fn pick(table: &[u16; 265], numbers: &[u32; 8]) -> [u32; 8]
     requires { (k : ℕ) → k < 8 → slice_index numbers.now k < 265 }
     ensures { (k : ℕ) → k < 8
@@ -24,6 +25,7 @@ fn pick(table: &[u16; 265], numbers: &[u32; 8]) -> [u32; 8]
 
 // How many steps each lane's chain has.
 #[inline(always)]
+#[tactic(auto, using(crate::proofs::Values::filled_none, crate::proofs::Values::filled_more))]
 fn count_steps(from: &[u32; 8], to: &[u32; 8]) -> [u32; 8]
     ensures { (k : ℕ) → k < 8 → slice_index result k ≡ slice_index to.now k - slice_index from.now k }
 {
@@ -91,6 +93,7 @@ fn walk_eight(
 }
 
 // All numbers of chains in order.
+#[tactic(auto, using(crate::proofs::Values::filled_none, crate::proofs::Values::filled_more))]
 fn all_numbers() -> [u16; 265]
     ensures long { length result ≡ 265 }
     ensures numbers { (i : ℕ) → i < 265 → slice_index result i ≡ i }
@@ -120,6 +123,7 @@ fn by_steps(from: &[u16; 265], to: &[u16; 265], count: usize) -> [u16; 265]
 
 // The eight numbers before place `end`. Where there are fewer, the first one fills the lanes.
 #[inline(always)]
+#[tactic(auto, using(crate::proofs::Values::filled_none, crate::proofs::Values::filled_more))]
 fn eight_before(order: &[u16], end: usize) -> [u32; 8]
     requires some { 0 < end }
     requires fits { end ≤ length order.now }
