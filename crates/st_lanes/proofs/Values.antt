@@ -1,7 +1,7 @@
 -- Rows of values, and lists that are filled from the front.
-use Rattle.std.proofs.Common.{◌≡◌, ◌≢◌, ℕ, zero, suc, ◌+◌, ◌*◌, ◌%◌, ◌^◌, ◌<◌, ◌≤◌, List, [], ◌∷◌, ◌++◌, length, take, drop, set, slice_index, length-append, length-drop, inl, inr, arith, refl, subst, sym, ap, ◌∙◌}
+use Rattle.std.proofs.Common.{◌≡◌, ◌≢◌, ℕ, zero, suc, ◌+◌, ◌*◌, ◌%◌, ◌^◌, ◌<◌, ◌≤◌, List, [], ◌∷◌, ◌++◌, length, take, drop, set, slice_index, length-append, length-drop, length-set, replicate, inl, inr, arith, refl, subst, sym, ap, ◌∙◌}
 use Rattle.std.proofs.lemmas.Bool.{cases_lt}
-use Rattle.std.proofs.lemmas.List.{append_assoc, drop-take, drop_at, get_or-append_right, get_or-drop, get_or-set_other, get_or-set_same, get_or-take, get_or_append_left, get_or_past, length-take-le, take_all, take_at, take_more}
+use Rattle.std.proofs.lemmas.List.{append_assoc, length-replicate, drop-take, drop_at, get_or-append_right, get_or-drop, get_or-set_other, get_or-set_same, get_or-take, get_or_append_left, get_or_past, length-take-le, take_all, take_at, take_more}
 use Rattle.std.proofs.lemmas.Nat.{be_bytes_4}
 use Rattle.std.proofs.lemmas.Slice.{drop-put_mid, take-put_mid_below}
 use borrow.Rule.Slice.PartMut.{put_mid}
@@ -17,15 +17,22 @@ one_more P k before here m lt = elim (cases_lt m k) [
   | inr past ↦ let same : k ≡ m = omega arith in subst P same here
 ]
 
--- the first n elements are those that f gives
-abbrev pub Fills : (ℕ → ℕ) → List ℕ → ℕ → Type 0
-Fills f xs n = (m : ℕ) → m < n → slice_index xs m ≡ f m
+-- the first n elements of a list with this length are those that f gives
+pub record IsFilled (f : ℕ → ℕ) (size : ℕ) (xs : List ℕ) (n : ℕ) : Type 0 where
+  pub long : length xs ≡ size
+  pub each : (m : ℕ) → m < n → slice_index xs m ≡ f m
 
-pub fill : (f : ℕ → ℕ) (xs : List ℕ) (n x : ℕ) → n < length xs → Fills f xs n → x ≡ f n → Fills f (set xs n x) (n + 1)
-fill f xs n x fits filled is =
-    one_more (λ m. slice_index (set xs n x) m ≡ f m) n
-    (λ m lt. get_or-set_other xs n m x 0 (λ same. omega (arith, same)) ∙ filled m lt)
-    (get_or-set_same xs n x 0 fits ∙ is)
+pub filled_none : (f : ℕ → ℕ) (size x : ℕ) → IsFilled f size (replicate size x) 0
+filled_none f size x = record { long = length-replicate size x; each = λ m lt. absurd (omega arith) }
+
+pub filled_more : (f : ℕ → ℕ) (size : ℕ) (xs : List ℕ) (n x : ℕ) → IsFilled f size xs n → n < size → x ≡ f n → IsFilled f size (set xs n x) (n + 1)
+filled_more f size xs n x filled fits is = record {
+  long = length-set xs n x ∙ filled.long;
+  each =
+      one_more (λ m. slice_index (set xs n x) m ≡ f m) n
+      (λ m lt. get_or-set_other xs n m x 0 (λ same. omega (arith, same)) ∙ filled.each m lt)
+      (get_or-set_same xs n x 0 (omega (arith, filled.long)) ∙ is);
+}
 
 -- ---- words of values
 

@@ -4,37 +4,39 @@ ghost use Rattle.std.specs.Prelude.{◌≡◌, ℕ, ◌+◌, ◌-◌, ◌*◌, �
 ghost use Rattle.st_lanes.specs.Chains.{end_of, value_at};
 
 use crate::link::step;
-use crate::rows::{heads, keep_ends, values, wide};
+use crate::rows::{heads, keep_ends, values};
 use crate::words::{add, and};
 use std::simd::u32x8;
 
 // The places of the lanes' chains in a table.
 #[inline(always)]
-fn pick(table: &[u16; 265], numbers: &[u16; 8]) -> [u16; 8]
+#[tactic(auto, using(crate::proofs::Values::filled_none, crate::proofs::Values::filled_more))]
+fn pick(table: &[u16; 265], numbers: &[u32; 8]) -> [u32; 8]
     requires { (k : ℕ) → k < 8 → slice_index numbers.now k < 265 }
     ensures { (k : ℕ) → k < 8
         → slice_index result k ≡ slice_index table.now (slice_index numbers.now k) }
 {
-    let mut picked = [0u16; 8];
+    let mut picked = [0u32; 8];
     'lanes: for k in 0..8 {
-        picked[k] = table[numbers[k] as usize];
+        picked[k] = table[numbers[k] as usize] as u32;
     }
     picked
 }
 
 // How many steps each lane's chain has.
 #[inline(always)]
-fn count_steps(from: &[u16; 8], to: &[u16; 8]) -> [u16; 8]
+#[tactic(auto, using(crate::proofs::Values::filled_none, crate::proofs::Values::filled_more))]
+fn count_steps(from: &[u32; 8], to: &[u32; 8]) -> [u32; 8]
     ensures { (k : ℕ) → k < 8 → slice_index result k ≡ slice_index to.now k - slice_index from.now k }
 {
-    let mut counts = [0u16; 8];
+    let mut counts = [0u32; 8];
     'lanes: for k in 0..8 {
         counts[k] = to[k].saturating_sub(from[k]);
     }
     counts
 }
 
-fn larger(x: u16, y: u16) -> u16
+fn larger(x: u32, y: u32) -> u32
     ensures first { x ≤ result }
     ensures second { y ≤ result }
 {
@@ -42,10 +44,10 @@ fn larger(x: u16, y: u16) -> u16
 }
 
 #[inline(always)]
-fn most(counts: &[u16; 8]) -> u16
+fn most(counts: &[u32; 8]) -> u32
     ensures { (k : ℕ) → k < 8 → slice_index counts.now k ≤ result }
 {
-    let mut most = 0u16;
+    let mut most = 0u32;
     'lanes: for k in 0..8 {
         most = larger(most, counts[k]);
     }
@@ -54,13 +56,11 @@ fn most(counts: &[u16; 8]) -> u16
 
 // The bytes of the steps after `done` of them.
 #[inline(always)]
-fn bytes_after(from: u32x8, done: u16) -> u32x8
+fn bytes_after(from: u32x8, done: u32) -> u32x8
     ensures { (k : ℕ) → k < 8 → slice_index result k ≡ (slice_index from k + done + 255) % 256 }
 {
-    and(
-        add(from, u32x8::splat(done as u32 + 255)),
-        u32x8::splat(255),
-    )
+    let places = add(from, u32x8::splat(done));
+    and(add(places, u32x8::splat(255)), u32x8::splat(255))
 }
 
 // Puts the ends of the lanes' chains into a row.
@@ -70,7 +70,7 @@ fn walk_eight(
     from: &[u16; 265],
     to: &[u16; 265],
     starts: &[u8],
-    numbers: &[u16; 8],
+    numbers: &[u32; 8],
 )
     requires numbers { (k : ℕ) → k < 8 → slice_index numbers.now k < 265 }
     requires starts { (k : ℕ) → k < 8 → 32 * slice_index numbers.now k + 32 ≤ length starts.now }
@@ -82,7 +82,7 @@ fn walk_eight(
     let heads = heads(head, numbers);
     let first = pick(from, numbers);
     let counts = count_steps(&first, &pick(to, numbers));
-    let first = wide(&first);
+    let first = u32x8::from_array(first);
     let mut value = values(starts, numbers);
     keep_ends(ends, &value, numbers, &counts, 0);
     'steps: for done in 0..most(&counts) {
@@ -93,6 +93,7 @@ fn walk_eight(
 }
 
 // All numbers of chains in order.
+#[tactic(auto, using(crate::proofs::Values::filled_none, crate::proofs::Values::filled_more))]
 fn all_numbers() -> [u16; 265]
     ensures long { length result ≡ 265 }
     ensures numbers { (i : ℕ) → i < 265 → slice_index result i ≡ i }
@@ -122,14 +123,15 @@ fn by_steps(from: &[u16; 265], to: &[u16; 265], count: usize) -> [u16; 265]
 
 // The eight numbers before place `end`. Where there are fewer, the first one fills the lanes.
 #[inline(always)]
-fn eight_before(order: &[u16], end: usize) -> [u16; 8]
+#[tactic(auto, using(crate::proofs::Values::filled_none, crate::proofs::Values::filled_more))]
+fn eight_before(order: &[u16], end: usize) -> [u32; 8]
     requires some { 0 < end }
     requires fits { end ≤ length order.now }
     ensures { (k : ℕ) → k < 8 → slice_index result k ≡ slice_index order.now (end + k - 8) }
 {
-    let mut numbers = [0u16; 8];
+    let mut numbers = [0u32; 8];
     'lanes: for k in 0..8 {
-        numbers[k] = order[(end + k).saturating_sub(8)];
+        numbers[k] = order[(end + k).saturating_sub(8)] as u32;
     }
     numbers
 }

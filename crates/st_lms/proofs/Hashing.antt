@@ -1,5 +1,5 @@
 -- Rows of strings, and what a hasher holds after one string more.
-use Rattle.std.proofs.Common.{◌≡◌, ℕ, zero, suc, ◌+◌, ◌*◌, ◌<◌, ◌≤◌, List, [], ◌++◌, length, take, drop, inl, inr, sym, ap, ◌∙◌, refl, append_assoc, arith}
+use Rattle.std.proofs.Common.{◌≡◌, ℕ, zero, suc, ◌+◌, ◌*◌, ◌<◌, ◌≤◌, List, [], ◌++◌, length, take, drop, inl, inr, sym, ap, ◌∙◌, refl, arith}
 use Rattle.std.proofs.lemmas.Bool.{cases_lt}
 use Rattle.std.proofs.lemmas.List.{length-append, length-drop, drop-append-le, take-append-le, drop_at, take_all}
 use Rattle.st_lms.specs.Strings.{joined, value_at}
@@ -11,13 +11,6 @@ joined-none string = refl
 pub joined-more : (string : ℕ → List ℕ) (n : ℕ) → joined string (n + 1) ≡ joined string n ++ string n
 unfolding joined
 joined-more string n = let e : n + 1 ≡ suc n = omega arith in rw e
-
--- one string more behind a beginning
-pub joined_behind : (start : List ℕ) (string : ℕ → List ℕ) (n : ℕ) (next : List ℕ) → next ≡ string n →
-    start ++ joined string n ++ next ≡ start ++ joined string (n + 1)
-joined_behind start string n next e =
-    append_assoc start (joined string n) next
-    ∙ ap (λ xs. start ++ xs) (ap (λ xs. joined string n ++ xs) e ∙ sym (joined-more string n))
 
 -- ---- rows of strings of 32 bytes
 

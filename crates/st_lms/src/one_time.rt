@@ -7,7 +7,7 @@ ghost use Rattle.st_lms.specs.TypeNumbers.{one_time_number};
 use crate::digits::Digits;
 use crate::hasher::{D_MESG, D_PBLC, hasher};
 use crate::parameters::OneTimeType;
-use crate::places::{Places, Values, digit_places, first_places, head, last_places, repeated};
+use crate::places::{Places, Values, digit_places, head, last_places, repeated};
 use sha2::Digest;
 use st_lanes::walk;
 
@@ -46,7 +46,7 @@ fn values_of_secret(
 {
     let count = kind.parameters().chains;
     let starts = repeated(seed, count);
-    walk(&head(id, q), &first_places(), to, &starts, count as usize)
+    walk(&head(id, q), &[0; 265], to, &starts, count as usize)
 }
 
 /// The public key over the ends of its chains, which are in a row.

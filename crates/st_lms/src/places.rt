@@ -27,20 +27,12 @@ pub(crate) fn head(id: &[u8; 16], q: u32) -> [u8; 20]
     head
 }
 
-/// The beginnings of chains.
-pub(crate) fn first_places() -> Places
-    ensures long { length result ≡ 265 }
-    ensures places { (i : ℕ) → i < 265 → slice_index result i ≡ 0 }
-{
-    [0; 265]
-}
-
 /// The places of the values that these digits name.
 pub(crate) fn digit_places(kind: OneTimeType, digits: &Digits) -> Places
     ensures { (i : ℕ) → i < chains (one_time_number kind)
         → slice_index result i ≡ coef digits.now i (width (one_time_number kind)) + 1 }
 {
-    let mut places = first_places();
+    let mut places = [0u16; 265];
     'digits: for i in 0..kind.parameters().chains {
         places[i as usize] = coef(digits, i, kind) as u16 + 1;
     }

@@ -1,4 +1,4 @@
-use Rattle.std.proofs.Common.{slice_index}
+use Rattle.std.proofs.Common.{slice_index, arith}
 use Rattle.st_lanes.proofs.Lanes.{splat_at}
 use Rattle.st_lanes.proofs.Values.{head_is}
 use Rattle.st_lanes.proofs.rows.heads.Goals as goal
@@ -17,5 +17,4 @@ returns c k lt =
       splat_at c.load-5.result k lt,
       c.load-5.ensures,
       c.shift_left.ensures k lt,
-      c.wide.ensures k lt,
-    ) (head_is c.args.head.now (slice_index c.args.numbers.now k) c.told-head (c.fits-numbers k))
+    ) (head_is c.args.head.now (slice_index c.args.numbers.now k) c.told-head (omega (arith, c.requires k lt)))

@@ -9,9 +9,8 @@ use Rattle.st_lms.proofs.one_time.candidate_key.Goals as goal
 
 pub walk-ends-requires : goal.walk-ends-requires
 walk-ends-requires c =
-    let few = (sized (one_time_number c.args.kind) c.parameters.ensures.known).chain_count in
     record {
-      count = omega (arith, few, c.parameters.ensures.chains);
+      count = omega (arith, (sized (one_time_number c.args.kind) c.parameters.ensures.known).chain_count, c.parameters.ensures.chains);
       starts = omega (arith, c.parameters.ensures.chains, c.requires);
     }
 

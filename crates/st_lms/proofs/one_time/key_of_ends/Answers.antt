@@ -16,7 +16,6 @@ pub returns : goal.returns
 unfolding key_of_ends
 returns c = λ end is.
     let start = c.args.id.now ++ u32str c.args.q ++ u16str d_pblc in
-    let row = c.args.ends.now in
-    c.finalize.ensures (start ++ take (32 * c.parameters.result.chains) row) (c.update.ensures start c.hasher-hasher.ensures)
-    ∙ ap (λ n. sha256 (start ++ take (32 * n) row)) c.parameters.ensures.chains
-    ∙ ap (λ xs. sha256 (start ++ xs)) (row_joined row end (chains (one_time_number c.args.kind)) is)
+    c.finalize.ensures (start ++ take (32 * c.parameters.result.chains) c.args.ends.now) (c.update.ensures start c.hasher-hasher.ensures)
+    ∙ ap (λ n. sha256 (start ++ take (32 * n) c.args.ends.now)) c.parameters.ensures.chains
+    ∙ ap (λ xs. sha256 (start ++ xs)) (row_joined c.args.ends.now end (chains (one_time_number c.args.kind)) is)

@@ -1,12 +1,12 @@
-use Rattle.std.proofs.Common.{◌∙◌, ◌+◌, ap, arith, length-set}
-use Rattle.st_lanes.proofs.Values.{fill}
+use Rattle.std.proofs.Common.{◌+◌, ap, arith}
+use Rattle.st_lanes.proofs.Values.{filled_more, filled_none}
 use Rattle.st_lms.specs.TypeNumbers.{one_time_number}
 use Rattle.st_lms.proofs.TypeLemmas.{one_time_known}
 use Rattle.st_lms.proofs.DigitLemmas.{digit_in_digits, sized}
 use Rattle.st_lms.proofs.places.digit_places.Goals as goal
 
 pub digits-init : goal.digits-init
-digits-init c = (c.first_places-places.ensures.long, λ m lt. absurd (omega arith))
+digits-init c = filled_none _ 265 0
 
 pub coef-requires : goal.coef-requires
 coef-requires c =
@@ -18,10 +18,7 @@ bounds-places-i c =
 
 pub digits-preserved : goal.digits-preserved
 digits-preserved c =
-    let few = (sized (one_time_number c.args.kind) c.parameters-i-end.ensures.known).chain_count in (
-      length-set c.digits.places c.digits.i _ ∙ c.digits.invariant.0,
-      fill _ c.digits.places c.digits.i _ (omega (arith, few, c.parameters-i-end.ensures.chains, c.digits.invariant.0)) c.digits.invariant.1 (ap (λ d. d + 1) c.coef.ensures),
-    )
+    filled_more _ 265 c.digits.places c.digits.i _ c.digits.invariant (omega (arith, (sized (one_time_number c.args.kind) c.parameters-i-end.ensures.known).chain_count, c.parameters-i-end.ensures.chains)) (ap (λ d. d + 1) c.coef.ensures)
 
 pub returns : goal.returns
-returns c = λ i lt. c.digits.invariant.1 i (omega (arith, lt, c.parameters-i-end.ensures.chains))
+returns c = λ i lt. c.digits.invariant.each i (omega (arith, lt, c.parameters-i-end.ensures.chains))
