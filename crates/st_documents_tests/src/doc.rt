@@ -2,9 +2,9 @@ mod applied;
 mod bounds;
 mod forms;
 
-use st_doc::{Delta, DeltaRefused, Document, PatchRefused, apply_all, check_delta, is_delta};
 use st_base::{Copied, read_number};
 use st_canon::{Json, PackedJson, read, write};
+use st_doc::{Delta, DeltaRefused, Document, PatchRefused, apply_all, check_delta, is_delta};
 use st_params::{Params, Schedule};
 use std::alloc::Global;
 

@@ -2,10 +2,11 @@ mod appendix;
 mod pointers;
 mod steps;
 
-use st_jsonpatch::{Step, StepsRefused, apply_steps};
 use st_base::{List, read_number};
 use st_canon::{Json, read, write};
+use st_jsonpatch::{Step, StepsRefused, apply_steps};
 use std::alloc::Global;
+use std::test::Fail;
 
 // The bounds on depth and size that a line has which names none.
 const DEPTH: u64 = 32;
@@ -98,12 +99,11 @@ fn comes_out(alloc: Global, line: &str) -> bool {
     }
 }
 
-// The first line at which something else is made.
-fn first_other(alloc: Global, lines: &'static str) -> Option<&'static str> {
+fn each_comes_out(alloc: Global, lines: &'static str) -> Result<(), Fail> {
     for line in lines.lines() {
         if !comes_out(alloc, line) {
-            return Some(line);
+            return Err(Fail::from(line));
         }
     }
-    None
+    Ok(())
 }

@@ -13,8 +13,8 @@ mod shapes;
 mod spelling;
 mod tokens;
 
-use st_canon::{Json, Object, is_text_if_there, read, some_list, write};
 use st_base::{List, WantOfMemory};
+use st_canon::{Json, Object, is_text_if_there, read, some_list, write};
 use std::alloc::Global;
 
 // An object of fixed members, which are put in another order than they are listed.

@@ -33,8 +33,20 @@ fn is_written(alloc: Global, bytes: &[u8], text: &str) -> bool {
 fn a_hash_text_is_written_and_read_again(rt: HostRuntime) -> Result<(), Fail> {
     let alloc = rt.alloc();
     assert!(rt; is_written(alloc, b"", "EiDjsMRCmPwcFJr79MiZb7kkJ65B5GSbk0yklZkbeFK4VQ"));
-    assert!(rt; is_written(alloc, b"abc", "EiC6eBa_jwHP6kFBQN5driIjsANho5YXepy0EP9h8gAVrQ"));
-    assert!(rt; is_written(alloc, b"{}", "EiBEE2-jVbNnihFGrRb36GSelPtPwh_nfoMQwGD2HKr_ig"));
+    assert!(rt;
+        is_written(
+            alloc,
+            b"abc",
+            "EiC6eBa_jwHP6kFBQN5driIjsANho5YXepy0EP9h8gAVrQ"
+        )
+    );
+    assert!(rt;
+        is_written(
+            alloc,
+            b"{}",
+            "EiBEE2-jVbNnihFGrRb36GSelPtPwh_nfoMQwGD2HKr_ig"
+        )
+    );
     Ok(())
 }
 
@@ -60,8 +72,7 @@ fn a_digest_is_sha_256(rt: HostRuntime) -> Result<(), Fail> {
     assert!(rt; hash.code() == 0x12);
     assert!(rt;
         hash.digest()
-            == b"\xba\x78\x16\xbf\x8f\x01\xcf\xea\x41\x41\x40\xde\x5d\xae\x22\x23\xb0\x03\x61\xa3\x96\x17\x7a\x9c\xb4\x10\xff\x61\xf2\x00\x15\xad"
-                .as_slice()
+            == b"\xba\x78\x16\xbf\x8f\x01\xcf\xea\x41\x41\x40\xde\x5d\xae\x22\x23\xb0\x03\x61\xa3\x96\x17\x7a\x9c\xb4\x10\xff\x61\xf2\x00\x15\xad".as_slice()
     );
     Ok(())
 }
@@ -168,7 +179,10 @@ fn base64url_is_written_and_read_again(rt: HostRuntime) -> Result<(), Fail> {
 #[test]
 fn base64url_has_one_spelling(rt: HostRuntime) -> Result<(), Fail> {
     for text in "e31 Zg== Zh Z Zm9+ Zm9/ Zm9v! Zm9v= Zm\u{e4}9".split(' ') {
-        assert!(rt; matches!(dec(rt.alloc(), text.as_bytes()), Err(DecRefused::BadBase64)), "{text}");
+        assert!(rt;
+            matches!(dec(rt.alloc(), text.as_bytes()), Err(DecRefused::BadBase64)),
+            "{text}"
+        );
     }
     Ok(())
 }

@@ -126,11 +126,7 @@ fn put_from(alloc: Global, index: Sums, first: u32, item: u64) -> Result<Sums, W
 fn are_folded_once(alloc: Global, work: &mut Work) -> Result<bool, WantOfMemory> {
     let index = Index::new(alloc, Adds)?;
     let index = put_from(alloc, index, 0, 1)?.settle(alloc, work)?;
-    Ok(
-        *index.state(&5) == 40
-            && work.applies() <= 47
-            && are_changed_once(alloc, index, work)?,
-    )
+    Ok(*index.state(&5) == 40 && work.applies() <= 47 && are_changed_once(alloc, index, work)?)
 }
 
 fn are_changed_once(alloc: Global, index: Sums, work: &mut Work) -> Result<bool, WantOfMemory> {

@@ -73,7 +73,13 @@ fn is_signature(secret: &Secret, public: &Public, message: &[u8], signature: Byt
     let right = signature.as_slice().len() == public.signature_len()
         && verify(public, message, signature.as_slice());
     let mut bytes = signature.into_vec();
-    right && no_damage_holds(public, message, bytes.as_mut_slice(), 32 * secret.height() as usize)
+    right
+        && no_damage_holds(
+            public,
+            message,
+            bytes.as_mut_slice(),
+            32 * secret.height() as usize,
+        )
 }
 
 /// Whether the key signs the message so, with and without its nodes.

@@ -1,7 +1,7 @@
 use super::{PATCHES, framed, is_taken, json, params, patches_make};
-use st_doc::Document;
 use st_base::read_number;
 use st_canon::Json;
+use st_doc::Document;
 use std::alloc::Global;
 use std::test::Fail;
 
@@ -105,38 +105,20 @@ fn is_depth_so(alloc: Global, line: &str) -> bool {
     }
 }
 
-fn first_other_size(alloc: Global) -> Option<&'static str> {
-    for line in SIZES.lines() {
-        if !is_size_so(alloc, line) {
-            return Some(line);
-        }
-    }
-    None
-}
-
-fn first_other_depth(alloc: Global) -> Option<&'static str> {
-    for line in DEPTHS.lines() {
-        if !is_depth_so(alloc, line) {
-            return Some(line);
-        }
-    }
-    None
-}
-
 #[test]
 fn a_delta_keeps_its_bounds_on_size(rt: HostRuntime) -> Result<(), Fail> {
-    match first_other_size(rt.alloc()) {
-        Some(line) => Err(Fail::from(line)),
-        None => Ok(()),
+    for line in SIZES.lines() {
+        assert!(rt; is_size_so(rt.alloc(), line), "{line}");
     }
+    Ok(())
 }
 
 #[test]
 fn a_delta_and_a_document_in_it_keep_their_bounds_on_depth(rt: HostRuntime) -> Result<(), Fail> {
-    match first_other_depth(rt.alloc()) {
-        Some(line) => Err(Fail::from(line)),
-        None => Ok(()),
+    for line in DEPTHS.lines() {
+        assert!(rt; is_depth_so(rt.alloc(), line), "{line}");
     }
+    Ok(())
 }
 
 // The document without keys, whose only service is so long.

@@ -118,52 +118,36 @@ fn is_so(alloc: Global, frame: &str, line: &str) -> bool {
     }
 }
 
-// The first line at which the frame is taken otherwise.
-fn first_other(alloc: Global, frame: &str, lines: &'static str) -> Option<&'static str> {
+fn each_is_so(alloc: Global, frame: &str, lines: &'static str) -> Result<(), Fail> {
     for line in lines.lines() {
         if !is_so(alloc, frame, line) {
-            return Some(line);
+            return Err(Fail::from(line));
         }
     }
-    None
+    Ok(())
 }
 
 #[test]
 fn keys_have_their_form(rt: HostRuntime) -> Result<(), Fail> {
-    match first_other(rt.alloc(), ADDS_KEYS, KEYS) {
-        Some(line) => Err(Fail::from(line)),
-        None => Ok(()),
-    }
+    each_is_so(rt.alloc(), ADDS_KEYS, KEYS)
 }
 
 #[test]
 fn services_have_their_form(rt: HostRuntime) -> Result<(), Fail> {
-    match first_other(rt.alloc(), ADDS_SERVICES, SERVICES) {
-        Some(line) => Err(Fail::from(line)),
-        None => Ok(()),
-    }
+    each_is_so(rt.alloc(), ADDS_SERVICES, SERVICES)
 }
 
 #[test]
 fn names_have_their_form(rt: HostRuntime) -> Result<(), Fail> {
-    match first_other(rt.alloc(), ADDS_NAMES, NAMES) {
-        Some(line) => Err(Fail::from(line)),
-        None => Ok(()),
-    }
+    each_is_so(rt.alloc(), ADDS_NAMES, NAMES)
 }
 
 #[test]
 fn patches_have_their_forms_in_each_version(rt: HostRuntime) -> Result<(), Fail> {
-    match first_other(rt.alloc(), PATCHES, FORMS) {
-        Some(line) => Err(Fail::from(line)),
-        None => Ok(()),
-    }
+    each_is_so(rt.alloc(), PATCHES, FORMS)
 }
 
 #[test]
 fn deltas_have_their_form_in_each_version(rt: HostRuntime) -> Result<(), Fail> {
-    match first_other(rt.alloc(), "%", DELTAS) {
-        Some(line) => Err(Fail::from(line)),
-        None => Ok(()),
-    }
+    each_is_so(rt.alloc(), "%", DELTAS)
 }

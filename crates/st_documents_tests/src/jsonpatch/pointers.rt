@@ -1,7 +1,7 @@
 use super::{is_text, json};
-use st_jsonpatch::{Pointer, PointerRefused, find};
 use st_base::Copied;
 use st_canon::Json;
+use st_jsonpatch::{Pointer, PointerRefused, find};
 use std::alloc::Global;
 use std::test::Fail;
 
@@ -76,21 +76,12 @@ fn is_read_so(alloc: Global, line: &str) -> bool {
     }
 }
 
-fn first_other_pointer(alloc: Global) -> Option<&'static str> {
-    for line in POINTERS.lines() {
-        if !is_read_so(alloc, line) {
-            return Some(line);
-        }
-    }
-    None
-}
-
 #[test]
 fn escapes_stand_for_their_signs(rt: HostRuntime) -> Result<(), Fail> {
-    match first_other_pointer(rt.alloc()) {
-        Some(line) => Err(Fail::from(line)),
-        None => Ok(()),
+    for line in POINTERS.lines() {
+        assert!(rt; is_read_so(rt.alloc(), line), "{line}");
     }
+    Ok(())
 }
 
 fn leads_to(alloc: Global, value: &Json, pointer: &Pointer, text: &str) -> bool {
@@ -110,26 +101,19 @@ fn is_found_so(alloc: Global, value: &Json, line: &str) -> bool {
     }
 }
 
-fn first_other_entry_of(alloc: Global, value: &Json) -> Option<&'static str> {
+fn each_is_found(alloc: Global, value: &Json) -> Result<(), Fail> {
     for line in ENTRIES.lines() {
         if !is_found_so(alloc, value, line) {
-            return Some(line);
+            return Err(Fail::from(line));
         }
     }
-    None
-}
-
-fn first_other_entry(alloc: Global) -> Option<&'static str> {
-    match json(alloc, DOCUMENT) {
-        Some(value) => first_other_entry_of(alloc, &value),
-        None => Some("no value"),
-    }
+    Ok(())
 }
 
 #[test]
 fn a_pointer_leads_to_a_value(rt: HostRuntime) -> Result<(), Fail> {
-    match first_other_entry(rt.alloc()) {
-        Some(line) => Err(Fail::from(line)),
-        None => Ok(()),
+    match json(rt.alloc(), DOCUMENT) {
+        Some(value) => each_is_found(rt.alloc(), &value),
+        None => Err(Fail::from("no value")),
     }
 }

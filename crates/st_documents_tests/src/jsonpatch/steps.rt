@@ -1,7 +1,7 @@
-use super::{first_other, json, make, push_steps};
-use st_jsonpatch::{Step, StepRefused};
+use super::{each_comes_out, json, make, push_steps};
 use st_base::{List, read_number};
 use st_canon::Json;
+use st_jsonpatch::{Step, StepRefused};
 use std::alloc::Global;
 use std::test::Fail;
 
@@ -56,10 +56,7 @@ const BOUNDS: &str = "32 16384 failed 13
 
 #[test]
 fn each_step_does_what_its_row_says(rt: HostRuntime) -> Result<(), Fail> {
-    match first_other(rt.alloc(), CASES) {
-        Some(line) => Err(Fail::from(line)),
-        None => Ok(()),
-    }
+    each_comes_out(rt.alloc(), CASES)
 }
 
 // The steps that add the list and copy it.
@@ -87,36 +84,28 @@ fn is_bounded(alloc: Global, value: &Json, steps: &[Step], line: &str) -> bool {
     }
 }
 
-fn first_other_bound(alloc: Global, value: &Json, steps: &[Step]) -> Option<&'static str> {
+fn each_is_bounded(alloc: Global, value: &Json, steps: &[Step]) -> Result<(), Fail> {
     for line in BOUNDS.lines() {
         if !is_bounded(alloc, value, steps, line) {
-            return Some(line);
+            return Err(Fail::from(line));
         }
     }
-    None
+    Ok(())
 }
 
-fn first_other_of(alloc: Global, value: &Json) -> Option<&'static str> {
+fn growth_is_bounded(alloc: Global, value: &Json) -> Result<(), Fail> {
     let mut steps = List::new(alloc);
     if push_growing(alloc, &mut steps) {
-        first_other_bound(alloc, value, steps.as_slice())
-    } else {
-        Some("no steps")
+        return Ok(each_is_bounded(alloc, value, steps.as_slice())?);
     }
-}
-
-fn first_other_growth(alloc: Global) -> Option<&'static str> {
-    match json(alloc, r#"{"publicKeys":[],"services":[]}"#) {
-        Some(value) => first_other_of(alloc, &value),
-        None => Some("no value"),
-    }
+    Err(Fail::from("no steps"))
 }
 
 #[test]
 fn copies_grow_past_the_bound_on_size(rt: HostRuntime) -> Result<(), Fail> {
-    match first_other_growth(rt.alloc()) {
-        Some(line) => Err(Fail::from(line)),
-        None => Ok(()),
+    match json(rt.alloc(), r#"{"publicKeys":[],"services":[]}"#) {
+        Some(value) => growth_is_bounded(rt.alloc(), &value),
+        None => Err(Fail::from("no value")),
     }
 }
 
@@ -138,19 +127,10 @@ fn has_its_form(alloc: Global, line: &str) -> bool {
     }
 }
 
-fn first_other_form(alloc: Global) -> Option<&'static str> {
-    for line in FORMS.lines() {
-        if !has_its_form(alloc, line) {
-            return Some(line);
-        }
-    }
-    None
-}
-
 #[test]
 fn a_step_has_what_its_op_needs(rt: HostRuntime) -> Result<(), Fail> {
-    match first_other_form(rt.alloc()) {
-        Some(line) => Err(Fail::from(line)),
-        None => Ok(()),
+    for line in FORMS.lines() {
+        assert!(rt; has_its_form(rt.alloc(), line), "{line}");
     }
+    Ok(())
 }

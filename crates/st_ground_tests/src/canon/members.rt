@@ -1,6 +1,6 @@
 use super::{is_written, moved, object, pair_of, step_of};
-use st_canon::{Json, Object, Whole, read};
 use st_base::{Copied, List, Text, WantOfMemory};
+use st_canon::{Json, Object, Whole, read};
 use std::alloc::Global;
 use std::test::Fail;
 

@@ -1,5 +1,5 @@
-use st_canon::{Json, PackedJson, canonical_text, read, write};
 use st_base::{Bytes, Copied, List, Shared};
+use st_canon::{Json, PackedJson, canonical_text, read, write};
 use std::test::Fail;
 
 // The delta of a create that another program made.

@@ -56,7 +56,8 @@ fn is_kept(alloc: Global, canonical: &[u8]) -> bool {
 
 fn is_given(alloc: Global, text: &[u8], wanted: &str) -> bool {
     match canonical_text(alloc, text) {
-        Ok(written) => written.as_slice() == wanted.as_bytes() && is_kept(alloc, written.as_slice()),
+        Ok(written) => written.as_slice() == wanted.as_bytes()
+            && is_kept(alloc, written.as_slice()),
         Err(ReadRefused::NotJson) => wanted == "no JSON",
         Err(ReadRefused::NotWhole) => wanted == "not whole",
         Err(_) => false,
@@ -70,21 +71,12 @@ fn is_line(alloc: Global, line: &str) -> bool {
     }
 }
 
-fn first_other(alloc: Global) -> Option<&'static str> {
-    for line in TEXTS.lines() {
-        if !is_line(alloc, line) {
-            return Some(line);
-        }
-    }
-    None
-}
-
 #[test]
 fn each_text_has_one_answer(rt: HostRuntime) -> Result<(), Fail> {
-    match first_other(rt.alloc()) {
-        Some(line) => Err(Fail::from(line)),
-        None => Ok(()),
+    for line in TEXTS.lines() {
+        assert!(rt; is_line(rt.alloc(), line), "{line}");
     }
+    Ok(())
 }
 
 // So many lists round this text.

@@ -34,29 +34,20 @@ fn has(alloc: Global, file: &Scanned<'_>, name: &str, value: &str) -> bool {
     }
 }
 
-// The first name under which the file has another value.
-fn wrong_member(alloc: Global) -> Option<&'static str> {
-    let Ok(text) = CanonicalText::read(alloc, FILE.as_bytes()) else {
-        return Some("no JSON");
-    };
-    let file = text.root();
-    for line in MEMBERS.lines() {
-        let Some((name, value)) = line.split_once('|') else {
-            return Some(line);
-        };
-        if !has(alloc, &file, name, value) {
-            return Some(line);
-        }
+fn has_line(alloc: Global, file: &Scanned<'_>, line: &str) -> bool {
+    match line.split_once('|') {
+        Some((name, value)) => has(alloc, file, name, value),
+        None => false,
     }
-    None
 }
 
 #[test]
 fn members_are_found_by_name(rt: HostRuntime) -> Result<(), Fail> {
-    match wrong_member(rt.alloc()) {
-        None => Ok(()),
-        Some(line) => Err(Fail::from(line)),
+    let text = CanonicalText::read(rt.alloc(), FILE.as_bytes())?;
+    for line in MEMBERS.lines() {
+        assert!(rt; has_line(rt.alloc(), &text.root(), line), "{line}");
     }
+    Ok(())
 }
 
 // Whether the members come in turn under these names: a text, a list, and no more.
@@ -88,7 +79,9 @@ fn members_come_in_turn(rt: HostRuntime) -> Result<(), Fail> {
         return Err(Fail::from("no JSON"));
     };
     let file = text.root();
-    assert!(rt; come_in_turn(rt.alloc(), &file, "a", "b\"") && are_both(rt.alloc(), &file, "a", "b\""));
+    assert!(rt;
+        come_in_turn(rt.alloc(), &file, "a", "b\"") && are_both(rt.alloc(), &file, "a", "b\"")
+    );
     assert!(rt; file.both_members("a", "b").is_none());
     Ok(())
 }
@@ -113,7 +106,9 @@ fn lists(alloc: Global, list: &str, lines: &str, count: usize) -> bool {
     match CanonicalText::read_json(alloc, list.as_bytes()) {
         Ok(Some(text)) => {
             let mut entries = entries_in(Some(text.root()));
-            entries.count() == count && are(alloc, &mut entries.again(), lines) && are(alloc, &mut entries, lines)
+            entries.count() == count
+                && are(alloc, &mut entries.again(), lines)
+                && are(alloc, &mut entries, lines)
         }
         _ => false,
     }

@@ -1,6 +1,6 @@
 use super::is_respelled;
-use st_canon::{ReadRefused, read, write};
 use st_base::{Bytes, WantOfMemory};
+use st_canon::{ReadRefused, read, write};
 use std::alloc::Global;
 use std::test::Fail;
 
@@ -25,15 +25,6 @@ fn is_line(alloc: Global, line: &str) -> bool {
     }
 }
 
-fn first_other(alloc: Global) -> Option<&'static str> {
-    for line in SPELLINGS.lines() {
-        if !is_line(alloc, line) {
-            return Some(line);
-        }
-    }
-    None
-}
-
 const SPACED: &str = " [ 1 , -2 ,\ttrue,\nnull , { } , [ ] ]\r\n";
 
 fn are_respelled(alloc: Global) -> bool {
@@ -44,10 +35,10 @@ fn are_respelled(alloc: Global) -> bool {
 #[test]
 fn each_spelling_has_one_text(rt: HostRuntime) -> Result<(), Fail> {
     assert!(rt; are_respelled(rt.alloc()));
-    match first_other(rt.alloc()) {
-        Some(line) => Err(Fail::from(line)),
-        None => Ok(()),
+    for line in SPELLINGS.lines() {
+        assert!(rt; is_line(rt.alloc(), line), "{line}");
     }
+    Ok(())
 }
 
 // The sample of RFC 8785, section 3.2.3.
@@ -123,14 +114,13 @@ const NO_BYTES_OF_JSON: [&[u8]; 4] = [
     b"\xef\xbb\xbf1",
 ];
 
-// The first text that is not refused so.
-fn first_not_refused(alloc: Global, texts: &'static str, refused: &str) -> Option<&'static str> {
+fn each_is_refused(alloc: Global, texts: &'static str, refused: &str) -> Result<(), Fail> {
     for text in texts.lines() {
         if refusal(alloc, text.as_bytes()) != refused {
-            return Some(text);
+            return Err(Fail::from(text));
         }
     }
-    None
+    Ok(())
 }
 
 fn are_no_json(alloc: Global) -> bool {
@@ -145,18 +135,12 @@ fn are_no_json(alloc: Global) -> bool {
 #[test]
 fn what_is_no_json_is_refused(rt: HostRuntime) -> Result<(), Fail> {
     assert!(rt; are_no_json(rt.alloc()));
-    match first_not_refused(rt.alloc(), NOT_JSON, "no JSON") {
-        Some(text) => Err(Fail::from(text)),
-        None => Ok(()),
-    }
+    each_is_refused(rt.alloc(), NOT_JSON, "no JSON")
 }
 
 #[test]
 fn what_is_not_whole_is_refused(rt: HostRuntime) -> Result<(), Fail> {
-    match first_not_refused(rt.alloc(), NOT_WHOLE, "not whole") {
-        Some(text) => Err(Fail::from(text)),
-        None => Ok(()),
-    }
+    each_is_refused(rt.alloc(), NOT_WHOLE, "not whole")
 }
 
 // Whether so many nested lists are read or refused.

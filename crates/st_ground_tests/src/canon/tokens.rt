@@ -1,7 +1,7 @@
 use super::is_respelled;
-use st_canon::rewrite;
 use json::{Reader, Scratch};
 use st_base::Bytes;
+use st_canon::rewrite;
 use std::test::Fail;
 
 // What goes out of the next value, or nothing where it is left.

@@ -1,7 +1,7 @@
 use super::judged;
 use super::vectors::{MESSAGE_1, MESSAGE_2, PUBLIC_1, PUBLIC_2, SIGNATURE_1, SIGNATURE_2};
-use st_hss::{HssPublic, verify_hss};
 use st_base::Bytes;
+use st_hss::{HssPublic, verify_hss};
 use std::alloc::Global;
 use std::test::Fail;
 

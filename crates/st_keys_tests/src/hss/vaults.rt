@@ -3,8 +3,8 @@ ghost use Rattle.st_vault.specs.Opening.{ReadsAs};
 
 use super::judged;
 use super::vectors::QUICK_PUBLIC;
-use st_hss::{HssPublic, HssSignRefused, HssVault, HssVaultRefused, hss_laws, verify_hss};
 use st_base::{Bytes, List, WantOfMemory};
+use st_hss::{HssPublic, HssSignRefused, HssVault, HssVaultRefused, hss_laws, verify_hss};
 use st_io::{Disk, PlainDisk, ScriptDisk};
 use st_lms::Secret;
 use st_vault::{format_vault, open_vault};

@@ -138,7 +138,12 @@ fn a_turned_bit_is_refused(rt: HostRuntime) -> Result<(), Fail> {
 }
 
 /// Whether the signing input of a payload is this, and joined with a signature is the signed text.
-fn is_joined(alloc: Global, payload: &Json, input: &str, signature: &str) -> Result<bool, WantOfMemory> {
+fn is_joined(
+    alloc: Global,
+    payload: &Json,
+    input: &str,
+    signature: &str,
+) -> Result<bool, WantOfMemory> {
     let made = signing_input(alloc, payload)?;
     let Ok(bytes) = dec(alloc, signature.as_bytes()) else {
         return Ok(false);

@@ -89,7 +89,10 @@ fn is_made_once(alloc: Global, secret: Secret) -> Result<bool, WantOfMemory> {
     let mut disk = disk_of(alloc, b"", u64::MAX)?;
     Ok(
         format_vault(&mut disk, secret).is_ok()
-            && matches!(format_vault(&mut disk, secret), Err(FormatRefused::Formatted)),
+            && matches!(
+                format_vault(&mut disk, secret),
+                Err(FormatRefused::Formatted)
+            ),
     )
 }
 

@@ -42,7 +42,10 @@ fn formats(
 #[test]
 fn a_stop_while_formatting_leaves_a_blank_disk_or_the_vault(rt: HostRuntime) -> Result<(), Fail> {
     for last in 0..7 {
-        assert!(rt; formats(rt.alloc(), last, false, (BLANK, BLANK))?, "after {last} calls");
+        assert!(rt;
+            formats(rt.alloc(), last, false, (BLANK, BLANK))?,
+            "after {last} calls"
+        );
     }
     assert!(rt; formats(rt.alloc(), 7, false, (BLANK, Ok(32)))?);
     assert!(rt; formats(rt.alloc(), 8, true, (Ok(32), Ok(32)))?);
@@ -79,7 +82,10 @@ fn reserves(
 #[test]
 fn a_stop_while_opening_or_reserving_keeps_the_vault(rt: HostRuntime) -> Result<(), Fail> {
     for last in 0..5 {
-        assert!(rt; reserves(rt.alloc(), last, false, (32, 32))?, "after {last} calls");
+        assert!(rt;
+            reserves(rt.alloc(), last, false, (32, 32))?,
+            "after {last} calls"
+        );
     }
     assert!(rt; reserves(rt.alloc(), 5, false, (32, 31))?);
     assert!(rt; reserves(rt.alloc(), 6, true, (31, 31))?);
