@@ -46,21 +46,23 @@ impl<N: Peer> Model for Talk<N> {
 
 impl<N: Peer> Talk<N> {
     /// A node before anything was told.
-    #[tactic(auto, unfolding(crate::specs::Paid::IsPaid, crate::specs::Talk::new_talk))]
+    #[tactic(auto, unfolding(crate::specs::Talk::new_talk))]
     pub fn new(alloc: Global) -> Result<Talk<N>, WantOfMemory>
         ensures { IfOk result (λ talk. talk ≡ new_talk N.peer) }
     {
         let node = N::start(alloc)?;
-        Ok(Talk {
+        let accepted = Accepted {
+            submissions: 0,
+            anchors: 0,
+            rollbacks: 0,
+            files: 0,
+        };
+        let talk = Talk {
             node,
-            accepted: Accepted {
-                submissions: 0,
-                anchors: 0,
-                rollbacks: 0,
-                files: 0,
-            },
+            accepted,
             read: 0,
-        })
+        };
+        Ok(talk)
     }
 
     /// Tells a line, and gives the reply.

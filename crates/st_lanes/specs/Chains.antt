@@ -1,28 +1,32 @@
--- Chains of digests, and what a loop over four of them keeps.
-use Rattle.std.specs.Prelude.{◌≡◌, ℕ, zero, suc, ◌+◌, ◌*◌, ◌^◌, ◌≤◌, List, [], ◌∷◌, ◌++◌, slice_index}
-use Rattle.sha2.specs.Sha256.{digest_bytes, sha256, word_at}
+-- Chains of digests. The places of a chain are numbered from 0 on, and each has a value of 32 bytes.
+use Rattle.std.specs.Prelude.{◌≡◌, ℕ, zero, suc, ◌+◌, ◌-◌, ◌*◌, ◌%◌, ◌<◌, List, ◌∷◌, ◌++◌, drop, slice_index, take}
+use Rattle.std.specs.Int.{to_be_bytes, w16}
+use Rattle.sha2.specs.Sha256.{digest_bytes, sha256}
+use Rattle.st_lanes.specs.Lanes.{lane}
 use Rattle.st_lanes.specs.Links.{AreWords}
 
--- a value after n steps behind the head p, the first of them with the byte j
+-- the value n places after place k, which has the value v. A step hashes the head p, a byte, and the
+-- value before; the byte is 0xff at place 0, and k - 1 at place k
 unfoldable pub steps : List ℕ → ℕ → ℕ → List ℕ → List ℕ
-steps p j zero v = v
-steps p j (suc n) v = sha256 (p ++ (j + n) ∷ steps p j n v)
+steps p k zero v = v
+steps p k (suc n) v = sha256 (p ++ ((k + n + 255) % 256) ∷ steps p k n v)
 
--- s steps of all chains are taken: this one's words are w, and it ended with the value end if it has
--- no more than s steps
-pub record IsAt (w p : List ℕ) (j n : ℕ) (v end : List ℕ) (s : ℕ) : Type 0 where
+-- value i of a row of values
+unfoldable pub value_at : List ℕ → ℕ → List ℕ
+value_at row i = take 32 (drop (32 * i) row)
+
+-- the value at which chain i ends, if it begins at place `from i` with value i of a row, and ends at
+-- place `to i`
+abbrev pub end_of : List ℕ → List ℕ → List ℕ → List ℕ → ℕ → List ℕ
+end_of head from to starts i =
+    steps (head ++ to_be_bytes w16 i) (slice_index from i) (slice_index to i - slice_index from i) (value_at starts i)
+
+-- the words w are those of the value n places after place k, which has the value v
+pub record IsAt (w p : List ℕ) (k : ℕ) (v : List ℕ) (n : ℕ) : Type 0 where
   pub words : AreWords w
-  pub goes : s ≤ n → digest_bytes w 8 ≡ steps p j s v
-  pub ended : n ≤ s → end ≡ steps p j n v
+  pub value : digest_bytes w 8 ≡ steps p k n v
 
--- the words of the head of a message, the last with two bytes of 0
-abbrev pub head_words : List ℕ → List ℕ
-head_words m =
-    word_at m 0 ∷ word_at m 4 ∷ word_at m 8 ∷ word_at m 12 ∷ word_at m 16
-    ∷ (slice_index m 20 * 2 ^ 24 + slice_index m 21 * 2 ^ 16) ∷ []
-
--- the words of the value of a message
-abbrev pub value_words : List ℕ → List ℕ
-value_words m =
-    word_at m 23 ∷ word_at m 27 ∷ word_at m 31 ∷ word_at m 35
-    ∷ word_at m 39 ∷ word_at m 43 ∷ word_at m 47 ∷ word_at m 51 ∷ []
+-- each lane whose chain has n steps holds the end of that chain
+abbrev pub HoldEnds : (ℕ → List ℕ) → List (List ℕ) → List ℕ → List ℕ → ℕ → Type 0
+HoldEnds end value numbers counts n =
+    (k : ℕ) → k < 8 → slice_index counts k ≡ n → digest_bytes (lane k value) 8 ≡ end (slice_index numbers k)

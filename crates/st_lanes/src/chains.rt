@@ -1,137 +1,166 @@
-// Four chains side by side.
+// Chains, eight at a time.
 
-ghost use Rattle.std.specs.Prelude.{◌≡◌, ◌+◌, ◌*◌, ◌^◌, ◌<◌, ◌≤◌, List, if◌then◌else◌, [], ◌∷◌, take, drop, slice_index};
-ghost use Rattle.sha2.specs.Sha256.{digest_bytes, word_at};
-ghost use Rattle.st_lanes.specs.Chains.{head_words, steps, value_words};
-ghost use Rattle.st_lanes.specs.Lanes.{lane};
+ghost use Rattle.std.specs.Prelude.{◌≡◌, ℕ, ◌+◌, ◌-◌, ◌*◌, ◌%◌, ◌<◌, ◌≤◌, All, Contains, length, slice_index, take};
+ghost use Rattle.st_lanes.specs.Chains.{end_of, value_at};
 
-use crate::digest;
 use crate::link::step;
-use std::simd::u32x4;
+use crate::rows::{heads, keep_ends, values, wide};
+use crate::words::{add, and};
+use std::simd::u32x8;
 
-fn load_be(link: &[u8; 55], i: usize) -> u32
-    requires { i + 4 ≤ 55 }
-    ensures { result ≡ word_at link.now i }
-{
-    u32::from_be_bytes([link[i], link[i + 1], link[i + 2], link[i + 3]])
-}
-
-// The head's last two bytes.
-fn load_last(link: &[u8; 55]) -> u32
-    ensures { result ≡ slice_index link.now 20 * 2 ^ 24 + slice_index link.now 21 * 2 ^ 16 }
-{
-    u32::from_be_bytes([link[20], link[21], 0, 0])
-}
-
+// The places of the lanes' chains in a table.
 #[inline(always)]
-fn load(a: &[u8; 55], b: &[u8; 55], c: &[u8; 55], d: &[u8; 55], i: usize) -> u32x4
-    requires { i + 4 ≤ 55 }
-    ensures { result ≡ word_at a.now i ∷ word_at b.now i ∷ word_at c.now i ∷ word_at d.now i ∷ [] }
+fn pick(table: &[u16; 265], numbers: &[u16; 8]) -> [u16; 8]
+    requires { (k : ℕ) → k < 8 → slice_index numbers.now k < 265 }
+    ensures { (k : ℕ) → k < 8
+        → slice_index result k ≡ slice_index table.now (slice_index numbers.now k) }
 {
-    u32x4::from_array([load_be(a, i), load_be(b, i), load_be(c, i), load_be(d, i)])
-}
-
-#[inline(always)]
-fn heads(a: &[u8; 55], b: &[u8; 55], c: &[u8; 55], d: &[u8; 55]) -> [u32x4; 6]
-    ensures a { lane 0 result ≡ head_words a.now }
-    ensures b { lane 1 result ≡ head_words b.now }
-    ensures c { lane 2 result ≡ head_words c.now }
-    ensures d { lane 3 result ≡ head_words d.now }
-{
-    [
-        load(a, b, c, d, 0),
-        load(a, b, c, d, 4),
-        load(a, b, c, d, 8),
-        load(a, b, c, d, 12),
-        load(a, b, c, d, 16),
-        u32x4::from_array([load_last(a), load_last(b), load_last(c), load_last(d)]),
-    ]
-}
-
-#[inline(always)]
-fn values(a: &[u8; 55], b: &[u8; 55], c: &[u8; 55], d: &[u8; 55]) -> [u32x4; 8]
-    ensures a { lane 0 result ≡ value_words a.now }
-    ensures b { lane 1 result ≡ value_words b.now }
-    ensures c { lane 2 result ≡ value_words c.now }
-    ensures d { lane 3 result ≡ value_words d.now }
-{
-    [
-        load(a, b, c, d, 23),
-        load(a, b, c, d, 27),
-        load(a, b, c, d, 31),
-        load(a, b, c, d, 35),
-        load(a, b, c, d, 39),
-        load(a, b, c, d, 43),
-        load(a, b, c, d, 47),
-        load(a, b, c, d, 51),
-    ]
-}
-
-// The bytes of the steps after `done` of them.
-#[inline(always)]
-fn bytes_after(a: &[u8; 55], b: &[u8; 55], c: &[u8; 55], d: &[u8; 55], done: u8) -> u32x4
-    ensures { result ≡ (slice_index a.now 22 + done) ∷ (slice_index b.now 22 + done)
-        ∷ (slice_index c.now 22 + done) ∷ (slice_index d.now 22 + done) ∷ [] }
-{
-    u32x4::from_array([
-        a[22] as u32 + done as u32,
-        b[22] as u32 + done as u32,
-        c[22] as u32 + done as u32,
-        d[22] as u32 + done as u32,
-    ])
-}
-
-// Keeps the value of chain `k`, if it ends here.
-#[inline(always)]
-fn keep(value: &[u32x4; 8], k: usize, is_end: bool, end: &mut [u8; 32])
-    requires { k < 4 }
-    ensures { end.new ≡ (if is_end then digest_bytes (lane k value.now) 8 else end.old) }
-{
-    if is_end {
-        *end = digest(value, k);
+    let mut picked = [0u16; 8];
+    'lanes: for k in 0..8 {
+        picked[k] = table[numbers[k] as usize];
     }
+    picked
 }
 
-fn larger(x: u8, y: u8) -> u8
+// How many steps each lane's chain has.
+#[inline(always)]
+fn count_steps(from: &[u16; 8], to: &[u16; 8]) -> [u16; 8]
+    ensures { (k : ℕ) → k < 8 → slice_index result k ≡ slice_index to.now k - slice_index from.now k }
+{
+    let mut counts = [0u16; 8];
+    'lanes: for k in 0..8 {
+        counts[k] = to[k].saturating_sub(from[k]);
+    }
+    counts
+}
+
+fn larger(x: u16, y: u16) -> u16
     ensures first { x ≤ result }
     ensures second { y ≤ result }
 {
     if x < y { y } else { x }
 }
 
-/// The values of four chains after their steps. Of each the message of its first step is given, a head
-/// of 22 bytes, the step's byte and a value, and how many steps it has.
-pub fn four_chains(
-    a: &[u8; 55],
-    b: &[u8; 55],
-    c: &[u8; 55],
-    d: &[u8; 55],
-    counts: [u8; 4],
-) -> [[u8; 32]; 4]
-    requires a { slice_index a.now 22 + slice_index counts 0 ≤ 256 }
-    requires b { slice_index b.now 22 + slice_index counts 1 ≤ 256 }
-    requires c { slice_index c.now 22 + slice_index counts 2 ≤ 256 }
-    requires d { slice_index d.now 22 + slice_index counts 3 ≤ 256 }
-    ensures { result ≡ steps (take 22 a.now) (slice_index a.now 22) (slice_index counts 0) (drop 23 a.now)
-        ∷ steps (take 22 b.now) (slice_index b.now 22) (slice_index counts 1) (drop 23 b.now)
-        ∷ steps (take 22 c.now) (slice_index c.now 22) (slice_index counts 2) (drop 23 c.now)
-        ∷ steps (take 22 d.now) (slice_index d.now 22) (slice_index counts 3) (drop 23 d.now) ∷ [] }
+#[inline(always)]
+fn most(counts: &[u16; 8]) -> u16
+    ensures { (k : ℕ) → k < 8 → slice_index counts.now k ≤ result }
 {
-    let [count_a, count_b, count_c, count_d] = counts;
-    let head = heads(a, b, c, d);
-    let mut value = values(a, b, c, d);
-    let mut end_a = digest(&value, 0);
-    let mut end_b = digest(&value, 1);
-    let mut end_c = digest(&value, 2);
-    let mut end_d = digest(&value, 3);
-    let longest = larger(larger(count_a, count_b), larger(count_c, count_d));
-    'steps: for done in 0..longest {
-        let next = step(&head, &value, bytes_after(a, b, c, d, done));
-        keep(&next, 0, done + 1 == count_a, &mut end_a);
-        keep(&next, 1, done + 1 == count_b, &mut end_b);
-        keep(&next, 2, done + 1 == count_c, &mut end_c);
-        keep(&next, 3, done + 1 == count_d, &mut end_d);
+    let mut most = 0u16;
+    'lanes: for k in 0..8 {
+        most = larger(most, counts[k]);
+    }
+    most
+}
+
+// The bytes of the steps after `done` of them.
+#[inline(always)]
+fn bytes_after(from: u32x8, done: u16) -> u32x8
+    ensures { (k : ℕ) → k < 8 → slice_index result k ≡ (slice_index from k + done + 255) % 256 }
+{
+    and(
+        add(from, u32x8::splat(done as u32 + 255)),
+        u32x8::splat(255),
+    )
+}
+
+// Puts the ends of the lanes' chains into a row.
+fn walk_eight(
+    ends: &mut [u8; 8480],
+    head: &[u8; 20],
+    from: &[u16; 265],
+    to: &[u16; 265],
+    starts: &[u8],
+    numbers: &[u16; 8],
+)
+    requires numbers { (k : ℕ) → k < 8 → slice_index numbers.now k < 265 }
+    requires starts { (k : ℕ) → k < 8 → 32 * slice_index numbers.now k + 32 ≤ length starts.now }
+    ensures ended { (k : ℕ) → k < 8 → value_at ends.new (slice_index numbers.now k)
+        ≡ end_of head.now from.now to.now starts.now (slice_index numbers.now k) }
+    ensures others { (i : ℕ) → value_at ends.old i ≡ end_of head.now from.now to.now starts.now i
+        → value_at ends.new i ≡ end_of head.now from.now to.now starts.now i }
+{
+    let heads = heads(head, numbers);
+    let first = pick(from, numbers);
+    let counts = count_steps(&first, &pick(to, numbers));
+    let first = wide(&first);
+    let mut value = values(starts, numbers);
+    keep_ends(ends, &value, numbers, &counts, 0);
+    'steps: for done in 0..most(&counts) {
+        let next = step(&heads, &value, bytes_after(first, done));
+        keep_ends(ends, &next, numbers, &counts, done + 1);
         value = next;
     }
-    [end_a, end_b, end_c, end_d]
+}
+
+// All numbers of chains in order.
+fn all_numbers() -> [u16; 265]
+    ensures long { length result ≡ 265 }
+    ensures numbers { (i : ℕ) → i < 265 → slice_index result i ≡ i }
+{
+    let mut numbers = [0u16; 265];
+    'numbers: for i in 0..265u16 {
+        numbers[i as usize] = i;
+    }
+    numbers
+}
+
+// The numbers of the first chains, those with few steps first: eight side by side take the time of
+// the longest.
+fn by_steps(from: &[u16; 265], to: &[u16; 265], count: usize) -> [u16; 265]
+    requires { count ≤ 265 }
+    ensures long { length (take count result) ≡ count }
+    ensures all { (i : ℕ) → i < count → Contains (take count result) i }
+    ensures chains { All (λ i. i < count) (take count result) }
+{
+    let mut numbers = all_numbers();
+    numbers[..count].sort_unstable_by_key(|i| {
+        let i = *i as usize % 265;
+        to[i].saturating_sub(from[i])
+    });
+    numbers
+}
+
+// The eight numbers before place `end`. Where there are fewer, the first one fills the lanes.
+#[inline(always)]
+fn eight_before(order: &[u16], end: usize) -> [u16; 8]
+    requires some { 0 < end }
+    requires fits { end ≤ length order.now }
+    ensures { (k : ℕ) → k < 8 → slice_index result k ≡ slice_index order.now (end + k - 8) }
+{
+    let mut numbers = [0u16; 8];
+    'lanes: for k in 0..8 {
+        numbers[k] = order[(end + k).saturating_sub(8)];
+    }
+    numbers
+}
+
+fn blank() -> [u8; 8480]
+    ensures { length result ≡ 8480 }
+{
+    [0; 8480]
+}
+
+/// The ends of the first `count` chains, in a row. Chain `i` begins at place `from[i]` with value `i` of
+/// the row `starts`, and ends at place `to[i]`.
+pub fn walk(
+    head: &[u8; 20],
+    from: &[u16; 265],
+    to: &[u16; 265],
+    starts: &[u8],
+    count: usize,
+) -> [u8; 8480]
+    requires count { count ≤ 265 }
+    requires starts { 32 * count ≤ length starts.now }
+    ensures long { length result ≡ 8480 }
+    ensures ends { (i : ℕ) → i < count
+        → value_at result i ≡ end_of head.now from.now to.now starts.now i }
+{
+    let order = by_steps(from, to, count);
+    let mut ends = blank();
+    // From the longest chains on, so that those that fill the last lanes are short.
+    'groups: for group in 0..(count + 7) / 8 {
+        let numbers = eight_before(&order[..count], count - 8 * group);
+        walk_eight(&mut ends, head, from, to, starts, &numbers);
+    }
+    ends
 }

@@ -1,27 +1,11 @@
--- How a chain goes on.
-use Rattle.std.proofs.Common.{◌≡◌, ℕ, zero, suc, ◌+◌, ◌-◌, ◌≤◌, List, ◌∷◌, ◌++◌, take, drop, slice_index, ap, arith, refl, ◌∙◌}
-use Rattle.sha2.specs.Sha256.{sha256}
-use Rattle.st_lanes.specs.Chains.{steps}
-use Rattle.st_lms.specs.Parameters.{greatest_digit, width}
-use Rattle.st_lms.specs.Runs.{IsRun}
-use Rattle.st_lms.specs.Strings.{coef, u32str, u16str}
-use Rattle.st_lms.specs.declared.run.Run.{Run}
-use Rattle.st_lms.specs.OneTime.{chain, chain_step, end_of_secret, secret_element, signed_value}
-
--- one step more
-pub chain-more : (id : List ℕ) (q i from j : ℕ) (value : List ℕ) → from ≤ j →
-    chain id q i from (j + 1 - from) value ≡ chain_step id q i j (chain id q i from (j - from) value)
-unfolding chain
-chain-more id q i from j value h =
-    let e : j + 1 - from ≡ suc (j - from) = omega arith in
-    let at : from + (j - from) ≡ j = omega arith in
-    rw e (ap (λ n. chain_step id q i n (chain id q i from (j - from) value)) at)
-
-pub chain-none : (id : List ℕ) (q i from : ℕ) (value : List ℕ) → chain id q i from (from - from) value ≡ value
-unfolding chain
-chain-none id q i from value =
-    let e : from - from ≡ 0 = omega arith in
-    rw e
+-- How a chain goes on, and the steps of a walk.
+use Rattle.std.proofs.Common.{◌≡◌, ℕ, zero, suc, ◌+◌, ◌-◌, ◌*◌, ◌%◌, ◌<◌, ◌≤◌, List, ◌++◌, length, take, drop, slice_index, add-one, ap, arith, refl, sym, ◌∙◌}
+use Rattle.std.proofs.lemmas.List.{drop-take, take-append-drop, take-take}
+use Rattle.std.specs.Int.{to_be_bytes, w16}
+use Rattle.st_lanes.specs.Chains.{end_of, steps}
+use Rattle.st_lms.specs.OneTime.{chain, chain_step, secret_element}
+use Rattle.st_lms.specs.Strings.{joined, u16str, u32str, value_at}
+use Rattle.st_lms.proofs.Hashing.{value_at-joined}
 
 -- a chain in two parts
 pub chain-add : (id : List ℕ) (q i from m n : ℕ) (value : List ℕ) →
@@ -33,34 +17,70 @@ chain-add id q i from m (suc n) value =
     let at : from + (m + n) ≡ from + m + n = omega arith in
     rw (e, at, chain-add id q i from m n value)
 
--- the steps of a lane are those of a chain
-steps_chain : (id : List ℕ) (q i j n : ℕ) (value : List ℕ) → steps (id ++ u32str q ++ u16str i) j n value ≡ chain id q i j n value
-unfolding steps chain chain_step
-steps_chain id q i j zero value = refl
-steps_chain id q i j (suc n) value =
-    ap (λ v. sha256 (id ++ u32str q ++ u16str i ++ (j + n) ∷ v)) (steps_chain id q i j n value)
+-- the steps of a walk are those of a chain
+pub steps_chain : (id : List ℕ) (q i j n : ℕ) (value : List ℕ) → j + n ≤ 256
+    → steps (id ++ u32str q ++ to_be_bytes w16 i) (j + 1) n value ≡ chain id q i j n value
+unfolding steps chain chain_step u16str
+steps_chain id q i j zero value fits = refl
+steps_chain id q i j (suc n) value fits =
+    let byte : (j + 1 + n + 255) % 256 ≡ j + n = omega arith in
+    rw (byte, steps_chain id q i j n value (omega arith)) refl
 
-pub run_chain : (r : Run) (id : List ℕ) (q i j n : ℕ) (value : List ℕ) → IsRun r id q i j n value
-    → steps (take 22 r.link) (slice_index r.link 22) r.steps (drop 23 r.link) ≡ chain id q i j n value
-run_chain r id q i j n value is =
-    rw (is.head, is.first, is.start, is.steps) (steps_chain id q i j n value)
+-- those from the seed on make an element first
+steps_of_seed : (id : List ℕ) (q i n : ℕ) (seed : List ℕ) → n < 256
+    → steps (id ++ u32str q ++ to_be_bytes w16 i) 0 (suc n) seed ≡ chain id q i 0 n (secret_element id q i seed)
+unfolding steps chain chain_step u16str secret_element
+steps_of_seed id q i zero seed fits = refl
+steps_of_seed id q i (suc n) seed fits =
+    let byte : (0 + suc n + 255) % 256 ≡ 0 + n = omega arith in
+    rw (byte, steps_of_seed id q i n seed (omega arith)) refl
 
--- a secret element is the end of a chain of one step
-pub element_chain : (id : List ℕ) (q i : ℕ) (seed : List ℕ) → chain id q i 0xff 1 seed ≡ secret_element id q i seed
-unfolding chain chain_step secret_element
-element_chain id q i seed = refl
+pub steps_secret : (id : List ℕ) (q i n : ℕ) (seed : List ℕ) → n < 256
+    → steps (id ++ u32str q ++ to_be_bytes w16 i) 0 (n + 1) seed ≡ chain id q i 0 n (secret_element id q i seed)
+steps_secret id q i n seed fits = rw add-one (steps_of_seed id q i n seed fits)
 
--- the end of a chain that begins with what was made so
-pub end_from_element : (t : ℕ) (id : List ℕ) (q : ℕ) (seed : List ℕ) (i n : ℕ) (element : List ℕ) {end : List ℕ}
-    → n ≡ greatest_digit t → element ≡ chain id q i 0xff 1 seed → end ≡ chain id q i 0 n element → end ≡ end_of_secret t id q seed i
-unfolding end_of_secret
-end_from_element t id q seed i n element count made walked =
-    walked ∙ rw (count, made, element_chain id q i seed) refl
+-- the value to which a walk leads that begins at a seed
+pub walk_of_seed : (id : List ℕ) (q i n : ℕ) (seed : List ℕ) (head from to starts : List ℕ) {value : List ℕ} → value ≡ end_of head from to starts i
+    → head ≡ id ++ u32str q → slice_index from i ≡ 0 → slice_index to i ≡ n + 1 → value_at starts i ≡ seed → n < 256
+    → value ≡ chain id q i 0 n (secret_element id q i seed)
+walk_of_seed id q i n seed head from to starts walked is first last start fits =
+    let count : n + 1 - 0 ≡ n + 1 = omega arith in
+    walked ∙ rw (is, first, last, start, count) (steps_secret id q i n seed fits)
 
--- what is signed of a digit, from the element of its chain
-pub signed_from_element : (t : ℕ) (id : List ℕ) (q : ℕ) (seed digits : List ℕ) (i : ℕ) (element : List ℕ) {end : List ℕ}
-    → element ≡ chain id q i 0xff 1 seed → end ≡ chain id q i 0 (coef digits i (width t) - 0) element → end ≡ signed_value t id q seed digits i
-unfolding signed_value
-signed_from_element t id q seed digits i element made walked =
-    let steps : coef digits i (width t) - 0 ≡ coef digits i (width t) = omega arith in
-    walked ∙ rw (steps, made, element_chain id q i seed) refl
+-- and one that begins at the value which a digit names
+pub walk_of_value : (id : List ℕ) (q i digit end : ℕ) (head from to starts : List ℕ) {value : List ℕ} → value ≡ end_of head from to starts i
+    → head ≡ id ++ u32str q → slice_index from i ≡ digit + 1 → slice_index to i ≡ end + 1 → digit ≤ end → end < 256
+    → value ≡ chain id q i digit (end - digit) (value_at starts i)
+walk_of_value id q i digit end head from to starts walked is first last ascends fits =
+    let count : end + 1 - (digit + 1) ≡ end - digit = omega arith in
+    walked ∙ rw (is, first, last, count) (steps_chain id q i digit (end - digit) (value_at starts i) (omega arith))
+
+-- ---- rows of values
+
+take_value : (row : List ℕ) (n : ℕ) → take (32 * n) row ++ value_at row n ≡ take (32 * (n + 1)) row
+unfolding value_at
+take_value row n =
+    let size : 32 * (n + 1) ≡ 32 * n + 32 = omega arith in
+    rw size (ap (λ xs. xs ++ take 32 (drop (32 * n) row)) (sym (take-take (32 * n) (32 * n + 32) row (omega arith)))
+    ∙ ap (λ xs. take (32 * n) (take (32 * n + 32) row) ++ xs) (sym (drop-take (32 * n) 32 row))
+    ∙ take-append-drop (32 * n) (take (32 * n + 32) row))
+
+-- a row whose values are known
+pub row_joined : (row : List ℕ) (string : ℕ → List ℕ) (n : ℕ) → ((i : ℕ) → i < n → value_at row i ≡ string i) → take (32 * n) row ≡ joined string n
+unfolding joined
+row_joined row string zero is = refl
+row_joined row string (suc n) is =
+    let before = row_joined row string n (λ i lt. is i (omega arith)) in
+    let size : 32 * suc n ≡ 32 * (n + 1) = omega arith in
+    rw size (sym (take_value row n) ∙ rw (before, is n (omega arith)) refl)
+
+-- a value of a row that begins with known strings
+pub value_in_row : (row : List ℕ) (string : ℕ → List ℕ) (n i : ℕ) → ((i : ℕ) → length (string i) ≡ 32) → take (32 * n) row ≡ joined string n → i < n
+    → value_at row i ≡ string i
+unfolding value_at
+value_in_row row string n i long is lt =
+    sym (drop-take (32 * i) 32 row)
+    ∙ ap (drop (32 * i)) (sym (take-take (32 * i + 32) (32 * n) row (omega arith)))
+    ∙ drop-take (32 * i) 32 (take (32 * n) row)
+    ∙ ap (λ xs. take 32 (drop (32 * i) xs)) is
+    ∙ value_at-joined string long n i lt

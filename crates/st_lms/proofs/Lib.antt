@@ -5,7 +5,6 @@ pub mod StringLemmas
 pub mod DigitLemmas
 pub mod Hashing
 pub mod Texts
-pub mod Links
 pub mod Chains
 pub mod OneTimeLaw
 pub mod PathLemmas
@@ -15,4 +14,3 @@ pub mod PartLemmas
 pub mod Decided
 pub mod Law
 mod KeptLemmas
-pub mod KnownEnds

@@ -10,4 +10,3 @@ pub mod Parts
 pub mod PartsOf
 pub mod Decided
 pub mod KeptNodes
-pub mod Runs

@@ -1,6 +1,7 @@
 -- Byte strings (RFC 8554, section 3.1).
-use Rattle.std.specs.Prelude.{ℕ, zero, suc, ◌+◌, ◌-◌, ◌*◌, ◌/◌, ◌%◌, ◌^◌, List, [], ◌++◌, slice_index, take, drop}
+use Rattle.std.specs.Prelude.{ℕ, zero, suc, ◌+◌, ◌-◌, ◌*◌, ◌/◌, ◌%◌, ◌^◌, List, [], ◌++◌, slice_index}
 use Rattle.std.specs.Int.{w16, w32, to_be_bytes, from_be_bytes}
+unfoldable pub use Rattle.st_lanes.specs.Chains.{value_at}
 
 -- a number as 4 bytes, high first (3.1.1)
 unfoldable pub u32str : ℕ → List ℕ
@@ -22,7 +23,3 @@ coef s i w = slice_index s (i * w / 8) / 2 ^ (8 - (w * (i % (8 / w)) + w)) % 2 ^
 unfoldable pub joined : (ℕ → List ℕ) → ℕ → List ℕ
 joined string zero = []
 joined string (suc n) = joined string n ++ string n
-
--- the i-th of the strings of 32 bytes that stand in a row
-unfoldable pub value_at : List ℕ → ℕ → List ℕ
-value_at row i = take 32 (drop (32 * i) row)

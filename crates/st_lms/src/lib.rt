@@ -2,15 +2,13 @@
 //! bytes.
 #![tactic(auto)]
 
-mod chain;
 mod digits;
-mod ends;
 mod hasher;
 mod kept;
 mod one_time;
 mod parameters;
+mod places;
 mod public;
-mod run;
 mod secret;
 mod sign;
 mod strings;

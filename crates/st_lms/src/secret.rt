@@ -6,8 +6,7 @@ ghost use Rattle.st_lms.specs.Parameters.{IsOneTimeType, IsTreeType, height};
 ghost use Rattle.st_lms.specs.Signature.{public_of, randomizer_of};
 ghost use Rattle.st_lms.specs.Tree.{IsNode, node};
 
-use crate::chain::secret_element;
-use crate::one_time::one_time_public;
+use crate::one_time::{one_time_public, secret_element};
 use crate::parameters::{OneTimeType, TreeType};
 use crate::public::Public;
 use crate::tree::{inner, leaf};

@@ -5,7 +5,7 @@ ghost use Rattle.st_lms.specs.Signature.{IsSignature, front_of, public_of, signa
 ghost use Rattle.st_lms.specs.Tree.{path_from, sibling};
 
 use crate::digits::{Digits, checked};
-use crate::one_time::{known_signed_value, message_hash, signed_ends};
+use crate::one_time::{message_hash, signed_values};
 use crate::secret::{Secret, node, randomizer_of};
 use crate::strings::u32str;
 use st_base::{Bytes, WantOfMemory};
@@ -22,12 +22,11 @@ pub(crate) fn push_values(
     ensures { OnOk result (out.new ≡ out.old
         ++ signed_values secret.now.ots secret.now.id q secret.now.seed digits.now) }
 {
-    let count = secret.ots.parameters().chains;
-    let known = signed_ends(secret.ots, &secret.id, q, &secret.seed, digits);
-    'digits: for i in 0..count {
-        let value = known_signed_value(&known, secret.ots, &secret.id, q, &secret.seed, digits, i);
-        out.push_all(alloc, &value)?;
-    }
+    let values = signed_values(secret.ots, &secret.id, q, &secret.seed, digits);
+    out.push_all(
+        alloc,
+        &values[..32 * secret.ots.parameters().chains as usize],
+    )?;
     Ok(())
 }
 

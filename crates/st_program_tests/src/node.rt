@@ -1,5 +1,5 @@
-use st_node::{Command, Lent, Node, isolation_law, read_command};
 use st_base::{WantOfMemory, Work};
+use st_node::{Command, Lent, Node, isolation_law, read_command};
 use st_params::Schedule;
 use std::alloc::Global;
 use std::test::Fail;

@@ -1,3 +1,2 @@
-mod made;
 mod resolutions;
 mod walking;

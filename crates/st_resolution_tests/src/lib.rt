@@ -6,6 +6,8 @@ mod apply;
 #[cfg(test)]
 mod cert;
 #[cfg(test)]
+mod made;
+#[cfg(test)]
 mod observer;
 #[cfg(test)]
 mod resolve;

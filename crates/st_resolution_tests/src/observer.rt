@@ -4,7 +4,5 @@ mod orders;
 mod seen;
 mod signed;
 mod signed_files;
-mod states;
 mod steps;
 mod stories;
-mod waiting;

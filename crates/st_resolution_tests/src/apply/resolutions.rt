@@ -1,60 +1,27 @@
-use super::made::{committed, operation};
 use super::walking::walk;
+use crate::made::{committed, operation};
 use st_apply::{DidState, StateParts, alike_law, anchored_law, apply, given_law, resolution_laws};
-use st_base::{Copied, List, Work};
+use st_base::{Copied, List, WantOfMemory, Work};
 use st_canon::Json;
 use st_doc::Document;
 use st_hash::Hash;
 use st_ops::Operation;
 use st_params::Schedule;
+use std::alloc::Global;
 use std::test::Fail;
 
-// Operations in the order of their places, then the state that they leave: the keys of its recovery
-// and its update commitment, and its services.
-const CASES: &str = "update u - v a
-create - r u b
-create - r u c
-update u - v d
-= active r v (bd)
-create - r u a
-recover r q v b
-recover r p w c
-= active q v (b)
-create - r u a
-update v - w b
-update u - v c
-= active r v (ac)
-create - r u a
-update u - v b
-recover r q w c
-update v - p d
-update w - y e
-= active q y (ce)
-create - r u a
-update u - v x
-update v - w b
-= active r w (ab)
-create - r u x
-recover r q v -
-update u - w b
-= active q none ()
-create - r u a
-update u - v -
-unproved u - v b
-update u - w c
-= active r w (ac)
-create - r u a
-recover u q v b
-update r - v c
-= active r u (a)
-create - r u a
-deactivate r - - -
-recover r q v b
-create - r u a
-= deactivated
-deactivate r - - -
-recover r q v b
-= absent";
+// The state that operations leave: the keys of its recovery and its update commitment, and its services; and
+// behind the bar the operations in the order of their places.
+const CASES: &str = "active r v (bd)|update u - v a;create - r u b;create - r u c;update u - v d
+active q v (b)|create - r u a;recover r q v b;recover r p w c
+active r v (ac)|create - r u a;update v - w b;update u - v c
+active q y (ce)|create - r u a;update u - v b;recover r q w c;update v - p d;update w - y e
+active r w (ab)|create - r u a;update u - v x;update v - w b
+active q none ()|create - r u x;recover r q v -;update u - w b
+active r w (ac)|create - r u a;update u - v -;unproved u - v b;update u - w c
+active r u (a)|create - r u a;recover u q v b;update r - v c
+deactivated|create - r u a;deactivate r - - -;recover r q v b;create - r u a
+absent|deactivate r - - -;recover r q v b";
 
 // How many operations are counted where the state is opened that the operations behind the bar leave. What a
 // create began is looked at where it is opened; what an update left was looked at.
@@ -63,14 +30,14 @@ const OPENED: &str = "0|
 0|create - r u a;update u - v b";
 
 // It is the commitment to the key of this name.
-fn is_of_key(rt: &HostRuntime, commitment: &Hash, name: &str) -> Result<bool, Fail> {
-    Ok(committed(rt, name)? == *commitment)
+fn is_of_key(alloc: Global, commitment: &Hash, name: &str) -> bool {
+    committed(alloc, name) == Some(*commitment)
 }
 
-fn is_update(rt: &HostRuntime, update: &Option<Hash>, name: &str) -> Result<bool, Fail> {
+fn is_update(alloc: Global, update: &Option<Hash>, name: &str) -> bool {
     match update {
-        Some(commitment) => is_of_key(rt, commitment, name),
-        None => Ok(name == "none"),
+        Some(commitment) => is_of_key(alloc, commitment, name),
+        None => name == "none",
     }
 }
 
@@ -99,99 +66,106 @@ fn has_services(document: &Document, ids: &str) -> bool {
 }
 
 fn is_active(
-    rt: &HostRuntime,
+    alloc: Global,
     recovery: &Hash,
     update: &Option<Hash>,
     document: &Document,
     words: &str,
-) -> Result<bool, Fail> {
-    let (name, rest) = words.split_once(' ').ok_or("no recovery")?;
-    let (next, ids) = rest.split_once(' ').ok_or("no update")?;
-    Ok(
-        is_of_key(rt, recovery, name)?
-            && is_update(rt, update, next)?
-            && has_services(document, ids),
-    )
+) -> bool {
+    let Some((name, rest)) = words.split_once(' ') else {
+        return false;
+    };
+    let Some((next, ids)) = rest.split_once(' ') else {
+        return false;
+    };
+    is_of_key(alloc, recovery, name)
+        && is_update(alloc, update, next)
+        && has_services(document, ids)
 }
 
-fn are_shown(rt: &HostRuntime, parts: &StateParts, expected: &str) -> Result<bool, Fail> {
+fn are_shown(alloc: Global, parts: &StateParts, expected: &str) -> bool {
     match parts {
-        StateParts::Absent => Ok(expected == "absent"),
-        StateParts::Deactivated => Ok(expected == "deactivated"),
+        StateParts::Absent => expected == "absent",
+        StateParts::Deactivated => expected == "deactivated",
         StateParts::Active {
             recovery,
             update,
             document,
         } => match expected.strip_prefix("active ") {
-            Some(words) => is_active(rt, recovery, update, document.get(), words),
-            None => Ok(false),
+            Some(words) => is_active(alloc, recovery, update, document.get(), words),
+            None => false,
         },
     }
 }
 
 // The state is the expected one.
-fn is_shown(rt: &HostRuntime, state: &DidState, expected: &str) -> Result<bool, Fail> {
+fn is_shown(rt: &HostRuntime, state: &DidState, expected: &str) -> Result<bool, WantOfMemory> {
     let parts = state.open(rt.alloc(), &mut Work::new(rt))?;
-    are_shown(rt, &parts, expected)
+    Ok(are_shown(rt.alloc(), &parts, expected))
 }
 
-fn is_copied(rt: &HostRuntime, state: &DidState, expected: &str) -> Result<bool, Fail> {
-    let copied = state.copy(rt.alloc())?;
-    is_shown(rt, &copied, expected)
-}
-
-fn is_packed(rt: &HostRuntime, state: &DidState, expected: &str) -> Result<bool, Fail> {
-    let packed = state.pack(rt.alloc())?;
-    is_shown(rt, &packed, expected)
+// The operations that are written so.
+fn operations(alloc: Global, lines: &str) -> Option<List<Operation>> {
+    let mut operations = List::new(alloc);
+    for line in lines.split(';') {
+        if !line.is_empty() {
+            operations.push(alloc, operation(alloc, line)?).ok()?;
+        }
+    }
+    Some(operations)
 }
 
 // By one step for each operation.
+fn folded(
+    alloc: Global,
+    operations: &[Operation],
+    work: &mut Work,
+) -> Result<DidState, WantOfMemory> {
+    let params = Schedule::new().at(0);
+    let mut state = DidState::absent();
+    for operation in operations {
+        state = apply(alloc, &state, operation, &params, work)?;
+    }
+    Ok(state)
+}
+
+// Each operation counts once. Copied or packed it is the same state.
 fn is_folded(
     rt: &HostRuntime,
     operations: &[Operation],
     expected: &str,
-    work: &mut Work,
-) -> Result<bool, Fail> {
-    let params = Schedule::new().at(0);
-    let mut state = DidState::absent();
-    for operation in operations {
-        state = apply(rt.alloc(), &state, operation, &params, work)?;
-    }
-    Ok(is_copied(rt, &state, expected)? && is_packed(rt, &state, expected)?)
+) -> Result<bool, WantOfMemory> {
+    let mut work = Work::new(rt);
+    let state = folded(rt.alloc(), operations, &mut work)?;
+    Ok(
+        work.applies() == operations.len() as u64
+            && is_shown(rt, &state.copy(rt.alloc())?, expected)?
+            && is_shown(rt, &state.pack(rt.alloc())?, expected)?,
+    )
 }
 
 // By following commitments over all of them.
-fn is_walked(rt: &HostRuntime, operations: &[Operation], expected: &str) -> Result<bool, Fail> {
+fn is_walked(
+    rt: &HostRuntime,
+    operations: &[Operation],
+    expected: &str,
+) -> Result<bool, WantOfMemory> {
     let params = Schedule::new().at(0);
     let state = walk(rt.alloc(), operations, &params, &mut Work::new(rt))?;
     is_shown(rt, &state, expected)
 }
 
-fn both_ways(
-    rt: &HostRuntime,
-    operations: &[Operation],
-    expected: &str,
-    work: &mut Work,
-) -> Result<bool, Fail> {
-    let folded = is_folded(rt, operations, expected, work)?;
-    Ok(folded && is_walked(rt, operations, expected)?)
-}
-
-// The first state that the operations do not resolve to.
-fn otherwise(rt: &HostRuntime, work: &mut Work) -> Result<Option<&'static str>, Fail> {
-    let mut operations = List::new(rt.alloc());
-    for line in CASES.lines() {
-        match line.strip_prefix("= ") {
-            Some(expected) => {
-                if !both_ways(rt, operations.as_slice(), expected, work)? {
-                    return Ok(Some(line));
-                }
-                operations = List::new(rt.alloc());
-            }
-            None => operations.push(rt.alloc(), operation(rt, line)?)?,
-        }
+fn is_so(rt: &HostRuntime, case: &str) -> Result<bool, WantOfMemory> {
+    let Some((expected, lines)) = case.split_once('|') else {
+        return Ok(false);
+    };
+    match operations(rt.alloc(), lines) {
+        Some(operations) => Ok(
+            is_folded(rt, operations.as_slice(), expected)?
+                && is_walked(rt, operations.as_slice(), expected)?,
+        ),
+        None => Ok(false),
     }
-    Ok(None)
 }
 
 #[test]
@@ -200,58 +174,37 @@ fn operations_resolve_to_a_state(rt: HostRuntime) -> Result<(), Fail> {
     alike_law::<Hash, u8, u64, u32>();
     given_law::<u8, u64>();
     anchored_law();
-    let mut work = Work::new(&rt);
-    match otherwise(&rt, &mut work)? {
-        None => if work.applies() == 34 {
-            Ok(())
-        } else {
-            Err(Fail::from("another count"))
-        },
-        Some(line) => Err(Fail::from(line)),
+    for case in CASES.lines() {
+        assert!(rt; is_so(&rt, case)?, "{case}");
     }
-}
-
-// The state that an operation leaves, which is written as a line.
-fn stepped(rt: &HostRuntime, state: &DidState, line: &str) -> Result<DidState, Fail> {
-    let operation = operation(rt, line)?;
-    let params = Schedule::new().at(0);
-    let state = apply(rt.alloc(), state, &operation, &params, &mut Work::new(rt))?;
-    Ok(state)
+    Ok(())
 }
 
 // How many operations are counted where the state is opened, whose parts can be copied.
-fn counted(rt: &HostRuntime, state: &DidState) -> Result<u64, Fail> {
+fn counted(rt: &HostRuntime, operations: &[Operation]) -> Result<u64, WantOfMemory> {
+    let state = folded(rt.alloc(), operations, &mut Work::new(rt))?;
     let mut work = Work::new(rt);
     let parts = state.open(rt.alloc(), &mut work)?;
     let _same = parts.copy(rt.alloc())?;
     Ok(work.applies())
 }
 
-fn is_counted(rt: &HostRuntime, line: &str) -> Result<bool, Fail> {
-    let (expected, steps) = line.split_once('|').ok_or("no bar")?;
-    let expected: u64 = expected.parse().map_err(|_| "no number")?;
-    let mut state = DidState::absent();
-    for step in steps.split(';') {
-        if !step.is_empty() {
-            state = stepped(rt, &state, step)?;
+fn is_counted(rt: &HostRuntime, case: &str) -> Result<bool, WantOfMemory> {
+    let Some((expected, lines)) = case.split_once('|') else {
+        return Ok(false);
+    };
+    match operations(rt.alloc(), lines) {
+        Some(operations) => {
+            Ok(counted(rt, operations.as_slice())? == if expected == "1" { 1 } else { 0 })
         }
+        None => Ok(false),
     }
-    Ok(counted(rt, &state)? == expected)
-}
-
-fn counted_otherwise(rt: &HostRuntime) -> Result<Option<&'static str>, Fail> {
-    for line in OPENED.lines() {
-        if !is_counted(rt, line)? {
-            return Ok(Some(line));
-        }
-    }
-    Ok(None)
 }
 
 #[test]
 fn opening_counts_a_delta_that_was_not_looked_at(rt: HostRuntime) -> Result<(), Fail> {
-    match counted_otherwise(&rt)? {
-        None => Ok(()),
-        Some(line) => Err(Fail::from(line)),
+    for case in OPENED.lines() {
+        assert!(rt; is_counted(&rt, case)?, "{case}");
     }
+    Ok(())
 }

@@ -1,8 +1,7 @@
 //! Resolution from nothing as a person follows it: by searches over all operations, from the first
 //! create along recovers and deactivates, and then along the updates behind the last of these.
 
-use st_apply::counting::counts_for;
-use st_apply::{DidState, StateParts, apply};
+use st_apply::{DidState, StateParts, apply, counts_for};
 use st_base::{WantOfMemory, Work};
 use st_hash::Hash;
 use st_jws::meets;

@@ -78,3 +78,42 @@ fn a_late_file_costs_the_steps_behind_it(rt: HostRuntime) -> Result<(), Fail> {
         None => Ok(()),
     }
 }
+
+// Files are wanted once each, in the order of the texts of their URIs, which is not that of their digests: at
+// first those of c, a, b. Entries may miss one file, in one role or another.
+const WANTED: &str =
+    "new +a +b +c|wanted EiA0DEN7KpqCqnY7X31XwDQsWE1NIaGXlizxR6Cv7rq0BQ EiAAUzqJcUH1oAX88YG3M_a-4_OUzVijvEYeR6DUQngubQ EiAbaxD8caPNHUZ7vvhcTFW8spj_oQRUGz3FsTgMJTK96Q
+c|wanted EiAAUzqJcUH1oAX88YG3M_a-4_OUzVijvEYeR6DUQngubQ EiAbaxD8caPNHUZ7vvhcTFW8spj_oQRUGz3FsTgMJTK96Q|entry 2 C2 unneeded unneeded unneeded unneeded
+new +a +a|wanted EiAAUzqJcUH1oAX88YG3M_a-4_OUzVijvEYeR6DUQngubQ|entry 0 missing unneeded unneeded unneeded unneeded|entry 1 missing unneeded unneeded unneeded unneeded
+a|wanted none|entry 0 C2 unneeded unneeded unneeded unneeded|entry 1 C2 unneeded unneeded unneeded unneeded
+new +each +b A|wanted EiAbaxD8caPNHUZ7vvhcTFW8spj_oQRUGz3FsTgMJTK96Q EiBZq6hqGd_l3g56gvman46yC5_n2e2Ere_jEx9DkRLD4Q EiC-1r3MBg_m09ggTCSpAMRWgHqttVDseB6RI0OpXB6aDg|entry 0 read missing missing unneeded unneeded
+new +next +proof next next.index|wanted EiAJI_rzQGfuyAGS6wk-h0XyqcD6awAxXlA15T7pLn-vKQ EiAN8iC05PUviE6TJNMw4PYOgYFW5HhTmRsaFkRzXV95LQ|entry 0 read unneeded read missing missing|entry 1 missing unneeded unneeded unneeded unneeded
+next.proof|wanted EiAJI_rzQGfuyAGS6wk-h0XyqcD6awAxXlA15T7pLn-vKQ|entry 0 read unneeded read read missing|entry 1 C3 unneeded unneeded unneeded unneeded
+new +twice +begun twice twice.index begun begun.index|wanted EiAN8iC05PUviE6TJNMw4PYOgYFW5HhTmRsaFkRzXV95LQ EiCDF_TW2tmFJVV3PxGfWrfZGWbsrgt64M_8Fhoc6C1Fqg|entry 0 read missing read missing missing
+next.proof|wanted EiCDF_TW2tmFJVV3PxGfWrfZGWbsrgt64M_8Fhoc6C1Fqg|entry 0 read Q3 read read missing
+begun.chunk|wanted none|entry 0 read Q3 read read K4|entry 1 read unneeded read unneeded read
+new +short|wanted none";
+
+#[test]
+fn files_are_wanted_in_the_order_of_their_texts(rt: HostRuntime) -> Result<(), Fail> {
+    match first_other(&rt, WANTED) {
+        Some(line) => Err(Fail::from(line)),
+        None => Ok(()),
+    }
+}
+
+// The files of a later entry come first. Of the create that both have, the delta of the earlier entry comes last.
+const FIRST: &str =
+    "new +none +early +none +late none|absent signed|absent a|absent e|places signed none
+late late.index late.chunk|services signed s0|places signed 3|active a|places a 3|absent e
+early|services signed none|places signed 1 3|active a|places a 3|active e|places e 1
+early.index early.chunk|services signed s0|places signed 1 3|places e 1
+-3|services signed s0|places signed 1|absent a|places a none|active e|places e 1";
+
+#[test]
+fn the_first_create_stands_whichever_file_comes_first(rt: HostRuntime) -> Result<(), Fail> {
+    match first_other(&rt, FIRST) {
+        Some(line) => Err(Fail::from(line)),
+        None => Ok(()),
+    }
+}

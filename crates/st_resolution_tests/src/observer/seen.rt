@@ -1,13 +1,13 @@
 //! What is seen of an observer, by words.
 use super::files::SUFFIXES;
 use super::steps::found;
-use st_observer::Observer;
 use st_anchor::RoleState;
 use st_apply::{DidState, StateParts};
 use st_base::{Work, read_number};
 use st_canon::Json;
 use st_doc::Document;
-use st_hash::{Hash, read_hash};
+use st_hash::{Hash, hash_text, read_hash};
+use st_observer::{Held, Observer};
 use std::alloc::Global;
 
 fn word(state: &RoleState) -> &str {
@@ -87,6 +87,40 @@ fn has_items(alloc: Global, observer: &Observer, name: &str, many: &str) -> bool
     }
 }
 
+fn number(text: &str) -> Option<u32> {
+    read_number(text.as_bytes(), 1_000)
+}
+
+fn place(held: &Held) -> Option<u32> {
+    Some(held.place)
+}
+
+// Whether the operations of a suffix stand at these places in turn, or there are none.
+fn stand_at(alloc: Global, observer: &Observer, suffix: &Hash, places: &str) -> bool {
+    match observer.items(alloc, suffix) {
+        Ok(items) => if places == "none" {
+            items.as_slice().is_empty()
+        } else {
+            items
+                .as_slice()
+                .iter()
+                .map(place)
+                .eq(places.split(' ').map(number))
+        },
+        Err(_) => false,
+    }
+}
+
+fn has_places(alloc: Global, observer: &Observer, name_and_places: &str) -> bool {
+    let Some((name, places)) = name_and_places.split_once(' ') else {
+        return false;
+    };
+    match suffix(name) {
+        Some(suffix) => stand_at(alloc, observer, &suffix, places),
+        None => false,
+    }
+}
+
 fn has_so_many(alloc: Global, observer: &Observer, name_and_number: &str) -> bool {
     match name_and_number.split_once(' ') {
         Some((name, many)) => has_items(alloc, observer, name, many),
@@ -94,24 +128,31 @@ fn has_so_many(alloc: Global, observer: &Observer, name_and_number: &str) -> boo
     }
 }
 
-fn is_one(uris: &[Hash], uri: &Hash) -> bool {
-    match uris.first() {
-        Some(first) => uris.len() == 1 && first == uri,
-        None => false,
+fn is_of(alloc: Global, uri: &Hash, text: Option<&str>) -> bool {
+    match (hash_text(alloc, uri), text) {
+        (Ok(written), Some(text)) => written.as_str() == text,
+        _ => false,
     }
 }
 
-fn is_only(uris: &[Hash], text: &str) -> bool {
-    match read_hash(text.as_bytes()) {
-        Ok(uri) => is_one(uris, &uri),
-        Err(_) => uris.is_empty() && text == "none",
+fn are_of(alloc: Global, uris: &[Hash], texts: &str) -> bool {
+    let mut texts = texts.split(' ');
+    for uri in uris {
+        if !is_of(alloc, uri, texts.next()) {
+            return false;
+        }
     }
+    texts.next().is_none()
 }
 
-// Whether the file of this URI alone is wanted, or none.
-fn wants_only(alloc: Global, observer: &Observer, uri: &str) -> bool {
+// Whether exactly the files of these URIs are wanted, in this order, or none.
+fn wants_only(alloc: Global, observer: &Observer, texts: &str) -> bool {
     match observer.wanted(alloc) {
-        Ok(uris) => is_only(uris.as_slice(), uri),
+        Ok(uris) => if texts == "none" {
+            uris.as_slice().is_empty()
+        } else {
+            are_of(alloc, uris.as_slice(), texts)
+        },
         Err(_) => false,
     }
 }
@@ -135,6 +176,9 @@ fn id(service: &Json) -> &str {
 }
 
 fn has_services(document: &Document, ids: &str) -> bool {
+    if ids == "none" {
+        return document.services().is_empty();
+    }
     document.services().iter().map(id).eq(ids.split(' '))
 }
 
@@ -174,6 +218,7 @@ fn is_seen(rt: &HostRuntime, observer: &Observer, applied: u64, look: &str) -> b
         "active" => has_active(rt, observer, rest),
         "absent" => has_absent(rt, observer, rest),
         "operations" => has_so_many(rt.alloc(), observer, rest),
+        "places" => has_places(rt.alloc(), observer, rest),
         "wanted" => wants_only(rt.alloc(), observer, rest),
         "wants" => answers(rt.alloc(), observer, rest, true),
         "spares" => answers(rt.alloc(), observer, rest, false),

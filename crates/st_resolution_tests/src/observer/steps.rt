@@ -2,9 +2,9 @@
 //! entries alone, and at another name its file comes.
 use super::files::{ENTRIES, FILES};
 use super::signed_files::{SIGNED_ENTRIES, SIGNED_FILES};
-use st_observer::Observer;
 use st_base::{Bytes, Work, read_number};
 use st_ledger::Entry;
+use st_observer::Observer;
 use st_params::Schedule;
 use std::alloc::Global;
 

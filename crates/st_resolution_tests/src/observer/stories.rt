@@ -2,8 +2,8 @@
 //! most 8 operations.
 use super::seen::are_seen;
 use super::steps::{after, are_known};
-use st_observer::Observer;
 use st_base::Work;
+use st_observer::Observer;
 use st_params::Schedule;
 
 fn steps_of(line: &str) -> &str {

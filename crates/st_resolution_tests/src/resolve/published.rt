@@ -8,8 +8,6 @@ const PUBLISHED: &str =
 
 #[test]
 fn the_standards_example_is_resolved(rt: HostRuntime) -> Result<(), Fail> {
-    match is_so(&rt, PUBLISHED)? {
-        true => Ok(()),
-        false => Err(Fail::from("another result")),
-    }
+    assert!(rt; is_so(&rt, PUBLISHED));
+    Ok(())
 }

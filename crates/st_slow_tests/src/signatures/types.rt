@@ -69,7 +69,7 @@ fn is_written(public: &Public) -> bool {
         && public.tree() == 5
         && public.id() == [7; 16]
         && Public::read(&text) == Ok(*public)
-        && text[24..] == public.root()
+        && &text[24..] == public.root().as_slice()
 }
 
 #[test]

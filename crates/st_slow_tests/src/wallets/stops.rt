@@ -1,8 +1,8 @@
 use super::two_levels::image_with;
-use st_wallet::{Wallet, WalletRefused};
 use st_base::{Bytes, List, WantOfMemory};
 use st_hash::{DecRefused, dec};
 use st_io::{Disk, Pick, PlainDisk, ScriptDisk};
+use st_wallet::{Wallet, WalletRefused};
 use std::alloc::Global;
 use std::test::Fail;
 

@@ -1,7 +1,7 @@
 use super::{first_other, judged};
-use st_wallet::WalletRefused;
 use st_base::{Bytes, WantOfMemory};
 use st_io::PlainDisk;
+use st_wallet::WalletRefused;
 use std::alloc::Global;
 use std::test::Fail;
 

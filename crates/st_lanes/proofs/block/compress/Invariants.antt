@@ -4,5 +4,5 @@ use Rattle.st_lanes.specs.Lanes.{lane}
 use Rattle.st_lanes.proofs.block.compress.Given as goal
 
 abbrev pub invariant-schedule : goal.invariant-schedule
-invariant-schedule l = (j : ℕ) (b : List ℕ) → j < 4 → lane j l.block ≡ first_words b 16
+invariant-schedule l = (j : ℕ) (b : List ℕ) → j < 8 → lane j l.block ≡ first_words b 16
     → IsRoundsAt b (lane j l.state) (lane j l.w) (lane j l.v) (16 * l.turn)

@@ -1,26 +1,28 @@
-use Rattle.std.proofs.Common.{◌≡◌, ◌∙◌, ◌++◌, ap, append-nil, arith}
-use Rattle.sha2.specs.Sha256.{sha256}
-use Rattle.st_lms.specs.OneTime.{d_pblc, key_of_ends, candidate_key, end_of_value}
-use Rattle.st_lms.specs.Parameters.{chains}
-use Rattle.st_lms.specs.Strings.{u32str, u16str, joined}
+use Rattle.std.proofs.Common.{◌<◌, arith}
+use Rattle.st_lms.specs.OneTime.{candidate_key, end_of_value}
+use Rattle.st_lms.specs.Parameters.{greatest_digit, width}
+use Rattle.st_lms.specs.Strings.{coef}
 use Rattle.st_lms.specs.TypeNumbers.{one_time_number}
-use Rattle.st_lms.proofs.Hashing.{joined-none, joined_behind}
+use Rattle.st_lms.proofs.Chains.{walk_of_value}
+use Rattle.st_lms.proofs.DigitLemmas.{coef-greatest, sized}
 use Rattle.st_lms.proofs.one_time.candidate_key.Goals as goal
 
-pub ends-init : goal.ends-init
-ends-init c =
-    rw (joined-none (end_of_value (one_time_number c.args.kind) c.args.id.now c.args.q c.args.digits.now c.args.values.now), append-nil) c.hasher-hasher.ensures
-
-pub ends-preserved : goal.ends-preserved
-ends-preserved c =
-    let start = c.args.id.now ++ u32str c.args.q ++ u16str d_pblc in
-    let end = end_of_value (one_time_number c.args.kind) c.args.id.now c.args.q c.args.digits.now c.args.values.now in
-    rw (joined_behind start end c.ends.i c.known_end.result c.known_end.ensures) at (c.update.ensures (start ++ joined end c.ends.i) c.ends.invariant)
+pub walk-ends-requires : goal.walk-ends-requires
+walk-ends-requires c =
+    let few = (sized (one_time_number c.args.kind) c.parameters.ensures.known).chain_count in
+    record {
+      count = omega (arith, few, c.parameters.ensures.chains);
+      starts = omega (arith, c.parameters.ensures.chains, c.requires);
+    }
 
 pub returns : goal.returns
-unfolding candidate_key key_of_ends
+unfolding candidate_key end_of_value
 returns c =
-    let start = c.args.id.now ++ u32str c.args.q ++ u16str d_pblc in
-    let end = end_of_value (one_time_number c.args.kind) c.args.id.now c.args.q c.args.digits.now c.args.values.now in
-    let last : c.ends.i ≡ chains (one_time_number c.args.kind) = omega (arith, c.parameters-i-end.ensures.chains) in
-    c.finalize.ensures (start ++ joined end c.ends.i) c.ends.invariant ∙ ap (λ n. sha256 (start ++ joined end n)) last
+    let t = one_time_number c.args.kind in
+    let digits = c.args.digits.now in
+    let sizes = sized t c.parameters.ensures.known in
+    c.key_of_ends.ensures (end_of_value t c.args.id.now c.args.q digits c.args.values.now) (λ i lt.
+    let chain : i < c.parameters.result.chains = omega (arith, lt, c.parameters.ensures.chains) in
+    walk_of_value c.args.id.now c.args.q i (coef digits i (width t)) (greatest_digit t) c.head.result c.digit_places.result c.last_places.result c.args.values.now
+    (c.walk-ends.ensures.ends i chain) c.head.ensures (c.digit_places.ensures i lt) (c.last_places.ensures i (omega (arith, lt, sizes.chain_count)))
+    (coef-greatest digits i t) (omega (arith, sizes.greatest)))
