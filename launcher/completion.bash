@@ -8,7 +8,7 @@ _sidetree() {
     elif [ "$before" = " try " ]; then
         words="node exchange"
     elif [[ $before == " node "* || $before == " try node "* ]]; then
-        # The options stand in this order, each at most once.
+        # The options come in this order, each at most once.
         case $before in
         *" --journal "*) words="" ;;
         *" --v2-at"*) words="--journal" ;;

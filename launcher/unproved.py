@@ -116,8 +116,8 @@ class Trial(Try):
         told = re.search(r"^tests: (\d+)$", said, re.M)
         wanted = int(told[1]) if told else self.wanted
         if len(found) != wanted or (self.process.returncode and not failures):
-            failures.append(("%s: %d of %d ran, and rt ended with status %d" % (
-                self.what, len(found), wanted, self.process.returncode), said))
+            ran = "%d of %d ran" % (len(found), wanted) if found else "nothing ran"
+            failures.append(("%s: %s, and rt ended with status %d" % (self.what, ran, self.process.returncode), said))
         for name, more in failures:
             print("failed %s\n%s" % (name, more.rstrip("\n")))
         print("%s: %d passed, %d failed, in %s" % (self.what, passed, len(failures), clock(time.time() - self.began)),
@@ -128,12 +128,13 @@ class Trial(Try):
 def test(top):
     """Tries all tests and sessions, the crates that take longest first, and gives the status."""
     began, running, passed, failed = time.time(), [], 0, 0
-    crates = [crate for crate in crates_of(os.path.join(top, "crates.txt"))
+    crates = [crate for crate in reversed(list(crates_of(os.path.join(top, "crates.txt"))))
               if has_tests(os.path.join(top, "crates", crate))]
     with tempfile.TemporaryDirectory() as folder:
         sessions = lay_out(os.path.join(top, "examples"), folder)
         left = [("example sessions", sessions, PROGRAM, "--cases", folder)]
-        left += [(crate, 1, crate, "--test") for crate in reversed(crates) if crate != SLOW]
+        crates.sort(key=lambda crate: crate != PROGRAM)
+        left += [(crate, 1, crate, "--test") for crate in crates if crate != SLOW]
         say("UNPROVED: this run proves nothing. It runs `rt try` %d times, which takes minutes" % len(left))
         if SLOW in crates:
             say("%s is left out: its tests take minutes each without optimization. `.ci/run` runs them" % SLOW)
