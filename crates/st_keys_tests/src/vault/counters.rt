@@ -113,7 +113,7 @@ fn signs_with_signer<D: Disk>(
     let signer = vault.signer(alloc)?;
     let public = vault.public();
     match vault.reserve(disk) {
-        Ok((_, counter)) => {
+        Ok((_vault, counter)) => {
             let signature = counter.sign_with(alloc, &signer, b"message")?;
             Ok(verify(&public, b"message", signature.as_slice()))
         }
