@@ -113,11 +113,12 @@ class Lines:
 
 
 class Node(Lines):
-    """A running node. The words are those after the program's name; the folder has its journal or vault."""
+    """A running node. The words are those after the program's name; the folder has its journal or vault. With `apart`
+    a signal to the group of processes, as by Ctrl-C, does not reach it."""
 
-    def __init__(self, *words, folder=None):
+    def __init__(self, *words, folder=None, apart=False):
         super().__init__()
-        self.process = subprocess.Popen([program(), *(words or ["node"])], cwd=folder,
+        self.process = subprocess.Popen([program(), *(words or ["node"])], cwd=folder, start_new_session=apart,
                                         stdin=subprocess.PIPE, stdout=subprocess.PIPE)
 
     def _send(self, data):

@@ -94,7 +94,7 @@ class KeptNode:
     def __init__(self, folder, options):
         self.path, self.began, self.answered = os.path.join(folder, "sidetree.journal"), time.monotonic(), 0
         self.later_from = next((int(word.partition("=")[2]) for word in options if word.startswith("--v2-at=")), None)
-        self.node = Node("node", *options, "--journal", folder=folder)
+        self.node = Node("node", *options, "--journal", folder=folder, apart=True)
         self.ledger = None
 
     def wait(self):

@@ -34,7 +34,7 @@ class Words:
             else:
                 self.options[name] = value if equals else True
         if not least <= len(self.plain) <= most:
-            raise WrongWords("%d words are given, and %s are wanted" % (
+            raise WrongWords("it was given %d words, and takes %s" % (
                 len(self.plain), least if least == most else "%d to %d" % (least, most)))
         self.node = [found[name] for name in NODE_OPTIONS if name in found]
 
@@ -62,7 +62,7 @@ def run(main, document, least, most, options=()):
     options: a mapping, true for those that have a value."""
     options = dict(options)
     if "--help" in sys.argv[1:]:
-        print(document.strip())
+        print(document.strip().replace(" %s " % name_of_tool(), " %s " % os.path.basename(sys.argv[0])))
         sys.exit(0)
     try:
         status = main(Words(sys.argv[1:], least, most, options))
