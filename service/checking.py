@@ -4,7 +4,7 @@ import hashlib
 import re
 
 from kept import number
-from records import LONGEST_LINE, WORDS, Journal, fault_of_rest
+from records import LONGEST_LINE, WORDS, Journal
 
 BASE64URL = re.compile(rb"[A-Za-z0-9_-]*")
 
@@ -20,18 +20,19 @@ class Found:
     def __init__(self, path):
         self.counts, self.heights, self.odd, self.waiting = {}, [], [], 0
         self.sum, self.files = hashlib.sha256(), set()
-        journal = Journal(path)
+        self.journal = Journal(path)
         try:
-            for record in journal.records():
-                body = journal.body(record)
-                self.sum.update(body + b"\n")
-                why = self._take(body)
-                if why and len(self.odd) < 10:
-                    self.odd.append("the record that ends at byte %d %s" % (record.end, why))
-            self.end, self.rest = journal.end, journal.rest()
-            self.fault = journal.fault or fault_of_rest(self.rest, journal.end)
+            self.journal.look(self._look_at)
+            self.end, self.fault = self.journal.end, self.journal.fault
         finally:
-            journal.close()
+            self.journal.close()
+
+    def _look_at(self, record):
+        body = self.journal.body(record)
+        self.sum.update(body + b"\n")
+        why = self._take(body)
+        if why and len(self.odd) < 10:
+            self.odd.append("the record that ends at byte %d %s" % (record.end, why))
 
     def _take(self, body):
         """Takes in a record. Gives why no node keeps it, or None."""

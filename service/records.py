@@ -81,17 +81,32 @@ class Journal:
             self.end = place + length
             yield Record(place, length, head[HEAD:HEAD + length].split(b" ", 1)[0])
 
-    def rest(self):
-        """The bytes from the closed gate on, of which a stop leaves some, and at most this many."""
-        return os.pread(self._file, LONGEST_REST + 2, self.end)
+    def look(self, take=lambda record: None):
+        """Takes all records that are left, and sets `fault` to why the bytes from there on are none that a stop
+        leaves. If a node has opened the gate meanwhile, it goes on."""
+        while True:
+            for record in self.records():
+                take(record)
+            self.fault = self.fault or fault_of_rest(os.pread(self._file, LONGEST_REST + 2, self.end), self.end)
+            if self.fault is None or os.pread(self._file, 1, self.end) != bytes([OPEN]) or self.size() < 2:
+                return
+            if not self._is_longer():
+                return
+            self.fault = None
+
+    def _is_longer(self):
+        """Whether the record at the end is there whole."""
+        length = int.from_bytes(os.pread(self._file, HEAD, self.end)[1:], "big")
+        return self.end + HEAD + length < self.size()
 
 
 def fault_of_rest(rest, end):
     """Why the bytes from the closed gate on are none that a stop leaves, or None."""
-    if end == 0 and rest[:1] not in (b"", bytes([CLOSED])) and len(rest) > 1:
-        return "no journal: its first byte is 0x%02x" % rest[0]
-    if rest[:1] not in (b"", bytes([CLOSED])) and len(rest) > 1:
-        return "damaged: the gate at byte %d is 0x%02x, and no node writes that" % (end, rest[0])
+    gate = rest[:1]
+    # A file of one byte is a journal without records, whatever the byte is.
+    if gate not in (b"", bytes([CLOSED])) and (end or len(rest) > 1):
+        return ("damaged: the gate at byte %d is 0x%02x, and no node writes that" % (end, rest[0]) if end else
+                "no journal: its first byte is 0x%02x" % rest[0])
     if len(rest) > LONGEST_REST + 1:
         return "damaged: more bytes follow the closed gate at byte %d than the longest record has" % end
     at = rest.find(bytes([OPEN]))
@@ -105,16 +120,10 @@ def fault_of_rest(rest, end):
 
 
 def fault_of(path):
-    """Why a node must not be started over a journal, or None. A node at work may change what is seen, so a fault
-    counts when it is seen three times."""
-    for _ in range(3):
-        journal = Journal(path)
-        try:
-            for _ in journal.records():
-                pass
-            fault = journal.fault or fault_of_rest(journal.rest(), journal.end)
-        finally:
-            journal.close()
-        if fault is None:
-            return None
-    return fault
+    """Why a node must not be started over a journal, or None."""
+    journal = Journal(path)
+    try:
+        journal.look()
+        return journal.fault
+    finally:
+        journal.close()
