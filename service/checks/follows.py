@@ -5,7 +5,7 @@ import signal
 import subprocess
 import time
 
-from client import Kept, NoKeeper
+from client import Kept
 from frame import (FOLDER, SERVICE, Batches, Keeper, answers, asked, case, copy_of_folder, holds, pairs, same, tool, until,
                    write)
 from ledger import lines_of

@@ -1,18 +1,17 @@
 """What the cases share: how a case is declared, how tools are run, and a ledger to run them over."""
-import hashlib
+import base64
 import json
 import os
 import shutil
 import signal
 import socket
 import subprocess
-import sys
 import tempfile
 import time
 import traceback
 
 from client import Kept, Node
-from ledger import base64url, uri_of
+from ledger import uri_of
 from plain_json import canonical
 
 SERVICE = os.path.dirname(os.path.dirname(os.path.realpath(__file__)))
@@ -173,7 +172,6 @@ class Batches:
 
     def write_files(self, folder):
         os.makedirs(folder, exist_ok=True)
-        import base64
         for uri, text in self.files.items():
             with open(os.path.join(folder, uri), "wb") as file:
                 file.write(base64.urlsafe_b64decode(text + "=" * (-len(text) % 4)))

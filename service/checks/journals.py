@@ -1,10 +1,9 @@
 """Journals that were changed: what the keeper and `journal check` say of them, copies, and shorter ones."""
 import os
-import subprocess
 import threading
 
 from client import Kept, Node
-from frame import FOLDER, Batches, Keeper, asked, case, create, holds, same, table, tool
+from frame import FOLDER, Batches, Keeper, case, create, holds, same, table, tool
 from records import Journal
 
 

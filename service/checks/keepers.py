@@ -4,7 +4,6 @@ import signal
 import socket
 import stat
 import subprocess
-import time
 
 from client import Kept, NoKeeper
 from frame import (FOLDER, SERVICE, TOP, Keeper, Skipped, answers, asked, case, command, create, holds, pairs, same, table,

@@ -4,7 +4,7 @@ import re
 import subprocess
 
 from delta_rules import Limits
-from frame import FOLDER, SERVICE, TOOLS, TOP, Keeper, Skipped, asked, case, command, create, holds, same, table, tool
+from frame import SERVICE, TOOLS, TOP, Keeper, case, command, create, holds, same, table, tool
 from meanings import KEEPER_LINES, LINES, REFUSALS, UNRESOLVED
 
 
