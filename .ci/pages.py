@@ -1,5 +1,6 @@
-"""Whether the pages name what is there: in docs/RULES.md each file, each word in the file before it, and each edit; in every
-page each module of definitions or lemmas, and each page that it points to."""
+"""Whether the pages name what is there: docs/RULES.md each file, each word in the file before it, and each edit; every page
+each module of definitions or lemmas, each path of a crate, and each page that it links to; docs/READING.md each line of
+code that it quotes."""
 
 import pathlib
 import re
@@ -7,7 +8,7 @@ import sys
 
 CRATES = pathlib.Path("crates")
 EDITS = {path.stem for path in CRATES.glob("*/must-fail/*.edit")}
-PAGES = [pathlib.Path("README.md"), *sorted(pathlib.Path("docs").glob("*.md"))]
+PAGES = [pathlib.Path("README.md"), pathlib.Path("examples/README.md"), *sorted(pathlib.Path("docs").glob("*.md"))]
 
 
 def rows():
@@ -45,12 +46,24 @@ def page_faults(page):
     for crate, folder, module in sorted(set(re.findall(r"\b(st_\w+)\.(specs|proofs)\.(\w+)", text))):
         if module != "declared" and not (CRATES / crate / folder / f"{module}.antt").is_file():
             yield f"{page}: {crate}.{folder}.{module} is not there"
+    for path in sorted(set(re.findall(r"`(?:crates/)?(st_\w+/[\w./-]+)`", text))):
+        if path.split("/")[1] != "out" and not (CRATES / path).exists():
+            yield f"{page}: {path} is not there"
     for link in sorted(set(re.findall(r"\]\(([^)#:]+)", text))):
         if not (page.parent / link).exists():
             yield f"{page}: {link} is not there"
 
 
-found = [*rule_faults(), *(fault for page in PAGES for fault in page_faults(page))]
+def quote_faults():
+    """What docs/READING.md quotes otherwise than the sources have it, a line each."""
+    files = [file for folder in ("src", "specs") for file in CRATES.glob(f"*/{folder}/**/*") if file.suffix in (".rt", ".antt")]
+    lines = {line.strip() for file in files for line in file.read_text(encoding="utf-8").splitlines()}
+    page = pathlib.Path("docs/READING.md").read_text(encoding="utf-8")
+    for block in re.findall(r"```(?:rust|antt)\n(.*?)```", page, re.S):
+        yield from (f"docs/READING.md: no source has '{line}'" for line in block.splitlines() if line.strip() not in lines | {""})
+
+
+found = [*rule_faults(), *quote_faults(), *(fault for page in PAGES for fault in page_faults(page))]
 for fault in found:
     print(f"pages: {fault}")
 sys.exit(1 if found else 0)

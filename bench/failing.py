@@ -4,12 +4,10 @@
 usage: bench/failing.py
 
 The calls are reads of standard input, writes to standard output, each of at most 61 bytes, and whatever is done with the
-file of the vault or of the journal. A run whose call fails must end with status 2, 3 or 4 by its kind, and a beginning of the replies. On the
-disk must be, from the first on, the records and the counters of the whole run, those of the replies among them; since
-replies are written together, more may be there. It needs gcc, and ends with status 1 where a run is wrong.
+file of the vault or of the journal. A run whose call fails must end with status 2, 3 or 4 by its kind, and a prefix of the
+replies. The disk must have the records and the counters of the whole run, from the first on: those of the replies, and at
+most one more. It needs gcc, and ends with status 1 where a run is wrong.
 """
-import functools
-import math
 import os
 import subprocess
 import sys
@@ -56,8 +54,8 @@ def main():
     command, is_well = node(), True
     program = command[0]
     runs = [("a node", command, example("whole"), run),
-            ("a node with a journal", [*command, "--journal"], example("life"), Journalled(math.inf)),
-            ("a wallet", [program, "wallet"], SIGNED, functools.partial(wallet_run, furthest=math.inf)),
+            ("a node with a journal", [*command, "--journal"], example("life"), Journalled()),
+            ("a wallet", [program, "wallet"], SIGNED, wallet_run),
             ("an exchange", [program, "exchange"], example("exchange"), run),
             ("a workload", [program, *WORKLOAD], b"", run)]
     with tempfile.TemporaryDirectory() as folder:

@@ -62,9 +62,9 @@ def run(command, given, shim, number, folder=None):
     return done.returncode, done.stdout
 
 
-def wallet_run(command, given, shim, number, furthest=1):
-    """The same over a vault of its own; the status is -1 where more counters are spent than so many beyond those of the
-    replies, or fewer than those."""
+def wallet_run(command, given, shim, number):
+    """The same over a vault of its own; the status is -1 if fewer counters are spent than the replies have, or more than
+    one beyond those."""
     with tempfile.TemporaryDirectory() as folder:
         path = os.path.join(folder, "sidetree.vault")
         before = bytearray(image(2, 6))
@@ -74,7 +74,7 @@ def wallet_run(command, given, shim, number, furthest=1):
         status, replies = run(command, given, shim, number, folder)
         with open(path, "rb") as file:
             spent = sum(map(bool, file.read()[MAP_AT:])) - SPENT
-    return (status if 0 <= spent - replies.count(b"hss ") <= furthest else -1), replies
+    return (status if 0 <= spent - replies.count(b"hss ") <= 1 else -1), replies
 
 
 def records(path):
@@ -92,12 +92,11 @@ def records(path):
 
 
 class Journalled:
-    """Runs over journals of their own; the status is -1 where a journal has other records than those of the whole run
-    from the first on, to that of the last reply or so many further."""
+    """Runs over journals of their own; the status is -1 if a journal has other records than those of the whole run,
+    from the first on to that of the last reply or one further."""
 
-    def __init__(self, furthest=1):
+    def __init__(self):
         self.whole = None
-        self.furthest = furthest
 
     def __call__(self, command, given, shim, number):
         with tempfile.TemporaryDirectory() as folder:
@@ -106,7 +105,7 @@ class Journalled:
         if not number:
             self.whole = found
         replied = sum(line.startswith(CHANGING) for line in replies.splitlines())
-        is_well = found == self.whole[:len(found)] and 0 <= len(found) - replied <= self.furthest
+        is_well = found == self.whole[:len(found)] and 0 <= len(found) - replied <= 1
         return (status if is_well else -1), replies
 
 

@@ -10,9 +10,14 @@ A command `rt` locks the folders of all crates below the one that it works on, s
 wait for each other. So each crate is proved in a lane: a folder of its own with copies of the crate and of the
 crates below. What was built of those comes along as second names of the same files. What the lane leaves goes
 into the checkout, where later commands find it done.
+
+It forecasts from the file times beside it, which has the seconds that each crate took in a first build, as the lines
+'NAME: built in M:SS' told them.
 """
 import fcntl
+import heapq
 import os
+import random
 import shutil
 import signal
 import subprocess
@@ -22,6 +27,12 @@ import time
 # The memory that a check may need, in bytes, and the seconds until it has taken most of it.
 A_CHECK = 2_000_000_000
 GROWING = 60
+# The memory of the crate that needs most.
+THE_LARGEST = 4_200_000_000
+# Above so many seconds it names `try`.
+WORTH_A_TRY = 180
+# The seconds that `sorting` took on the machine of the file times.
+SORTING = 0.030
 # How many lines of a failing check are shown.
 LAST_LINES = 30
 
@@ -32,6 +43,32 @@ def say(text):
 
 def clock(seconds):
     return "%d:%02d" % divmod(round(seconds), 60)
+
+
+def minutes(seconds):
+    """A forecast in words, by fives where it is long."""
+    number = max(1, round(seconds / 60))
+    number = number if number < 10 else round(number / 5) * 5
+    return "about %d minute%s" % (number, "" if number == 1 else "s")
+
+
+def sorting():
+    """The seconds that a sort takes here: how fast one processor is."""
+    numbers = random.Random(1)
+    numbers = [numbers.random() for _ in range(200_000)]
+    taken = []
+    for _ in range(5):
+        began = time.perf_counter()
+        sorted(numbers)
+        taken.append(time.perf_counter() - began)
+    return min(taken)
+
+
+def times_of(file):
+    """The seconds of each crate in the file times."""
+    with open(file, encoding="utf-8") as text:
+        rows = [line.split() for line in text if not line.startswith("#")]
+    return {name: float(seconds) for name, seconds in rows}
 
 
 def crates_of(file):
@@ -71,13 +108,13 @@ def memory():
         return None
 
 
-def has_room(running):
+def has_room(running, needed=A_CHECK):
     """Whether one more check fits beside those that are running: there is a processor, and memory for it and
     for those that have just begun."""
     growing = sum(time.time() - lane.began < GROWING for lane in running)
     free = memory()
     return not running or (len(running) < len(os.sched_getaffinity(0))
-                           and (free is None or free > (growing + 1) * A_CHECK))
+                           and (free is None or free > (growing + 1) * needed))
 
 
 def second_name(one, other):
@@ -162,7 +199,7 @@ class Build:
         self.lanes = os.path.join(self.crates_folder, name, "out", "lanes")
         self.crates = crates_of(os.path.join(top, "crates.txt"))
         self.names = below(self.crates, name)
-        self.weights = {one: sum(map(os.path.getsize, sources(self.folder_of(one)))) for one in self.names}
+        self.times = self._times()
         self.done = {one for one in self.crates if one in self.names and one != name and self.is_done(one)}
         # A crate counts as done only over crates that do.
         while True:
@@ -172,6 +209,18 @@ class Build:
             self.done = kept
         self.left = [one for one in self.crates if one in self.names - self.done]
         self.running = []
+        self.whole = sum(self.times[one] for one in self.left)
+        # The seconds of the file times that are over, and those that they took here. It begins with a guess for a minute.
+        self.expected, self.took = 60, 60 * sorting() / SORTING
+        self.chains = {}
+
+    def _times(self):
+        """The seconds of each crate in the file times, or by the size of its sources where it has none there."""
+        known = times_of(os.path.join(os.path.dirname(os.path.abspath(__file__)), "times"))
+        sizes = {one: sum(map(os.path.getsize, sources(self.folder_of(one)))) for one in self.names}
+        both = [one for one in self.names if one in known]
+        rate = sum(known[one] for one in both) / max(1, sum(sizes[one] for one in both)) or 1 / 1000
+        return {one: known.get(one, sizes[one] * rate) for one in self.names}
 
     def folder_of(self, name):
         return os.path.join(self.crates_folder, name)
@@ -189,34 +238,64 @@ class Build:
         except OSError:
             return False
 
-    def behind(self, name):
-        """How much is still to do along the longest chain that begins with this crate."""
-        above = [self.behind(one) for one in self.left if name in self.crates[one][1]]
-        return self.weights[name] + max(above, default=0)
+    def chain(self, name):
+        """The seconds along the longest chain that begins with this crate."""
+        if name not in self.chains:
+            above = [self.chain(one) for one in self.names if name in self.crates[one][1]]
+            self.chains[name] = self.times[name] + max(above, default=0)
+        return self.chains[name]
+
+    def next_of(self, left, done):
+        """The crate to begin with next of these, or None."""
+        ready = [one for one in left if set(self.crates[one][1]) <= done]
+        return max(ready, key=self.chain, default=None)
+
+    def forecast(self):
+        """The seconds that all that is left will take, with so many lanes as there are processors and memory for."""
+        now, free, pace = time.time(), memory(), self.took / self.expected
+        lanes = len(os.sched_getaffinity(0))
+        if free is not None:
+            lanes = min(lanes, max(1, len(self.running) + free // A_CHECK))
+        ends = [(max(0, lane.began - now + self.times[lane.name] * pace), lane.name) for lane in self.running]
+        heapq.heapify(ends)
+        done, at = set(self.done), 0
+        left = [one for one in self.left if all(lane.name != one for lane in self.running)]
+        while ends or left:
+            name = self.next_of(left, done) if len(ends) < lanes else None
+            if name is None:
+                at, name = heapq.heappop(ends)
+                done.add(name)
+            else:
+                left.remove(name)
+                heapq.heappush(ends, (at + self.times[name] * pace, name))
+        return at
+
+    def progress(self):
+        """How much is done, and when the rest will be."""
+        if not self.left:
+            return "100% done"
+        share = 1 - sum(self.times[one] for one in self.left) / self.whole
+        return "%d%% done, %s left" % (100 * share, minutes(self.forecast()))
 
     def jobs(self):
         """How many jobs the next check gets: a share of the processors."""
         return str(max(1, len(os.sched_getaffinity(0)) // (len(self.running) + 1)))
 
-    def ready(self):
-        """The crate to begin with next, or None."""
-        names = [one for one in self.left if set(self.crates[one][1]) <= self.done
-                 and all(lane.name != one for lane in self.running)]
-        return max(names, key=self.behind, default=None)
-
     def begin(self):
         """Begins whatever has room."""
         while has_room(self.running):
-            name = self.ready()
+            running = [lane.name for lane in self.running]
+            name = self.next_of([one for one in self.left if one not in running], self.done)
             if name is None:
                 break
-            say("%s: proving and building, %d left" % (name, len(self.left)))
+            say("%s: proving and building" % name)
             self.running.append(Lane(self, name))
 
     def end(self, lane):
         """Takes in a lane that has ended, and gives whether its crate was built."""
         self.running.remove(lane)
-        took = clock(time.time() - lane.began)
+        seconds = time.time() - lane.began
+        took = clock(seconds)
         if lane.process.returncode:
             say("%s failed after %s. Its last lines:" % (lane.name, took))
             print("\n".join(lane.last_lines()), file=sys.stderr, flush=True)
@@ -224,13 +303,23 @@ class Build:
         lane.hand_over()
         self.left.remove(lane.name)
         self.done.add(lane.name)
-        say("%s: built in %s, %d left" % (lane.name, took, len(self.left)))
+        self.took, self.expected = self.took + seconds, self.expected + self.times[lane.name]
+        say("%s: built in %s, %s" % (lane.name, took, self.progress()))
         return True
+
+    def announce(self):
+        """Says what the build takes on this machine, before it begins."""
+        seconds, free = self.forecast(), memory()
+        say("%d crate%s to prove and build, in %s on this machine. The largest takes %.1f GB of memory%s" % (
+            len(self.left), "" if len(self.left) == 1 else "s", minutes(seconds), THE_LARGEST / 1e9,
+            "" if free is None else "; %.1f GB are free" % (free / 1e9)))
+        if seconds > WORTH_A_TRY:
+            say("`sidetree try` answers a session in one to three minutes, without a proof")
 
     def run(self):
         """Gives whether all was built."""
         began = time.time()
-        say("%d crates to prove and build" % len(self.left))
+        self.announce()
         shutil.rmtree(self.lanes, ignore_errors=True)
         try:
             while self.left:

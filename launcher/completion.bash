@@ -4,8 +4,10 @@ _sidetree() {
     if [ "$COMP_CWORD" = 1 ]; then
         words="node wallet exchange generate"
         # The launcher has words of its own. The program that it installs has none.
-        [[ $(head -c 2 -- "$(type -P -- "$1")" 2> /dev/null) == '#!' ]] && words+=" install --help --version"
-    elif [ "${COMP_WORDS[1]}" = node ]; then
+        [[ $(head -c 2 -- "$(type -P -- "$1")" 2> /dev/null) == '#!' ]] && words+=" try test install --help --version"
+    elif [ "$before" = " try " ]; then
+        words="node exchange"
+    elif [[ $before == " node "* || $before == " try node "* ]]; then
         # The options stand in this order, each at most once.
         case $before in
         *" --journal "*) words="" ;;
@@ -13,6 +15,7 @@ _sidetree() {
         *" --limit"*) words="--v2-at= --journal" ;;
         *) words="--limit= --v2-at= --journal" ;;
         esac
+        [[ $before == " try "* ]] && words=${words/--journal/}
     elif [ "${COMP_WORDS[1]}" = install ] && [ "$COMP_CWORD" = 2 ]; then
         mapfile -t COMPREPLY < <(compgen -d -- "$word")
         return

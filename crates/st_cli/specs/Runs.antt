@@ -13,6 +13,7 @@ use Rattle.st_journal.specs.Opening.{opened}
 use Rattle.st_journal.specs.declared.refused.JournalRefused.TheVariants.{Damaged, TooLong}
 use Rattle.st_journal_lines.specs.Journalled.{JournalEnds}
 use Rattle.st_network.specs.Run.{exchange_course}
+use Rattle.st_node.specs.Peer.{node_peer}
 use Rattle.st_wallet_lines.specs.Run.{WalletRun}
 use Rattle.st_cli.specs.declared.form.Form.{Form}
 use Rattle.st_cli.specs.declared.form.Form.TheVariants.{Node, Journalled, Wallet, Exchange, Generate}
@@ -71,16 +72,16 @@ IsWalletRun run = WalletRun max_input run.io run.disk run.status × (run.context
 
 -- what is promised of a run of `exchange`: no disk is at work, and the disk is as it was
 abbrev pub ExchangeRun : Run → Type 0
-ExchangeRun run = AnswersLines exchange_course max_input run.io ⊥ run.status × run.disk.kept
+ExchangeRun run = AnswersLines (exchange_course node_peer) max_input run.io ⊥ run.status × run.disk.kept
 
 -- ---- `generate`: the summary of a workload is written
 
 -- what is promised of a run of `generate` by this plan
 pub record GenerateRun (plan : Plan) (run : Run) : Type 0 where
   -- at status 0 the whole of it is written
-  pub done : run.status ≡ 0 → Appends run.io.held run.io.holds (summary plan)
+  pub done : run.status ≡ 0 → Appends run.io.held run.io.holds (summary node_peer plan)
   -- whatever the status, a beginning of it is
-  pub front : WritesFront (summary plan) run.io.held run.io.holds
+  pub front : WritesFront (summary node_peer plan) run.io.held run.io.holds
   -- where memory runs out nothing is
   pub unwritten : run.status ≡ 6 → run.io.sink_kept
   -- where the sink doesn't fail the whole of it is, unless memory runs out

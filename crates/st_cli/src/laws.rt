@@ -3,11 +3,14 @@ ghost use Rattle.st_cli.specs.Journalled.{node_answering};
 ghost use Rattle.st_drive.specs.Recording.{changing};
 ghost use Rattle.st_journal_lines.specs.Answering.{behind};
 ghost use Rattle.st_journal_lines.specs.Journalled.{plain_recorder};
+ghost use Rattle.st_network.specs.StoresWanted.{AreAddressed, AreFour, StoresOnlyWanted};
 ghost use Rattle.st_node.specs.Machine.{new_machine};
+ghost use Rattle.st_node.specs.Peer.{node_peer};
 ghost use Rattle.st_drive.specs.Released.{AreChained, NoneTwice, Run, all_released};
 ghost use Rattle.st_vault.specs.Image.{IsSpent};
 
 use crate::node_lines::NodeLines;
+use st_node::Node;
 
 /// The node that the records of a journal and then the changing lines of more bring back is the one behind the records and
 /// all of those lines: what isn't recorded has changed nothing. So the next run is the node of a prefix of all commands.
@@ -24,3 +27,14 @@ pub fn journal_law()
 pub fn counters_law()
     ensures { (image : List ℕ) (runs : List Run) → AreChained IsSpent image runs → NoneTwice (all_released runs) }
 {}
+
+/// Whatever lines have come to four nodes: a message that is delivered stores nothing but a file that its addressee
+/// wants and lacks, under its own URI, and changes nothing else in any node. So whatever is lost, repeated and
+/// reordered, and whatever bytes are injected, no node gets a file by a message that it doesn't want.
+pub fn exchange_law()
+    ensures stores { StoresOnlyWanted node_peer }
+    ensures four { AreFour node_peer }
+    ensures addressed { AreAddressed node_peer }
+{
+    st_network::exchange_law::<Node>();
+}

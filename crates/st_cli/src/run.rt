@@ -92,8 +92,14 @@ pub fn run<S: Source, K: Sink, D: Disk>(
             disk,
         ),
         Some(Form::Wallet) => run_wallet(alloc, MAX_INPUT as usize, source, sink, disk),
-        Some(Form::Exchange) => run_exchange(alloc, MAX_INPUT as usize, source, sink, work),
-        Some(Form::Generate(plan)) => run_generate(alloc, plan, sink, work),
+        Some(Form::Exchange) => run_exchange::<Node, S, K>(
+            alloc,
+            MAX_INPUT as usize,
+            source,
+            sink,
+            work,
+        ),
+        Some(Form::Generate(plan)) => run_generate::<Node, K>(alloc, plan, sink, work),
         None => 1,
     }
 }

@@ -8,6 +8,7 @@ mod asking;
 mod decoding;
 mod encoding;
 mod message;
+mod peer;
 mod wanting;
 
 pub use answering::answer;
@@ -15,4 +16,5 @@ pub use asking::ask;
 pub use decoding::decode;
 pub use encoding::encode;
 pub use message::{Answer, DecodeRefused, LONGEST_BLOB, MOST_URIS, Message};
+pub use peer::Peer;
 pub use wanting::Wants;

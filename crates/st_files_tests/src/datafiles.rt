@@ -1,5 +1,4 @@
 mod chunk_files;
-mod entries;
 mod proof_files;
 
 use st_base::{Bytes, WantOfMemory, read_number};

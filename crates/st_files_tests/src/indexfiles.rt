@@ -2,10 +2,10 @@ mod core_files;
 mod hash_texts;
 mod provisional_files;
 
-use st_indexfiles::Target;
 use st_base::{List, read_number};
 use st_canon::scan::CanonicalText;
 use st_canon::{Json, write};
+use st_indexfiles::Target;
 use std::alloc::Global;
 
 // The hash texts of `abc` by SHA-256 and by SHA-512 (FIPS 180-4).

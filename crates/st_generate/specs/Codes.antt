@@ -3,8 +3,6 @@ use Rattle.std.specs.Prelude.{ℕ, refl}
 use Rattle.std.specs.Coded.{Coded, code_by, coded_ℕ, coded×}
 use Rattle.st_generate.specs.Talk.{TalkValue}
 use Rattle.st_generate.specs.declared.talk.Accepted.{Accepted}
-use Rattle.st_node.specs.Codes.{coded_machine}
-use Rattle.st_node.specs.Machine.{Machine}
 
 abbrev coded_accepted : Coded Accepted
 coded_accepted =
@@ -14,7 +12,7 @@ coded_accepted =
     (λ _. refl)
 
 -- one by the pair of its fields
-abbrev pub coded_talk : Coded TalkValue
-coded_talk =
-    code_by (Machine × Accepted) (coded× coded_machine coded_accepted)
+abbrev pub coded_talk : {M : Type 0} → Coded M → Coded (TalkValue M)
+coded_talk {M} coded =
+    code_by (M × Accepted) (coded× coded coded_accepted)
     (λ t. (t.machine, t.accepted)) (λ p. record { machine = p.0; accepted = p.1 }) (λ _. refl)

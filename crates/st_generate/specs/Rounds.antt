@@ -6,6 +6,7 @@ use Rattle.st_base.specs.Words.{first_word, other_words}
 use Rattle.st_drive.specs.Lines.{whole_lines}
 use Rattle.st_generate.specs.Talk.{TalkValue, new_talk, reply, tell, told}
 use Rattle.st_generate.specs.declared.rounds.Batches.{Batches}
+use Rattle.st_exchange.specs.Peer.{Peer}
 use Rattle.st_workload.specs.Identity.{round_lines}
 
 -- ---- what a reply says
@@ -37,19 +38,19 @@ abbrev pub anchor_line : ℕ → List ℕ → List ℕ
 anchor_line round anchor = codes "anchor " ++ (decimal round ++ (codes " " ++ anchor))
 
 -- once the requests of a round were told: the batch, its anchor line, and those of its files behind the others
-abbrev pub batched : ℕ → TalkValue → Batches → Batches
-batched round talk batches =
-    let batch = reply talk flush_line in
+abbrev pub batched : {M : Type 0} → Peer M → ℕ → TalkValue M → Batches M → Batches M
+batched peer round talk batches =
+    let batch = reply peer talk flush_line in
     let anchor = anchor_line round (anchor_in batch) in
     record {
-      talk = tell anchor (tell flush_line talk);
+      talk = tell peer anchor (tell peer flush_line talk);
       anchors = batches.anchors ++ anchor ∷ [];
       files = batches.files ++ content_lines batch;
     }
 
 -- the batches of the first rounds, so many
-abbrev pub batches_of : ℕ → ℕ → ℕ → Batches
-batches_of seed dids zero = record { talk = new_talk; anchors = []; files = [] }
-batches_of seed dids (suc round) =
-    let before = batches_of seed dids round in
-    batched round (told (round_lines seed dids round) before.talk) before
+abbrev pub batches_of : {M : Type 0} → Peer M → ℕ → ℕ → ℕ → Batches M
+batches_of peer seed dids zero = record { talk = new_talk peer; anchors = []; files = [] }
+batches_of peer seed dids (suc round) =
+    let before = batches_of peer seed dids round in
+    batched peer round (told peer (round_lines seed dids round) before.talk) before

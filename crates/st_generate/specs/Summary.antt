@@ -7,6 +7,7 @@ use Rattle.st_generate.specs.declared.ends.Ends.{Ends}
 use Rattle.st_generate.specs.declared.plan.Plan.{Plan}
 use Rattle.st_generate.specs.declared.rounds.Batches.{Batches}
 use Rattle.st_hash.specs.Hash.{HashValue, hash_text}
+use Rattle.st_exchange.specs.Peer.{Peer}
 use Rattle.st_workload.specs.Identifier.{did_suffix}
 use Rattle.st_workload.specs.Order.{events}
 
@@ -16,35 +17,35 @@ resolve_line suffix = codes "resolve did:sidetree:" ++ hash_text suffix
 
 -- Once both nodes have resolved a line: the second resolved it where its reply says so, and they agree
 -- where their replies are equal.
-unfoldable pub asked : List ℕ → Ends → Ends
-asked line ends = record {
-  first = tell line ends.first;
-  second = tell line ends.second;
-  resolved = ends.resolved + one_if (begins_with (codes "resolved") (reply ends.second line));
-  agreed = ends.agreed + one_if (bytes_eq (reply ends.first line) (reply ends.second line));
+unfoldable pub asked : {M : Type 0} → Peer M → List ℕ → Ends M → Ends M
+asked peer line ends = record {
+  first = tell peer line ends.first;
+  second = tell peer line ends.second;
+  resolved = ends.resolved + one_if (begins_with (codes "resolved") (reply peer ends.second line));
+  agreed = ends.agreed + one_if (bytes_eq (reply peer ends.first line) (reply peer ends.second line));
 }
 
 -- once they have resolved the first identifiers, so many
-abbrev pub all_asked : ℕ → ℕ → Ends → Ends
-all_asked seed zero ends = ends
-all_asked seed (suc i) ends = asked (resolve_line (did_suffix seed i)) (all_asked seed i ends)
+abbrev pub all_asked : {M : Type 0} → Peer M → ℕ → ℕ → Ends M → Ends M
+all_asked peer seed zero ends = ends
+all_asked peer seed (suc i) ends = asked peer (resolve_line (did_suffix seed i)) (all_asked peer seed i ends)
 
 -- the second node: it gets the events of the batches in the order of the stream behind those of the identifiers
-abbrev pub fed : Plan → Batches → TalkValue
-fed plan batches = told (events plan.seed plan.dids batches.anchors batches.files) new_talk
+abbrev pub fed : {M : Type 0} → Peer M → Plan → Batches M → TalkValue M
+fed peer plan batches = told peer (events plan.seed plan.dids batches.anchors batches.files) (new_talk peer)
 
 -- how the two nodes end
-unfoldable pub ends_of : Plan → Ends
-ends_of plan =
-    let batches = batches_of plan.seed plan.dids (plan.rounds + 1) in
-    all_asked plan.seed plan.dids (record { first = batches.talk; second = fed plan batches; resolved = 0; agreed = 0 })
+unfoldable pub ends_of : {M : Type 0} → Peer M → Plan → Ends M
+ends_of peer plan =
+    let batches = batches_of peer plan.seed plan.dids (plan.rounds + 1) in
+    all_asked peer plan.seed plan.dids (record { first = batches.talk; second = fed peer plan batches; resolved = 0; agreed = 0 })
 
 -- a word and a number
 abbrev pub summary_line : List ℕ → ℕ → List ℕ
 summary_line word n = word ++ (decimal n ++ codes "\n")
 
 -- the nine lines of a workload that ended so
-abbrev pub lines_of : Plan → Ends → List ℕ
+abbrev pub lines_of : {M : Type 0} → Plan → Ends M → List ℕ
 lines_of plan ends =
     summary_line (codes "dids ") plan.dids
     ++ summary_line (codes "batches ") (plan.rounds + 1)
@@ -57,5 +58,5 @@ lines_of plan ends =
     ++ codes "filesWithin yes\n"
 
 -- the nine lines
-unfoldable pub summary : Plan → List ℕ
-summary plan = lines_of plan (ends_of plan)
+unfoldable pub summary : {M : Type 0} → Peer M → Plan → List ℕ
+summary peer plan = lines_of plan (ends_of peer plan)

@@ -1,17 +1,17 @@
 -- A node that is told lines, and how many of them it accepted.
-use Rattle.std.specs.Prelude.{ℕ, ◌+◌, Bool, if◌then◌else◌, List, [], ◌∷◌, codes, bytes_eq, length, take, None}
+use Rattle.std.specs.Prelude.{ℕ, ◌+◌, Bool, if◌then◌else◌, List, [], ◌∷◌, codes, bytes_eq, length, take}
 use Rattle.st_generate.specs.declared.talk.Accepted.{Accepted}
-use Rattle.st_node.specs.Machine.{Machine, answered, new_machine}
+use Rattle.st_exchange.specs.Peer.{Peer}
 
--- a node, and what it accepted so far
-pub record TalkValue : Type 0 where
-  pub machine : Machine
+-- a node of type M, and what it accepted so far
+pub record TalkValue (M : Type 0) : Type 0 where
+  pub machine : M
   pub accepted : Accepted
 
--- before anything was told, with version 1 of the limits at every height
-unfoldable pub new_talk : TalkValue
-new_talk = record {
-  machine = new_machine None;
+-- before anything was told
+unfoldable pub new_talk : {M : Type 0} → Peer M → TalkValue M
+new_talk peer = record {
+  machine = peer.start;
   accepted = record { submissions = 0; anchors = 0; rollbacks = 0; files = 0 };
 }
 
@@ -34,17 +34,17 @@ counted line reply accepted = record {
 }
 
 -- the reply to a line
-unfoldable pub reply : TalkValue → List ℕ → List ℕ
-reply talk line = (answered talk.machine line).reply
+unfoldable pub reply : {M : Type 0} → Peer M → TalkValue M → List ℕ → List ℕ
+reply peer talk line = peer.reply talk.machine line
 
 -- once a line was told
-unfoldable pub tell : List ℕ → TalkValue → TalkValue
-tell line talk = record {
-  machine = (answered talk.machine line).next;
-  accepted = counted line (reply talk line) talk.accepted;
+unfoldable pub tell : {M : Type 0} → Peer M → List ℕ → TalkValue M → TalkValue M
+tell peer line talk = record {
+  machine = peer.next talk.machine line;
+  accepted = counted line (reply peer talk line) talk.accepted;
 }
 
 -- once these lines were told, one after the other
-abbrev pub told : List (List ℕ) → TalkValue → TalkValue
-told [] talk = talk
-told (line ∷ lines) talk = told lines (tell line talk)
+abbrev pub told : {M : Type 0} → Peer M → List (List ℕ) → TalkValue M → TalkValue M
+told peer [] talk = talk
+told peer (line ∷ lines) talk = told peer lines (tell peer line talk)

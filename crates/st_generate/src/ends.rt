@@ -7,29 +7,30 @@ ghost use Rattle.st_workload.specs.Identity.{identity_of};
 use crate::plan::Plan;
 use crate::talk::{Talk, begins_with, plus_one_if};
 use st_base::{Bytes, WantOfMemory, Work};
+use st_exchange::Peer;
 use st_hash::{Hash, hash_text};
 use st_workload::Identity;
 use std::alloc::Global;
 
 /// The two nodes, how many identifiers the second resolved, and how many both answered alike.
 #[derive(Drop)]
-pub struct Ends {
-    pub first: Talk,
-    pub second: Talk,
+pub struct Ends<N: Peer> {
+    pub first: Talk<N>,
+    pub second: Talk<N>,
     pub resolved: u64,
     pub agreed: u64,
 }
 
 /// Asks both nodes for all identifiers.
-pub fn ask_all(
+pub fn ask_all<N: Peer>(
     alloc: Global,
     plan: Plan,
     identities: &[Identity],
-    ends: Ends,
+    ends: Ends<N>,
     work: &mut Work,
-) -> Result<Ends, WantOfMemory>
+) -> Result<Ends<N>, WantOfMemory>
     requires { identities.now ≡ each plan.dids (identity_of plan.seed plan.rounds) }
-    ensures { IfOk result (λ all. all ≡ all_asked plan.seed plan.dids ends) }
+    ensures { IfOk result (λ all. all ≡ all_asked N.peer plan.seed plan.dids ends) }
 {
     let mut ends = ends;
     'identities: for identity in identities {
@@ -40,8 +41,13 @@ pub fn ask_all(
 }
 
 // Asks both nodes for the identifier of this suffix.
-fn ask(alloc: Global, suffix: &Hash, ends: Ends, work: &mut Work) -> Result<Ends, WantOfMemory>
-    ensures { IfOk result (λ more. more ≡ asked (resolve_line suffix.now) ends) }
+fn ask<N: Peer>(
+    alloc: Global,
+    suffix: &Hash,
+    ends: Ends<N>,
+    work: &mut Work,
+) -> Result<Ends<N>, WantOfMemory>
+    ensures { IfOk result (λ more. more ≡ asked N.peer (resolve_line suffix.now) ends) }
 {
     let line = resolve_line(alloc, suffix)?;
     Ok(ask_line(alloc, line.as_slice(), ends, work)?)
@@ -49,8 +55,13 @@ fn ask(alloc: Global, suffix: &Hash, ends: Ends, work: &mut Work) -> Result<Ends
 
 // Asks both nodes this line.
 #[tactic(auto, unfolding(crate::specs::Summary::asked))]
-fn ask_line(alloc: Global, line: &[u8], ends: Ends, work: &mut Work) -> Result<Ends, WantOfMemory>
-    ensures { IfOk result (λ more. more ≡ asked line.now ends) }
+fn ask_line<N: Peer>(
+    alloc: Global,
+    line: &[u8],
+    ends: Ends<N>,
+    work: &mut Work,
+) -> Result<Ends<N>, WantOfMemory>
+    ensures { IfOk result (λ more. more ≡ asked N.peer line.now ends) }
 {
     let Ends {
         first,

@@ -10,6 +10,7 @@ use crate::plan::Plan;
 use crate::talk::Talk;
 use itoa::Buffer;
 use st_base::{Bytes, List, WantOfMemory, Work, cut_at, cut_word};
+use st_exchange::Peer;
 use st_workload::Identity;
 use std::alloc::Global;
 
@@ -20,22 +21,22 @@ const LINE_FEED: u8 = 10;
 /// The first node, the anchor line of each batch that it made, and the lines that bring another node the files
 /// of all of them.
 #[derive(Drop)]
-pub struct Batches {
-    pub talk: Talk,
+pub struct Batches<N: Peer> {
+    pub talk: Talk<N>,
     pub anchors: List<Bytes>,
     pub files: List<Bytes>,
 }
 
 /// What the first node makes of all rounds.
-pub fn all_batches(
+pub fn all_batches<N: Peer>(
     alloc: Global,
     plan: Plan,
     identities: &[Identity],
     work: &mut Work,
-) -> Result<Batches, WantOfMemory>
+) -> Result<Batches<N>, WantOfMemory>
     requires rounds { plan.rounds ≤ 30 }
     requires identities { identities.now ≡ each plan.dids (identity_of plan.seed plan.rounds) }
-    ensures { IfOk result (λ batches. batches ≡ batches_of plan.seed plan.dids (plan.rounds + 1)) }
+    ensures { IfOk result (λ batches. batches ≡ batches_of N.peer plan.seed plan.dids (plan.rounds + 1)) }
 {
     let mut batches = no_batches(alloc)?;
     'rounds: for round in 0..plan.rounds + 1 {
@@ -45,8 +46,8 @@ pub fn all_batches(
     Ok(batches)
 }
 
-fn no_batches(alloc: Global) -> Result<Batches, WantOfMemory>
-    ensures { IfOk result (λ batches. batches ≡ batches_of 0 0 0) }
+fn no_batches<N: Peer>(alloc: Global) -> Result<Batches<N>, WantOfMemory>
+    ensures { IfOk result (λ batches. batches ≡ batches_of N.peer 0 0 0) }
 {
     let talk = Talk::new(alloc)?;
     Ok(Batches {
@@ -57,14 +58,15 @@ fn no_batches(alloc: Global) -> Result<Batches, WantOfMemory>
 }
 
 // The batch of a round, behind those before.
-fn batch(
+fn batch<N: Peer>(
     alloc: Global,
     identities: &[Identity],
     round: u32,
-    batches: Batches,
+    batches: Batches<N>,
     work: &mut Work,
-) -> Result<Batches, WantOfMemory>
-    ensures { IfOk result (λ more. more ≡ batched round (told (map (line_of round) identities.now) batches.talk) batches) }
+) -> Result<Batches<N>, WantOfMemory>
+    ensures { IfOk result (λ more.
+        more ≡ batched N.peer round (told N.peer (map (line_of round) identities.now) batches.talk) batches) }
 {
     let Batches {
         talk,
@@ -85,14 +87,14 @@ fn batch(
 }
 
 // Tells the requests of a round.
-fn tell_round(
+fn tell_round<N: Peer>(
     alloc: Global,
     identities: &[Identity],
     round: u32,
-    talk: Talk,
+    talk: Talk<N>,
     work: &mut Work,
-) -> Result<Talk, WantOfMemory>
-    ensures { IfOk result (λ all. all ≡ told (map (line_of round) identities.now) talk) }
+) -> Result<Talk<N>, WantOfMemory>
+    ensures { IfOk result (λ all. all ≡ told N.peer (map (line_of round) identities.now) talk) }
 {
     let mut talk = talk;
     'identities: for identity in identities {

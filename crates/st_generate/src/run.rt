@@ -10,16 +10,22 @@ use crate::plan::Plan;
 use crate::summary::generate;
 use st_base::Work;
 use st_drive::write_all;
+use st_exchange::Peer;
 use st_io::{Failed, Sink};
 use std::alloc::Global;
 
 /// Writes the summary of a plan to a sink, and answers a status: 0 where the whole of it is written and the
 /// sink is finished, 3 where the sink failed, after a beginning of it, and 6 where memory could not be had,
 /// before anything is written. There is no other.
-pub fn run_generate<K: Sink>(alloc: Global, plan: Plan, sink: &mut K, work: &mut Work) -> u8
+pub fn run_generate<N: Peer, K: Sink>(
+    alloc: Global,
+    plan: Plan,
+    sink: &mut K,
+    work: &mut Work,
+) -> u8
     requires { plan.rounds ≤ most_rounds }
-    ensures done { result ≡ 0 → Appends (K.written sink.old) (K.written sink.new) (summary plan) }
-    ensures front { WritesFront (summary plan) (K.written sink.old) (K.written sink.new) }
+    ensures done { result ≡ 0 → Appends (K.written sink.old) (K.written sink.new) (summary N.peer plan) }
+    ensures front { WritesFront (summary N.peer plan) (K.written sink.old) (K.written sink.new) }
     ensures finished { result ≡ 0 → K.is_finished sink.new ≡ true }
     ensures unfinished { result ≢ 0
         → FinishesNothing (K.is_finished sink.old) (K.is_finished sink.new) }
@@ -28,7 +34,7 @@ pub fn run_generate<K: Sink>(alloc: Global, plan: Plan, sink: &mut K, work: &mut
     ensures statuses { IsTrue (is_generate_end result) }
     ensures complete { ¬ Rose (K.faults sink.old) (K.faults sink.new) → (result ≡ 0) ⊎ (result ≡ 6) }
 {
-    match generate(alloc, plan, work) {
+    match generate::<N>(alloc, plan, work) {
         Ok(text) => match write_whole(sink, text.as_slice()) {
             Ok(()) => 0,
             Err(_) => 3,

@@ -10,6 +10,7 @@ use crate::rounds::{Batches, all_batches};
 use crate::talk::{Talk, tell_all};
 use itoa::Buffer;
 use st_base::{Bytes, List, WantOfMemory, Work};
+use st_exchange::Peer;
 use st_workload::{all_identities, events};
 use std::alloc::Global;
 
@@ -18,19 +19,19 @@ use std::alloc::Global;
 ///
 /// It takes the time of a key for each identifier, of a signature for each update, and of two nodes.
 #[tactic(auto, unfolding(crate::specs::Summary::summary))]
-pub fn generate(alloc: Global, plan: Plan, work: &mut Work) -> Result<Bytes, WantOfMemory>
+pub fn generate<N: Peer>(alloc: Global, plan: Plan, work: &mut Work) -> Result<Bytes, WantOfMemory>
     requires { plan.rounds ≤ most_rounds }
-    ensures { IfOk result (λ text. text ≡ summary plan) }
+    ensures { IfOk result (λ text. text ≡ summary N.peer plan) }
 {
-    let ends = ends_of(alloc, plan, work)?;
+    let ends = ends_of::<N>(alloc, plan, work)?;
     Ok(tell_ends(alloc, plan, &ends)?)
 }
 
 // How the two nodes end.
 #[tactic(auto, unfolding(crate::specs::Summary::ends_of))]
-fn ends_of(alloc: Global, plan: Plan, work: &mut Work) -> Result<Ends, WantOfMemory>
+fn ends_of<N: Peer>(alloc: Global, plan: Plan, work: &mut Work) -> Result<Ends<N>, WantOfMemory>
     requires { plan.rounds ≤ most_rounds }
-    ensures { IfOk result (λ ends. ends ≡ ends_of plan) }
+    ensures { IfOk result (λ ends. ends ≡ ends_of N.peer plan) }
 {
     let identities = all_identities(alloc, plan.seed, plan.dids, plan.rounds)?;
     let batches = all_batches(alloc, plan, identities.as_slice(), work)?;
@@ -39,15 +40,15 @@ fn ends_of(alloc: Global, plan: Plan, work: &mut Work) -> Result<Ends, WantOfMem
 }
 
 // The two nodes before they are asked.
-fn begin_ends(
+fn begin_ends<N: Peer>(
     alloc: Global,
     plan: Plan,
-    batches: Batches,
+    batches: Batches<N>,
     work: &mut Work,
-) -> Result<Ends, WantOfMemory>
+) -> Result<Ends<N>, WantOfMemory>
     ensures { IfOk result (λ ends. ends ≡ record {
       first = batches.talk;
-      second = fed plan batches;
+      second = fed N.peer plan batches;
       resolved = 0;
       agreed = 0;
     }) }
@@ -67,14 +68,14 @@ fn begin_ends(
 }
 
 // The second node, once it got all events.
-fn feed(
+fn feed<N: Peer>(
     alloc: Global,
     plan: Plan,
     anchors: List<Bytes>,
     files: List<Bytes>,
     work: &mut Work,
-) -> Result<Talk, WantOfMemory>
-    ensures { IfOk result (λ talk. talk ≡ told (events plan.seed plan.dids anchors files) new_talk) }
+) -> Result<Talk<N>, WantOfMemory>
+    ensures { IfOk result (λ talk. talk ≡ told N.peer (events plan.seed plan.dids anchors files) (new_talk N.peer)) }
 {
     let lines = events(alloc, plan.seed, plan.dids, anchors.as_slice(), files)?;
     let talk = Talk::new(alloc)?;
@@ -82,7 +83,7 @@ fn feed(
 }
 
 // The nine lines of a workload that ended so.
-fn tell_ends(alloc: Global, plan: Plan, ends: &Ends) -> Result<Bytes, WantOfMemory>
+fn tell_ends<N: Peer>(alloc: Global, plan: Plan, ends: &Ends<N>) -> Result<Bytes, WantOfMemory>
     requires { plan.rounds ≤ most_rounds }
     ensures { IfOk result (λ text. text ≡ lines_of plan ends.now) }
 {

@@ -1,11 +1,9 @@
 ghost use Rattle.std.specs.Prelude.{◌≡◌, ◌+◌, ◌*◌, ◌≤◌, codes, IfOk};
 ghost use Rattle.st_generate.specs.Paid.{IsPaid};
 ghost use Rattle.st_generate.specs.Talk.{begins_with, counted, new_talk, one_if, reply, tell, told};
-ghost use Rattle.st_node.specs.Machine.{answered};
 
 use st_base::{Bytes, WantOfMemory, Work};
-use st_node::Node;
-use st_params::Schedule;
+use st_exchange::Peer;
 use std::alloc::Global;
 use std::marker::Model;
 
@@ -25,34 +23,34 @@ pub struct Accepted {
 /// A node that is told lines, and how many of them it accepted. It reads at most five files for each
 /// anchor that it accepted.
 #[derive(Drop)]
-pub struct Talk {
-    node: Node,
+pub struct Talk<N: Peer> {
+    node: N,
     accepted: Accepted,
     // How many files were read in all of its calls.
     read: u64,
 }
 
-impl Model for Talk {
+impl<N: Peer> Model for Talk<N> {
     ghost use Rattle.st_generate.specs.Codes.{coded_talk};
     ghost use Rattle.st_generate.specs.Paid.{IsPaid};
     ghost use Rattle.st_generate.specs.Talk.{TalkValue};
 
-    ghost Value = { TalkValue };
+    ghost Value = { TalkValue N };
 
-    ghost coded = { coded_talk };
+    ghost coded = { coded_talk N.code };
 
     ghost view = { λ t. record { machine = t.node; accepted = t.accepted } };
 
-    ghost invariant = { λ t. IsPaid t.read t.node t.accepted.anchors };
+    ghost invariant = { λ t. IsPaid t.read (N.peer.due t.node) t.accepted.anchors };
 }
 
-impl Talk {
+impl<N: Peer> Talk<N> {
     /// A node before anything was told.
     #[tactic(auto, unfolding(crate::specs::Paid::IsPaid, crate::specs::Talk::new_talk))]
-    pub fn new(alloc: Global) -> Result<Talk, WantOfMemory>
-        ensures { IfOk result (λ talk. talk ≡ new_talk) }
+    pub fn new(alloc: Global) -> Result<Talk<N>, WantOfMemory>
+        ensures { IfOk result (λ talk. talk ≡ new_talk N.peer) }
     {
-        let node = Node::new(alloc, Schedule::new())?;
+        let node = N::start(alloc)?;
         Ok(Talk {
             node,
             accepted: Accepted {
@@ -71,8 +69,9 @@ impl Talk {
         alloc: Global,
         line: &[u8],
         work: &mut Work,
-    ) -> Result<(Talk, Bytes), WantOfMemory>
-        ensures { IfOk result (λ done. (done.0 ≡ tell line.now self) × (done.1 ≡ reply self line.now)) }
+    ) -> Result<(Talk<N>, Bytes), WantOfMemory>
+        ensures { IfOk result (λ done.
+            (done.0 ≡ tell N.peer line.now self) × (done.1 ≡ reply N.peer self line.now)) }
     {
         let Talk {
             node,
@@ -115,13 +114,13 @@ impl Talk {
 }
 
 /// Tells these lines, one after the other.
-pub fn tell_all(
+pub fn tell_all<N: Peer>(
     alloc: Global,
     lines: &[Bytes],
-    talk: Talk,
+    talk: Talk<N>,
     work: &mut Work,
-) -> Result<Talk, WantOfMemory>
-    ensures { IfOk result (λ all. all ≡ told lines.now talk) }
+) -> Result<Talk<N>, WantOfMemory>
+    ensures { IfOk result (λ all. all ≡ told N.peer lines.now talk) }
 {
     let mut talk = talk;
     'lines: for line in lines {
@@ -132,27 +131,27 @@ pub fn tell_all(
 }
 
 // A node that was told one line more, its reply, and what it then has accepted and read.
-struct Told {
-    node: Node,
+struct Told<N> {
+    node: N,
     reply: Bytes,
     accepted: Accepted,
     read: u64,
 }
 
 // Tells a node a line.
-fn tell_node(
+fn tell_node<N: Peer>(
     alloc: Global,
-    node: Node,
+    node: N,
     accepted: Accepted,
     read: u64,
     line: &[u8],
     work: &mut Work,
-) -> Result<Told, WantOfMemory>
-    requires { IsPaid read node accepted.anchors }
-    ensures node { IfOk result (λ told. told.node ≡ (answered node line.now).next) }
-    ensures reply { IfOk result (λ told. told.reply ≡ (answered node line.now).reply) }
-    ensures accepted { IfOk result (λ told. told.accepted ≡ counted line.now (answered node line.now).reply accepted) }
-    ensures paid { IfOk result (λ told. IsPaid told.read told.node told.accepted.anchors) }
+) -> Result<Told<N>, WantOfMemory>
+    requires { IsPaid read (N.peer.due node) accepted.anchors }
+    ensures node { IfOk result (λ told. told.node ≡ N.peer.next node line.now) }
+    ensures reply { IfOk result (λ told. told.reply ≡ N.peer.reply node line.now) }
+    ensures accepted { IfOk result (λ told. told.accepted ≡ counted line.now (N.peer.reply node line.now) accepted) }
+    ensures paid { IfOk result (λ told. IsPaid told.read (N.peer.due told.node) told.accepted.anchors) }
 {
     let before = work.files();
     let (node, reply) = node.answer(alloc, line, work)?;

@@ -1,22 +1,13 @@
-ghost use Rattle.std.specs.Prelude.{◌≤◌};
+ghost use Rattle.std.specs.Prelude.{◌≡◌, ◌≤◌};
 
-mod standard;
 mod types;
 mod vectors;
 
-use st_lms::{Public, Secret, Signer, sign_at, verify};
+use hex::FromHex;
 use sha2::{Digest, Sha256};
+use st_base::{Bytes, WantOfMemory, read_number};
+use st_lms::{Public, Secret, Signer, sign_at, verify};
 use std::alloc::Global;
-use std::process::Abort;
-use std::test::Fail;
-
-/// A message, the number of the one-time key that signs it, and the SHA-256 of the signature.
-#[derive(Drop)]
-struct Case {
-    q: u32,
-    message: &'static [u8],
-    digest: [u8; 32],
-}
 
 /// Whether the signature still holds after these bits of one of its bytes were turned.
 fn holds_turned(
@@ -53,34 +44,102 @@ fn no_damage_holds(public: &Public, message: &[u8], signature: &mut [u8], path_l
     true
 }
 
-fn checks(
-    rt: &impl Abort,
+/// The secret key of a line, and its public key as it is written.
+fn keys_of(line: &str) -> Option<(Secret, [u8; 56])> {
+    let mut words = line.split(' ');
+    let ots = read_number(words.next()?.as_bytes(), 4)?;
+    let tree = read_number(words.next()?.as_bytes(), 6)?;
+    let id = <[u8; 16]>::from_hex(words.next()?).ok()?;
+    let seed = <[u8; 32]>::from_hex(words.next()?).ok()?;
+    let public = <[u8; 56]>::from_hex(words.next()?).ok()?;
+    Some((Secret::new(ots, tree, id, seed).ok()?, public))
+}
+
+/// The number of a line, its message in hexadecimal, and the SHA-256 of the signature.
+fn case_of(line: &str) -> Option<(u32, &str, [u8; 32])> {
+    let (number, rest) = line.split_once(' ')?;
+    let (message, digest) = rest.split_once(' ')?;
+    Some((
+        read_number(number.as_bytes(), 1023)?,
+        message,
+        <[u8; 32]>::from_hex(digest).ok()?,
+    ))
+}
+
+/// Whether this is the signature: it is as long as its types say, and holds as long as none of it is damaged.
+fn is_signature(secret: &Secret, public: &Public, message: &[u8], signature: Bytes) -> bool {
+    let right = signature.as_slice().len() == public.signature_len()
+        && verify(public, message, signature.as_slice());
+    let mut bytes = signature.into_vec();
+    right && no_damage_holds(public, message, bytes.as_mut_slice(), 32 * secret.height() as usize)
+}
+
+/// Whether the key signs the message so, with and without its nodes.
+fn signs(
     alloc: Global,
-    (ots, tree): (u32, u32),
-    id: [u8; 16],
-    seed: [u8; 32],
-    text: &[u8; 56],
-    cases: &[Case],
-) -> Result<(), Fail> {
-    let secret = Secret::new(ots, tree, id, seed)?;
-    let public = Public::read(text.as_slice())?;
-    assert!(rt; secret.public() == public);
-    assert_eq!(rt; public.write().as_slice(), text.as_slice());
-    let signer = Signer::new(alloc, &secret)?;
-    assert!(rt; signer.public() == public);
-    let path_len = 32 * secret.height() as usize;
-    for case in cases {
-        assert!(rt; case.q < secret.leaf_count());
-        let signature = sign_at(alloc, &secret, case.q, case.message)?;
-        assert_eq!(rt; signature.as_slice().len(), public.signature_len());
-        assert_eq!(rt; Sha256::digest(signature.as_slice()), case.digest);
-        assert_eq!(rt;
-            signer.sign(alloc, case.q, case.message)?.as_slice(),
-            signature.as_slice()
-        );
-        assert!(rt; verify(&public, case.message, signature.as_slice()));
-        let mut bytes = signature.into_vec();
-        assert!(rt; no_damage_holds(&public, case.message, bytes.as_mut_slice(), path_len));
+    secret: &Secret,
+    signer: &Signer,
+    q: u32,
+    message: &[u8],
+    digest: [u8; 32],
+) -> Result<bool, WantOfMemory>
+    requires { signer.now ≡ secret.now }
+{
+    if q >= secret.leaf_count() {
+        return Ok(false);
     }
-    Ok(())
+    let signature = sign_at(alloc, secret, q, message)?;
+    let kept = signer.sign(alloc, q, message)?;
+    Ok(
+        Sha256::digest(signature.as_slice()) == digest
+            && kept.as_slice() == signature.as_slice()
+            && is_signature(secret, &signer.public(), message, signature),
+    )
+}
+
+fn signs_line(alloc: Global, secret: &Secret, signer: &Signer, line: &str) -> bool
+    requires { signer.now ≡ secret.now }
+{
+    let Some((q, message, digest)) = case_of(line) else {
+        return false;
+    };
+    match hex::decode(alloc, message) {
+        Ok(message) => match signs(alloc, secret, signer, q, message.as_slice(), digest) {
+            Ok(right) => right,
+            Err(_) => false,
+        },
+        Err(_) => false,
+    }
+}
+
+fn signs_all(alloc: Global, secret: &Secret, signer: &Signer, lines: &str) -> bool
+    requires { signer.now ≡ secret.now }
+{
+    for line in lines.lines() {
+        if !signs_line(alloc, secret, signer, line) {
+            return false;
+        }
+    }
+    true
+}
+
+/// Whether the public key is written so, read again, and the same with the nodes.
+fn is_public(secret: &Secret, signer: &Signer, written: &[u8; 56]) -> bool {
+    let public = secret.public();
+    public.write() == *written && Public::read(written) == Ok(public) && signer.public() == public
+}
+
+/// Whether the key of the first line has its public key, and signs as each other line says.
+fn signs_so(alloc: Global, text: &str) -> bool {
+    let Some((first, lines)) = text.split_once('\n') else {
+        return false;
+    };
+    let Some((secret, written)) = keys_of(first) else {
+        return false;
+    };
+    match Signer::new(alloc, &secret) {
+        Ok(signer) => is_public(&secret, &signer, &written)
+            && signs_all(alloc, &secret, &signer, lines),
+        Err(_) => false,
+    }
 }

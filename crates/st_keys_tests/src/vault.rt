@@ -1,13 +1,14 @@
 ghost use Rattle.std.specs.Prelude.{IfOk};
 ghost use Rattle.st_vault.specs.Opening.{ReadsAs};
 
+mod counters;
 mod images;
 mod stops;
 
-use st_vault::{OpenRefused, ReserveRefused, Vault, open_vault};
 use st_base::{Bytes, List, WantOfMemory};
 use st_io::{Disk, ScriptDisk};
 use st_lms::{BadType, Secret};
+use st_vault::{OpenRefused, ReserveRefused, Vault, format_vault, open_vault};
 use std::alloc::Global;
 
 /// How many counters are left of the vault that an image is, or what it is instead.
@@ -32,6 +33,14 @@ fn left_of(alloc: Global, image: &[u8]) -> Result<Left, WantOfMemory> {
     }
 }
 
+/// Whether a vault of the key is made on the disk.
+fn is_formatted(disk: &mut ScriptDisk) -> bool {
+    match key() {
+        Ok(secret) => format_vault(disk, secret).is_ok(),
+        Err(_) => false,
+    }
+}
+
 /// The vault after so many reservations.
 fn spend<D: Disk>(disk: &mut D, vault: Vault, count: u32) -> Result<Vault, ReserveRefused>
     requires { ReadsAs (D.reads disk.old) vault }
@@ -43,4 +52,15 @@ fn spend<D: Disk>(disk: &mut D, vault: Vault, count: u32) -> Result<Vault, Reser
         vault = rest;
     }
     Ok(vault)
+}
+
+/// How many are left once so many are spent of the vault that the disk is.
+fn left_after(disk: &mut ScriptDisk, count: u32) -> Option<u32> {
+    let Ok(vault) = open_vault(disk) else {
+        return None;
+    };
+    match spend(disk, vault, count) {
+        Ok(vault) => Some(vault.left()),
+        Err(_) => None,
+    }
 }

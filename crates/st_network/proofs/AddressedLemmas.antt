@@ -17,16 +17,14 @@ use Rattle.st_exchange.specs.declared.message.Message.{Message}
 use Rattle.st_hash.specs.Base64url.{bytes_of_text}
 use Rattle.st_hash.specs.Hash.{hash_of_text}
 use Rattle.st_network.specs.Exchange.{Answered, after, answer_step, answered, answered_step, ask_step, at_step, back, deliver_step, done, inject_step, line_done, node_at, number_or, offer_step, step_by, step_of, step_of_words, store_done, three_of, two_of}
-use Rattle.st_network.specs.Network.{Network, new_network}
+use Rattle.st_network.specs.Network.{Network, longest_line, new_network, space}
+use Rattle.st_exchange.specs.Peer.{Peer}
 use Rattle.st_network.specs.StoresWanted.{IsAddressed}
 use Rattle.st_network.specs.declared.cause.Cause.{Cause}
 use Rattle.st_network.specs.declared.cause.Cause.TheVariants as cause
 use Rattle.st_network.specs.declared.letter.Letter.{Letter}
 use Rattle.st_network.specs.declared.letter.Step.{Step}
 use Rattle.st_network.specs.declared.letter.Step.TheVariants.{Line, Post, Store}
-use Rattle.st_node.specs.Command.{longest_line, space}
-use Rattle.st_node.specs.Machine.{Machine, answered as node_answered, answered_content}
-use Rattle.st_observer.specs.Wanted.{wanted}
 use Rattle.st_network.proofs.NetworkLemmas.{each-item}
 use Rattle.st_network.proofs.StepLemmas.{behind, behind_test, ok_or-some, posted}
 
@@ -36,19 +34,19 @@ each-got P xs i x all is = each-item P xs i x all (slice_get_within xs i x is) (
 
 -- ---- how many nodes a line leaves
 
-abbrev count : Answered → ℕ
+abbrev count : {M : Type 0} → Answered M → ℕ
 count answer = length answer.next.nodes
 
-module _ (network : Network) where
-  line-count : (i : ℕ) (line : List ℕ) (node : Option Machine) → count (line_done network i line node) ≡ length network.nodes
+module _ {M : Type 0} (peer : Peer M) (network : Network M) where
+  line-count : (i : ℕ) (line : List ℕ) (node : Option M) → count (line_done peer network i line node) ≡ length network.nodes
   line-count i line None = refl
-  line-count i line (Some node) = length-set network.nodes i (node_answered node line).next
+  line-count i line (Some node) = length-set network.nodes i (peer.next node line)
 
-  store-count : (i : ℕ) (bytes : List ℕ) (node : Option Machine) → count (store_done network i bytes node) ≡ length network.nodes
+  store-count : (i : ℕ) (bytes : List ℕ) (node : Option M) → count (store_done peer network i bytes node) ≡ length network.nodes
   store-count i bytes None = refl
-  store-count i bytes (Some node) = length-set network.nodes i (answered_content node bytes).next
+  store-count i bytes (Some node) = length-set network.nodes i (peer.stored node bytes)
 
-  done-count : (step : Step) → count (done network step) ≡ length network.nodes
+  done-count : (step : Step) → count (done peer network step) ≡ length network.nodes
   done-count (Line i line) = line-count i line (slice_get network.nodes i)
   done-count (Post letters) = posted (λ answer. count answer ≡ length network.nodes) network letters refl refl
   done-count (Store i bytes) = store-count i bytes (slice_get network.nodes i)
@@ -69,8 +67,8 @@ sends_by : (received : Letter) (send : List Message) (keep : Option (List ℕ)) 
 sends_by received send None is = backs received send is
 sends_by received send (Some bytes) is = tt
 
-module _ (network : Network) (four : length network.nodes ≡ 4) (addressed : AllByRecursion IsAddressed network.letters) where
-  there : (i : ℕ) (node : Machine) → node_at network i ≡ Ok node → i < 4
+module _ {M : Type 0} (peer : Peer M) (network : Network M) (four : length network.nodes ≡ 4) (addressed : AllByRecursion IsAddressed network.letters) where
+  there : (i : ℕ) (node : M) → node_at network i ≡ Ok node → i < 4
   there i node is =
       let within : i < length network.nodes =
       slice_get_within network.nodes i node (ok_or-some (slice_get network.nodes i) cause.Range node is) in
@@ -79,7 +77,7 @@ module _ (network : Network) (four : length network.nodes ≡ 4) (addressed : Al
   at-sends : (others : Option (List ℕ)) → IfOk (at_step network others) Sends
   at-sends others = behind Sends (two_of others) _ (λ words _. behind Sends (number_or words.0) _ (λ i _. tt))
 
-  ask-sends : (others : Option (List ℕ)) → IfOk (ask_step network others) Sends
+  ask-sends : (others : Option (List ℕ)) → IfOk (ask_step peer network others) Sends
   ask-sends others =
       behind Sends (two_of others) _ (λ words _.
       behind Sends (number_or words.0) _ (λ i _.
@@ -87,7 +85,7 @@ module _ (network : Network) (four : length network.nodes ≡ 4) (addressed : Al
       behind Sends (node_at network i) _ (λ from is.
       behind Sends (node_at network j) _ (λ to other. ((there i from is, there j to other), tt))))))
 
-  offer-sends : (others : Option (List ℕ)) → IfOk (offer_step network others) Sends
+  offer-sends : (others : Option (List ℕ)) → IfOk (offer_step peer network others) Sends
   offer-sends others =
       behind Sends (three_of others) _ (λ words _.
       behind Sends (number_or words.0) _ (λ i _.
@@ -95,7 +93,7 @@ module _ (network : Network) (four : length network.nodes ≡ 4) (addressed : Al
       behind Sends (ok_or (hash_of_text words.1.1) cause.Hash) _ (λ uri _.
       behind Sends (node_at network i) _ (λ from is.
       behind Sends (node_at network j) _ (λ to other.
-      behind_test Sends (is_some (file_at uri from.observed.files)) cause.Unknown _ ((there i from is, there j to other), tt)))))))
+      behind_test Sends (is_some (file_at uri (peer.files from))) cause.Unknown _ ((there i from is, there j to other), tt)))))))
 
   inject-sends : (others : Option (List ℕ)) → IfOk (inject_step network others) Sends
   inject-sends others =
@@ -109,14 +107,14 @@ module _ (network : Network) (four : length network.nodes ≡ 4) (addressed : Al
   answer-sends : (received : Letter) (answer : Answer) → IsAddressed received → Sends (answer_step received answer)
   answer-sends received answer is = sends_by received answer.send answer.keep is
 
-  deliver-sends : (others : Option (List ℕ)) → IfOk (deliver_step network others) Sends
+  deliver-sends : (others : Option (List ℕ)) → IfOk (deliver_step peer network others) Sends
   deliver-sends others =
       behind Sends (ok_or others cause.Words) _ (λ rest _.
       behind Sends (number_or rest) _ (λ m _.
       behind Sends (ok_or (slice_get network.letters m) cause.Range) _ (λ received is.
       behind Sends (ok_or (message_of received.bytes) cause.Message) _ (λ message _.
       behind Sends (node_at network received.to) _ (λ to _.
-      answer-sends received (answer_of to.observed.files (wanted to.observed) message)
+      answer-sends received (answer_of (peer.files to) (peer.wanted to) message)
       (each-got IsAddressed network.letters m received addressed (ok_or-some (slice_get network.letters m) cause.Range received is)))))))
 
   -- by the command word
@@ -124,62 +122,62 @@ module _ (network : Network) (four : length network.nodes ≡ 4) (addressed : Al
       → IfOk (if bytes_eq word name then here else other) Sends
   by_word word name here other one two = cond_both (bytes_eq word name) here other (λ result. IfOk result Sends) (λ _. one) (λ _. two)
 
-  words-send : (word : List ℕ) (others : Option (List ℕ)) → IfOk (step_of_words network word others) Sends
+  words-send : (word : List ℕ) (others : Option (List ℕ)) → IfOk (step_of_words peer network word others) Sends
   words-send word others =
       by_word word (codes "at") (at_step network others) _ (at-sends others)
-      (by_word word (codes "ask") (ask_step network others) _ (ask-sends others)
-      (by_word word (codes "offer") (offer_step network others) _ (offer-sends others)
+      (by_word word (codes "ask") (ask_step peer network others) _ (ask-sends others)
+      (by_word word (codes "offer") (offer_step peer network others) _ (offer-sends others)
       (by_word word (codes "inject") (inject_step network others) _ (inject-sends others)
-      (by_word word (codes "deliver") (deliver_step network others) _ (deliver-sends others) tt))))
+      (by_word word (codes "deliver") (deliver_step peer network others) _ (deliver-sends others) tt))))
 
-  line-sends : (line : List ℕ) → IfOk (step_of network line) Sends
+  line-sends : (line : List ℕ) → IfOk (step_of peer network line) Sends
   line-sends line =
       behind_test Sends (nat_le (length line) longest_line) cause.Long _ (words-send (first_word space line) (other_words space line))
 
   -- ---- what it leaves
 
-  abbrev Leaves : Answered → Type 0
+  abbrev Leaves : Answered M → Type 0
   Leaves answer = AllByRecursion IsAddressed answer.next.letters
 
-  line-leaves : (i : ℕ) (line : List ℕ) (node : Option Machine) → Leaves (line_done network i line node)
+  line-leaves : (i : ℕ) (line : List ℕ) (node : Option M) → Leaves (line_done peer network i line node)
   line-leaves i line None = addressed
   line-leaves i line (Some node) = addressed
 
-  store-leaves : (i : ℕ) (bytes : List ℕ) (node : Option Machine) → Leaves (store_done network i bytes node)
+  store-leaves : (i : ℕ) (bytes : List ℕ) (node : Option M) → Leaves (store_done peer network i bytes node)
   store-leaves i bytes None = addressed
   store-leaves i bytes (Some node) = addressed
 
-  done-leaves : (step : Step) → Sends step → Leaves (done network step)
+  done-leaves : (step : Step) → Sends step → Leaves (done peer network step)
   done-leaves (Line i line) sends = line-leaves i line (slice_get network.nodes i)
   done-leaves (Post letters) sends = posted Leaves network letters (each-append IsAddressed network.letters letters addressed sends) addressed
   done-leaves (Store i bytes) sends = store-leaves i bytes (slice_get network.nodes i)
 
-  step-leaves : (result : Result Step Cause) → IfOk result Sends → Leaves (answered_step network result)
+  step-leaves : (result : Result Step Cause) → IfOk result Sends → Leaves (answered_step peer network result)
   step-leaves (Ok step) sends = done-leaves step sends
   step-leaves (Err why) sends = addressed
 
-step-count : (network : Network) (result : Result Step Cause) → count (answered_step network result) ≡ length network.nodes
-step-count network (Ok step) = done-count network step
-step-count network (Err why) = refl
+step-count : {M : Type 0} (peer : Peer M) (network : Network M) (result : Result Step Cause) → count (answered_step peer network result) ≡ length network.nodes
+step-count peer network (Ok step) = done-count peer network step
+step-count peer network (Err why) = refl
 
 -- what holds of a network that lines have come to
-record Sound (network : Network) : Type 0 where
+record Sound {M : Type 0} (network : Network M) : Type 0 where
   pub four : length network.nodes ≡ 4
   pub addressed : AllByRecursion IsAddressed network.letters
 
-sound-after : (network : Network) (lines : List (List ℕ)) → Sound network → Sound (after network lines)
-sound-after network [] sound = sound
-sound-after network (line ∷ lines) sound =
-    sound-after (answered network line).next lines (record {
-      four = step-count network (step_of network line) ∙ sound.four;
-      addressed = step-leaves network sound.four sound.addressed (step_of network line) (line-sends network sound.four sound.addressed line);
+sound-after : {M : Type 0} (peer : Peer M) (network : Network M) (lines : List (List ℕ)) → Sound network → Sound (after peer network lines)
+sound-after peer network [] sound = sound
+sound-after peer network (line ∷ lines) sound =
+    sound-after peer (answered peer network line).next lines (record {
+      four = step-count peer network (step_of peer network line) ∙ sound.four;
+      addressed = step-leaves peer network sound.four sound.addressed (step_of peer network line) (line-sends peer network sound.four sound.addressed line);
     })
 
-sound : (lines : List (List ℕ)) → Sound (after new_network lines)
-sound lines = sound-after new_network lines (record { four = refl; addressed = tt })
+sound : {M : Type 0} (peer : Peer M) (lines : List (List ℕ)) → Sound (after peer (new_network peer) lines)
+sound peer lines = sound-after peer (new_network peer) lines (record { four = refl; addressed = tt })
 
-pub are-four : (lines : List (List ℕ)) → length (after new_network lines).nodes ≡ 4
-are-four lines = (sound lines).four
+pub are-four : {M : Type 0} (peer : Peer M) (lines : List (List ℕ)) → length (after peer (new_network peer) lines).nodes ≡ 4
+are-four peer lines = (sound peer lines).four
 
-pub are-addressed : (lines : List (List ℕ)) → AllByRecursion IsAddressed (after new_network lines).letters
-are-addressed lines = (sound lines).addressed
+pub are-addressed : {M : Type 0} (peer : Peer M) (lines : List (List ℕ)) → AllByRecursion IsAddressed (after peer (new_network peer) lines).letters
+are-addressed peer lines = (sound peer lines).addressed

@@ -25,10 +25,10 @@ ok_or-some None e x is = cc
 ok_or-some (Some y) e x is = cc
 
 -- the network with these messages behind the others, and how many they are
-abbrev pub sent : Network → List Letter → Answered
+abbrev pub sent : {M : Type 0} → Network M → List Letter → Answered M
 sent network letters = record { next = record network { letters = network.letters ++ letters }; reply = post_reply letters }
 
-pub posted : (P : Answered → Type 0) (network : Network) (letters : List Letter) → P (sent network letters) → P (refused network cause.Full)
+pub posted : {M : Type 0} (P : Answered M → Type 0) (network : Network M) (letters : List Letter) → P (sent network letters) → P (refused network cause.Full)
     → P (post_done network letters)
 posted P network letters all none =
     cond_both (fits (network.letters ++ letters)) (sent network letters) (refused network cause.Full) P (λ _. all) (λ _. none)

@@ -1,11 +1,11 @@
 -- What four nodes answer to a line, and what it leaves. A message is delivered whenever a line says so,
 -- again or never: so the network between them may lose, repeat and reorder.
-use Rattle.std.specs.Prelude.{◌≡◌, ℕ, nat_le, List, [], ◌∷◌, ◌++◌, codes, bytes_eq, is_some, length, map, slice_get, if◌then◌else◌, Option, Some, None, Result, Ok, Err}
+use Rattle.std.specs.Prelude.{◌≡◌, ℕ, ◌-◌, ◌^◌, nat_le, List, [], ◌∷◌, ◌++◌, codes, bytes_eq, is_some, length, map, slice_get, if◌then◌else◌, Option, Some, None, Result, Ok, Err}
 use Rattle.std.specs.Fmt.{decimal}
 use Rattle.std.specs.Option.{ok_or}
 use Rattle.st_base.specs.Answers.{◌>>=◌, ◌>>◌, holds_or}
 use Rattle.st_base.specs.Replies.{reply}
-use Rattle.st_base.specs.Words.{cut_at, first_word, other_words}
+use Rattle.st_base.specs.Words.{cut_at, first_word, number_of, other_words}
 use Rattle.st_content.specs.Files.{file_at}
 use Rattle.st_exchange.specs.Answer.{answer_of, ask_of}
 use Rattle.st_exchange.specs.Message.{message_of, spelling}
@@ -14,7 +14,7 @@ use Rattle.st_exchange.specs.declared.message.Message.{Message}
 use Rattle.st_exchange.specs.declared.message.Message.TheVariants.{Have}
 use Rattle.st_hash.specs.Base64url.{bytes_of_text}
 use Rattle.st_hash.specs.Hash.{hash_of_text, hash_text, uri_of}
-use Rattle.st_network.specs.Network.{Network, fits, with_node}
+use Rattle.st_network.specs.Network.{Network, fits, longest_line, space, with_node}
 use Rattle.st_network.specs.declared.cause.Cause.{Cause}
 use Rattle.st_network.specs.declared.cause.Cause.TheVariants as cause
 use Rattle.st_network.specs.declared.cause.StepRefused.{StepRefused}
@@ -22,9 +22,7 @@ use Rattle.st_network.specs.declared.cause.StepRefused.TheVariants as refused_is
 use Rattle.st_network.specs.declared.letter.Letter.{Letter}
 use Rattle.st_network.specs.declared.letter.Step.{Step}
 use Rattle.st_network.specs.declared.letter.Step.TheVariants.{Line, Post, Store}
-use Rattle.st_node.specs.Command.{longest_line, number_in, space}
-use Rattle.st_node.specs.Machine.{Machine, answered as node_answered, answered_content}
-use Rattle.st_observer.specs.Wanted.{wanted}
+use Rattle.st_exchange.specs.Peer.{Peer}
 
 -- ---- what a line asks for
 
@@ -43,10 +41,10 @@ three_of behind = do
 
 -- the number that a word is
 abbrev pub number_or : List ℕ → Result ℕ Cause
-number_or word = ok_or (number_in word) cause.Number
+number_or word = ok_or (number_of (2 ^ 32 - 1) word) cause.Number
 
 -- the node with this number
-abbrev pub node_at : Network → ℕ → Result Machine Cause
+abbrev pub node_at : {M : Type 0} → Network M → ℕ → Result M Cause
 node_at network i = ok_or (slice_get network.nodes i) cause.Range
 
 -- from, to, and the one spelling of a message
@@ -58,36 +56,36 @@ abbrev pub back : Letter → Message → Letter
 back received message = letter received.to received.from message
 
 -- `at <i> <node line>`: the node line is all the rest, and may be empty
-abbrev pub at_step : Network → Option (List ℕ) → Result Step Cause
+abbrev pub at_step : {M : Type 0} → Network M → Option (List ℕ) → Result Step Cause
 at_step network behind = do
   words ← two_of behind
   i ← number_or words.0
   Ok (Line i words.1)
 
 -- `ask <i> <j>`: node i asks node j for the files that it wants
-abbrev pub ask_step : Network → Option (List ℕ) → Result Step Cause
-ask_step network behind = do
+abbrev pub ask_step : {M : Type 0} → Peer M → Network M → Option (List ℕ) → Result Step Cause
+ask_step peer network behind = do
   words ← two_of behind
   i ← number_or words.0
   j ← number_or words.1
   from ← node_at network i
   to ← node_at network j
-  Ok (Post (letter i j (ask_of (wanted from.observed)) ∷ []))
+  Ok (Post (letter i j (ask_of (peer.wanted from)) ∷ []))
 
 -- `offer <i> <j> <uri>`: node i tells node j that it has this file
-abbrev pub offer_step : Network → Option (List ℕ) → Result Step Cause
-offer_step network behind = do
+abbrev pub offer_step : {M : Type 0} → Peer M → Network M → Option (List ℕ) → Result Step Cause
+offer_step peer network behind = do
   words ← three_of behind
   i ← number_or words.0
   j ← number_or words.1.0
   uri ← ok_or (hash_of_text words.1.1) cause.Hash
   from ← node_at network i
   to ← node_at network j
-  holds_or (is_some (file_at uri from.observed.files)) cause.Unknown
+  holds_or (is_some (file_at uri (peer.files from))) cause.Unknown
   Ok (Post (letter i j (Have (uri ∷ [])) ∷ []))
 
 -- `inject <i> <j> <base64url>`: the bytes as they are
-abbrev pub inject_step : Network → Option (List ℕ) → Result Step Cause
+abbrev pub inject_step : {M : Type 0} → Network M → Option (List ℕ) → Result Step Cause
 inject_step network behind = do
   words ← three_of behind
   i ← number_or words.0
@@ -108,36 +106,36 @@ answer_step received answer = step_by received answer.send answer.keep
 
 -- `deliver <m>`: the addressee of a message answers it, by its files and what it wants. There is such a node: there
 -- was one when the message was sent.
-abbrev pub deliver_step : Network → Option (List ℕ) → Result Step Cause
-deliver_step network behind = do
+abbrev pub deliver_step : {M : Type 0} → Peer M → Network M → Option (List ℕ) → Result Step Cause
+deliver_step peer network behind = do
   rest ← ok_or behind cause.Words
   m ← number_or rest
   received ← ok_or (slice_get network.letters m) cause.Range
   message ← ok_or (message_of received.bytes) cause.Message
   to ← node_at network received.to
-  Ok (answer_step received (answer_of to.observed.files (wanted to.observed) message))
+  Ok (answer_step received (answer_of (peer.files to) (peer.wanted to) message))
 
 -- by the command word
-abbrev pub step_of_words : Network → List ℕ → Option (List ℕ) → Result Step Cause
-step_of_words network word behind =
+abbrev pub step_of_words : {M : Type 0} → Peer M → Network M → List ℕ → Option (List ℕ) → Result Step Cause
+step_of_words peer network word behind =
     if bytes_eq word (codes "at") then at_step network behind
-    else if bytes_eq word (codes "ask") then ask_step network behind
-    else if bytes_eq word (codes "offer") then offer_step network behind
+    else if bytes_eq word (codes "ask") then ask_step peer network behind
+    else if bytes_eq word (codes "offer") then offer_step peer network behind
     else if bytes_eq word (codes "inject") then inject_step network behind
-    else if bytes_eq word (codes "deliver") then deliver_step network behind
+    else if bytes_eq word (codes "deliver") then deliver_step peer network behind
     else Err cause.Command
 
 -- What a line asks for, or the first cause for which it is refused.
-abbrev pub step_of : Network → List ℕ → Result Step Cause
-step_of network line = do
+abbrev pub step_of : {M : Type 0} → Peer M → Network M → List ℕ → Result Step Cause
+step_of peer network line = do
   holds_or (nat_le (length line) longest_line) cause.Long
-  step_of_words network (first_word space line) (other_words space line)
+  step_of_words peer network (first_word space line) (other_words space line)
 
 -- ---- what it leaves
 
 -- what a line leaves, and the reply to it
-pub record Answered : Type 0 where
-  pub next : Network
+pub record Answered (M : Type 0) : Type 0 where
+  pub next : Network M
   pub reply : List ℕ
 
 -- why a line is refused
@@ -154,22 +152,22 @@ cause_word cause.Message = codes "message"
 cause_word cause.Full = codes "full"
 
 -- `refused <cause>`, and nothing changes
-abbrev pub refused : Network → Cause → Answered
+abbrev pub refused : {M : Type 0} → Network M → Cause → Answered M
 refused network why = record { next = network; reply = reply (codes "refused ") (cause_word why) }
 
 -- node i answers a line of its own, where there is such a node
-abbrev pub line_done : Network → ℕ → List ℕ → Option Machine → Answered
-line_done network i line None = refused network cause.Range
-line_done network i line (Some node) = record {
-  next = with_node i (node_answered node line).next network;
-  reply = (node_answered node line).reply;
+abbrev pub line_done : {M : Type 0} → Peer M → Network M → ℕ → List ℕ → Option M → Answered M
+line_done peer network i line None = refused network cause.Range
+line_done peer network i line (Some node) = record {
+  next = with_node i (peer.next node line) network;
+  reply = peer.reply node line;
 }
 
 -- the node keeps a file, as by `content`
-abbrev pub store_done : Network → ℕ → List ℕ → Option Machine → Answered
-store_done network i bytes None = refused network cause.Range
-store_done network i bytes (Some node) = record {
-  next = with_node i (answered_content node bytes).next network;
+abbrev pub store_done : {M : Type 0} → Peer M → Network M → ℕ → List ℕ → Option M → Answered M
+store_done peer network i bytes None = refused network cause.Range
+store_done peer network i bytes (Some node) = record {
+  next = with_node i (peer.stored node bytes) network;
   reply = reply (codes "stored ") (hash_text (uri_of bytes));
 }
 
@@ -179,41 +177,41 @@ post_reply [] = reply (codes "ignored") []
 post_reply (first ∷ others) = reply (codes "sent ") (decimal (length (first ∷ others)))
 
 -- the messages come last, where all fit
-abbrev pub post_done : Network → List Letter → Answered
+abbrev pub post_done : {M : Type 0} → Network M → List Letter → Answered M
 post_done network letters =
     if fits (network.letters ++ letters)
     then record { next = record network { letters = network.letters ++ letters }; reply = post_reply letters }
     else refused network cause.Full
 
 -- by what is asked for
-abbrev pub done : Network → Step → Answered
-done network (Line i line) = line_done network i line (slice_get network.nodes i)
-done network (Post letters) = post_done network letters
-done network (Store i bytes) = store_done network i bytes (slice_get network.nodes i)
+abbrev pub done : {M : Type 0} → Peer M → Network M → Step → Answered M
+done peer network (Line i line) = line_done peer network i line (slice_get network.nodes i)
+done peer network (Post letters) = post_done network letters
+done peer network (Store i bytes) = store_done peer network i bytes (slice_get network.nodes i)
 
 -- what is done, or why not
-abbrev pub answered_step : Network → Result Step Cause → Answered
-answered_step network (Ok step) = done network step
-answered_step network (Err why) = refused network why
+abbrev pub answered_step : {M : Type 0} → Peer M → Network M → Result Step Cause → Answered M
+answered_step peer network (Ok step) = done peer network step
+answered_step peer network (Err why) = refused network why
 
 -- the answer to a line
-abbrev pub answered : Network → List ℕ → Answered
-answered network line = answered_step network (step_of network line)
+abbrev pub answered : {M : Type 0} → Peer M → Network M → List ℕ → Answered M
+answered peer network line = answered_step peer network (step_of peer network line)
 
 -- the replies to lines, one after the other
-abbrev pub replies : Network → List (List ℕ) → List ℕ
-replies network [] = []
-replies network (line ∷ lines) = (answered network line).reply ++ replies (answered network line).next lines
+abbrev pub replies : {M : Type 0} → Peer M → Network M → List (List ℕ) → List ℕ
+replies peer network [] = []
+replies peer network (line ∷ lines) = (answered peer network line).reply ++ replies peer (answered peer network line).next lines
 
 -- the network behind these lines
-abbrev pub after : Network → List (List ℕ) → Network
-after network [] = network
-after network (line ∷ lines) = after (answered network line).next lines
+abbrev pub after : {M : Type 0} → Peer M → Network M → List (List ℕ) → Network M
+after peer network [] = network
+after peer network (line ∷ lines) = after peer (answered peer network line).next lines
 
 -- ---- calls
 
 -- What comes of it is what the answer leaves, and its reply is given.
-abbrev pub AnswersWith : Answered → Network × List ℕ → Type 0
+abbrev pub AnswersWith : {M : Type 0} → Answered M → Network M × List ℕ → Type 0
 AnswersWith answer done = (done.0 ≡ answer.next) × (done.1 ≡ answer.reply)
 
 -- the cause that an error names

@@ -1,9 +1,7 @@
-pub mod AlikeReplies
 pub mod Codes
 pub mod Exchange
 pub mod LineLaws
 pub mod Lines
 pub mod Network
 pub mod Run
-pub mod Stored
 pub mod StoresWanted

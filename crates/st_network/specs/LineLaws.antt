@@ -7,11 +7,11 @@ use Rattle.st_base.specs.Words.{first_word, other_words}
 use Rattle.st_drive.specs.Meaning.{Laws}
 use Rattle.st_network.specs.Exchange.{Answered, after, answered, answered_step, replies, step_of, step_of_words}
 use Rattle.st_network.specs.Lines.{kept_of_line, network_meaning}
-use Rattle.st_network.specs.Network.{Network}
+use Rattle.st_network.specs.Network.{Network, longest_line, space}
+use Rattle.st_exchange.specs.Peer.{Peer}
 use Rattle.st_network.specs.declared.cause.Cause.{Cause}
 use Rattle.st_network.specs.declared.cause.Cause.TheVariants as cause
 use Rattle.st_network.specs.declared.letter.Step.{Step}
-use Rattle.st_node.specs.Command.{longest_line, space}
 
 -- a line that is short enough is not cut
 uncut : (most : ℕ) (line : List ℕ) → nat_le (length line) most ≡ true → take (most + 1) line ≡ line
@@ -26,33 +26,33 @@ still_long most line long = grind (arith, nat_tests, length-take)
 refused_long : (fits : Bool) (next : Result Step Cause) → fits ≡ false → (holds_or fits cause.Long >> next) ≡ Err cause.Long
 refused_long fits next long = rw long refl
 
-by_length : (network : Network) (line : List ℕ) (fits : Bool) → nat_le (length line) longest_line ≡ fits
-    → step_of network (take (longest_line + 1) line) ≡ step_of network line
-by_length network line true short = ap (step_of network) (uncut longest_line line short)
-by_length network line false long =
-    let words = step_of_words network (first_word space line) (other_words space line) in
+by_length : {M : Type 0} (peer : Peer M) (network : Network M) (line : List ℕ) (fits : Bool) → nat_le (length line) longest_line ≡ fits
+    → step_of peer network (take (longest_line + 1) line) ≡ step_of peer network line
+by_length peer network line true short = ap (step_of peer network) (uncut longest_line line short)
+by_length peer network line false long =
+    let words = step_of_words peer network (first_word space line) (other_words space line) in
     refused_long _ _ (still_long longest_line line long) ∙ sym (refused_long (nat_le (length line) longest_line) words long)
 
-cut_answered : (network : Network) (line : List ℕ) → answered network (take kept_of_line line) ≡ answered network line
-cut_answered network line = ap (answered_step network) (by_length network line (nat_le (length line) longest_line) refl)
+cut_answered : {M : Type 0} (peer : Peer M) (network : Network M) (line : List ℕ) → answered peer network (take kept_of_line line) ≡ answered peer network line
+cut_answered peer network line = ap (answered_step peer network) (by_length peer network line (nat_le (length line) longest_line) refl)
 
-pub after-append : (network : Network) (lines more : List (List ℕ)) → after network (lines ++ more) ≡ after (after network lines) more
-after-append network [] more = refl
-after-append network (line ∷ lines) more = after-append (answered network line).next lines more
+pub after-append : {M : Type 0} (peer : Peer M) (network : Network M) (lines more : List (List ℕ)) → after peer network (lines ++ more) ≡ after peer (after peer network lines) more
+after-append peer network [] more = refl
+after-append peer network (line ∷ lines) more = after-append peer (answered peer network line).next lines more
 
-pub network_laws : Laws network_meaning kept_of_line
-network_laws = record {
+pub network_laws : {M : Type 0} (peer : Peer M) → Laws (network_meaning peer) kept_of_line
+network_laws peer = record {
   silent = λ network. refl;
   positive = omega arith;
-  cut_answers = λ network line more short. ap (λ (answer : Answered). answer.reply ++ replies answer.next more) (cut_answered network line);
+  cut_answers = λ network line more short. ap (λ (answer : Answered _). answer.reply ++ replies peer answer.next more) (cut_answered peer network line);
   cut_ran = λ network next work counted line short ran. record {
-    came = ran.came ∙ ap (λ (answer : Answered). answer.next) (cut_answered network line);
+    came = ran.came ∙ ap (λ (answer : Answered _). answer.next) (cut_answered peer network line);
   };
   cut_gave_up = λ network work counted line short tt. tt;
   told_stays = λ network next work counted lines ran told. told;
   ran_none = λ network work. record { came = refl };
   ran_more = λ network next last old mid new lines more first second. record {
-    came = second.came ∙ ap (λ (reached : Network). after reached more) first.came ∙ sym (after-append network lines more);
+    came = second.came ∙ ap (λ (reached : Network _). after peer reached more) first.came ∙ sym (after-append peer network lines more);
   };
   gave_up_more = λ network next old mid new lines more first due. tt;
 }

@@ -1,23 +1,31 @@
 -- Four nodes and the messages between them, as a line leaves them.
 use Rattle.std.specs.Prelude.{ℕ, ◌-◌, ◌&&◌, nat_le, Bool, List, [], ◌∷◌, length, slice_set, if◌then◌else◌, Option, Some, None}
 use Rattle.std.specs.List.{sum_by}
-use Rattle.st_node.specs.Machine.{Machine, new_machine}
+use Rattle.st_exchange.specs.Peer.{Peer}
 use Rattle.st_network.specs.declared.letter.Letter.{Letter}
 
 -- four nodes, numbered from 0, and what was sent between them, numbered from 0
-pub record Network : Type 0 where
-  pub nodes : List Machine
+pub record Network (M : Type 0) : Type 0 where
+  pub nodes : List M
   pub letters : List Letter
 
 -- before anything has come
-abbrev pub new_network : Network
-new_network = record { nodes = new_machine None ∷ new_machine None ∷ new_machine None ∷ new_machine None ∷ []; letters = [] }
+abbrev pub new_network : {M : Type 0} → Peer M → Network M
+new_network peer = record { nodes = peer.start ∷ peer.start ∷ peer.start ∷ peer.start ∷ []; letters = [] }
 
 -- with another node under this number
-abbrev pub with_node : ℕ → Machine → Network → Network
+abbrev pub with_node : {M : Type 0} → ℕ → M → Network M → Network M
 with_node i node network = record network { nodes = slice_set network.nodes i node }
 
 -- ---- how much is kept
+
+-- how many bytes a line has at most
+abbrev pub longest_line : ℕ
+longest_line = 24000000
+
+-- the byte of a space
+abbrev pub space : ℕ
+space = 32
 
 -- how many messages are kept at most
 abbrev pub most_letters : ℕ

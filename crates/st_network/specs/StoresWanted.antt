@@ -6,47 +6,44 @@ use Rattle.st_content.specs.Files.{file_at}
 use Rattle.st_exchange.specs.Answer.{is_among}
 use Rattle.st_hash.specs.Hash.{uri_of}
 use Rattle.st_network.specs.Exchange.{after}
-use Rattle.st_network.specs.Network.{Network, new_network}
+use Rattle.st_network.specs.Network.{Network, new_network, space}
 use Rattle.st_network.specs.declared.letter.Letter.{Letter}
-use Rattle.st_node.specs.Command.{space}
-use Rattle.st_node.specs.Machine.{Machine}
-use Rattle.st_observer.specs.Observed.{arrived}
-use Rattle.st_observer.specs.Wanted.{wanted}
+use Rattle.st_exchange.specs.Peer.{Peer}
 
 -- A node has one file more, under its own URI, which it wanted and did not have. Nothing else in it changes.
-pub record Gains (node next : Machine) : Type 0 where
+pub record Gains {M : Type 0} (peer : Peer M) (node next : M) : Type 0 where
   pub bytes : List ℕ
-  pub was_wanted : is_among (wanted node.observed) (uri_of bytes) ≡ true
-  pub was_absent : file_at (uri_of bytes) node.observed.files ≡ None
-  pub gained : next ≡ record node { observed = arrived bytes node.observed }
+  pub was_wanted : is_among (peer.wanted node) (uri_of bytes) ≡ true
+  pub was_absent : file_at (uri_of bytes) (peer.files node) ≡ None
+  pub gained : next ≡ peer.stored node bytes
 
 -- one node gains a file; the others stay, and so do the messages
-pub record OneGains (network next : Network) : Type 0 where
+pub record OneGains {M : Type 0} (peer : Peer M) (network next : Network M) : Type 0 where
   pub number : ℕ
-  pub node : Machine
-  pub later : Machine
+  pub node : M
+  pub later : M
   pub there : slice_get network.nodes number ≡ Some node
-  pub gains : Gains node later
+  pub gains : Gains peer node later
   pub nodes : next.nodes ≡ slice_set network.nodes number later
   pub letters : next.letters ≡ network.letters
 
 -- all nodes stay, or one gains a file that it wanted
-abbrev pub StaysOrGains : (network next : Network) → Type 0
-StaysOrGains network next = (next.nodes ≡ network.nodes) ⊎ OneGains network next
+abbrev pub StaysOrGains : {M : Type 0} → Peer M → (network next : Network M) → Type 0
+StaysOrGains peer network next = (next.nodes ≡ network.nodes) ⊎ OneGains peer network next
 
 -- Whatever lines have come, a `deliver` leaves all nodes, or one gains a file that it wanted.
-abbrev pub StoresOnlyWanted : Type 0
-StoresOnlyWanted = (lines : List (List ℕ)) (line : List ℕ) → first_word space line ≡ codes "deliver"
-    → StaysOrGains (after new_network lines) (after new_network (lines ++ line ∷ []))
+abbrev pub StoresOnlyWanted : {M : Type 0} → Peer M → Type 0
+StoresOnlyWanted peer = (lines : List (List ℕ)) (line : List ℕ) → first_word space line ≡ codes "deliver"
+    → StaysOrGains peer (after peer (new_network peer) lines) (after peer (new_network peer) (lines ++ line ∷ []))
 
 -- There are four nodes, whatever lines have come.
-abbrev pub AreFour : Type 0
-AreFour = (lines : List (List ℕ)) → length (after new_network lines).nodes ≡ 4
+abbrev pub AreFour : {M : Type 0} → Peer M → Type 0
+AreFour peer = (lines : List (List ℕ)) → length (after peer (new_network peer) lines).nodes ≡ 4
 
 -- it goes from one of the four nodes to one of them
 abbrev pub IsAddressed : Letter → Type 0
 IsAddressed letter = (letter.from < 4) × (letter.to < 4)
 
 -- Each message that was sent does, whatever lines have come. So a `deliver` finds its addressee.
-abbrev pub AreAddressed : Type 0
-AreAddressed = (lines : List (List ℕ)) → AllByRecursion IsAddressed (after new_network lines).letters
+abbrev pub AreAddressed : {M : Type 0} → Peer M → Type 0
+AreAddressed peer = (lines : List (List ℕ)) → AllByRecursion IsAddressed (after peer (new_network peer) lines).letters

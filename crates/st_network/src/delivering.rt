@@ -5,7 +5,6 @@ ghost use Rattle.st_base.specs.Answers.{Gives};
 ghost use Rattle.st_exchange.specs.Answer.{answer_of};
 ghost use Rattle.st_exchange.specs.Message.{IsShort};
 ghost use Rattle.st_network.specs.Exchange.{answer_step, back, cause_of, deliver_step};
-ghost use Rattle.st_observer.specs.Wanted.{wanted};
 
 use crate::cause::{Cause, StepRefused};
 use crate::letter::{Letter, Step};
@@ -14,17 +13,16 @@ use crate::reading::node_at;
 use crate::wanting::WantedBy;
 use crate::words::number;
 use st_base::{List, WantOfMemory};
-use st_exchange::{Answer, DecodeRefused, Message, answer, decode, encode};
-use st_node::Node;
+use st_exchange::{Answer, DecodeRefused, Message, Peer, answer, decode, encode};
 use std::alloc::Global;
 
 // What a `deliver` asks for, by what stands behind the word.
-pub fn read_deliver(
+pub fn read_deliver<N: Peer>(
     alloc: Global,
-    network: &Network,
+    network: &Network<N>,
     behind: Option<&[u8]>,
 ) -> Result<Step, StepRefused>
-    ensures { Gives cause_of (deliver_step network.now (option_copied behind.entry)) result }
+    ensures { Gives cause_of (deliver_step N.peer network.now (option_copied behind.entry)) result }
 {
     let Some(rest) = behind else {
         return Err(StepRefused::Refused(Cause::Words));
@@ -43,18 +41,17 @@ pub fn read_deliver(
 }
 
 // What the addressee of a message answers.
-fn answered(
+fn answered<N: Peer>(
     alloc: Global,
     received: &Letter,
-    to: &Node,
+    to: &N,
     message: &Message,
 ) -> Result<Step, WantOfMemory>
     requires { IsShort message.now }
     ensures { IfOk result (λ step. step ≡ answer_step received.now
-        (answer_of to.now.observed.files (wanted to.now.observed) message.now)) }
+        (answer_of (N.peer.files to.now) (N.peer.wanted to.now) message.now)) }
 {
-    let observer = to.observer();
-    let answer = answer(alloc, observer.content(), &WantedBy { observer }, message)?;
+    let answer = answer(alloc, to.content(), &WantedBy { node: to }, message)?;
     step_by(alloc, received, answer)
 }
 

@@ -2,24 +2,24 @@ ghost use Rattle.std.specs.Prelude.{◌≡◌, ◌<◌, codes, length, slice_get
 ghost use Rattle.st_base.specs.Replies.{reply};
 ghost use Rattle.st_hash.specs.Hash.{hash_text, uri_of};
 ghost use Rattle.st_network.specs.Exchange.{AnswersWith, done, line_done, post_done, store_done};
-ghost use Rattle.st_node.specs.Machine.{answered, answered_content};
 
 use crate::cause::Cause;
 use crate::letter::{Letter, Step};
 use crate::network::Network;
-use crate::telling::{tell_posted, tell_refused, tell_stored};
-use st_base::{Bytes, List, WantOfMemory, Work};
-use st_node::{Command, Node};
+use crate::telling::{tell_posted, tell_refused};
+use st_base::{Bytes, List, WantOfMemory, Work, reply};
+use st_exchange::Peer;
+use st_hash::hash_text;
 use std::alloc::Global;
 
 // Does what is asked for, and gives the reply.
-pub fn take(
-    network: Network,
+pub fn take<N: Peer>(
+    network: Network<N>,
     alloc: Global,
     step: Step,
     work: &mut Work,
-) -> Result<(Network, Bytes), WantOfMemory>
-    ensures { IfOk result (AnswersWith (done network step)) }
+) -> Result<(Network<N>, Bytes), WantOfMemory>
+    ensures { IfOk result (AnswersWith (done N.peer network step)) }
 {
     match step {
         Step::Line { node, line } => run(network, alloc, node, line.as_slice(), work),
@@ -28,14 +28,14 @@ pub fn take(
     }
 }
 
-fn run(
-    network: Network,
+fn run<N: Peer>(
+    network: Network<N>,
     alloc: Global,
     i: u32,
     line: &[u8],
     work: &mut Work,
-) -> Result<(Network, Bytes), WantOfMemory>
-    ensures { IfOk result (AnswersWith (line_done network i line.now (slice_get network.nodes i))) }
+) -> Result<(Network<N>, Bytes), WantOfMemory>
+    ensures { IfOk result (AnswersWith (line_done N.peer network i line.now (slice_get network.nodes i))) }
 {
     let at = i as usize;
     if at >= network.nodes().len() {
@@ -48,16 +48,16 @@ fn run(
 }
 
 // The node at this place answers a line.
-fn run_at(
+fn run_at<N: Peer>(
     alloc: Global,
-    nodes: List<Node>,
+    nodes: List<N>,
     at: usize,
     line: &[u8],
     work: &mut Work,
-) -> Result<(List<Node>, Bytes), WantOfMemory>
+) -> Result<(List<N>, Bytes), WantOfMemory>
     requires { at < length nodes }
     ensures { IfOk result (λ done. IfSome (slice_get nodes at) (λ node.
-        (done.0 ≡ slice_set nodes at (answered node line.now).next) × (done.1 ≡ (answered node line.now).reply))) }
+        (done.0 ≡ slice_set nodes at (N.peer.next node line.now)) × (done.1 ≡ N.peer.reply node line.now))) }
 {
     let mut nodes = nodes;
     let node = nodes.remove(at);
@@ -66,14 +66,14 @@ fn run_at(
     Ok((nodes, text))
 }
 
-fn store(
-    network: Network,
+fn store<N: Peer>(
+    network: Network<N>,
     alloc: Global,
     i: u32,
     bytes: Bytes,
     work: &mut Work,
-) -> Result<(Network, Bytes), WantOfMemory>
-    ensures { IfOk result (AnswersWith (store_done network i bytes (slice_get network.nodes i))) }
+) -> Result<(Network<N>, Bytes), WantOfMemory>
+    ensures { IfOk result (AnswersWith (store_done N.peer network i bytes (slice_get network.nodes i))) }
 {
     let at = i as usize;
     if at >= network.nodes().len() {
@@ -86,31 +86,32 @@ fn store(
 }
 
 // The node at this place keeps a file, as by `content`.
-fn store_at(
+fn store_at<N: Peer>(
     alloc: Global,
-    nodes: List<Node>,
+    nodes: List<N>,
     at: usize,
     bytes: Bytes,
     work: &mut Work,
-) -> Result<(List<Node>, Bytes), WantOfMemory>
+) -> Result<(List<N>, Bytes), WantOfMemory>
     requires { at < length nodes }
     ensures { IfOk result (λ done. IfSome (slice_get nodes at) (λ node.
-        (done.0 ≡ slice_set nodes at (answered_content node bytes).next)
+        (done.0 ≡ slice_set nodes at (N.peer.stored node bytes))
         × (done.1 ≡ reply (codes "stored ") (hash_text (uri_of bytes))))) }
 {
     let mut nodes = nodes;
     let node = nodes.remove(at);
-    let (node, told) = node.step(alloc, Command::Content(bytes), work)?;
-    let text = tell_stored(alloc, told.as_slice())?;
+    let (node, uri) = node.keep(alloc, bytes, work)?;
+    let uri = hash_text(alloc, &uri)?;
+    let text = reply(alloc, "stored ", uri.as_str().as_bytes())?;
     nodes.insert(alloc, at, node)?;
     Ok((nodes, text))
 }
 
-fn post(
-    network: Network,
+fn post<N: Peer>(
+    network: Network<N>,
     alloc: Global,
     letters: List<Letter>,
-) -> Result<(Network, Bytes), WantOfMemory>
+) -> Result<(Network<N>, Bytes), WantOfMemory>
     ensures { IfOk result (AnswersWith (post_done network letters)) }
 {
     let text = tell_posted(alloc, letters.as_slice())?;

@@ -1,7 +1,6 @@
 //! Four nodes in one process, and the messages between them: a message is delivered whenever a line says
 //! so, again or never. So the network between the nodes may lose, repeat and reorder. A node gets no file
-//! by a message but one that it wants, under its own URI, and nodes with equal ledgers and equal files
-//! answer alike.
+//! by a message but one that it wants, under its own URI.
 #![tactic(auto)]
 
 mod cause;

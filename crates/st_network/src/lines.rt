@@ -5,16 +5,19 @@ ghost use Rattle.st_network.specs.Lines.{kept_of_line, network_meaning};
 use crate::network::Network;
 use st_base::{Bytes, Work};
 use st_drive::{Machine, StepError};
-use st_node::LONGEST_LINE;
+use st_exchange::Peer;
 use std::alloc::Global;
 
+/// How many bytes a line has at most.
+pub const LONGEST_LINE: usize = 24_000_000;
+
 // It looks at one byte more of a line than a line may have, by which it knows one that is too long.
-impl Machine for Network {
+impl<N: Peer> Machine for Network<N> {
     type Context = Work;
 
     type Device = ();
 
-    ghost meaning = { network_meaning };
+    ghost meaning = { network_meaning N.peer };
 
     ghost CAP = { kept_of_line };
 
@@ -34,7 +37,7 @@ impl Machine for Network {
         context: &mut Work,
         _device: &mut (),
         line: &[u8],
-    ) -> Result<(Network, Bytes), StepError> {
+    ) -> Result<(Network<N>, Bytes), StepError> {
         match self.answer(alloc, line, context) {
             Ok(done) => Ok(done),
             Err(want) => Err(StepError::from(want)),
@@ -45,5 +48,5 @@ impl Machine for Network {
 
     ghost prompt = { λ never. absurd never };
 
-    ghost laws = { network_laws };
+    ghost laws = { network_laws N.peer };
 }

@@ -8,40 +8,39 @@ use crate::letters::Letters;
 use crate::reading::read_step;
 use crate::telling::tell_refused;
 use st_base::{Bytes, List, WantOfMemory, Work};
-use st_node::Node;
-use st_params::Schedule;
+use st_exchange::Peer;
 use std::alloc::Global;
 use std::marker::Model;
 
 /// Four nodes, and the messages between them. Contracts see the reference machines of the nodes, and the
 /// messages in the order in which they were sent.
 #[derive(Drop)]
-pub struct Network {
-    pub(crate) nodes: List<Node>,
+pub struct Network<N> {
+    pub(crate) nodes: List<N>,
     pub(crate) letters: Letters,
 }
 
-impl Model for Network {
+impl<N> Model for Network<N> {
     ghost use Rattle.st_network.specs.Codes.{coded_network};
     ghost use Rattle.st_network.specs.Network.{Network as Seen};
 
-    ghost Value = { Seen };
+    ghost Value = { Seen N };
 
-    ghost coded = { coded_network };
+    ghost coded = { coded_network N.code };
 
     ghost view = { λ n. record { nodes = n.nodes; letters = n.letters } };
 }
 
-impl Network {
-    /// Four nodes under the limits of version 1, before anything has come.
-    pub fn new(alloc: Global) -> Result<Network, WantOfMemory>
-        ensures { IfOk result (λ network. network ≡ new_network) }
+impl<N: Peer> Network<N> {
+    /// Four nodes, before anything has come.
+    pub fn new(alloc: Global) -> Result<Network<N>, WantOfMemory>
+        ensures { IfOk result (λ network. network ≡ new_network N.peer) }
     {
         let mut nodes = List::new(alloc);
-        nodes.push(alloc, Node::new(alloc, Schedule::new())?)?;
-        nodes.push(alloc, Node::new(alloc, Schedule::new())?)?;
-        nodes.push(alloc, Node::new(alloc, Schedule::new())?)?;
-        nodes.push(alloc, Node::new(alloc, Schedule::new())?)?;
+        nodes.push(alloc, N::start(alloc)?)?;
+        nodes.push(alloc, N::start(alloc)?)?;
+        nodes.push(alloc, N::start(alloc)?)?;
+        nodes.push(alloc, N::start(alloc)?)?;
         Ok(Network {
             nodes,
             letters: Letters::new(alloc),
@@ -49,7 +48,7 @@ impl Network {
     }
 
     /// The nodes.
-    pub fn nodes(&self) -> &List<Node>
+    pub fn nodes(&self) -> &List<N>
         ensures { result.now ≡ self.now.nodes }
     {
         &self.nodes
@@ -72,8 +71,8 @@ impl Network {
         alloc: Global,
         line: &[u8],
         work: &mut Work,
-    ) -> Result<(Network, Bytes), WantOfMemory>
-        ensures { IfOk result (AnswersWith (answered self line.now)) }
+    ) -> Result<(Network<N>, Bytes), WantOfMemory>
+        ensures { IfOk result (AnswersWith (answered N.peer self line.now)) }
     {
         match read_step(alloc, &self, line) {
             Ok(step) => take(self, alloc, step, work),

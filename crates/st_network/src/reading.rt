@@ -6,17 +6,16 @@ ghost use Rattle.st_exchange.specs.Message.{spelling};
 ghost use Rattle.st_exchange.specs.declared.message.Message.TheVariants.{Have};
 ghost use Rattle.st_network.specs.Exchange.{ask_step, at_step, cause_of, inject_step, node_at, offer_step, step_of, step_of_words};
 ghost use Rattle.st_network.specs.declared.letter.Step.TheVariants.{Post};
-ghost use Rattle.st_observer.specs.Wanted.{wanted};
 
 use crate::cause::{Cause, StepRefused};
 use crate::delivering::read_deliver;
 use crate::letter::{Letter, Step};
+use crate::lines::LONGEST_LINE;
 use crate::network::Network;
 use crate::words::{number, three, two};
 use st_base::{Bytes, List, WantOfMemory, cut_word};
-use st_exchange::{Message, ask, encode};
+use st_exchange::{Message, Peer, ask, encode};
 use st_hash::{DecRefused, Hash, dec, read_hash};
-use st_node::{LONGEST_LINE, Node};
 use std::alloc::Global;
 
 const AT: &[u8] = b"at";
@@ -30,8 +29,12 @@ const INJECT: &[u8] = b"inject";
 const DELIVER: &[u8] = b"deliver";
 
 // What a line asks for. Nothing changes by that.
-pub fn read_step(alloc: Global, network: &Network, line: &[u8]) -> Result<Step, StepRefused>
-    ensures { Gives cause_of (step_of network.now line.now) result }
+pub fn read_step<N: Peer>(
+    alloc: Global,
+    network: &Network<N>,
+    line: &[u8],
+) -> Result<Step, StepRefused>
+    ensures { Gives cause_of (step_of N.peer network.now line.now) result }
 {
     if line.len() > LONGEST_LINE {
         return Err(StepRefused::Refused(Cause::Long));
@@ -40,13 +43,13 @@ pub fn read_step(alloc: Global, network: &Network, line: &[u8]) -> Result<Step, 
     read_words(alloc, network, word, behind)
 }
 
-fn read_words(
+fn read_words<N: Peer>(
     alloc: Global,
-    network: &Network,
+    network: &Network<N>,
     word: &[u8],
     behind: Option<&[u8]>,
 ) -> Result<Step, StepRefused>
-    ensures { Gives cause_of (step_of_words network.now word.now (option_copied behind.entry)) result }
+    ensures { Gives cause_of (step_of_words N.peer network.now word.now (option_copied behind.entry)) result }
 {
     if word == AT {
         read_at(alloc, network, behind)
@@ -63,7 +66,11 @@ fn read_words(
     }
 }
 
-fn read_at(alloc: Global, network: &Network, behind: Option<&[u8]>) -> Result<Step, StepRefused>
+fn read_at<N: Peer>(
+    alloc: Global,
+    network: &Network<N>,
+    behind: Option<&[u8]>,
+) -> Result<Step, StepRefused>
     ensures { Gives cause_of (at_step network.now (option_copied behind.entry)) result }
 {
     let (node, line) = two(behind)?;
@@ -72,8 +79,12 @@ fn read_at(alloc: Global, network: &Network, behind: Option<&[u8]>) -> Result<St
     Ok(Step::Line { node, line })
 }
 
-fn read_ask(alloc: Global, network: &Network, behind: Option<&[u8]>) -> Result<Step, StepRefused>
-    ensures { Gives cause_of (ask_step network.now (option_copied behind.entry)) result }
+fn read_ask<N: Peer>(
+    alloc: Global,
+    network: &Network<N>,
+    behind: Option<&[u8]>,
+) -> Result<Step, StepRefused>
+    ensures { Gives cause_of (ask_step N.peer network.now (option_copied behind.entry)) result }
 {
     let (from, to) = two(behind)?;
     let from = number(from)?;
@@ -84,8 +95,12 @@ fn read_ask(alloc: Global, network: &Network, behind: Option<&[u8]>) -> Result<S
     Ok(post_one(alloc, from, to, message)?)
 }
 
-fn read_offer(alloc: Global, network: &Network, behind: Option<&[u8]>) -> Result<Step, StepRefused>
-    ensures { Gives cause_of (offer_step network.now (option_copied behind.entry)) result }
+fn read_offer<N: Peer>(
+    alloc: Global,
+    network: &Network<N>,
+    behind: Option<&[u8]>,
+) -> Result<Step, StepRefused>
+    ensures { Gives cause_of (offer_step N.peer network.now (option_copied behind.entry)) result }
 {
     let (from, to, uri) = three(behind)?;
     let from = number(from)?;
@@ -95,14 +110,18 @@ fn read_offer(alloc: Global, network: &Network, behind: Option<&[u8]>) -> Result
     };
     let node = node_at(network, from)?;
     let _other = node_at(network, to)?;
-    if node.observer().content().get(&uri).is_none() {
+    if node.content().get(&uri).is_none() {
         return Err(StepRefused::Refused(Cause::Unknown));
     }
     let message = offered(alloc, uri)?;
     Ok(post_one(alloc, from, to, message)?)
 }
 
-fn read_inject(alloc: Global, network: &Network, behind: Option<&[u8]>) -> Result<Step, StepRefused>
+fn read_inject<N: Peer>(
+    alloc: Global,
+    network: &Network<N>,
+    behind: Option<&[u8]>,
+) -> Result<Step, StepRefused>
     ensures { Gives cause_of (inject_step network.now (option_copied behind.entry)) result }
 {
     let (from, to, text) = three(behind)?;
@@ -119,7 +138,7 @@ fn read_inject(alloc: Global, network: &Network, behind: Option<&[u8]>) -> Resul
 }
 
 // The node with this number.
-pub fn node_at(network: &Network, i: u32) -> Result<&Node, StepRefused>
+pub fn node_at<N: Peer>(network: &Network<N>, i: u32) -> Result<&N, StepRefused>
     ensures { GivesAs (λ node. node.now) cause_of (node_at network.now i) result }
 {
     match network.nodes().get(i as usize) {
@@ -129,10 +148,10 @@ pub fn node_at(network: &Network, i: u32) -> Result<&Node, StepRefused>
 }
 
 // The spelling of what a node asks for.
-fn asked(alloc: Global, node: &Node) -> Result<Bytes, WantOfMemory>
-    ensures { IfOk result (λ bytes. bytes ≡ spelling (ask_of (wanted node.now.observed))) }
+fn asked<N: Peer>(alloc: Global, node: &N) -> Result<Bytes, WantOfMemory>
+    ensures { IfOk result (λ bytes. bytes ≡ spelling (ask_of (N.peer.wanted node.now))) }
 {
-    let wanted = node.observer().wanted(alloc)?;
+    let wanted = node.wanted(alloc)?;
     let message = ask(alloc, wanted.as_slice())?;
     encode(alloc, &message)
 }

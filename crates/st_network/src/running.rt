@@ -6,14 +6,15 @@ ghost use Rattle.st_network.specs.Run.{exchange_course};
 use crate::network::Network;
 use st_base::Work;
 use st_drive::run_machine;
+use st_exchange::Peer;
 use st_io::{Sink, Source};
 use std::alloc::Global;
 
-/// Answers the lines of a source of at most `limit` bytes as four nodes, each empty and under the limits of
-/// version 1, with the messages between them.
+/// Answers the lines of a source of at most `limit` bytes as four nodes, each as it starts, with the messages
+/// between them.
 ///
 /// No disk is at work, so the status is never 4.
-pub fn run_exchange<S: Source, K: Sink>(
+pub fn run_exchange<N: Peer, S: Source, K: Sink>(
     alloc: Global,
     limit: usize,
     source: &mut S,
@@ -21,10 +22,10 @@ pub fn run_exchange<S: Source, K: Sink>(
     work: &mut Work,
 ) -> u8
     requires { limit < 2 ^ 62 }
-    ensures { AnswersLines exchange_course limit
+    ensures { AnswersLines (exchange_course N.peer) limit
         (streams S.left S.faults source.old source.new K.written K.is_finished K.faults sink.old sink.new) ⊥ result }
 {
-    match Network::new(alloc) {
+    match Network::<N>::new(alloc) {
         Ok(network) => run_machine(alloc, limit, network, work, &mut (), source, sink),
         Err(_) => 6,
     }

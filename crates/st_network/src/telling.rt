@@ -1,29 +1,17 @@
-ghost use Rattle.std.specs.Prelude.{◌≡◌, ◌++◌, codes, IfOk};
+ghost use Rattle.std.specs.Prelude.{◌≡◌, codes, IfOk};
 ghost use Rattle.st_base.specs.Replies.{reply};
 ghost use Rattle.st_network.specs.Exchange.{cause_word, post_reply};
-ghost use Rattle.st_network.specs.Stored.{stored_by};
 
 use crate::cause::Cause;
 use crate::letter::Letter;
 use itoa::Buffer;
-use st_base::{Bytes, WantOfMemory, cut_word, reply};
+use st_base::{Bytes, WantOfMemory, reply};
 use std::alloc::Global;
 
 pub fn tell_refused(alloc: Global, cause: Cause) -> Result<Bytes, WantOfMemory>
     ensures { IfOk result (λ text. text ≡ reply (codes "refused ") (cause_word cause)) }
 {
     reply(alloc, "refused ", cause_word(cause).as_bytes())
-}
-
-// The reply to a file that is kept, by what the node replied to its `content`: the URI that stands there
-// behind the first word, so that the bytes are not hashed once more.
-pub fn tell_stored(alloc: Global, told: &[u8]) -> Result<Bytes, WantOfMemory>
-    ensures { IfOk result (λ text. text ≡ stored_by told.now) }
-{
-    let (_word, uri) = cut_word(told, b' ');
-    let mut text = Vec::from_slice(alloc, b"stored ")?;
-    text.extend_from_slice(uri.unwrap_or(b"\n"))?;
-    Ok(Bytes::from_vec(text))
 }
 
 pub fn tell_posted(alloc: Global, letters: &[Letter]) -> Result<Bytes, WantOfMemory>

@@ -1,21 +1,18 @@
-ghost use Rattle.st_observer.specs.Wanted.{wanted as wanted_of};
-
 use st_base::WantOfMemory;
-use st_exchange::Wants;
+use st_exchange::{Peer, Wants};
 use st_hash::Hash;
-use st_observer::Observer;
 use std::alloc::Global;
 
-/// What a node wants, looked up in what it has seen.
+/// What a node wants, looked up in it.
 #[derive(Drop)]
-pub(crate) struct WantedBy<'a> {
-    pub(crate) observer: &'a Observer,
+pub(crate) struct WantedBy<'a, N> {
+    pub(crate) node: &'a N,
 }
 
-impl Wants for WantedBy<'_> {
-    ghost wanted = { λ by. wanted_of by.observer.now };
+impl<N: Peer> Wants for WantedBy<'_, N> {
+    ghost wanted = { λ by. N.peer.wanted by.node.now };
 
     fn wants(&self, alloc: Global, uri: &Hash) -> Result<bool, WantOfMemory> {
-        self.observer.wants(alloc, uri)
+        self.node.wants(alloc, uri)
     }
 }

@@ -1,6 +1,7 @@
 mod AnchorLemmas
 mod ArrivingLemmas
 mod ChangedLemmas
+mod ContentLemmas
 mod CountsLemmas
 mod DueLemmas
 mod ExplainLemmas
@@ -8,6 +9,7 @@ mod EntryLemmas
 mod FlushLemmas
 mod FormLemmas
 mod IsolationLemmas
+mod PaidLemmas
 mod ResolvedLemmas
 mod SumLemmas
 mod TellingLemmas

@@ -1,7 +1,10 @@
+pub mod AlikeReplies
 pub mod Codes
 pub mod Command
 pub mod Isolation
 pub mod Machine
+pub mod Peer
+pub mod PeerLaws
 pub mod Changing
 pub mod Changed
 pub mod Work

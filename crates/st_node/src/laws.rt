@@ -1,3 +1,4 @@
+ghost use Rattle.st_node.specs.AlikeReplies.{ExplainsAlike, ResolvesAlike};
 ghost use Rattle.st_node.specs.Changed.{TellsChanges};
 ghost use Rattle.st_node.specs.Isolation.{IsolatesIdentifiers};
 
@@ -18,3 +19,10 @@ pub fn changes_law()
     // A batch takes the first of such operations.
     batch_laws();
 }
+
+/// Two nodes with equal ledgers, and the same file or none under each URI, give equal replies to each
+/// `resolve` and to each `explain`. That a file ever comes is not promised.
+pub fn alike_law()
+    ensures resolves { ResolvesAlike }
+    ensures explains { ExplainsAlike }
+{}

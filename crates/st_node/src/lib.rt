@@ -11,12 +11,13 @@ mod flushing;
 mod laws;
 mod lent;
 mod node;
+mod peer;
 mod resolving;
 mod submitting;
 mod telling;
 
 pub use changes::changing;
 pub use command::{Command, LONGEST_LINE, LineCause, LineRefused, read_command};
-pub use laws::{changes_law, isolation_law};
+pub use laws::{alike_law, changes_law, isolation_law};
 pub use lent::Lent;
 pub use node::Node;

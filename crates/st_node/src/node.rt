@@ -28,8 +28,8 @@ use std::marker::Model;
 /// the operations that wait for a batch.
 #[derive(Drop)]
 pub struct Node {
-    observer: Observer,
-    queue: Queue,
+    pub(crate) observer: Observer,
+    pub(crate) queue: Queue,
 }
 
 impl Model for Node {

@@ -1,8 +1,8 @@
 mod orders;
 
 use self::orders::ORDERS;
+use st_base::{WantOfMemory, Work};
 use st_network::{Network, exchange_law};
-use st_base::{Bytes, WantOfMemory, Work};
 use std::alloc::Global;
 use std::test::Fail;
 
@@ -88,49 +88,63 @@ refused line command
 refused line command
 ";
 
-#[test]
-fn each_line_has_its_reply(rt: HostRuntime) -> Result<(), Fail> {
-    let mut work = Work::new(&rt);
-    exchange_law();
-    match first_wrong(rt.alloc(), LINES, &mut work)? {
-        Some(line) => Err(Fail::from(line)),
-        None => Ok(()),
-    }
-}
+// Four nodes.
+type Nodes = Network;
 
-#[test]
-fn files_come_in_any_order(rt: HostRuntime) -> Result<(), Fail> {
-    let mut work = Work::new(&rt);
-    match first_wrong(rt.alloc(), ORDERS, &mut work)? {
-        Some(line) => Err(Fail::from(line)),
-        None => Ok(()),
-    }
+// The nodes after a line, if it gives this reply.
+fn told(
+    alloc: Global,
+    network: Nodes,
+    line: &str,
+    expected: &str,
+    work: &mut Work,
+) -> Result<Option<Nodes>, WantOfMemory> {
+    let (next, reply) = network.answer(alloc, line.as_bytes(), work)?;
+    let reply = str::from_utf8(reply.as_slice()).unwrap_or("");
+    Ok(if reply.strip_suffix('\n') == Some(expected) {
+        Some(next)
+    } else {
+        None
+    })
 }
 
 // The first line that has another reply than the one behind it.
-fn first_wrong(
+fn first_other(
     alloc: Global,
     session: &'static str,
     work: &mut Work,
 ) -> Result<Option<&'static str>, WantOfMemory> {
-    let mut network = Network::new(alloc)?;
+    let mut network = Nodes::new(alloc)?;
     let mut lines = session.lines();
     while let Some(line) = lines.next() {
         if line == "new" {
-            network = Network::new(alloc)?;
+            network = Nodes::new(alloc)?;
             continue;
         }
         let expected = lines.next().unwrap_or("");
-        let (next, reply) = network.answer(alloc, line.as_bytes(), work)?;
-        network = next;
-        if !is_reply(&reply, expected) {
-            return Ok(Some(line));
-        }
+        network = match told(alloc, network, line, expected, work)? {
+            Some(next) => next,
+            None => return Ok(Some(line)),
+        };
     }
     Ok(None)
 }
 
-fn is_reply(reply: &Bytes, expected: &str) -> bool {
-    let reply = str::from_utf8(reply.as_slice()).unwrap_or("");
-    reply.strip_suffix('\n') == Some(expected)
+fn replies_so(rt: &HostRuntime, session: &'static str) -> Result<(), Fail> {
+    let mut work = Work::new(rt);
+    match first_other(rt.alloc(), session, &mut work)? {
+        Some(line) => Err(Fail::from(line)),
+        None => Ok(()),
+    }
+}
+
+#[test]
+fn each_line_has_its_reply(rt: HostRuntime) -> Result<(), Fail> {
+    exchange_law();
+    replies_so(&rt, LINES)
+}
+
+#[test]
+fn files_come_in_any_order(rt: HostRuntime) -> Result<(), Fail> {
+    replies_so(&rt, ORDERS)
 }

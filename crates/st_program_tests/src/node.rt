@@ -94,6 +94,22 @@ file core EiB8mMGl7eGVHIh_r5IZavALhbNZi3lA9-fEQRERB82cYQ eyJvcGVyYXRpb25zIjp7ImN
 file provisional EiCtUdk7mRKBzGlPjKvXEbZ4DLM0NqtJnA6LV-pepUD09g eyJjaHVua3MiOlt7ImNodW5rRmlsZVVyaSI6IkVpQXA2cXJobjNQcXVJSVh6a2VyXzR4LU1MMDZQQXhla1cxQnlOQjF0MnpTNWcifV19
 file chunk EiAp6qrhn3PquIIXzker_4x-ML06PAxekW1ByNB1t2zS5g eyJkZWx0YXMiOlt7InBhdGNoZXMiOltdLCJ1cGRhdGVDb21taXRtZW50IjoiRWlEanNNUkNtUHdjRkpyNzlNaVpiN2trSjY1QjVHU2JrMHlrbFprYmVGSzRWUSJ9XX0";
 
+// The node after a line, if it gives this reply.
+fn told(
+    alloc: Global,
+    node: Node,
+    line: &str,
+    expected: &str,
+    work: &mut Work,
+) -> Result<Option<Node>, WantOfMemory> {
+    let (next, reply) = node.answer(alloc, line.as_bytes(), work)?;
+    Ok(if is_reply(reply.as_slice(), expected) {
+        Some(next)
+    } else {
+        None
+    })
+}
+
 // The first line of the session to which a new node gives another reply than stands behind it, or what is
 // otherwise at the end: the last request waits for a batch.
 fn first_other(alloc: Global, work: &mut Work) -> Result<Option<&'static str>, WantOfMemory> {
@@ -101,16 +117,16 @@ fn first_other(alloc: Global, work: &mut Work) -> Result<Option<&'static str>, W
     let mut lines = SESSION.lines();
     while let Some(line) = lines.next() {
         let expected = lines.next().unwrap_or("");
-        let (next, reply) = node.answer(alloc, line.as_bytes(), work)?;
-        if !is_reply(reply.as_slice(), expected) {
-            return Ok(Some(line));
-        }
-        node = next;
+        node = match told(alloc, node, line, expected, work)? {
+            Some(next) => next,
+            None => return Ok(Some(line)),
+        };
     }
-    if node.queued() == 1 {
-        return Ok(None);
-    }
-    Ok(Some("the queue"))
+    Ok(if node.queued() == 1 {
+        None
+    } else {
+        Some("the queue")
+    })
 }
 
 // Lines of the session by their places in it, in another order; each has the reply that it has there. A
@@ -118,18 +134,17 @@ fn first_other(alloc: Global, work: &mut Work) -> Result<Option<&'static str>, W
 // and once when it is there again.
 const AGAIN: &[usize] = &[0, 2, 16, 16, 18, 26, 26, 34, 16, 2, 26];
 
-// The place of the first of these lines to which a new node gives another reply.
-fn first_other_again(alloc: Global, work: &mut Work) -> Result<Option<usize>, WantOfMemory> {
+// The first of these lines to which a new node gives another reply.
+fn first_other_again(alloc: Global, work: &mut Work) -> Result<Option<&'static str>, WantOfMemory> {
     let mut node = Node::new(alloc, Schedule::with_second(10))?;
     for place in AGAIN {
         let mut lines = SESSION.lines();
         let line = lines.nth(*place).unwrap_or("");
         let expected = lines.next().unwrap_or("");
-        let (next, reply) = node.answer(alloc, line.as_bytes(), work)?;
-        if !is_reply(reply.as_slice(), expected) {
-            return Ok(Some(*place));
-        }
-        node = next;
+        node = match told(alloc, node, line, expected, work)? {
+            Some(next) => next,
+            None => return Ok(Some(line)),
+        };
     }
     Ok(None)
 }
@@ -142,25 +157,19 @@ fn is_reply(reply: &[u8], expected: &str) -> bool {
 #[test]
 fn each_line_has_its_reply(rt: HostRuntime) -> Result<(), Fail> {
     let mut work = Work::new(&rt);
-    match first_other(rt.alloc(), &mut work)? {
-        Some(line) => Err(Fail::from(line)),
-        None => counted(work.files(), work.proofs()),
+    if let Some(line) = first_other(rt.alloc(), &mut work)? {
+        return Err(Fail::from(line));
     }
-}
-
-// One file was read for the first entry whose anchor string passes, and three for that of the batch.
-fn counted(files: u64, proofs: u64) -> Result<(), Fail> {
-    if files == 4 && proofs == 0 {
-        return Ok(());
-    }
-    Err(Fail::from("the counters"))
+    // One file was read for the first entry whose anchor string passes, and three for that of the batch.
+    assert!(rt; work.files() == 4 && work.proofs() == 0);
+    Ok(())
 }
 
 #[test]
 fn what_is_asked_again_follows_the_entries_and_files(rt: HostRuntime) -> Result<(), Fail> {
     let mut work = Work::new(&rt);
     match first_other_again(rt.alloc(), &mut work)? {
-        Some(_) => Err(Fail::from("another reply")),
+        Some(line) => Err(Fail::from(line)),
         None => Ok(()),
     }
 }
@@ -191,8 +200,7 @@ fn appends(alloc: Global, work: &mut Work) -> Result<bool, WantOfMemory> {
 fn a_command_is_read_and_carried_out(rt: HostRuntime) -> Result<(), Fail> {
     let mut work = Work::new(&rt);
     isolation_law();
-    if reads_an_anchor(rt.alloc()) && appends(rt.alloc(), &mut work)? {
-        return Ok(());
-    }
-    Err(Fail::from("another command"))
+    assert!(rt; reads_an_anchor(rt.alloc()));
+    assert!(rt; appends(rt.alloc(), &mut work)?);
+    Ok(())
 }

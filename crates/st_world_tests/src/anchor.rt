@@ -8,7 +8,6 @@ use st_content::Content;
 use st_datafiles::Role;
 use st_params::Schedule;
 use std::alloc::Global;
-use std::test::Fail;
 
 // What is known of an entry of version 1 with this text, after these files have come one by one.
 fn after(
@@ -37,21 +36,26 @@ fn word(state: RoleState) -> &'static str {
     }
 }
 
-// How it stands with the five roles, in words.
-fn words(alloc: Global, bound: &Bound) -> Result<String, Fail> {
-    let core = word(bound.state(Role::Core));
-    let core_proof = word(bound.state(Role::CoreProof));
-    let provisional = word(bound.state(Role::Provisional));
-    let provisional_proof = word(bound.state(Role::ProvisionalProof));
-    let chunk = word(bound.state(Role::Chunk));
-    Ok(format!(in alloc; "{core} {core_proof} {provisional} {provisional_proof} {chunk}")?)
+// Whether it stands so with the core index file, and with the other four roles.
+fn shows(bound: &Bound, core: &str, others: &str) -> bool {
+    let mut words = others.split(' ');
+    word(bound.state(Role::Core)) == core
+        && words.next() == Some(word(bound.state(Role::CoreProof)))
+        && words.next() == Some(word(bound.state(Role::Provisional)))
+        && words.next() == Some(word(bound.state(Role::ProvisionalProof)))
+        && words.next() == Some(word(bound.state(Role::Chunk)))
 }
 
 // Whether the entry then stands so with its roles, after so many files read and texts opened.
-fn stands(rt: &HostRuntime, text: &str, files: &[&str], wanted: &str) -> Result<bool, Fail> {
+fn stands(
+    rt: &HostRuntime,
+    text: &str,
+    files: &[&str],
+    core: &str,
+    others: &str,
+    counts: (u64, u64),
+) -> Result<bool, WantOfMemory> {
     let mut work = Work::new(rt);
     let bound = after(rt.alloc(), text, files, &mut work)?;
-    let words = words(rt.alloc(), &bound)?;
-    let found = format!(in rt.alloc(); "{words}, {} {}", work.files(), work.proofs())?;
-    Ok(found.as_str() == wanted)
+    Ok(shows(&bound, core, others) && (work.files(), work.proofs()) == counts)
 }

@@ -1,6 +1,6 @@
-use st_exchange::{Answer, DecodeRefused, Message, answer, ask, decode, encode};
 use st_base::{Bytes, WantOfMemory};
 use st_content::Content;
+use st_exchange::{Answer, DecodeRefused, Message, answer, ask, decode, encode};
 use st_hash::{DecRefused, Hash, dec, enc, read_hash};
 use std::alloc::Global;
 use std::collections::BTreeSet;

@@ -1,6 +1,4 @@
 mod lines;
-mod stops;
-mod two_levels;
 
 use st_wallet::{Wallet, WalletRefused};
 use st_base::{Bytes, WantOfMemory};

@@ -1,94 +1,145 @@
 use super::{case_of, spaces};
+use st_base::{Bytes, Copied, FileRefused, List, Shared, WantOfMemory, Work};
+use st_canon::{Json, PackedJson, equal, read, write};
 use st_datafiles::{Role, read_chunk, write_chunk};
-use st_base::{Bytes, Copied, FileRefused, List, Shared, Work};
-use st_canon::{equal, read};
 use st_params::Schedule;
+use std::alloc::Global;
 use std::test::Fail;
 
-fn shared(rt: &HostRuntime, file: &[u8]) -> Result<Shared<Bytes>, Fail> {
-    let bytes = Bytes::from_slice(rt.alloc(), file)?;
-    Ok(Shared::new(rt.alloc(), bytes)?)
+// How many deltas are wanted, the answer, and the file: the rule that rejects it, or `read` and each delta as
+// its canonical text behind a comma.
+const CASES: &str = r#"1 K2 x
+1 K2 {"deltas":[1.5]}
+3 K2 {"deltas":[1]}}
+3 K2 {"deltas":[1
+1 K3 {}
+1 K3 []
+3 K3 [1]
+1 K3 {"deltas":{}}
+1 K3 {"deltas":null}
+1 K3 {"deltas":[null],"a":1}
+3 K3 {"deltas":[1],"more":[]}
+3 K3 {"other":[1]}
+1 K4 {"deltas":[]}
+1 K4 {"deltas":[null,null]}
+3 K4 {"deltas":[null,null]}
+3 K4 {"deltas":[1,2,3,4]}
+1 read,null {"deltas":[null]}
+1 read,{"a":2,"b":1} {"deltas":[0], "deltas":[{"b":1,"a":2}]}
+0 read {"deltas":[]}
+3 read,{"a":1,"b":"x"},null,[] {"deltas":[{"a":1,"b":"x"},null,[]]}
+2 read,{"a":1,"b":"x"},[2] {"deltas": [ {"a":1, "b":"\u0078"},[ 2 ] ] }
+2 read,{"a":1,"b":"x"},[2] {"deltas": [ {"b":"\u0078" , "a":1},[ 2 ] ] }"#;
+
+// Whether the deltas are these.
+fn are_shown(alloc: Global, deltas: &[PackedJson], texts: &str) -> Result<bool, WantOfMemory> {
+    let mut shown = Bytes::new(alloc);
+    for delta in deltas {
+        let text = write(alloc, &delta.unpack(alloc)?)?;
+        shown.push_all(alloc, b",")?;
+        shown.push_all(alloc, text.as_slice())?;
+    }
+    Ok(shown.as_slice() == texts.as_bytes())
 }
 
-// How a chunk file is answered where so many deltas are wanted: `read`, or the rule that rejects it.
-fn answer(rt: &HostRuntime, file: &[u8], wanted: usize) -> Result<String, Fail> {
+// Whether the file is answered so where so many deltas are wanted.
+fn is_answered(
+    rt: &HostRuntime,
+    file: Bytes,
+    wanted: usize,
+    answer: &str,
+) -> Result<bool, WantOfMemory> {
     let alloc = rt.alloc();
-    let mut work = Work::new(rt);
+    let file = Shared::new(alloc, file)?;
     let params = Schedule::new().newest();
-    match read_chunk(alloc, &shared(rt, file)?, wanted, &params, &mut work) {
-        Ok(_) => Ok(String::from_str(alloc, "read")?),
-        Err(FileRefused::Rejected(rule)) => Ok(format!(in alloc; "{rule:?}")?),
-        Err(FileRefused::WantOfMemory) => Err(Fail::from("out of memory")),
+    match read_chunk(alloc, &file, wanted, &params, &mut Work::new(rt)) {
+        Ok(deltas) => match answer.strip_prefix("read") {
+            Some(texts) => are_shown(alloc, deltas.as_slice(), texts),
+            None => Ok(false),
+        },
+        Err(FileRefused::Rejected(rule)) => Ok(rule.name() == answer),
+        Err(FileRefused::WantOfMemory) => Err(WantOfMemory),
+    }
+}
+
+fn is_so(rt: &HostRuntime, case: &str) -> Result<bool, WantOfMemory> {
+    match case_of(case) {
+        Some((wanted, answer, file)) => {
+            let file = Bytes::from_slice(rt.alloc(), file.as_bytes())?;
+            is_answered(rt, file, wanted, answer)
+        }
+        None => Ok(false),
     }
 }
 
 #[test]
 fn a_chunk_file_fails_its_first_rule(rt: HostRuntime) -> Result<(), Fail> {
-    let cases = "1 K2 x
-1 K2 {\"deltas\":[1.5]}
-1 K3 {}
-1 K3 []
-1 K3 {\"deltas\":{}}
-1 K3 {\"deltas\":null}
-1 K3 {\"deltas\":[null],\"a\":1}
-1 K4 {\"deltas\":[]}
-1 K4 {\"deltas\":[null,null]}
-3 K4 {\"deltas\":[null,null]}
-1 read {\"deltas\":[null]}
-1 read {\"deltas\":[0], \"deltas\":[{\"b\":1,\"a\":2}]}
-0 read {\"deltas\":[]}";
-    for case in cases.lines() {
-        let Some((wanted, rule, file)) = case_of(case) else {
-            return Err(Fail::from("a case"));
-        };
-        let found = answer(&rt, file.as_bytes(), wanted)?;
-        assert_eq!(rt; found.as_str(), rule, "{case}");
-    }
-    for (size, rule) in [(10_000_000, "K2"), (10_000_001, "K1")] {
-        let file = spaces(rt.alloc(), size)?;
-        assert_eq!(rt; answer(&rt, file.as_slice(), 1)?.as_str(), rule);
+    for case in CASES.lines() {
+        assert!(rt; is_so(&rt, case)?, "{case}");
     }
     Ok(())
+}
+
+#[test]
+fn a_chunk_file_has_a_largest_size(rt: HostRuntime) -> Result<(), Fail> {
+    assert!(rt; is_answered(&rt, spaces(rt.alloc(), 10_000_000)?, 1, "K2")?);
+    assert!(rt; is_answered(&rt, spaces(rt.alloc(), 10_000_001)?, 1, "K1")?);
+    Ok(())
+}
+
+fn unpacked(alloc: Global, deltas: &[PackedJson]) -> Result<List<Json>, WantOfMemory> {
+    let mut unpacked = List::new(alloc);
+    for delta in deltas {
+        unpacked.push(alloc, delta.unpack(alloc)?)?;
+    }
+    Ok(unpacked)
+}
+
+// Whether deltas that are read so are written as their canonical text, and one of them is as it is read.
+fn are_written_again(rt: &HostRuntime) -> Result<bool, WantOfMemory> {
+    let alloc = rt.alloc();
+    let file = Bytes::from_slice(alloc, b"{\"deltas\":[{\"b\":[null],\"a\":-1},\"x\"]}")?;
+    let params = Schedule::new().newest();
+    let mut work = Work::new(rt);
+    let Ok(packed) = read_chunk(alloc, &Shared::new(alloc, file)?, 2, &params, &mut work) else {
+        return Ok(false);
+    };
+    let deltas = unpacked(alloc, packed.as_slice())?;
+    let written = write_chunk(alloc, deltas.as_slice())?;
+    Ok(
+        written.as_slice() == b"{\"deltas\":[{\"a\":-1,\"b\":[null]},\"x\"]}".as_slice()
+            && is_first(alloc, deltas.as_slice(), b"{\"a\":-1,\"b\":[null]}")
+            && work.files() == 1,
+    )
+}
+
+fn is_first(alloc: Global, deltas: &[Json], text: &[u8]) -> bool {
+    match (deltas.first(), read(alloc, text)) {
+        (Some(first), Ok(value)) => equal(first, &value),
+        _ => false,
+    }
 }
 
 #[test]
 fn deltas_are_written_and_read_again_in_their_order(rt: HostRuntime) -> Result<(), Fail> {
-    let alloc = rt.alloc();
-    let mut work = Work::new(&rt);
-    let params = Schedule::new().newest();
-    let file = b"{\"deltas\":[{\"b\":[null],\"a\":-1},\"x\"]}";
-    let packed = read_chunk(alloc, &shared(&rt, file)?, 2, &params, &mut work)?;
-    let mut deltas = List::new(alloc);
-    for delta in packed.as_slice() {
-        deltas.push(alloc, delta.unpack(alloc)?)?;
-    }
-    let written = write_chunk(alloc, deltas.as_slice())?;
-    let canonical = b"{\"deltas\":[{\"a\":-1,\"b\":[null]},\"x\"]}";
-    assert_eq!(rt; written.as_slice(), canonical.as_slice());
-    let Some(first) = deltas.get(0) else {
-        return Err(Fail::from("no delta"));
-    };
-    assert!(rt; equal(first, &read(alloc, b"{\"a\":-1,\"b\":[null]}")?));
-    assert_eq!(rt; write_chunk(alloc, &[])?.as_slice(), b"{}".as_slice());
-    assert_eq!(rt; work.files(), 1);
+    assert!(rt; are_written_again(&rt)?);
+    assert!(rt; write_chunk(rt.alloc(), &[])?.as_slice() == b"{}".as_slice());
     Ok(())
+}
+
+// Whether a role comes before another, and is as its copy.
+fn is_before(alloc: Global, first: Role, second: Role) -> Result<bool, WantOfMemory> {
+    Ok(first < second && first.copy(alloc)? == first)
 }
 
 #[test]
 fn roles_stand_in_their_order(rt: HostRuntime) -> Result<(), Fail> {
-    let roles = [
-        Role::Core,
-        Role::CoreProof,
-        Role::Provisional,
-        Role::ProvisionalProof,
-        Role::Chunk,
-    ];
-    for pair in roles.windows(2) {
-        let [first, second] = pair else {
-            return Err(Fail::from("a pair"));
-        };
-        assert!(rt; first < second);
-        assert_eq!(rt; first.copy(rt.alloc())?, *first);
-    }
+    let alloc = rt.alloc();
+    assert!(rt;
+        is_before(alloc, Role::Core, Role::CoreProof)?
+            && is_before(alloc, Role::CoreProof, Role::Provisional)?
+            && is_before(alloc, Role::Provisional, Role::ProvisionalProof)?
+            && is_before(alloc, Role::ProvisionalProof, Role::Chunk)?
+    );
     Ok(())
 }

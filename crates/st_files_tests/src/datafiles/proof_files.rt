@@ -1,183 +1,205 @@
 use super::{case_of, spaces};
-use st_datafiles::place::Place;
-use st_datafiles::{
-    CoreProofs, read_core_proof, read_provisional_proof, write_core_proof, write_provisional_proof,
-};
 use st_base::{Bytes, Copied, FileRefused, List, Shared, Text, WantOfMemory, Work};
 use st_canon::KeptText;
+use st_datafiles::{
+    CoreProofs, ProofRefused, read_core_proof, read_provisional_proof, write_core_proof,
+    write_provisional_proof,
+};
 use st_params::Schedule;
 use std::alloc::Global;
 use std::test::Fail;
 
-// A file of these bytes.
-fn shared(alloc: Global, bytes: &[u8]) -> Result<Shared<Bytes>, WantOfMemory> {
-    Shared::new(alloc, Bytes::from_slice(alloc, bytes)?)
-}
+// How many deactivates are wanted beside no recover, the answer, and the file: the rule that rejects it, or `read`.
+const CORE: &str = r#"1 Q2 x
+1 Q3 {}
+1 Q3 []
+1 Q3 {"operations":{"deactivate":[{"signedData":"x"}]},"a":1}
+1 Q3 {"operations":null}
+1 Q3 {"operations":{"update":[]}}
+1 Q3 {"operations":{"deactivate":null}}
+1 Q3 {"operations":{"deactivate":["x"]}}
+1 Q3 {"operations":{"deactivate":[{"signedData":1}]}}
+1 Q3 {"operations":{"deactivate":[{"signedData":"x","a":1}]}}
+1 Q4 {"operations":{"deactivate":[]}}
+1 Q4 {"operations":{"recover":[{"signedData":"x"}]}}
+1 Q4 {"operations":{"deactivate":[{"signedData":"x"},{"signedData":"y"}]}}
+1 read {"operations":{"deactivate":[{"signedData":"x"}]}}
+0 read {"operations":{}}"#;
 
-// How a core proof file is answered where no recover and so many deactivates are wanted: `read`, or
-// the rule that rejects it.
-fn core_answer(rt: &HostRuntime, file: &Shared<Bytes>, deactivates: usize) -> Result<String, Fail> {
-    let alloc = rt.alloc();
-    let mut work = Work::new(rt);
-    let params = Schedule::new().newest();
-    match read_core_proof(alloc, file, 0, deactivates, &params, &mut work) {
-        Ok(_) => Ok(String::from_str(alloc, "read")?),
-        Err(FileRefused::Rejected(rule)) => Ok(format!(in alloc; "{rule:?}")?),
-        Err(FileRefused::WantOfMemory) => Err(Fail::from("out of memory")),
+// How many updates are wanted, the answer, and the file.
+const PROVISIONAL: &str = r#"1 Q2 1.5
+1 Q3 {}
+1 Q3 {"operations":{"recover":[]}}
+1 Q3 {"operations":{"update":[{}]}}
+1 Q4 {"operations":{}}
+1 Q4 {"operations":{"update":[]}}
+2 Q4 {"operations":{"update":[{"signedData":"x"}]}}
+1 read {"operations":{"update":[{"signedData":"x"}]}}"#;
+
+fn is_told<Read: Drop>(answer: Result<Read, ProofRefused>, word: &str) -> bool {
+    match answer {
+        Ok(_) => word == "read",
+        Err(FileRefused::Rejected(rule)) => rule.name() == word,
+        Err(FileRefused::WantOfMemory) => false,
     }
 }
 
-// The same of a provisional proof file.
-fn provisional_answer(
+// Whether a core proof file is answered so where so many deactivates are wanted.
+fn core_is(
     rt: &HostRuntime,
-    file: &Shared<Bytes>,
-    updates: usize,
-) -> Result<String, Fail> {
+    file: Bytes,
+    deactivates: usize,
+    answer: &str,
+) -> Result<bool, WantOfMemory> {
     let alloc = rt.alloc();
-    let mut work = Work::new(rt);
+    let file = Shared::new(alloc, file)?;
     let params = Schedule::new().newest();
-    match read_provisional_proof(alloc, file, updates, &params, &mut work) {
-        Ok(_) => Ok(String::from_str(alloc, "read")?),
-        Err(FileRefused::Rejected(rule)) => Ok(format!(in alloc; "{rule:?}")?),
-        Err(FileRefused::WantOfMemory) => Err(Fail::from("out of memory")),
+    let found = read_core_proof(alloc, &file, 0, deactivates, &params, &mut Work::new(rt));
+    Ok(is_told(found, answer))
+}
+
+// The same of a provisional proof file.
+fn provisional_is(
+    rt: &HostRuntime,
+    file: Bytes,
+    updates: usize,
+    answer: &str,
+) -> Result<bool, WantOfMemory> {
+    let alloc = rt.alloc();
+    let file = Shared::new(alloc, file)?;
+    let params = Schedule::new().newest();
+    let found = read_provisional_proof(alloc, &file, updates, &params, &mut Work::new(rt));
+    Ok(is_told(found, answer))
+}
+
+fn is_so(rt: &HostRuntime, case: &str, is_core: bool) -> Result<bool, WantOfMemory> {
+    let Some((wanted, answer, file)) = case_of(case) else {
+        return Ok(false);
+    };
+    let file = Bytes::from_slice(rt.alloc(), file.as_bytes())?;
+    if is_core {
+        core_is(rt, file, wanted, answer)
+    } else {
+        provisional_is(rt, file, wanted, answer)
     }
 }
 
 #[test]
 fn a_core_proof_file_fails_its_first_rule(rt: HostRuntime) -> Result<(), Fail> {
-    let cases = "1 Q2 x
-1 Q3 {}
-1 Q3 []
-1 Q3 {\"operations\":{\"deactivate\":[{\"signedData\":\"x\"}]},\"a\":1}
-1 Q3 {\"operations\":null}
-1 Q3 {\"operations\":{\"update\":[]}}
-1 Q3 {\"operations\":{\"deactivate\":null}}
-1 Q3 {\"operations\":{\"deactivate\":[\"x\"]}}
-1 Q3 {\"operations\":{\"deactivate\":[{\"signedData\":1}]}}
-1 Q3 {\"operations\":{\"deactivate\":[{\"signedData\":\"x\",\"a\":1}]}}
-1 Q4 {\"operations\":{\"deactivate\":[]}}
-1 Q4 {\"operations\":{\"recover\":[{\"signedData\":\"x\"}]}}
-1 Q4 {\"operations\":{\"deactivate\":[{\"signedData\":\"x\"},{\"signedData\":\"y\"}]}}
-1 read {\"operations\":{\"deactivate\":[{\"signedData\":\"x\"}]}}
-0 read {\"operations\":{}}";
-    for case in cases.lines() {
-        let Some((wanted, rule, file)) = case_of(case) else {
-            return Err(Fail::from("a case"));
-        };
-        let found = core_answer(&rt, &shared(rt.alloc(), file.as_bytes())?, wanted)?;
-        assert_eq!(rt; found.as_str(), rule, "{case}");
-    }
-    for (size, rule) in [(16_000_000, "Q2"), (16_000_001, "Q1")] {
-        let file = Shared::new(rt.alloc(), spaces(rt.alloc(), size)?)?;
-        assert_eq!(rt; core_answer(&rt, &file, 1)?.as_str(), rule);
-        assert_eq!(rt; provisional_answer(&rt, &file, 1)?.as_str(), rule);
+    for case in CORE.lines() {
+        assert!(rt; is_so(&rt, case, true)?, "{case}");
     }
     Ok(())
 }
 
 #[test]
 fn a_provisional_proof_file_fails_its_first_rule(rt: HostRuntime) -> Result<(), Fail> {
-    let cases = "1 Q2 1.5
-1 Q3 {}
-1 Q3 {\"operations\":{\"recover\":[]}}
-1 Q3 {\"operations\":{\"update\":[{}]}}
-1 Q4 {\"operations\":{}}
-1 Q4 {\"operations\":{\"update\":[]}}
-2 Q4 {\"operations\":{\"update\":[{\"signedData\":\"x\"}]}}
-1 read {\"operations\":{\"update\":[{\"signedData\":\"x\"}]}}";
-    for case in cases.lines() {
-        let Some((wanted, rule, file)) = case_of(case) else {
-            return Err(Fail::from("a case"));
-        };
-        let found = provisional_answer(&rt, &shared(rt.alloc(), file.as_bytes())?, wanted)?;
-        assert_eq!(rt; found.as_str(), rule, "{case}");
+    for case in PROVISIONAL.lines() {
+        assert!(rt; is_so(&rt, case, false)?, "{case}");
     }
     Ok(())
 }
 
-fn texts(rt: &HostRuntime, first: &str, second: &str) -> Result<List<KeptText>, Fail> {
-    let alloc = rt.alloc();
+// Whether files of so many spaces are answered so.
+fn spaces_are(rt: &HostRuntime, size: usize, answer: &str) -> Result<bool, WantOfMemory> {
+    Ok(
+        core_is(rt, spaces(rt.alloc(), size)?, 1, answer)?
+            && provisional_is(rt, spaces(rt.alloc(), size)?, 1, answer)?,
+    )
+}
+
+#[test]
+fn a_proof_file_has_a_largest_size(rt: HostRuntime) -> Result<(), Fail> {
+    assert!(rt; spaces_are(&rt, 16_000_000, "Q2")?);
+    assert!(rt; spaces_are(&rt, 16_000_001, "Q1")?);
+    Ok(())
+}
+
+// The texts, each in a line.
+fn texts(alloc: Global, lines: &str) -> Result<List<KeptText>, WantOfMemory> {
     let mut texts = List::new(alloc);
-    texts.push(alloc, KeptText::new(Text::from_text(alloc, first)?))?;
-    texts.push(alloc, KeptText::new(Text::from_text(alloc, second)?))?;
+    for line in lines.lines() {
+        texts.push(alloc, KeptText::new(Text::from_text(alloc, line)?))?;
+    }
     Ok(texts)
 }
 
-#[test]
-fn signed_texts_are_written_and_read_again(rt: HostRuntime) -> Result<(), Fail> {
+fn are(texts: &[KeptText], lines: &str) -> bool {
+    texts.iter().map(KeptText::as_str).eq(lines.lines())
+}
+
+// Whether a core proof file is read as these recovers and deactivates, one file in all.
+fn core_reads(
+    rt: &HostRuntime,
+    file: Bytes,
+    recovers: &str,
+    deactivates: &str,
+) -> Result<bool, WantOfMemory> {
+    let alloc = rt.alloc();
+    let file = Shared::new(alloc, file)?;
+    let counts = (recovers.lines().count(), deactivates.lines().count());
+    let params = Schedule::new().newest();
+    let mut work = Work::new(rt);
+    match read_core_proof(alloc, &file, counts.0, counts.1, &params, &mut work) {
+        Ok(read) => Ok(
+            are(read.recovers.as_slice(), recovers)
+                && are(read.deactivates.as_slice(), deactivates)
+                && work.files() == 1,
+        ),
+        Err(_) => Ok(false),
+    }
+}
+
+// The same of a provisional proof file and these updates.
+fn provisional_reads(rt: &HostRuntime, file: Bytes, updates: &str) -> Result<bool, WantOfMemory> {
+    let alloc = rt.alloc();
+    let file = Shared::new(alloc, file)?;
+    let count = updates.lines().count();
+    let params = Schedule::new().newest();
+    let mut work = Work::new(rt);
+    match read_provisional_proof(alloc, &file, count, &params, &mut work) {
+        Ok(read) => Ok(are(read.as_slice(), updates) && work.files() == 1),
+        Err(_) => Ok(false),
+    }
+}
+
+// Whether core proofs are written as this text, and read again.
+fn core_is_written(
+    rt: &HostRuntime,
+    recovers: &str,
+    deactivates: &str,
+    text: &str,
+) -> Result<bool, WantOfMemory> {
     let alloc = rt.alloc();
     let proofs = CoreProofs {
-        recovers: List::new(alloc),
-        deactivates: texts(&rt, "a.b.c", "\"")?,
+        recovers: texts(alloc, recovers)?,
+        deactivates: texts(alloc, deactivates)?,
     };
     let file = write_core_proof(alloc, &proofs.copy(alloc)?)?;
-    let wanted =
-        "{\"operations\":{\"deactivate\":[{\"signedData\":\"a.b.c\"},{\"signedData\":\"\\\"\"}]}}";
-    assert_eq!(rt; file.as_slice(), wanted.as_bytes());
-    let mut work = Work::new(&rt);
-    let params = Schedule::new().newest();
-    let read = read_core_proof(alloc, &Shared::new(alloc, file)?, 0, 2, &params, &mut work)?;
-    assert_eq!(rt; (read.recovers.len(), read.deactivates.len()), (0, 2));
-    let file = write_provisional_proof(alloc, read.deactivates.as_slice())?;
-    let read = read_provisional_proof(alloc, &Shared::new(alloc, file)?, 2, &params, &mut work)?;
-    let Some(second) = read.get(1) else {
-        return Err(Fail::from("no text"));
-    };
-    assert_eq!(rt; second.as_str(), "\"");
-    assert_eq!(rt;
-        write_provisional_proof(alloc, &[])?.as_slice(),
-        b"{}".as_slice()
-    );
-    assert_eq!(rt; work.files(), 2);
-    Ok(())
+    Ok(file.as_slice() == text.as_bytes() && core_reads(rt, file, recovers, deactivates)?)
 }
 
-// Whether these texts of one kind stand in the file where they are looked for.
-fn stand(
-    alloc: Global,
-    place: &mut Place,
-    file: &[u8],
-    kind: &str,
-    texts: &str,
-) -> Result<bool, WantOfMemory> {
-    place.open(kind);
-    for text in texts.lines() {
-        let from = place.text();
-        if from > file.len() || !file[from..].starts_with(text.as_bytes()) {
-            return Ok(false);
-        }
-        place.pass(&KeptText::new(Text::from_text(alloc, text)?));
-    }
-    Ok(true)
-}
-
-#[test]
-fn a_signed_text_is_looked_for_where_it_stands(rt: HostRuntime) -> Result<(), Fail> {
+// Whether updates are written as this text, and read again.
+fn updates_are_written(rt: &HostRuntime, updates: &str, text: &str) -> Result<bool, WantOfMemory> {
     let alloc = rt.alloc();
-    let updates =
-        "{\"operations\":{\"update\":[{\"signedData\":\"a.b.c\"},{\"signedData\":\"d\"}]}}";
-    assert!(rt;
-        stand(
-            alloc,
-            &mut Place::new(),
-            updates.as_bytes(),
-            "update",
-            "a.b.c\nd"
-        )?
-    );
+    let texts = texts(alloc, updates)?;
+    let file = write_provisional_proof(alloc, texts.as_slice())?;
+    Ok(file.as_slice() == text.as_bytes() && provisional_reads(rt, file, updates)?)
+}
+
+// The deactivates stand before the recovers in a file, and a kind without texts is left out.
+#[test]
+fn signed_texts_are_written_and_read_again(rt: HostRuntime) -> Result<(), Fail> {
+    let quoted = r#"{"operations":{"deactivate":[{"signedData":"a.b.c"},{"signedData":"\""}]}}"#;
+    assert!(rt; core_is_written(&rt, "", "a.b.c\n\"", quoted)?);
     let both =
-        "{\"operations\":{\"deactivate\":[{\"signedData\":\"a.b.c\"},{\"signedData\":\"d\"}],\
-\"recover\":[{\"signedData\":\"e\"}]}}";
-    let mut place = Place::new();
-    assert!(rt;
-        stand(alloc, &mut place, both.as_bytes(), "deactivate", "a.b.c\nd")?
-            && stand(alloc, &mut place, both.as_bytes(), "recover", "e")?
-    );
-    let recovers = "{\"operations\":{\"recover\":[{\"signedData\":\"e\"}]}}";
-    let mut place = Place::new();
-    assert!(rt;
-        stand(alloc, &mut place, recovers.as_bytes(), "deactivate", "")?
-            && stand(alloc, &mut place, recovers.as_bytes(), "recover", "e")?
-    );
+        r#"{"operations":{"deactivate":[{"signedData":"a.b.c"},{"signedData":"d"}],"recover":[{"signedData":"e"}]}}"#;
+    assert!(rt; core_is_written(&rt, "e", "a.b.c\nd", both)?);
+    let recovers = r#"{"operations":{"recover":[{"signedData":"e"}]}}"#;
+    assert!(rt; core_is_written(&rt, "e", "", recovers)?);
+    let updates =
+        r#"{"operations":{"update":[{"signedData":"a.b.c"},{"signedData":"\""},{"signedData":"d"}]}}"#;
+    assert!(rt; updates_are_written(&rt, "a.b.c\n\"\nd", updates)?);
+    assert!(rt; write_provisional_proof(rt.alloc(), &[])?.as_slice() == b"{}".as_slice());
     Ok(())
 }

@@ -1,7 +1,7 @@
 use super::{case_of, only, spelled, text_of};
-use st_indexfiles::{CoreIndex, CoreRule, SuffixData, Target, read_core, suffix_of, write_core};
 use st_base::{Copied, FileRefused, List, Work};
 use st_hash::{Hash, SHA_512, hash_text, hash_with, hash256};
+use st_indexfiles::{CoreIndex, SuffixData, Target, read_core, suffix_of, write_core};
 use st_params::Schedule;
 use std::alloc::Global;
 use std::test::Fail;
@@ -45,26 +45,13 @@ const SUFFIXES: &str = "abc nothing EiATdX8Q5MV_plJJmuNAF_0nOfwoAX70r-tP5eSOPf86
 abc abc-512 EiAa33qKusQKI4OBuGyqKfht5V-cTt76PmOZJ7y3ec9AqA
 abc-512 nothing E0AmwPrThr-UCJj8CIlEm1c8x3AZhnnWXtvJT3obZtMdfcZGLTWm3PTqh86gOMSQteVqJZjZtG4ps1qCFbmpiDm_";
 
-fn name(rule: CoreRule) -> &'static str {
-    match rule {
-        CoreRule::C1 => "C1",
-        CoreRule::C2 => "C2",
-        CoreRule::C3 => "C3",
-        CoreRule::C4 => "C4",
-        CoreRule::C5 => "C5",
-        CoreRule::C6 => "C6",
-        CoreRule::C7 => "C7",
-        CoreRule::C8 => "C8",
-    }
-}
-
 // Whether a core index file is answered so: `read`, or the rule that rejects it.
 fn is_answered(rt: &HostRuntime, file: &[u8], version: u32, count: u32, answer: &str) -> bool {
     let mut work = Work::new(rt);
     let params = Schedule::with_second(2).at(version);
     match read_core(rt.alloc(), file, count, &params, &mut work) {
         Ok(_) => answer == "read",
-        Err(FileRefused::Rejected(rule)) => answer == name(rule),
+        Err(FileRefused::Rejected(rule)) => answer == rule.name(),
         Err(FileRefused::WantOfMemory) => false,
     }
 }

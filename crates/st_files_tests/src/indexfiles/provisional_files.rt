@@ -1,10 +1,9 @@
 use super::{case_of, only, spelled};
-use st_indexfiles::{
-    CoreIndex, ProvisionalIndex, ProvisionalRule, SuffixData, Target, read_provisional,
-    write_provisional,
-};
 use st_base::{Copied, FileRefused, List, Work};
 use st_hash::{SHA_512, hash_with, hash256};
+use st_indexfiles::{
+    CoreIndex, ProvisionalIndex, SuffixData, Target, read_provisional, write_provisional,
+};
 use st_params::Schedule;
 use std::alloc::Global;
 use std::test::Fail;
@@ -36,20 +35,6 @@ const CASES: &str = r##"1 1 P2 {"a":1.5}
 const UPDATING: &str =
     r#"{"chunks":[~],"provisionalProofFileUri":"*","operations":{"update":[@]}}"#;
 
-fn name(rule: ProvisionalRule) -> &'static str {
-    match rule {
-        ProvisionalRule::P1 => "P1",
-        ProvisionalRule::P2 => "P2",
-        ProvisionalRule::P3 => "P3",
-        ProvisionalRule::P4 => "P4",
-        ProvisionalRule::P5 => "P5",
-        ProvisionalRule::P6 => "P6",
-        ProvisionalRule::P7 => "P7",
-        ProvisionalRule::P8 => "P8",
-        ProvisionalRule::P9 => "P9",
-    }
-}
-
 // A core index with these creates, and no other operations.
 fn beside(alloc: Global, creates: List<SuffixData>) -> CoreIndex {
     CoreIndex {
@@ -74,7 +59,7 @@ fn is_answered(
     let params = Schedule::with_second(2).at(version);
     match read_provisional(rt.alloc(), file, core, count, &params, &mut work) {
         Ok(_) => answer == "read",
-        Err(FileRefused::Rejected(rule)) => answer == name(rule),
+        Err(FileRefused::Rejected(rule)) => answer == rule.name(),
         Err(FileRefused::WantOfMemory) => false,
     }
 }

@@ -1,84 +1,88 @@
-use crate::ops::samples::{CREATE, CREATE_512, DEACTIVATE, RECOVER, UPDATE, UPDATE_512};
-use st_ops::{Claim, claim_of, read_request, suffix, write_request};
-use st_base::{Copied, Work};
-use st_hash::hash_text;
-use st_params::Schedule;
+use super::samples::request;
+use st_base::{Copied, WantOfMemory, Work};
+use st_hash::{Hash, hash_text};
+use st_ops::{Claim, Operation, claim_of, read_request, suffix, write_request};
+use st_params::{Params, Schedule};
+use std::alloc::Global;
 use std::test::Fail;
 
-// A claim as a line: its kind and its hash texts.
-fn claim_line(rt: &HostRuntime, claim: &Option<Claim>) -> Result<String, Fail> {
-    let alloc = rt.alloc();
-    match claim {
-        None => Ok(format!(in alloc; "nothing")?),
-        Some(Claim::Update { delta_hash }) => {
-            let delta_hash = hash_text(alloc, delta_hash)?;
-            Ok(format!(in alloc; "update {}", delta_hash.as_str())?)
-        }
-        Some(
-            Claim::Recover {
-                recovery_commitment,
-                delta_hash,
-            },
-        ) => {
-            let recovery_commitment = hash_text(alloc, recovery_commitment)?;
-            let delta_hash = hash_text(alloc, delta_hash)?;
-            Ok(format!(in alloc;
-                "recover {} {}",
-                recovery_commitment.as_str(),
-                delta_hash.as_str()
-            )?)
-        }
-        Some(Claim::Deactivate) => Ok(format!(in alloc; "deactivate")?),
+// The request, the version, the suffix, and the claim: its kind and its hash texts.
+const CASES: &str = "create 1 EiCNA_edP2ZS7hJ_z7lDpDE8xR-dlL9ygjUmrf2IAn6ziQ nothing
+create-512 2 E0BU5udGEOhciHGa9whkTaN3zzd2-MnYD4Zxe7oEvkE4XhvEXgkxCI9TrU2sFmDwIoO-lu_gxmmFA78eEEiGmH2W nothing
+update 1 EiAH6kMDyuj_41tkoBLAV1kt1vB9nEM1U6KBsUUCwuffRg update EiAFVaEKQhfrDXww-lhjTt9v9HTTsll0ixxr4YErfHBcKQ
+recover 2 EiAmxTT81V_zzETxbIsACL_nND9i9vDvWf67C8ovvFd8RQ recover EiDj8TJCFVfC8U7rRZ1jcYsHsVM5yijDbO9IJCH3NTUAZw EiAP9Q9xrEccLEEyUdAyHDcWuVjFIwbFa2abURZRkg1f4Q
+deactivate 1 EiAF0rgxtvIcDJ8HJ_H_5NfzyhiztYSW8FxAi2K_Wtd9_g deactivate
+update-512 2 E0AiFcF0fFHkcn_bY4FO2tcAowb91XKJYFIZ5LLe48C7BQAZKi6LKGlziXGQ3dtXP8Uvnex2LhuUUT5xtiTf0fh6 update E0Dlh29iui8za7SIkACJ_q-hXiUSYg5BW_ud18FZDqnqIKHxJOzvTFQd2MgX7igorlS-dNVN7O8ttCQXqfCekMS0";
+
+fn is(alloc: Global, hash: &Hash, text: &str) -> Result<bool, WantOfMemory> {
+    Ok(hash_text(alloc, hash)?.as_str() == text)
+}
+
+fn is_claim(alloc: Global, claim: &Option<Claim>, words: &str) -> Result<bool, WantOfMemory> {
+    match (claim, words.split_once(' ')) {
+        (None, None) => Ok(words == "nothing"),
+        (Some(Claim::Deactivate), None) => Ok(words == "deactivate"),
+        (Some(Claim::Update { delta_hash }), Some(("update", text))) => is(alloc, delta_hash, text),
+        (
+            Some(
+                Claim::Recover {
+                    recovery_commitment,
+                    delta_hash,
+                },
+            ),
+            Some(("recover", texts)),
+        ) => match texts.split_once(' ') {
+            Some((first, second)) => {
+                Ok(is(alloc, recovery_commitment, first)? && is(alloc, delta_hash, second)?)
+            }
+            None => Ok(false),
+        },
+        _ => Ok(false),
     }
 }
 
-// What a request in canonical spelling is read as: the suffix and the claim of a copy of its operation,
-// and whether the same request is written of it.
-fn reading(rt: &HostRuntime, version: u32, request: &str) -> Result<String, Fail> {
-    let alloc = rt.alloc();
-    let mut work = Work::new(rt);
-    let params = Schedule::with_second(2).at(version);
-    let Ok(operation) = read_request(alloc, request.as_bytes(), &params, &mut work) else {
-        return Err(Fail::from("refused"));
+// Whether the suffix and the claim of an operation are so, and the request is written of it.
+fn is_shown(
+    alloc: Global,
+    operation: &Operation,
+    params: &Params,
+    request: &str,
+    words: &str,
+) -> Result<bool, WantOfMemory> {
+    let Some((named, claim)) = words.split_once(' ') else {
+        return Ok(false);
     };
-    let operation = operation.copy(alloc)?;
-    let named = hash_text(alloc, &suffix(alloc, &operation)?)?;
-    let claim = claim_line(rt, &claim_of(alloc, &operation, &params)?)?;
-    let written = write_request(alloc, &operation)?;
-    let same = written.as_slice() == request.as_bytes();
-    Ok(format!(in alloc; "{} {} {same}", named.as_str(), claim.as_str())?)
+    Ok(
+        is(alloc, &suffix(alloc, operation)?, named)?
+            && is_claim(alloc, &claim_of(alloc, operation, params)?, claim)?
+            && write_request(alloc, operation)?.as_slice() == request.as_bytes(),
+    )
+}
+
+// Whether a copy of what the request is read as is as the case says.
+fn is_so(rt: &HostRuntime, case: &str) -> Result<bool, WantOfMemory> {
+    let Some((name, rest)) = case.split_once(' ') else {
+        return Ok(false);
+    };
+    let Some((version, words)) = rest.split_once(' ') else {
+        return Ok(false);
+    };
+    let version = if version == "1" { 1 } else { 2 };
+    let params = Schedule::with_second(2).at(version);
+    let bytes = request(name).as_bytes();
+    match read_request(rt.alloc(), bytes, &params, &mut Work::new(rt)) {
+        Ok(operation) => {
+            let operation = operation.copy(rt.alloc())?;
+            is_shown(rt.alloc(), &operation, &params, request(name), words)
+        }
+        Err(_) => Ok(false),
+    }
 }
 
 #[test]
-fn creates_are_read_and_written(rt: HostRuntime) -> Result<(), Fail> {
-    assert_eq!(rt;
-        reading(&rt, 1, CREATE)?.as_str(),
-        "EiCNA_edP2ZS7hJ_z7lDpDE8xR-dlL9ygjUmrf2IAn6ziQ nothing true"
-    );
-    assert_eq!(rt;
-        reading(&rt, 2, CREATE_512)?.as_str(),
-        "E0BU5udGEOhciHGa9whkTaN3zzd2-MnYD4Zxe7oEvkE4XhvEXgkxCI9TrU2sFmDwIoO-lu_gxmmFA78eEEiGmH2W nothing true"
-    );
-    Ok(())
-}
-
-#[test]
-fn what_is_signed_is_read_and_written(rt: HostRuntime) -> Result<(), Fail> {
-    assert_eq!(rt;
-        reading(&rt, 1, UPDATE)?.as_str(),
-        "EiAH6kMDyuj_41tkoBLAV1kt1vB9nEM1U6KBsUUCwuffRg update EiAFVaEKQhfrDXww-lhjTt9v9HTTsll0ixxr4YErfHBcKQ true"
-    );
-    assert_eq!(rt;
-        reading(&rt, 2, RECOVER)?.as_str(),
-        "EiAmxTT81V_zzETxbIsACL_nND9i9vDvWf67C8ovvFd8RQ recover EiDj8TJCFVfC8U7rRZ1jcYsHsVM5yijDbO9IJCH3NTUAZw EiAP9Q9xrEccLEEyUdAyHDcWuVjFIwbFa2abURZRkg1f4Q true"
-    );
-    assert_eq!(rt;
-        reading(&rt, 1, DEACTIVATE)?.as_str(),
-        "EiAF0rgxtvIcDJ8HJ_H_5NfzyhiztYSW8FxAi2K_Wtd9_g deactivate true"
-    );
-    assert_eq!(rt;
-        reading(&rt, 2, UPDATE_512)?.as_str(),
-        "E0AiFcF0fFHkcn_bY4FO2tcAowb91XKJYFIZ5LLe48C7BQAZKi6LKGlziXGQ3dtXP8Uvnex2LhuUUT5xtiTf0fh6 update E0Dlh29iui8za7SIkACJ_q-hXiUSYg5BW_ud18FZDqnqIKHxJOzvTFQd2MgX7igorlS-dNVN7O8ttCQXqfCekMS0 true"
-    );
+fn requests_are_read_and_written(rt: HostRuntime) -> Result<(), Fail> {
+    for case in CASES.lines() {
+        assert!(rt; is_so(&rt, case)?, "{case}");
+    }
     Ok(())
 }

@@ -1,6 +1,5 @@
-use st_canon::already::is_canonical;
-use st_canon::{ReadRefused, canonical_text};
 use st_base::{Bytes, WantOfMemory};
+use st_canon::{ReadRefused, canonical_text};
 use std::alloc::Global;
 use std::test::Fail;
 
@@ -47,9 +46,17 @@ const TEXTS: &str = r#"{"b":2,"a":1}  {"a":1,"b":2}
 {"b":1,2}  no JSON
 [1.5,"\ud800"]  no JSON"#;
 
+// Whether a canonical text is given as it is.
+fn is_kept(alloc: Global, canonical: &[u8]) -> bool {
+    match canonical_text(alloc, canonical) {
+        Ok(written) => written.as_slice() == canonical,
+        Err(_) => false,
+    }
+}
+
 fn is_given(alloc: Global, text: &[u8], wanted: &str) -> bool {
     match canonical_text(alloc, text) {
-        Ok(written) => written.as_slice() == wanted.as_bytes() && is_canonical(wanted),
+        Ok(written) => written.as_slice() == wanted.as_bytes() && is_kept(alloc, written.as_slice()),
         Err(ReadRefused::NotJson) => wanted == "no JSON",
         Err(ReadRefused::NotWhole) => wanted == "not whole",
         Err(_) => false,

@@ -1,5 +1,5 @@
-use st_canon::scan::{CanonicalText, Entries, Scanned, entries_in, is_object_if_there, only_of};
 use st_base::{Bytes, Copied, Shared, WantOfMemory};
+use st_canon::scan::{CanonicalText, Entries, Scanned, entries_in, is_object_if_there, only_of};
 use std::alloc::Global;
 use std::test::Fail;
 
@@ -18,10 +18,18 @@ q"|true
 text|"a\"],\\"
 other|"#;
 
+// Whether this is the canonical text of the value.
+fn is(alloc: Global, value: &Scanned<'_>, text: &str) -> bool {
+    match value.pack(alloc) {
+        Ok(packed) => packed.text() == Some(text.as_bytes()),
+        Err(_) => false,
+    }
+}
+
 // Whether the file has this value under this name.
-fn has(file: &Scanned<'_>, name: &str, value: &str) -> bool {
+fn has(alloc: Global, file: &Scanned<'_>, name: &str, value: &str) -> bool {
     match file.member(name) {
-        Some(found) => found.text == value.as_bytes(),
+        Some(found) => is(alloc, &found, value),
         None => value.is_empty(),
     }
 }
@@ -36,7 +44,7 @@ fn wrong_member(alloc: Global) -> Option<&'static str> {
         let Some((name, value)) = line.split_once('|') else {
             return Some(line);
         };
-        if !has(&file, name, value) {
+        if !has(alloc, &file, name, value) {
             return Some(line);
         }
     }
@@ -52,7 +60,7 @@ fn members_are_found_by_name(rt: HostRuntime) -> Result<(), Fail> {
 }
 
 // Whether the members come in turn under these names: a text, a list, and no more.
-fn come_in_turn(file: &Scanned<'_>, first: &str, second: &str) -> bool {
+fn come_in_turn(alloc: Global, file: &Scanned<'_>, first: &str, second: &str) -> bool {
     let Some(mut members) = file.members() else {
         return false;
     };
@@ -63,13 +71,13 @@ fn come_in_turn(file: &Scanned<'_>, first: &str, second: &str) -> bool {
     ) else {
         return false;
     };
-    one.text == b"\"x\"".as_slice() && other.text == b"[1]".as_slice() && members.is_empty()
+    is(alloc, &one, "\"x\"") && is(alloc, &other, "[1]") && members.is_empty()
 }
 
 // Whether the members under these names are a text and a list, and there are no others.
-fn are_both(file: &Scanned<'_>, text: &str, list: &str) -> bool {
+fn are_both(alloc: Global, file: &Scanned<'_>, text: &str, list: &str) -> bool {
     match file.both_members(text, list) {
-        Some((one, other)) => one.text == b"\"x\"".as_slice() && other.text == b"[1]".as_slice(),
+        Some((one, other)) => is(alloc, &one, "\"x\"") && is(alloc, &other, "[1]"),
         None => false,
     }
 }
@@ -80,17 +88,17 @@ fn members_come_in_turn(rt: HostRuntime) -> Result<(), Fail> {
         return Err(Fail::from("no JSON"));
     };
     let file = text.root();
-    assert!(rt; come_in_turn(&file, "a", "b\"") && are_both(&file, "a", "b\""));
+    assert!(rt; come_in_turn(rt.alloc(), &file, "a", "b\"") && are_both(rt.alloc(), &file, "a", "b\""));
     assert!(rt; file.both_members("a", "b").is_none());
     Ok(())
 }
 
 // Whether these are the texts of the entries, one a line.
-fn are(entries: &mut Entries<'_>, lines: &str) -> bool {
+fn are(alloc: Global, entries: &mut Entries<'_>, lines: &str) -> bool {
     for line in lines.lines() {
         match entries.next() {
             Some(entry) => {
-                if entry.text != line.as_bytes() {
+                if !is(alloc, &entry, line) {
                     return false;
                 }
             }
@@ -105,7 +113,7 @@ fn lists(alloc: Global, list: &str, lines: &str, count: usize) -> bool {
     match CanonicalText::read_json(alloc, list.as_bytes()) {
         Ok(Some(text)) => {
             let mut entries = entries_in(Some(text.root()));
-            entries.count() == count && are(&mut entries.again(), lines) && are(&mut entries, lines)
+            entries.count() == count && are(alloc, &mut entries.again(), lines) && are(alloc, &mut entries, lines)
         }
         _ => false,
     }

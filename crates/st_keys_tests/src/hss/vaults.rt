@@ -2,7 +2,7 @@ ghost use Rattle.std.specs.Prelude.{IfOk};
 ghost use Rattle.st_vault.specs.Opening.{ReadsAs};
 
 use super::judged;
-use super::vectors::{QUICK_PUBLIC, WORKED_PUBLIC, WORKED_SIGNATURE};
+use super::vectors::QUICK_PUBLIC;
 use st_hss::{HssPublic, HssSignRefused, HssVault, HssVaultRefused, hss_laws, verify_hss};
 use st_base::{Bytes, List, WantOfMemory};
 use st_io::{Disk, PlainDisk, ScriptDisk};
@@ -50,35 +50,6 @@ fn signs_on(alloc: Global) -> Result<bool, Fail> {
         Ok(hss) => match sign_all(alloc, &mut disk, hss, 34, &public) {
             Ok((hss, right)) => Ok(
                 right && hss.public() == public && hss.into_vault().left() == 990,
-            ),
-            Err(_) => Ok(false),
-        },
-        Err(_) => Ok(false),
-    }
-}
-
-/// The key of the types 4 and 6 that docs/FORMATS.md shows.
-fn worked_secret() -> Secret {
-    let mut id = [0; 16];
-    for i in 0..16 {
-        id[i] = i as u8;
-    }
-    let mut seed = [0; 32];
-    for i in 0..32 {
-        seed[i] = i as u8 + 32;
-    }
-    Secret::new(4, 6, id, seed).unwrap()
-}
-
-/// Whether its public key and its first signature are those of another program.
-fn signs_as_worked(alloc: Global) -> Result<bool, Fail> {
-    let mut disk = disk_of(alloc, b"")?;
-    let vault = format_vault(&mut disk, worked_secret())?;
-    match HssVault::new(vault) {
-        Ok(hss) => match hss.sign(alloc, &mut disk, b"abc") {
-            Ok((hss, signature)) => Ok(
-                hss.public().write().as_slice() == WORKED_PUBLIC
-                    && signature.as_slice() == WORKED_SIGNATURE,
             ),
             Err(_) => Ok(false),
         },
@@ -143,11 +114,6 @@ fn small_is_refused(alloc: Global) -> Result<bool, Fail> {
 fn the_counters_of_two_lower_keys_sign(rt: HostRuntime) -> Result<(), Fail> {
     hss_laws();
     judged(signs_on(rt.alloc())?)
-}
-
-#[test]
-fn a_signature_is_that_of_another_program(rt: HostRuntime) -> Result<(), Fail> {
-    judged(signs_as_worked(rt.alloc())?)
 }
 
 #[test]

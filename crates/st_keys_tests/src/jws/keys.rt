@@ -1,8 +1,10 @@
 ghost use Rattle.st_hash.specs.Hash.{IsCode};
 
-use st_jws::{BadJwk, Jwk, commitment, commitment_with, meets, reveal, reveal_with};
+use st_base::WantOfMemory;
 use st_canon::{Json, read, write};
-use st_hash::{SHA_256, SHA_512, hash_text};
+use st_hash::{Hash, SHA_256, SHA_512, hash_text};
+use st_jws::{BadJwk, Jwk, commitment, commitment_with, meets, reveal, reveal_with};
+use std::alloc::Global;
 use std::test::Fail;
 
 // What stands for `PUB` in the tables: the key of a signer in Python.
@@ -18,65 +20,103 @@ const BY_SHA_512: &str =
 {"alg":"LMS","kty":"LMS","nonce":"ZGVmZ2hpamtsbW5vcHFycw","pub":"PUB"} E0AaEPdZyzCDJLjc2_h8jWOcc85d7h5pFSpgtNr_czt3c0elL-ozyWxo_q2tgWd-M9UIoUzFkk0MVSa5qFrWWsK9 E0B5EkodZe1td1BQ4xe8GbZbEZmzuS6rgocM9gwswsceCaDl8pH6DdOv0cHuDqHnHYg1EiprwH11_ShtX13XtB8n"#;
 
 // The JSON value of a line of a table.
-fn json_of(rt: &HostRuntime, line: &str) -> Result<Json, Fail> {
-    let text = line.replace(rt.alloc(), "PUB", PUBLIC)?;
-    match read(rt.alloc(), text.as_bytes()) {
-        Ok(json) => Ok(json),
-        Err(_) => Err(Fail::from("not JSON")),
+fn json_of(alloc: Global, line: &str) -> Option<Json> {
+    match line.replace(alloc, "PUB", PUBLIC) {
+        Ok(text) => read(alloc, text.as_bytes()).ok(),
+        Err(_) => None,
     }
 }
 
-fn key_of(rt: &HostRuntime, line: &str) -> Result<Jwk, Fail> {
-    match Jwk::read(&json_of(rt, line)?) {
-        Ok(key) => Ok(key),
-        Err(_) => Err(Fail::from("not a key")),
+fn key_of(alloc: Global, line: &str) -> Option<Jwk> {
+    match json_of(alloc, line) {
+        Some(json) => Jwk::read(&json).ok(),
+        None => None,
     }
+}
+
+// Whether the key has this text, and is read from it again.
+fn is_written(alloc: Global, key: &Jwk, text: &str) -> Result<bool, WantOfMemory> {
+    let json = key.json(alloc)?;
+    let written = write(alloc, &json)?;
+    let wanted = text.replace(alloc, "PUB", PUBLIC)?;
+    Ok(written.as_slice() == wanted.as_bytes() && Jwk::read(&json) == Ok(*key))
 }
 
 #[test]
 fn a_key_is_read_and_written_and_read_again(rt: HostRuntime) -> Result<(), Fail> {
     for line in BY_SHA_256.lines() {
         let (text, _) = line.split_once(' ').ok_or("no hashes")?;
-        let key = key_of(&rt, text)?;
-        let json = key.json(rt.alloc())?;
-        let written = text.replace(rt.alloc(), "PUB", PUBLIC)?;
-        assert_eq!(rt; write(rt.alloc(), &json)?.as_slice(), written.as_bytes());
-        assert_eq!(rt; Jwk::read(&json), Ok(key));
+        let key = key_of(rt.alloc(), text).ok_or("no key")?;
+        assert!(rt; is_written(rt.alloc(), &key, text)?, "{line}");
     }
     Ok(())
 }
 
-// Whether the key of the line has the reveal value and the commitment beside it.
-fn has_hashes(rt: &HostRuntime, line: &str, code: u8) -> Result<bool, Fail>
+fn is_hash(alloc: Global, hash: &Hash, text: &str) -> bool {
+    match hash_text(alloc, hash) {
+        Ok(written) => written.as_str() == text,
+        Err(_) => false,
+    }
+}
+
+// Whether the key has this reveal value and this commitment, of which the first alone meets the second.
+fn gives(
+    alloc: Global,
+    key: &Jwk,
+    code: u8,
+    revealed: &str,
+    committed: &str,
+) -> Result<bool, WantOfMemory>
     requires { IsCode code }
 {
-    let (text, hashes) = line.split_once(' ').ok_or("no hashes")?;
-    let (revealed, committed) = hashes.split_once(' ').ok_or("no commitment")?;
-    let key = key_of(rt, text)?;
-    let reveal = reveal_with(rt.alloc(), &key, code)?;
-    let commitment = commitment_with(rt.alloc(), &key, code)?;
-    let are_these = hash_text(rt.alloc(), &reveal)?.as_str() == revealed
-        && hash_text(rt.alloc(), &commitment)?.as_str() == committed;
-    Ok(are_these && meets(&reveal, &commitment) && !meets(&commitment, &reveal))
+    let reveal = reveal_with(alloc, key, code)?;
+    let commitment = commitment_with(alloc, key, code)?;
+    Ok(
+        is_hash(alloc, &reveal, revealed)
+            && is_hash(alloc, &commitment, committed)
+            && meets(&reveal, &commitment)
+            && !meets(&commitment, &reveal),
+    )
+}
+
+// Whether the key of the line has the reveal value and the commitment beside it.
+fn has_hashes(alloc: Global, line: &str, code: u8) -> Result<bool, WantOfMemory>
+    requires { IsCode code }
+{
+    let Some((text, hashes)) = line.split_once(' ') else {
+        return Ok(false);
+    };
+    let Some((revealed, committed)) = hashes.split_once(' ') else {
+        return Ok(false);
+    };
+    match key_of(alloc, text) {
+        Some(key) => gives(alloc, &key, code, revealed, committed),
+        None => Ok(false),
+    }
 }
 
 #[test]
 fn a_reveal_value_meets_its_commitment(rt: HostRuntime) -> Result<(), Fail> {
     for line in BY_SHA_256.lines() {
-        assert!(rt; has_hashes(&rt, line, SHA_256)?, "{line}");
+        assert!(rt; has_hashes(rt.alloc(), line, SHA_256)?, "{line}");
     }
     for line in BY_SHA_512.lines() {
-        assert!(rt; has_hashes(&rt, line, SHA_512)?, "{line}");
+        assert!(rt; has_hashes(rt.alloc(), line, SHA_512)?, "{line}");
     }
     Ok(())
 }
 
+fn meets_its_own_alone(alloc: Global, key: &Jwk) -> Result<bool, WantOfMemory> {
+    let reveal = reveal(alloc, key)?;
+    let by_sha_256 = commitment(alloc, key)?;
+    let by_sha_512 = commitment_with(alloc, key, SHA_512)?;
+    Ok(meets(&reveal, &by_sha_256) && !meets(&reveal, &by_sha_512))
+}
+
 #[test]
 fn a_reveal_value_meets_no_commitment_by_another_algorithm(rt: HostRuntime) -> Result<(), Fail> {
-    let key = key_of(&rt, r#"{"alg":"LMS","kty":"LMS","pub":"PUB"}"#)?;
-    let reveal = reveal(rt.alloc(), &key)?;
-    assert!(rt; meets(&reveal, &commitment(rt.alloc(), &key)?));
-    assert!(rt; !meets(&reveal, &commitment_with(rt.alloc(), &key, SHA_512)?));
+    let key = key_of(rt.alloc(), r#"{"alg":"LMS","kty":"LMS","pub":"PUB"}"#).ok_or("no key")?;
+    assert!(rt; meets_its_own_alone(rt.alloc(), &key)?);
     Ok(())
 }
 
@@ -109,10 +149,17 @@ const NO_KEYS: &str = r#"{"kty":"LMS","pub":"PUB"}
 "LMS"
 {}"#;
 
+fn is_no_key(alloc: Global, line: &str) -> bool {
+    match json_of(alloc, line) {
+        Some(json) => Jwk::read(&json) == Err(BadJwk),
+        None => false,
+    }
+}
+
 #[test]
 fn what_differs_in_a_member_is_no_key(rt: HostRuntime) -> Result<(), Fail> {
     for line in NO_KEYS.lines() {
-        assert_eq!(rt; Jwk::read(&json_of(&rt, line)?), Err(BadJwk), "{line}");
+        assert!(rt; is_no_key(rt.alloc(), line), "{line}");
     }
     Ok(())
 }

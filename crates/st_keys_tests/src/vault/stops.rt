@@ -1,147 +1,111 @@
-use super::{Left, disk_of, key, left_of, spend};
-use st_vault::{OpenRefused, format_vault, open_vault};
+use super::{Left, disk_of, is_formatted, left_after, left_of};
 use st_base::{Bytes, WantOfMemory};
 use st_io::{Pick, ScriptDisk};
+use st_vault::{OpenRefused, open_vault};
 use std::alloc::Global;
 use std::test::Fail;
 
 const BLANK: Left = Err(OpenRefused::Blank);
 
-/// What a disk is opened as after a stop, where each byte that was not synced holds what it held
-/// before, what was written, 0, or an open gate.
-#[derive(Clone, Copy, Debug, PartialEq)]
-struct Stop {
+fn leaves(alloc: Global, disk: &ScriptDisk, pick: Pick, left: Left) -> Result<bool, WantOfMemory> {
+    let image = disk.crash(alloc, pick)?;
+    Ok(left_of(alloc, image.as_slice())? == left)
+}
+
+/// Whether a stop leaves a disk that is opened as `old` where each byte that was not synced holds what it held before
+/// or 0, and as `new` where it holds what was written or an open gate.
+fn leaves_either(
+    alloc: Global,
+    disk: &ScriptDisk,
     old: Left,
     new: Left,
-    zeros: Left,
-    gates: Left,
+) -> Result<bool, WantOfMemory> {
+    Ok(
+        leaves(alloc, disk, Pick::Old, old)?
+            && leaves(alloc, disk, Pick::New, new)?
+            && leaves(alloc, disk, Pick::Fill(0), old)?
+            && leaves(alloc, disk, Pick::Fill(0xa5), new)?,
+    )
 }
 
-fn after(alloc: Global, disk: &ScriptDisk, pick: Pick) -> Result<Left, WantOfMemory> {
-    let image = disk.crash(alloc, pick)?;
-    left_of(alloc, image.as_slice())
-}
-
-fn after_stop(alloc: Global, disk: &ScriptDisk) -> Result<Stop, WantOfMemory> {
-    let old = after(alloc, disk, Pick::Old)?;
-    let new = after(alloc, disk, Pick::New)?;
-    let zeros = after(alloc, disk, Pick::Fill(0))?;
-    let gates = after(alloc, disk, Pick::Fill(0xa5))?;
-    Ok(Stop {
-        old,
-        new,
-        zeros,
-        gates,
-    })
-}
-
-/// Whether an empty disk whose calls fail from some on is formatted, and what a stop then leaves.
-fn formatted(alloc: Global, last: u64) -> Result<(bool, Stop), Fail> {
-    let secret = key()?;
+/// Whether an empty disk whose calls behind the `last` fail is formatted, or not, and a stop then leaves this.
+fn formats(
+    alloc: Global,
+    last: u64,
+    made: bool,
+    (old, new): (Left, Left),
+) -> Result<bool, WantOfMemory> {
     let mut disk = disk_of(alloc, b"", last)?;
-    let made = format_vault(&mut disk, secret).is_ok();
-    Ok((made, after_stop(alloc, &disk)?))
-}
-
-/// The same of opening a vault's disk and reserving a counter.
-fn reserved(alloc: Global, image: &[u8], last: u64) -> Result<(bool, Stop), WantOfMemory> {
-    let mut disk = disk_of(alloc, image, last)?;
-    let given = match open_vault(&mut disk) {
-        Ok(vault) => vault.reserve(&mut disk).is_ok(),
-        Err(_) => false,
-    };
-    Ok((given, after_stop(alloc, &disk)?))
-}
-
-/// The image of a vault of which no counter is spent.
-fn vault_image(alloc: Global) -> Result<Bytes, Fail> {
-    let secret = key()?;
-    let mut disk = disk_of(alloc, b"", u64::MAX)?;
-    let made = format_vault(&mut disk, secret).is_ok();
-    if !made {
-        return Err(Fail::from("not made"));
-    }
-    Ok(disk.crash(alloc, Pick::New)?)
+    Ok(is_formatted(&mut disk) == made && leaves_either(alloc, &disk, old, new)?)
 }
 
 #[test]
 fn a_stop_while_formatting_leaves_a_blank_disk_or_the_vault(rt: HostRuntime) -> Result<(), Fail> {
-    let alloc = rt.alloc();
-    let blank = Stop {
-        old: BLANK,
-        new: BLANK,
-        zeros: BLANK,
-        gates: BLANK,
-    };
     for last in 0..7 {
-        assert_eq!(rt;
-            formatted(alloc, last)?,
-            (false, blank),
-            "after {last} calls"
-        );
+        assert!(rt; formats(rt.alloc(), last, false, (BLANK, BLANK))?, "after {last} calls");
     }
-    let opening = Stop {
-        old: BLANK,
-        new: Ok(32),
-        zeros: BLANK,
-        gates: Ok(32),
-    };
-    assert_eq!(rt; formatted(alloc, 7)?, (false, opening));
-    let whole = Stop {
-        old: Ok(32),
-        new: Ok(32),
-        zeros: Ok(32),
-        gates: Ok(32),
-    };
-    assert_eq!(rt; formatted(alloc, 8)?, (true, whole));
+    assert!(rt; formats(rt.alloc(), 7, false, (BLANK, Ok(32)))?);
+    assert!(rt; formats(rt.alloc(), 8, true, (Ok(32), Ok(32)))?);
     Ok(())
+}
+
+/// The image of a vault of which no counter is spent.
+fn vault_image(alloc: Global) -> Result<Bytes, WantOfMemory> {
+    let mut disk = disk_of(alloc, b"", u64::MAX)?;
+    let _made = is_formatted(&mut disk);
+    Ok(disk.crash(alloc, Pick::New)?)
+}
+
+fn is_reserved(disk: &mut ScriptDisk) -> bool {
+    match open_vault(disk) {
+        Ok(vault) => vault.reserve(disk).is_ok(),
+        Err(_) => false,
+    }
+}
+
+/// The same of opening a vault's disk and reserving a counter.
+fn reserves(
+    alloc: Global,
+    last: u64,
+    given: bool,
+    (old, new): (u32, u32),
+) -> Result<bool, WantOfMemory> {
+    let image = vault_image(alloc)?;
+    let mut disk = disk_of(alloc, image.as_slice(), last)?;
+    Ok(is_reserved(&mut disk) == given && leaves_either(alloc, &disk, Ok(old), Ok(new))?)
 }
 
 // Four calls open the vault, and two reserve a counter.
 #[test]
 fn a_stop_while_opening_or_reserving_keeps_the_vault(rt: HostRuntime) -> Result<(), Fail> {
-    let alloc = rt.alloc();
-    let image = vault_image(alloc)?;
-    let whole = Stop {
-        old: Ok(32),
-        new: Ok(32),
-        zeros: Ok(32),
-        gates: Ok(32),
-    };
     for last in 0..5 {
-        assert_eq!(rt;
-            reserved(alloc, image.as_slice(), last)?,
-            (false, whole),
-            "after {last} calls"
-        );
+        assert!(rt; reserves(rt.alloc(), last, false, (32, 32))?, "after {last} calls");
     }
-    let reserving = Stop {
-        old: Ok(32),
-        new: Ok(31),
-        zeros: Ok(32),
-        gates: Ok(31),
-    };
-    assert_eq!(rt; reserved(alloc, image.as_slice(), 5)?, (false, reserving));
-    let less = Stop {
-        old: Ok(31),
-        new: Ok(31),
-        zeros: Ok(31),
-        gates: Ok(31),
-    };
-    assert_eq!(rt; reserved(alloc, image.as_slice(), 6)?, (true, less));
+    assert!(rt; reserves(rt.alloc(), 5, false, (32, 31))?);
+    assert!(rt; reserves(rt.alloc(), 6, true, (31, 31))?);
     Ok(())
+}
+
+/// Whether the disk that fails behind this call is left so, once so many are to be spent of its vault.
+fn spends(
+    alloc: Global,
+    last: u64,
+    count: u32,
+    left: Option<u32>,
+    (old, new): (u32, u32),
+) -> Result<bool, WantOfMemory> {
+    let image = vault_image(alloc)?;
+    let mut disk = disk_of(alloc, image.as_slice(), last)?;
+    Ok(
+        left_after(&mut disk, count) == left
+            && leaves(alloc, &disk, Pick::Old, Ok(old))?
+            && leaves(alloc, &disk, Pick::New, Ok(new))?,
+    )
 }
 
 #[test]
 fn a_stop_before_the_sync_of_the_tenth_reservation(rt: HostRuntime) -> Result<(), Fail> {
-    let alloc = rt.alloc();
-    let image = vault_image(alloc)?;
-    let mut disk = disk_of(alloc, image.as_slice(), 4 + 9 * 2 + 1)?;
-    let vault = open_vault(&mut disk)?;
-    let vault = spend(&mut disk, vault, 9)?;
-    assert_eq!(rt; vault.left(), 23);
-    assert!(rt; vault.reserve(&mut disk).is_err());
-    assert_eq!(rt; after(alloc, &disk, Pick::Old)?, Ok(23));
-    assert_eq!(rt; after(alloc, &disk, Pick::New)?, Ok(22));
+    assert!(rt; spends(rt.alloc(), 4 + 9 * 2 + 1, 9, Some(23), (23, 23))?);
+    assert!(rt; spends(rt.alloc(), 4 + 9 * 2 + 1, 10, None, (23, 22))?);
     Ok(())
 }

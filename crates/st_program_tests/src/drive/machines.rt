@@ -2,7 +2,7 @@
 ghost use Rattle.std.specs.Prelude.{◌≡◌, ◌+◌, ◌%◌, ⊤, false, IfOk};
 ghost use Rattle.st_drive.specs.TestMachines.{numbered_reply, numbered_meaning, numbered_laws};
 
-use st_drive::machine::{Machine, StepError};
+use st_drive::{Machine, StepError};
 use st_base::{Bytes, WantOfMemory};
 use std::alloc::Global;
 use std::marker::Model;

@@ -9,13 +9,19 @@ use st_ops::Operation;
 use std::alloc::Global;
 use std::test::Fail;
 
+// Whether the entry of a recover and an update stands so once these files have come.
+fn serves(rt: &HostRuntime, files: &[&str]) -> Result<bool, WantOfMemory> {
+    stands(rt, TEXT, files, "read", "Q3 read read K4", (5, 1))
+}
+
 // One file serves as both proof files: it is rejected as the one and read as the other.
 #[test]
 fn files_come_in_any_order_and_may_serve_two_roles(rt: HostRuntime) -> Result<(), Fail> {
-    let wanted = "read Q3 read read K4, 5 1";
-    assert!(rt; stands(&rt, TEXT, &[CORE, BELOW, PROOF, SHORT_CHUNK], wanted)?);
-    assert!(rt; stands(&rt, TEXT, &[SHORT_CHUNK, PROOF, BELOW, CORE], wanted)?);
-    assert!(rt; stands(&rt, TEXT, &[PROOF, CORE, SHORT_CHUNK, BELOW], wanted)?);
+    assert!(rt;
+        serves(&rt, &[CORE, BELOW, PROOF, SHORT_CHUNK])?
+            && serves(&rt, &[SHORT_CHUNK, PROOF, BELOW, CORE])?
+            && serves(&rt, &[PROOF, CORE, SHORT_CHUNK, BELOW])?
+    );
     Ok(())
 }
 
@@ -52,7 +58,7 @@ fn given(alloc: Global, bound: &Bound) -> Result<Bytes, WantOfMemory> {
 }
 
 // Whether the entry of all kinds gives this after these files have come.
-fn gives(rt: &HostRuntime, files: &[&str], wanted: &str) -> Result<bool, Fail> {
+fn gives(rt: &HostRuntime, files: &[&str], wanted: &str) -> Result<bool, WantOfMemory> {
     let bound = after(rt.alloc(), ALL_TEXT, files, &mut Work::new(rt))?;
     let found = given(rt.alloc(), &bound)?;
     Ok(found.as_slice() == wanted.as_bytes())
@@ -60,18 +66,18 @@ fn gives(rt: &HostRuntime, files: &[&str], wanted: &str) -> Result<bool, Fail> {
 
 #[test]
 fn an_entry_gives_what_its_files_allow(rt: HostRuntime) -> Result<(), Fail> {
-    assert!(rt; gives(&rt, &[UPDATES, DELTAS, PROOFS], "")?);
-    assert!(rt; gives(&rt, &[ALL, UPDATES], " create ")?);
-    assert!(rt; gives(&rt, &[ALL, UPDATES, PROVISIONAL], " create  update ")?);
-    assert!(rt;
-        gives(
-            &rt,
-            &[ALL, UPDATES, PROVISIONAL, DELTAS],
-            " create 1 update 3"
-        )?
-    );
-    let all = " create 1 recover 2 deactivate update 3";
-    assert!(rt; gives(&rt, &[PROOFS, ALL, UPDATES, PROVISIONAL, DELTAS], all)?);
     entry_laws();
+    let all = " create 1 recover 2 deactivate update 3";
+    assert!(rt;
+        gives(&rt, &[UPDATES, DELTAS, PROOFS], "")?
+            && gives(&rt, &[ALL, UPDATES], " create ")?
+            && gives(&rt, &[ALL, UPDATES, PROVISIONAL], " create  update ")?
+            && gives(
+                &rt,
+                &[ALL, UPDATES, PROVISIONAL, DELTAS],
+                " create 1 update 3"
+            )?
+            && gives(&rt, &[PROOFS, ALL, UPDATES, PROVISIONAL, DELTAS], all)?
+    );
     Ok(())
 }

@@ -1,11 +1,13 @@
 //! Queues that are flushed. The anchor strings, the lengths of files and how many operations a batch
 //! takes were computed by another program.
 
-use crate::batch::making::{Kind, many, submit_one};
+use crate::batch::making::{many, submit_one};
+use crate::batch::samples::{SHORT_CREATE, WIDE_CREATE};
 use crate::batch::submit_all;
 use st_batch::{Batch, FlushRefused, Queue, SubmitRefused};
 use st_base::Work;
 use st_datafiles::Role;
+use st_hash::{SHA_256, SHA_512};
 use st_params::{Params, Schedule};
 use std::alloc::Global;
 
@@ -112,15 +114,15 @@ fn takes_the_last(alloc: Global, queue: Queue, params: &Params) -> bool {
 #[test]
 fn a_batch_of_version_1_takes_a_thousand(rt: HostRuntime) {
     let params = Schedule::new().at(0);
-    let queue = many(&rt, &params, Kind::Short, 1_001);
+    let queue = many(&rt, &params, SHORT_CREATE, SHA_256, 1_001);
     assert!(rt; takes_a_thousand(rt.alloc(), queue, &params));
 }
 
 // Whether one request more finds ten thousand queued, and leaves so many.
 fn is_full(rt: &HostRuntime, params: &Params) -> bool {
-    let mut queue = many(rt, params, Kind::Short, 10_000);
+    let mut queue = many(rt, params, SHORT_CREATE, SHA_256, 10_000);
     let before = queue.len();
-    let answer = submit_one(rt, &mut queue, params, Kind::Short, 10_000);
+    let answer = submit_one(rt, &mut queue, params, SHORT_CREATE, SHA_256, 10_000);
     before == 10_000 && answer == Err(SubmitRefused::QueueFull) && queue.len() == 10_000
 }
 
@@ -129,28 +131,17 @@ fn ten_thousand_are_queued_and_no_more(rt: HostRuntime) {
     assert!(rt; is_full(&rt, &Schedule::new().at(0)));
 }
 
-// Whether a batch of so many requests of a kind, at the limits of version 2, has this beginning of its
-// anchor string and so many files, and leaves so many queued.
-fn cuts(rt: &HostRuntime, kind: Kind, count: u32, start: &str, files: usize, stay: usize) -> bool {
+// Whether a batch of creates with wide hashes, at the limits of version 2, is cut by its core index file.
+fn is_cut(rt: &HostRuntime) -> bool {
     let params = Schedule::with_second(0).at(0);
-    let queue = many(rt, &params, kind, count);
-    match rest_after(rt.alloc(), queue, &params, start, files) {
-        Some(rest) => rest.len() == stay,
+    let queue = many(rt, &params, WIDE_CREATE, SHA_512, 4_400);
+    match rest_after(rt.alloc(), queue, &params, "4309.", 3) {
+        Some(rest) => rest.len() == 91,
         None => false,
     }
 }
 
 #[test]
-fn the_chunk_file_cuts_a_batch(rt: HostRuntime) {
-    assert!(rt; cuts(&rt, Kind::Long, 5_001, "4997.", 3, 4));
-}
-
-#[test]
 fn the_core_index_cuts_a_batch(rt: HostRuntime) {
-    assert!(rt; cuts(&rt, Kind::Wide, 4_400, "4309.", 3, 91));
-}
-
-#[test]
-fn the_provisional_proof_file_cuts_a_batch(rt: HostRuntime) {
-    assert!(rt; cuts(&rt, Kind::Update, 4_700, "4685.", 4, 15));
+    assert!(rt; is_cut(&rt));
 }

@@ -118,81 +118,62 @@ fn appended(alloc: Global, image: &[u8]) -> Result<Bytes, WantOfMemory> {
     disk.crash(alloc, Pick::New)
 }
 
-fn is_opened_so(alloc: Global, line: &str) -> Result<bool, WantOfMemory> {
+/// What a table tells of an image.
+#[derive(Clone, Copy)]
+enum Told {
+    Opened,
+    Coming,
+    Appended,
+}
+
+fn is_so(alloc: Global, told: Told, line: &str) -> Result<bool, WantOfMemory> {
     let Some((image, want)) = line.split_once("  ") else {
         return Ok(false);
     };
     let image = image_of(alloc, image)?;
-    Ok(seen(alloc, image.as_slice())?.as_str() == want)
+    let image = image.as_slice();
+    match told {
+        Told::Opened => Ok(seen(alloc, image)?.as_str() == want),
+        Told::Coming => Ok(coming(alloc, image)?.as_str() == want),
+        Told::Appended => {
+            let want = image_of(alloc, want)?;
+            Ok(appended(alloc, image)?.as_slice() == want.as_slice())
+        }
+    }
 }
 
-fn comes_so(alloc: Global, line: &str) -> Result<bool, WantOfMemory> {
-    let Some((image, want)) = line.split_once("  ") else {
-        return Ok(false);
-    };
-    let image = image_of(alloc, image)?;
-    Ok(coming(alloc, image.as_slice())?.as_str() == want)
-}
-
-fn is_appended_so(alloc: Global, line: &str) -> Result<bool, WantOfMemory> {
-    let Some((image, want)) = line.split_once("  ") else {
-        return Ok(false);
-    };
-    let image = image_of(alloc, image)?;
-    let want = image_of(alloc, want)?;
-    Ok(appended(alloc, image.as_slice())?.as_slice() == want.as_slice())
-}
-
-/// The first image that is opened otherwise.
-fn first_opened_otherwise(alloc: Global) -> Result<Option<&'static str>, WantOfMemory> {
-    'lines: for line in OPENED.lines() {
-        if !is_opened_so(alloc, line)? {
+/// The first line of a table that is otherwise.
+fn first_other(
+    alloc: Global,
+    told: Told,
+    table: &'static str,
+) -> Result<Option<&'static str>, WantOfMemory> {
+    'lines: for line in table.lines() {
+        if !is_so(alloc, told, line)? {
             return Ok(Some(line));
         }
     }
     Ok(None)
 }
 
-/// The first image of which something else comes.
-fn first_coming_otherwise(alloc: Global) -> Result<Option<&'static str>, WantOfMemory> {
-    'lines: for line in COMING.lines() {
-        if !comes_so(alloc, line)? {
-            return Ok(Some(line));
-        }
+fn holds(alloc: Global, told: Told, table: &'static str) -> Result<(), Fail> {
+    match first_other(alloc, told, table)? {
+        Some(line) => Err(Fail::from(line)),
+        None => Ok(()),
     }
-    Ok(None)
-}
-
-/// The first image that is otherwise once the line is appended.
-fn first_appended_otherwise(alloc: Global) -> Result<Option<&'static str>, WantOfMemory> {
-    'lines: for line in APPENDED.lines() {
-        if !is_appended_so(alloc, line)? {
-            return Ok(Some(line));
-        }
-    }
-    Ok(None)
 }
 
 #[test]
 fn an_image_is_opened_or_damaged(rt: HostRuntime) -> Result<(), Fail> {
-    match first_opened_otherwise(rt.alloc())? {
-        Some(line) => Err(Fail::from(line)),
-        None => Ok(()),
-    }
+    holds(rt.alloc(), Told::Opened, OPENED)
 }
 
 #[test]
 fn records_come_before_the_damage(rt: HostRuntime) -> Result<(), Fail> {
-    match first_coming_otherwise(rt.alloc())? {
-        Some(line) => Err(Fail::from(line)),
-        None => Ok(()),
-    }
+    holds(rt.alloc(), Told::Coming, COMING)
 }
 
 #[test]
 fn a_record_comes_over_what_was_torn(rt: HostRuntime) -> Result<(), Fail> {
-    match first_appended_otherwise(rt.alloc())? {
-        Some(line) => Err(Fail::from(line)),
-        None => Ok(()),
-    }
+    holds(rt.alloc(), Told::Appended, APPENDED)
 }

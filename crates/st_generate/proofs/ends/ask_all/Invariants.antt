@@ -4,4 +4,4 @@ use Rattle.st_generate.proofs.ends.ask_all.Given as goal
 
 -- how they end after those so far
 abbrev pub invariant-identities : goal.invariant-identities
-invariant-identities l = l.ends ≡ all_asked l.fn.plan.seed l.identity-index l.fn.ends
+invariant-identities g l = l.ends ≡ all_asked g.N.Peer.peer l.fn.plan.seed l.identity-index l.fn.ends

@@ -7,16 +7,16 @@ use Rattle.st_workload.specs.declared.identity.Identity.{Identity}
 use Rattle.st_generate.proofs.rounds.tell_round.Goals as goal
 
 pub identities-preserved : goal.identities-preserved
-identities-preserved c =
+identities-preserved g c =
     let rest = drop (c.identities.identity-index + 1) c.args.identities.now in
-    ap (λ (talk : TalkValue). told (map (line_of c.args.round) rest) talk)
-    (c.in_ok-next.ensures.0 ∙ ap (λ (line : List ℕ). tell line c.identities.talk) c.line_of.ensures)
-    ∙ sym (ap (λ (items : List Identity). told (map (line_of c.args.round) items) c.identities.talk)
+    ap (λ (talk : TalkValue _). told g.N.Peer.peer (map (line_of c.args.round) rest) talk)
+    (c.in_ok-next.ensures.0 ∙ ap (λ (line : List ℕ). tell g.N.Peer.peer line c.identities.talk) c.line_of.ensures)
+    ∙ sym (ap (λ (items : List Identity). told g.N.Peer.peer (map (line_of c.args.round) items) c.identities.talk)
     (next_item c.args.identities.now c.identities.identity-index c.identity-item.result c.identities-test.true c.identity-item.is))
     ∙ c.identities.invariant
 
 pub returns : goal.returns
-returns c =
-    sym (ap (λ (items : List Identity). told (map (line_of c.args.round) items) c.identities.talk)
+returns g c =
+    sym (ap (λ (items : List Identity). told g.N.Peer.peer (map (line_of c.args.round) items) c.identities.talk)
     (drop_all c.identities.identity-index c.args.identities.now c.identities-test.false))
     ∙ c.identities.invariant

@@ -5,5 +5,6 @@ use Rattle.st_generate.proofs.rounds.tell_round.Given as goal
 
 -- telling what is left now is telling all at first
 abbrev pub invariant-identities : goal.invariant-identities
-invariant-identities l =
-    told (map (line_of l.round) (drop l.identity-index l.identities)) l.talk ≡ told (map (line_of l.round) l.identities) l.fn.talk
+invariant-identities g l =
+    told g.N.Peer.peer (map (line_of l.round) (drop l.identity-index l.identities)) l.talk
+    ≡ told g.N.Peer.peer (map (line_of l.round) l.identities) l.fn.talk

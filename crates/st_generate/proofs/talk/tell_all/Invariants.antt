@@ -4,4 +4,5 @@ use Rattle.st_generate.proofs.talk.tell_all.Given as goal
 
 -- telling what is left now is telling all at first
 abbrev pub invariant-lines : goal.invariant-lines
-invariant-lines l = told (drop l.line-index l.lines) l.talk ≡ told l.lines l.fn.talk
+invariant-lines g l =
+    told g.N.Peer.peer (drop l.line-index l.lines) l.talk ≡ told g.N.Peer.peer l.lines l.fn.talk

@@ -2,15 +2,13 @@ use Rattle.std.proofs.Common.{◌∙◌, ap, codes}
 use Rattle.st_base.specs.Replies.{reply}
 use Rattle.st_hash.specs.Hash.{hash_text, uri_of}
 use Rattle.st_network.proofs.NetworkLemmas.{set_with}
-use Rattle.st_network.proofs.StoredLemmas.{stored_is}
-use Rattle.st_network.specs.Stored.{stored_by}
-use Rattle.st_node.specs.Machine.{Machine, answered_content}
 use Rattle.st_network.proofs.doing.store_at.Goals as goal
 
 pub returns : goal.returns
-returns c =
+returns g c =
     set_with c.args.nodes c.remove-node.new.self c.insert.new.self c.args.at c.remove-node.result c.in_ok-node.node
     c.requires c.remove-node.ensures.item c.remove-node.ensures.rest c.in_ok-insert.ensures.ok
-    (λ (node : Machine). (answered_content node c.args.bytes).next) (λ (node : Machine). reply (codes "stored ") (hash_text (uri_of c.args.bytes)))
-    c.in_ok-text.text c.in_ok-node.ensures.answer.0
-    (c.in_ok-text.ensures ∙ ap stored_by (c.as_slice.ensures ∙ c.in_ok-node.ensures.answer.1) ∙ stored_is c.remove-node.result c.args.bytes)
+    (λ node. g.N.Peer.peer.stored node c.args.bytes) (λ node. reply (codes "stored ") (hash_text (uri_of c.args.bytes)))
+    c.in_ok-text.text c.in_ok-node.ensures.next
+    (c.in_ok-text.ensures
+    ∙ ap (reply (codes "stored ")) (c.as_bytes.ensures.value ∙ c.as_str.ensures ∙ c.in_ok-uri.ensures.value ∙ ap hash_text c.in_ok-node.ensures.uri))

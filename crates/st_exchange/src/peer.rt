@@ -1,0 +1,56 @@
+ghost use Rattle.std.specs.Prelude.{◌≡◌, ◌≤◌, ◌+◌, ◌*◌, IfOk};
+ghost use Rattle.st_exchange.specs.Answer.{is_among};
+ghost use Rattle.st_exchange.specs.Peer.{Peer as Means, PeerLaws, anchors_told};
+ghost use Rattle.st_hash.specs.Hash.{uri_of};
+
+use st_base::{Bytes, List, WantOfMemory, Work};
+use st_content::Content;
+use st_hash::Hash;
+use std::alloc::Global;
+
+/// A node that answers lines, keeps files and wants others.
+pub trait Peer: Sized + Drop {
+    /// What it answers, keeps and wants.
+    ghost peer: { Means Self };
+
+    /// A node before anything has come.
+    fn start(alloc: Global) -> Result<Self, WantOfMemory>
+        ensures { IfOk result (λ node. node ≡ peer.start) };
+
+    /// The files that it has.
+    fn content(&self) -> &Content
+        ensures { result.now ≡ peer.files self.now };
+
+    /// The URIs of the files that it wants.
+    fn wanted(&self, alloc: Global) -> Result<List<Hash>, WantOfMemory>
+        ensures { IfOk result (λ uris. uris ≡ peer.wanted self.now) };
+
+    /// Whether it wants the file of this URI.
+    fn wants(&self, alloc: Global, uri: &Hash) -> Result<bool, WantOfMemory>
+        ensures { IfOk result (λ found. found ≡ is_among (peer.wanted self.now) uri.now) };
+
+    /// Answers a line. For an anchor that it accepts it may read five files more.
+    fn answer(
+        self,
+        alloc: Global,
+        line: &[u8],
+        work: &mut Work,
+    ) -> Result<(Self, Bytes), WantOfMemory>
+        ensures next { IfOk result (λ done. done.0 ≡ peer.next self line.now) }
+        ensures reply { IfOk result (λ done. done.1 ≡ peer.reply self line.now) }
+        ensures paid { IfOk result (λ done. work.new.files + peer.due done.0
+            ≤ work.old.files + peer.due self + 5 * anchors_told (peer.reply self line.now)) };
+
+    /// Keeps a file, and gives its URI.
+    fn keep(
+        self,
+        alloc: Global,
+        bytes: Bytes,
+        work: &mut Work,
+    ) -> Result<(Self, Hash), WantOfMemory>
+        ensures next { IfOk result (λ done. done.0 ≡ peer.stored self bytes) }
+        ensures uri { IfOk result (λ done. done.1 ≡ uri_of bytes) };
+
+    /// What it promises.
+    ghost laws: { PeerLaws peer };
+}

@@ -1,0 +1,58 @@
+-- What a line reads is paid by the anchor that it brings, where its reply says that it was accepted:
+--     line_paid
+use Rattle.std.proofs.Common.{◌≡◌, ℕ, ◌+◌, ◌*◌, ◌≤◌, List, length, Result, Ok, Err, arith}
+use Rattle.st_exchange.specs.Peer.{anchors_told}
+use Rattle.st_ledger.specs.Ledger.{admitted}
+use Rattle.st_ledger.specs.declared.entry.Entry.{Entry}
+use Rattle.st_ledger.specs.declared.refused.LedgerRefused.{LedgerRefused}
+use Rattle.st_node.specs.Command.{command_of}
+use Rattle.st_node.specs.Machine.{Machine, answered, answered_admitted, answered_command, answered_read}
+use Rattle.st_node.specs.Work.{entry_admitted, entry_of_command, entry_of_line, entry_of_read, files_due}
+use Rattle.st_node.specs.declared.command.Command.{Command}
+use Rattle.st_node.specs.declared.command.Command.TheVariants.{Content, Anchor, Rollback, Resolve, Explain, Wanted, Report, Submit, Flush}
+use Rattle.st_node.specs.declared.command.LineCause.{LineCause}
+
+-- ---- an entry comes of a line only where the reply says so
+
+none_comes : (said : ℕ) → 0 ≤ said
+none_comes said = omega arith
+
+module _ (machine : Machine) where
+  admitted_told : (entry : Entry) (answer : Result Unit LedgerRefused)
+      → length (entry_admitted entry answer) ≤ anchors_told (answered_admitted machine entry answer).reply
+  admitted_told entry (Ok _) = omega arith
+  admitted_told entry (Err cause) = none_comes _
+
+  command_told : (command : Command)
+      → length (entry_of_command machine command) ≤ anchors_told (answered_command machine command).reply
+  command_told (Content bytes) = none_comes _
+  command_told (Anchor height text) =
+      admitted_told (record { height = height; text = text }) (admitted machine.observed.ledger height)
+  command_told (Rollback n) = none_comes _
+  command_told (Resolve did) = none_comes _
+  command_told (Explain did) = none_comes _
+  command_told Wanted = none_comes _
+  command_told (Report n) = none_comes _
+  command_told (Submit request) = none_comes _
+  command_told Flush = none_comes _
+
+  read_told : (read : Result Command LineCause)
+      → length (entry_of_read machine read) ≤ anchors_told (answered_read machine read).reply
+  read_told (Ok command) = command_told command
+  read_told (Err cause) = none_comes _
+
+  anchor_told : (line : List ℕ) → length (entry_of_line machine line) ≤ anchors_told (answered machine line).reply
+  anchor_told line = read_told (command_of line)
+
+-- ---- so it pays what is read
+
+paid_by : (entries said now later read due : ℕ) → now + later ≤ read + due + 5 * entries → entries ≤ said → now + later ≤ read + due + 5 * said
+paid_by entries said now later read due counts few = omega arith
+
+pub line_paid : (machine next : Machine) (line : List ℕ) (read now : ℕ) → next ≡ (answered machine line).next
+    → now + files_due (answered machine line).next.observed ≤ read + files_due machine.observed + 5 * length (entry_of_line machine line)
+    → now + files_due next.observed ≤ read + files_due machine.observed + 5 * anchors_told (answered machine line).reply
+line_paid machine next line read now is counts =
+    rw is
+    (paid_by (length (entry_of_line machine line)) (anchors_told (answered machine line).reply) now
+    (files_due (answered machine line).next.observed) read (files_due machine.observed) counts (anchor_told machine line))

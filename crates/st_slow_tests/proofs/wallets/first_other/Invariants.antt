@@ -1,0 +1,5 @@
+use Rattle.st_wallet.specs.Found.{IsFoundOn}
+use Rattle.st_slow_tests.proofs.wallets.first_other.Given as goal
+
+abbrev pub invariant-lines : goal.invariant-lines
+invariant-lines g l = IsFoundOn (g.D.Disk.reads l.disk) l.wallet

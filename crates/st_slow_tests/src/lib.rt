@@ -1,0 +1,11 @@
+//! The tests that take over 20 seconds where they are compiled without optimization.
+#![tactic(auto)]
+
+#[cfg(test)]
+mod batches;
+#[cfg(test)]
+mod signatures;
+#[cfg(test)]
+mod sizes;
+#[cfg(test)]
+mod wallets;

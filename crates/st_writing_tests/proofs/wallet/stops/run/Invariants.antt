@@ -1,5 +1,0 @@
-use Rattle.st_wallet.specs.Found.{IsFoundOn}
-use Rattle.st_writing_tests.proofs.wallet.stops.run.Given as goal
-
-abbrev pub invariant-lines : goal.invariant-lines
-invariant-lines g l = IsFoundOn (g.D.Disk.reads l.disk) l.wallet
