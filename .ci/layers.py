@@ -1,19 +1,16 @@
-"""Whether crates.txt, its layers and the map say the same: each crate stands on crates that are listed before it, no
-chain is longer than it may be, and docs/ARCHITECTURE.md shows the same crates in the same order."""
+"""Whether crates.txt, its layers and the map say the same: each crate uses crates that are listed before it, no chain is
+longer than it may be, and docs/ARCHITECTURE.md shows the same crates in the same order."""
 
 import functools
 import re
 import sys
 
-# A chain may have so many crates. What only the program stands on may make it longer, with its reason in
-# docs/DECISIONS.md.
+# How many crates a chain may have.
 LONGEST = 8
-# The four nodes of an exchange and the two of a workload stand on the node, and only the program stands on them.
-ABOVE_THE_NODE = {"st_network", "st_generate"}
 
 
 def crates():
-    """Each crate of crates.txt with those of the repository that it stands on, in the order of the file."""
+    """Each crate of crates.txt with those of the repository that it uses, in the order of the file."""
     listed = {}
     with open("crates.txt", encoding="utf-8") as file:
         for line in file:
@@ -24,11 +21,11 @@ def crates():
 
 
 def faults():
-    """What is otherwise, a line each."""
+    """What differs, a line each."""
     listed = crates()
     seen = []
     for crate, below in listed.items():
-        yield from (f"{crate} stands on {other}, which is not listed before it" for other in below if other not in seen)
+        yield from (f"{crate} uses {other}, which is not listed before it" for other in below if other not in seen)
         seen.append(crate)
 
     @functools.lru_cache(None)
@@ -36,7 +33,7 @@ def faults():
         return max((chain(other) for other in listed[crate]), key=len, default=()) + (crate,)
 
     for crate in listed:
-        if len([one for one in chain(crate) if one not in ABOVE_THE_NODE]) > LONGEST:
+        if len(chain(crate)) > LONGEST:
             yield f"a chain has more than {LONGEST} crates: {', '.join(chain(crate))}"
     with open("docs/ARCHITECTURE.md", encoding="utf-8") as file:
         shown = re.findall(r"^(?:[a-z]+)? +(st_\w+) ", file.read().partition("```text")[2].partition("```")[0], re.M)

@@ -1,5 +1,6 @@
 #!/usr/bin/env python3
 """Prints how many lines each crate has: of code, of tests, of definitions and of proofs; and how many must-fail edits.
+All lines of a crate whose name ends in _tests are lines of tests.
 
 usage: bench/lines.py
 """
@@ -23,8 +24,11 @@ def lines(paths):
 def row(crate):
     sources = list((crate / "src").rglob("*.rt"))
     tests = [path for path in sources if path.name == "tests.rt" or "tests" in path.relative_to(crate / "src").parts[:-1]]
-    return [lines(sources) - lines(tests), lines(tests), lines((crate / "specs").rglob("*.antt")),
-            lines((crate / "proofs").rglob("*.antt")), len(list((crate / "must-fail").glob("*.edit")))]
+    definitions, proofs = (list((crate / folder).rglob("*.antt")) for folder in ("specs", "proofs"))
+    edits = len(list((crate / "must-fail").glob("*.edit")))
+    if crate.name.endswith("_tests"):
+        return [0, lines(sources + definitions + proofs), 0, 0, edits]
+    return [lines(sources) - lines(tests), lines(tests), lines(definitions), lines(proofs), edits]
 
 
 def main():
