@@ -1,5 +1,5 @@
 #!/usr/bin/env python3
-"""Writes the inputs of examples/: the sessions, and the folder that examples/feed reads.
+"""Writes the inputs of examples/: the sessions, and the folder that service/feed reads.
 
 usage: bench/examples.py [FOLDER]
 
@@ -15,8 +15,9 @@ import sys
 import tempfile
 
 sys.dont_write_bytecode = True
-EXAMPLES = os.path.join(os.path.dirname(os.path.dirname(os.path.abspath(__file__))), "examples")
-sys.path.append(EXAMPLES)
+TOP = os.path.dirname(os.path.dirname(os.path.abspath(__file__)))
+EXAMPLES = os.path.join(TOP, "examples")
+sys.path.append(os.path.join(TOP, "service"))
 import lms
 from client import Node
 from formats import (Batch, Operation, add_keys, add_services, anchor_line, batch, bytes_of, canonical, content_line,
@@ -216,7 +217,7 @@ def signature_changed(signed):
 
 
 def requests():
-    """Requests that are queued, and one for each rule that a request breaks easily. examples/why names the rule."""
+    """Requests that are queued, and one for each rule that a request breaks easily. service/why names the rule."""
     kim, other = Person("Kim"), Person("Other")
     one, two, three = (kim.create(*[add_services(HOME)] * n) for n in (0, 1, 2))
     changed = kim.update(one.suffix, 0, add_services(SHOP))
@@ -255,10 +256,13 @@ def requests():
 
 
 def folder(path):
-    """Two identifiers in three batches: their files, the list of entries, the identifiers."""
+    """Two identifiers in three batches: their files, the list of entries, the identifiers. The first one has a key, the
+    example of RFC 8037."""
+    key = {"id": "sign", "type": "JsonWebKey2020", "purposes": ["authentication", "assertionMethod"],
+           "publicKeyJwk": {"kty": "OKP", "crv": "Ed25519", "x": "11qYAYKxCrfVS_7TyWQHOg7hcvPapiMlrwIaaPcHURo"}}
     people = [Person("Erin"), Person("Frank")]
     creates = [one.create(add_services(HOME)) for one in people]
-    batches = [batch(creates), batch([people[0].update(creates[0].suffix, 0, add_services(SHOP))]),
+    batches = [batch(creates), batch([people[0].update(creates[0].suffix, 0, add_services(SHOP), add_keys(key))]),
                batch([people[1].deactivate(creates[1].suffix, 0)])]
     os.makedirs(os.path.join(path, "files"), exist_ok=True)
     for n, made in enumerate(batches):

@@ -15,7 +15,7 @@ import tempfile
 
 sys.dont_write_bytecode = True
 TOP = os.path.dirname(os.path.dirname(os.path.abspath(__file__)))
-sys.path.append(os.path.join(TOP, "examples"))
+sys.path.append(os.path.join(TOP, "service"))
 import lms
 from client import Node
 from formats import (Key, add_services, base64url, batch, bytes_of, canonical, create, delta, hash_text, request, short_form,

@@ -1,59 +1,21 @@
 #!/usr/bin/env python3
-"""Follows a ledger and asks for identifiers, with the files on disk: an example of a program that drives a node.
+"""Reads a ledger and asks for identifiers, with the files on disk: an example of a program that drives a node.
 
 usage: examples/ask.py FOLDER [WORD..]
 
-FOLDER is as for examples/feed. The node gets the entries first, and then only those files for which it
-asks, until it wants none that is in the folder. WORDs are the program's words in place of `node`. Where
-the environment has SIDETREE, that program runs in place of the launcher.
+FOLDER/anchors has the entries, FOLDER/files the files under any names, FOLDER/dids the identifiers. The node gets the
+entries first, and then only those files for which it asks, until it wants none that is in the folder. An entry that gives
+nothing is named, and the status is then 3. WORDs are the program's words in place of `node`. The program is the built one,
+or the one that SIDETREE names in the environment.
 """
-import base64
-import hashlib
 import json
 import os
 import sys
 
 sys.dont_write_bytecode = True
+sys.path.append(os.path.join(os.path.dirname(os.path.dirname(os.path.abspath(__file__))), "service"))
 from client import Node, NodeEnded, Refused
-
-
-def base64url(data):
-    return base64.urlsafe_b64encode(data).rstrip(b"=").decode()
-
-
-def uri_of(data):
-    return base64url(b"\x12\x20" + hashlib.sha256(data).digest())
-
-
-def feed_wanted(node, files):
-    """Feeds the files that entries name, until the node wants none of these: one that it has read may name others.
-    Gives how many went in each round, and how many are still wanted."""
-    fed = []
-    while True:
-        wanted = node.wanted()
-        there = [uri for uri in wanted if uri in files]
-        if not there:
-            return fed, len(wanted)
-        for uri in there:
-            node.expect("have", "content " + base64url(files[uri]))
-        fed.append(len(there))
-
-
-def lines_of(*path):
-    """The lines of a file without their ends, however these are written, and without those that are empty."""
-    with open(os.path.join(*path), encoding="utf-8") as file:
-        return [line for line in file.read().splitlines() if line]
-
-
-def files_of(folder):
-    """The files of a folder by their URIs."""
-    found = {}
-    for entry in os.scandir(folder):
-        if entry.is_file():
-            with open(entry.path, "rb") as file:
-                data = file.read()
-            found[uri_of(data)] = data
-    return found
+from ledger import Files, fault_of_entry, feed_wanted, lines_of
 
 
 def tell(node, did):
@@ -70,14 +32,19 @@ def tell(node, did):
 
 
 def main(folder, *words):
+    status = 0
     with Node(*words) as node:
-        for line in lines_of(folder, "anchors"):
-            node.expect("anchored", "anchor " + line)
-        fed, left = feed_wanted(node, files_of(os.path.join(folder, "files")))
+        for line in lines_of(os.path.join(folder, "anchors")):
+            n = int(node.expect("anchored", "anchor " + line))
+            rule = fault_of_entry(node, n)
+            if rule:
+                print("ask.py: entry %d gives nothing (%s)" % (n, rule), file=sys.stderr)
+                status = 3
+        fed, left = feed_wanted(node, Files(os.path.join(folder, "files")))
         print("fed %s files, %d are still wanted" % (" and ".join(map(str, fed)) or "no", left))
-        for did in lines_of(folder, "dids"):
+        for did in lines_of(os.path.join(folder, "dids")):
             print(tell(node, did))
-        return node.end()
+        return node.end() or status
 
 
 if __name__ == "__main__":

@@ -3,19 +3,20 @@
 
 usage: examples/share.py FOLDER
 
-FOLDER is as for examples/feed. Both nodes get the entries, and the first one the files. Then the second asks
+FOLDER is as for examples/ask.py. Both nodes get the entries, and the first one the files. Then the second asks
 for what it wants, over a network that loses every third message, repeats every fifth, and carries the last
-one first. It asks anew until it wants nothing. Where the environment has SIDETREE, that program runs in place
-of the launcher.
+one first. It asks anew until it wants nothing. The program is the built one, or the one that SIDETREE names in the
+environment.
 """
 import base64
+import os
 import sys
 
-# So that no folder of compiled modules is left among the examples.
+# So that no folder of compiled modules is left.
 sys.dont_write_bytecode = True
-
-from ask import base64url, files_of, lines_of, uri_of
+sys.path.append(os.path.join(os.path.dirname(os.path.dirname(os.path.abspath(__file__))), "service"))
 from client import Node, NodeEnded, Refused
+from ledger import base64url, lines_of, read, uri_of
 
 MOST_URIS = 1_000
 LONGEST_FILE = 16_000_000
@@ -95,16 +96,16 @@ class Network:
 
 def main(folder):
     first, second, network = Adapter(Node()), Adapter(Node()), Network()
-    for line in lines_of(folder, "anchors"):
+    for line in lines_of(os.path.join(folder, "anchors")):
         first.node.expect("anchored", "anchor " + line)
         second.node.expect("anchored", "anchor " + line)
-    for data in files_of(folder + "/files").values():
-        first.keep(data)
+    for name in sorted(os.listdir(os.path.join(folder, "files"))):
+        first.keep(read(os.path.join(folder, "files", name)))
     while second.wanted():
         network.send(first, second, second.question())
         network.deliver_all()
     print("the second node has %d files of %d, and wants none" % (len(second.files), len(first.files)))
-    for did in lines_of(folder, "dids"):
+    for did in lines_of(os.path.join(folder, "dids")):
         alike = first.node.ask("resolve " + did) == second.node.ask("resolve " + did)
         print(did, "is answered alike" if alike else "is answered otherwise")
     return first.node.end() or second.node.end()

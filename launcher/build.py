@@ -362,9 +362,18 @@ def lock(file):
         return None
 
 
-def keep_kit(file):
-    """Writes down which kit has proved the program, for `sidetree --version`."""
-    with open(file, "wb") as kept:
+def commit_of(top):
+    """The commit of a checkout, with a word if files differ from it."""
+    found = subprocess.run(["git", "-C", top, "describe", "--always", "--dirty"], stdout=subprocess.PIPE,
+                           stderr=subprocess.DEVNULL, stdin=subprocess.DEVNULL, text=True, check=False) if shutil.which("git") else None
+    return found.stdout.strip() if found and found.stdout.strip() else "of no commit that git knows"
+
+
+def keep_origin(folder, commit):
+    """Writes down of which commit the program is and which kit has proved it, for `sidetree --version`."""
+    with open(os.path.join(folder, "commit"), "w", encoding="utf-8") as kept:
+        kept.write(commit + "\n")
+    with open(os.path.join(folder, "kit"), "wb") as kept:
         subprocess.run(["rt", "version"], stdout=kept, stdin=subprocess.DEVNULL, check=False)
 
 
@@ -374,14 +383,14 @@ def build(top, name):
         say("the kit's command rt is not on the path")
         return False
     held = lock(os.path.join(top, "crates.txt"))
-    began = time.time()
+    began, commit = time.time(), commit_of(top)
     if held and not Build(top, name).run():
         return False
     program = os.path.join(top, "crates", name, "out", name)
     if held and os.path.exists(program):
         # What is saved while it builds is newer, and is built next time.
         os.utime(program, (began, began))
-        keep_kit(os.path.join(os.path.dirname(program), "kit"))
+        keep_origin(os.path.dirname(program), commit)
     return True
 
 

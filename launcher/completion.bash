@@ -2,9 +2,9 @@
 _sidetree() {
     local word=${COMP_WORDS[COMP_CWORD]} before=" ${COMP_WORDS[*]:1:COMP_CWORD-1} " words
     if [ "$COMP_CWORD" = 1 ]; then
-        words="node wallet exchange generate"
-        # The launcher has words of its own. The program that it installs has none.
-        [[ $(head -c 2 -- "$(type -P -- "$1")" 2> /dev/null) == '#!' ]] && words+=" try test install --help --version"
+        words="node wallet exchange generate --help --version"
+        # The launcher of a checkout has words of its own.
+        [ -d "$(dirname -- "$(readlink -f -- "$(type -P -- "$1")")")/launcher" ] && words+=" try test install"
     elif [ "$before" = " try " ]; then
         words="node exchange"
     elif [[ $before == " node "* || $before == " try node "* ]]; then
