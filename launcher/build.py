@@ -37,6 +37,11 @@ SORTING = 0.030
 LAST_LINES = 30
 
 
+# The levels of x86-64 that the program may be built for. The second has AVX2, and needs these flags of Linux.
+PORTABLE, WITH_AVX2 = "x86-64-v2", "x86-64-v3"
+FLAGS = {"avx2", "bmi1", "bmi2", "f16c", "fma", "abm", "movbe"}
+
+
 def say(text):
     print("sidetree: " + text, file=sys.stderr, flush=True)
 
@@ -108,6 +113,16 @@ def memory():
         return None
 
 
+def level_of_processor():
+    """The level that SIDETREE_CPU asks for, else the highest that this machine has."""
+    try:
+        with open("/proc/cpuinfo", encoding="ascii") as file:
+            flags = next((set(line.split()) for line in file if line.startswith("flags")), set())
+    except OSError:
+        flags = set()
+    return os.environ.get("SIDETREE_CPU") or (WITH_AVX2 if FLAGS <= flags else PORTABLE)
+
+
 def has_room(running, needed=A_CHECK):
     """Whether one more check fits beside those that are running: there is a processor, and memory for it and
     for those that have just begun."""
@@ -151,7 +166,7 @@ class Lane:
         self.place = os.path.join(build.crates_folder, name)
         self.log = os.path.join(self.folder, "log")
         self._copy(build)
-        words = ["rt", "run", "--jobs", build.jobs(), "--", "node"]
+        words = ["rt", "run", "--jobs", build.jobs(), *build.for_processor(), "--", "node"]
         if not os.path.exists(os.path.join(self.crate, "src", "main.rt")):
             words = ["rt", "lib", "--jobs", build.jobs()]
         with open(self.log, "wb") as log:
@@ -198,6 +213,7 @@ class Build:
         self.crates_folder = os.path.join(top, "crates")
         self.lanes = os.path.join(self.crates_folder, name, "out", "lanes")
         self.crates = crates_of(os.path.join(top, "crates.txt"))
+        self.level = level_of_processor()
         self.names = below(self.crates, name)
         self.times = self._times()
         self.done = {one for one in self.crates if one in self.names and one != name and self.is_done(one)}
@@ -276,6 +292,10 @@ class Build:
             return "100% done"
         share = 1 - sum(self.times[one] for one in self.left) / self.whole
         return "%d%% done, %s left" % (100 * share, minutes(self.forecast()))
+
+    def for_processor(self):
+        """What `rt` is told of the processor that the program is for."""
+        return [] if self.level == PORTABLE else ["--cpu=" + self.level]
 
     def jobs(self):
         """How many jobs the next check gets: a share of the processors."""
@@ -369,10 +389,12 @@ def commit_of(top):
     return found.stdout.strip() if found and found.stdout.strip() else "of no commit that git knows"
 
 
-def keep_origin(folder, commit):
-    """Writes down of which commit the program is and which kit has proved it, for `sidetree --version`."""
-    with open(os.path.join(folder, "commit"), "w", encoding="utf-8") as kept:
-        kept.write(commit + "\n")
+def keep_origin(folder, commit, level):
+    """Writes down of which commit the program is, for which processors, and which kit has proved it, for
+    `sidetree --version`."""
+    for what, text in (("commit", commit), ("level", level)):
+        with open(os.path.join(folder, what), "w", encoding="utf-8") as kept:
+            kept.write(text + "\n")
     with open(os.path.join(folder, "kit"), "wb") as kept:
         subprocess.run(["rt", "version"], stdout=kept, stdin=subprocess.DEVNULL, check=False)
 
@@ -384,13 +406,14 @@ def build(top, name):
         return False
     held = lock(os.path.join(top, "crates.txt"))
     began, commit = time.time(), commit_of(top)
-    if held and not Build(top, name).run():
+    work = Build(top, name) if held else None
+    if work and not work.run():
         return False
     program = os.path.join(top, "crates", name, "out", name)
     if held and os.path.exists(program):
         # What is saved while it builds is newer, and is built next time.
         os.utime(program, (began, began))
-        keep_origin(os.path.dirname(program), commit)
+        keep_origin(os.path.dirname(program), commit, work.level)
     return True
 
 

@@ -42,7 +42,7 @@ def installed(folder):
     install(built(folder), prefix)
     environment = bare(prefix)
     same(command("sidetree", "node", given=life("in"), env=environment).out, life("out").decode())
-    same(command("sidetree", "--version", env=environment).out, "sidetree %s, proved with rattle-kit-0z\n" % COMMIT)
+    same(command("sidetree", "--version", env=environment).out, "sidetree %s, proved with rattle-kit-0z, built for x86-64-v2\n" % COMMIT)
     usage = command("sidetree", "--help", env=environment)
     holds(usage.status == 0 and usage.out.startswith("usage: sidetree node") and "install" not in usage.out, usage.out)
     for name in TOOLS:
