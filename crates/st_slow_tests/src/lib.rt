@@ -7,3 +7,5 @@ mod batches;
 mod sizes;
 #[cfg(test)]
 mod wallets;
+#[cfg(test)]
+mod workloads;
