@@ -9,3 +9,5 @@ mod signatures;
 mod sizes;
 #[cfg(test)]
 mod wallets;
+#[cfg(test)]
+mod workloads;

@@ -1,4 +1,5 @@
 //! Wallets whose signatures take long.
+mod lives;
 mod stops;
 mod two_levels;
 

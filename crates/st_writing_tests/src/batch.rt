@@ -3,8 +3,8 @@ mod making;
 mod samples;
 
 use crate::batch::samples::named;
-use st_batch::{Queue, SubmitRefused};
 use st_base::Work;
+use st_batch::{Queue, SubmitRefused};
 use st_hash::{Hash, hash_text};
 use st_params::Schedule;
 use std::test::Fail;

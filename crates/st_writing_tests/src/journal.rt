@@ -3,9 +3,9 @@ ghost use Rattle.std.specs.Prelude.{◌≤◌, length};
 mod images;
 mod stops;
 
-use st_journal::{AppendRefused, Journal, open_journal};
 use st_base::{Bytes, List, WantOfMemory};
 use st_io::ScriptDisk;
+use st_journal::{AppendRefused, Journal, open_journal};
 use std::alloc::Global;
 
 /// A disk with this image, of whose calls those behind the `last` fail.

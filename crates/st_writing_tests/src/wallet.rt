@@ -1,9 +1,9 @@
 mod lines;
 
-use st_wallet::{Wallet, WalletRefused};
 use st_base::{Bytes, WantOfMemory};
 use st_hash::{hash_text, hash256};
 use st_io::Disk;
+use st_wallet::{Wallet, WalletRefused};
 use std::alloc::Global;
 use std::test::Fail;
 

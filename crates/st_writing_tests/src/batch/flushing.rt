@@ -4,8 +4,8 @@
 use crate::batch::making::{many, submit_one};
 use crate::batch::samples::{SHORT_CREATE, WIDE_CREATE};
 use crate::batch::submit_all;
-use st_batch::{Batch, FlushRefused, Queue, SubmitRefused};
 use st_base::Work;
+use st_batch::{Batch, FlushRefused, Queue, SubmitRefused};
 use st_datafiles::Role;
 use st_hash::{SHA_256, SHA_512};
 use st_params::{Params, Schedule};

@@ -1,7 +1,7 @@
 //! Queues of many creates.
 
-use st_batch::{Queue, SubmitRefused};
 use st_base::{WantOfMemory, Work};
+use st_batch::{Queue, SubmitRefused};
 use st_hash::{hash_text, hash_with};
 use st_params::Params;
 use std::alloc::Global;
@@ -33,13 +33,7 @@ pub(crate) fn submit_one(
 }
 
 /// A queue of so many; those that are refused are left out.
-pub(crate) fn many(
-    rt: &HostRuntime,
-    params: &Params,
-    kind: &str,
-    code: u8,
-    count: u32,
-) -> Queue {
+pub(crate) fn many(rt: &HostRuntime, params: &Params, kind: &str, code: u8, count: u32) -> Queue {
     let mut queue = Queue::new(rt.alloc());
     for number in 0..count {
         let _answer = submit_one(rt, &mut queue, params, kind, code, number);

@@ -1,7 +1,7 @@
 use super::{append_line, disk_of};
-use st_journal::{JournalRefused, Opening, open_journal};
 use st_base::{Bytes, WantOfMemory};
 use st_io::Pick;
+use st_journal::{JournalRefused, Opening, open_journal};
 use std::alloc::Global;
 use std::test::Fail;
 

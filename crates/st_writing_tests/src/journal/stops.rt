@@ -2,9 +2,9 @@ ghost use Rattle.std.specs.Prelude.{◌<◌, ◌^◌};
 ghost use Rattle.st_journal.specs.Moments.{IsReady};
 
 use super::{append_line, disk_of, is_done};
-use st_journal::{Journal, open_journal};
 use st_base::{Bytes, List, WantOfMemory};
 use st_io::{Disk, Pick, ScriptDisk};
+use st_journal::{Journal, open_journal};
 use std::alloc::Global;
 use std::test::Fail;
 
