@@ -1,4 +1,4 @@
-ghost use Rattle.std.specs.Prelude.{◌+◌, ◌*◌, ◌%◌, ◌^◌, [], ◌∷◌, ◌++◌};
+ghost use Rattle.std.specs.Prelude.{◌≡◌, ◌+◌, ◌*◌, ◌%◌, ◌^◌, [], ◌∷◌, ◌++◌};
 
 use st_base::{Copied, List, WantOfMemory, Work};
 use st_opindex::{Folder, Index};
@@ -158,13 +158,17 @@ fn gathered(alloc: Global, work: &mut Work) -> Result<Lists, WantOfMemory> {
     Ok(index.put(alloc, 1, 6, 100)?)
 }
 
-fn are_cut_at_14(index: &Lists) -> bool {
+fn are_cut_at_14(index: &Lists) -> bool
+    requires { index.now.changes ≡ [] }
+{
     index.state(&0).as_slice() == [18, 16, 14].as_slice()
         && index.state(&1).as_slice() == [19, 100, 15].as_slice()
         && index.items(&1) == [(2, 19), (6, 100), (10, 15)].as_slice()
 }
 
-fn are_cut_at_0(index: &Lists) -> bool {
+fn are_cut_at_0(index: &Lists) -> bool
+    requires { index.now.changes ≡ [] }
+{
     index.state(&1).len() == 0 && index.items(&1).len() == 0
 }
 
@@ -185,7 +189,9 @@ fn a_state_may_own_memory(rt: HostRuntime) -> Result<(), Fail> {
 const PLACES: usize = 30;
 
 // Whether a key has the items that its places have, in their order. A place with 0 has none.
-fn is_plain(alloc: Global, index: &Lists, items: &[u64], key: usize) -> Result<bool, WantOfMemory> {
+fn is_plain(alloc: Global, index: &Lists, items: &[u64], key: usize) -> Result<bool, WantOfMemory>
+    requires { index.now.changes ≡ [] }
+{
     let mut fold = Vec::new(alloc);
     for item in items.iter().skip(key.saturating_mul(PLACES)).take(PLACES) {
         if *item != 0 {

@@ -9,7 +9,8 @@ use std::test::Fail;
 
 fn reads_what_was_written(disk: &mut PlainDisk) -> bool {
     let mut room = [0u8; 3];
-    disk.write_at(2, b"xyz") == Ok(())
+    disk.length() == Ok(3)
+        && disk.write_at(2, b"xyz") == Ok(())
         && disk.write_at(0, b"A") == Ok(())
         && disk.sync() == Ok(())
         && disk.length() == Ok(5)
@@ -53,7 +54,9 @@ fn leaves(alloc: Global, disk: &ScriptDisk, pick: Pick, want: &[u8]) -> bool {
 }
 
 fn leaves_what_is_picked(alloc: Global, disk: &mut ScriptDisk) -> bool {
-    disk.write_at(1, b"XY") == Ok(())
+    disk.length() == Ok(4)
+        && disk.write_at(1, b"XY") == Ok(())
+        && disk.length() == Ok(4)
         && disk.write_at(2, b"VZW") == Ok(())
         && leaves(alloc, disk, Pick::Old, b"abcd\0")
         && leaves(alloc, disk, Pick::New, b"aXVZW")
