@@ -1,6 +1,7 @@
 use st_base::{List, Text, WantOfMemory, Work};
 use st_generate::{Plan, read_plan, run_generate};
 use st_io::{PlainSink, ScriptSink, Sink};
+use st_node::Node;
 use std::alloc::Global;
 use std::test::Fail;
 
@@ -29,7 +30,7 @@ fn run<K: Sink>(alloc: Global, sink: &mut K, work: &mut Work) -> u8 {
         dids: 1,
         rounds: 0,
     };
-    run_generate(alloc, plan, sink, work)
+    run_generate::<Node, K>(alloc, plan, sink, work)
 }
 
 fn writes_the_smallest(alloc: Global, work: &mut Work) -> bool {

@@ -3,6 +3,7 @@ mod orders;
 use self::orders::ORDERS;
 use st_base::{WantOfMemory, Work};
 use st_network::{Network, exchange_law};
+use st_node::{Node, alike_law};
 use std::alloc::Global;
 use std::test::Fail;
 
@@ -89,7 +90,7 @@ refused line command
 ";
 
 // Four nodes.
-type Nodes = Network;
+type Nodes = Network<Node>;
 
 // The nodes after a line, if it gives this reply.
 fn told(
@@ -140,7 +141,8 @@ fn replies_so(rt: &HostRuntime, session: &'static str) -> Result<(), Fail> {
 
 #[test]
 fn each_line_has_its_reply(rt: HostRuntime) -> Result<(), Fail> {
-    exchange_law();
+    exchange_law::<Node>();
+    alike_law();
     replies_so(&rt, LINES)
 }
 

@@ -3,6 +3,7 @@ use st_base::{Bytes, WantOfMemory, Work};
 use st_generate::{Plan, run_generate};
 use st_hash::{hash_text, hash256};
 use st_io::PlainSink;
+use st_node::Node;
 use st_workload::{Identity, all_identities};
 use std::alloc::Global;
 use std::test::Fail;
@@ -22,7 +23,7 @@ fn sums_up(alloc: Global, work: &mut Work) -> bool {
         rounds: 4,
     };
     let mut sink = PlainSink::new(alloc);
-    run_generate(alloc, plan, &mut sink, work) == 0
+    run_generate::<Node, _>(alloc, plan, &mut sink, work) == 0
         && sink.written().as_slice() == SUMMARY.as_bytes()
 }
 
