@@ -11,3 +11,5 @@ mod made;
 mod observer;
 #[cfg(test)]
 mod resolve;
+#[cfg(test)]
+mod words;

@@ -1,6 +1,7 @@
 //! Operations made by hand. Each key is named by a letter, with which its nonce begins. Nothing here is
 //! signed, since a step looks at claims alone.
 
+use crate::words::three;
 use st_base::{Shared, Text};
 use st_canon::{Json, KeptText, PackedJson, read};
 use st_hash::{Hash, hash_text, hash256};
@@ -178,10 +179,8 @@ fn with_delta(
 /// of the update commitment of its delta, and the service that this adds. A delta that adds `x` fails,
 /// and where it adds `-` there is none.
 pub(crate) fn operation(alloc: Global, line: &str) -> Option<Operation> {
-    let (kind, rest) = line.split_once(' ')?;
-    let (name, rest) = rest.split_once(' ')?;
-    let (recovery, rest) = rest.split_once(' ')?;
-    let (next, adds) = rest.split_once(' ')?;
+    let (kind, name, rest) = three(line)?;
+    let (recovery, next, adds) = three(rest)?;
     if kind == "deactivate" {
         return deactivate(alloc, name);
     }

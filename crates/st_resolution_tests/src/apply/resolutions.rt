@@ -1,5 +1,6 @@
 use super::walking::walk;
 use crate::made::{committed, operation};
+use crate::words::three;
 use st_apply::{DidState, StateParts, alike_law, anchored_law, apply, given_law, resolution_laws};
 use st_base::{Copied, List, WantOfMemory, Work};
 use st_canon::Json;
@@ -72,10 +73,7 @@ fn is_active(
     document: &Document,
     words: &str,
 ) -> bool {
-    let Some((name, rest)) = words.split_once(' ') else {
-        return false;
-    };
-    let Some((next, ids)) = rest.split_once(' ') else {
+    let Some((name, next, ids)) = three(words) else {
         return false;
     };
     is_of_key(alloc, recovery, name)

@@ -121,7 +121,7 @@ fn right_is_accepted(
     Ok(is_accepted(rt, items, right, acting) && is_accepted(rt, items, &packed, acting))
 }
 
-// With an absent state in place of another it is not.
+// With an absent state in place of its own it is accepted only where no operation acts.
 fn other_state_is_refused(
     rt: &HostRuntime,
     items: &[CertItem],
@@ -129,7 +129,10 @@ fn other_state_is_refused(
     acting: u64,
 ) -> Result<bool, WantOfMemory> {
     let absent = with_finish(rt.alloc(), right, DidState::absent())?;
-    Ok(is_refused(rt, items, &absent) == (acting != 0))
+    if acting == 0 {
+        return Ok(is_accepted(rt, items, &absent, 0));
+    }
+    Ok(is_refused(rt, items, &absent))
 }
 
 // With this in place of its last verdict it is not.
@@ -184,9 +187,12 @@ fn is_so(rt: &HostRuntime, story: &str) -> Result<bool, WantOfMemory> {
     let Some((acting, lines)) = story.split_once('|') else {
         return Ok(false);
     };
-    match (acting.parse(), items(rt.alloc(), lines)) {
-        (Ok(acting), Some(items)) => is_told(rt, items.as_slice(), lines, acting),
-        _ => Ok(false),
+    let Ok(acting) = acting.parse() else {
+        return Ok(false);
+    };
+    match items(rt.alloc(), lines) {
+        Some(items) => is_told(rt, items.as_slice(), lines, acting),
+        None => Ok(false),
     }
 }
 

@@ -1,3 +1,4 @@
+use crate::words::three;
 use st_resolve::{DidRefused, read_did};
 use std::test::Fail;
 
@@ -49,11 +50,8 @@ fn read_as(rt: &HostRuntime, text: &str, version: &str) -> &'static str {
 }
 
 fn is_so(rt: &HostRuntime, line: &str) -> bool {
-    match line.split_once(' ') {
-        Some((version, rest)) => match rest.split_once(' ') {
-            Some((expected, text)) => read_as(rt, text, version) == expected,
-            None => false,
-        },
+    match three(line) {
+        Some((version, expected, text)) => read_as(rt, text, version) == expected,
         None => false,
     }
 }

@@ -1,4 +1,5 @@
 use crate::made::{operation, packed};
+use crate::words::three;
 use st_apply::{DidState, apply};
 use st_base::{Bytes, Copied, Work};
 use st_hash::{Hash, hash256, read_hash};
@@ -49,33 +50,40 @@ fn create(alloc: Global, delta_hash: Hash, delta: Option<&str>) -> Option<Operat
 fn stepped(
     alloc: Global,
     state: &DidState,
-    operation: Option<Operation>,
+    operation: &Operation,
     work: &mut Work,
 ) -> Option<DidState> {
-    let operation = operation?;
     let params = Schedule::with_second(0).newest();
-    apply(alloc, state, &operation, &params, work).ok()
+    apply(alloc, state, operation, &params, work).ok()
+}
+
+fn begun(
+    alloc: Global,
+    delta_hash: Hash,
+    delta: Option<&str>,
+    work: &mut Work,
+) -> Option<DidState> {
+    let create = create(alloc, delta_hash, delta)?;
+    stepped(alloc, &DidState::absent(), &create, work)
+}
+
+fn ended(alloc: Global, work: &mut Work) -> Option<DidState> {
+    let create = operation(alloc, "create - r u a")?;
+    let state = stepped(alloc, &DidState::absent(), &create, work)?;
+    let deactivate = operation(alloc, "deactivate r - - -")?;
+    stepped(alloc, &state, &deactivate, work)
 }
 
 // The state of this name.
 fn state(alloc: Global, name: &str, work: &mut Work) -> Option<DidState> {
-    let absent = DidState::absent();
     match name {
-        "created" => stepped(alloc, &absent, create(alloc, hash(OF_ABC)?, None), work),
+        "created" => begun(alloc, hash(OF_ABC)?, None, work),
         "described" => {
             let delta_hash = hash256(DESCRIBING.as_bytes());
-            stepped(
-                alloc,
-                &absent,
-                create(alloc, delta_hash, Some(DESCRIBING)),
-                work,
-            )
+            begun(alloc, delta_hash, Some(DESCRIBING), work)
         }
-        "deactivated" => {
-            let made = stepped(alloc, &absent, operation(alloc, "create - r u a"), work)?;
-            stepped(alloc, &made, operation(alloc, "deactivate r - - -"), work)
-        }
-        _ => Some(absent),
+        "deactivated" => ended(alloc, work),
+        _ => Some(DidState::absent()),
     }
 }
 
@@ -100,38 +108,35 @@ fn is_text(alloc: Global, text: &[u8], did: &str, expected: &str) -> bool {
     }
 }
 
-// Whether a copy of the identifier is rendered so where the state is of this name.
-fn is_rendered(alloc: Global, text: &str, name: &str, expected: &str, work: &mut Work) -> bool {
-    let (Some(did), Some(state)) = (copied_did(alloc, text), state(alloc, name, work)) else {
-        return false;
-    };
-    let params = Schedule::new().newest();
-    is_result(
-        alloc,
-        render(alloc, &did, &state, &params, work),
-        text,
-        expected,
-    )
-}
-
 fn copied_did(alloc: Global, text: &str) -> Option<Did> {
     let did = read_did(alloc, text.as_bytes(), 2).ok()?;
     did.copy(alloc).ok()
 }
 
+// Whether a copy of the identifier is rendered so where the state is of this name.
+fn is_rendered(
+    alloc: Global,
+    text: &str,
+    name: &str,
+    expected: &str,
+    work: &mut Work,
+) -> Option<bool> {
+    let did = copied_did(alloc, text)?;
+    let state = state(alloc, name, work)?;
+    let answer = render(alloc, &did, &state, &Schedule::new().newest(), work);
+    Some(is_result(alloc, answer, text, expected))
+}
+
 // Whether it is as the line says.
 pub(super) fn is_so(rt: &HostRuntime, line: &str) -> bool {
-    let Some((state, rest)) = line.split_once(' ') else {
-        return false;
-    };
-    let Some((counted, rest)) = rest.split_once(' ') else {
+    let Some((state, counted, rest)) = three(line) else {
         return false;
     };
     let Some((text, expected)) = rest.split_once(' ') else {
         return false;
     };
     let mut work = Work::new(rt);
-    is_rendered(rt.alloc(), text, state, expected, &mut work)
+    is_rendered(rt.alloc(), text, state, expected, &mut work) == Some(true)
         && counted.parse() == Ok(work.applies())
 }
 
