@@ -30,8 +30,8 @@ from build import Interrupted, clock, crates_of, die_of, has_room, interrupt, sa
 PROGRAM = "st_cli"
 # Its tests take minutes each without optimization. The gate runs them.
 SLOW = "st_slow_tests"
-# The seconds that a test or a session may take, and the bytes of memory that a run may.
-LIMIT = "240"
+# The seconds that a test or a session may take, on a machine that others use too, and the bytes of memory of a run.
+LIMIT = "900"
 A_TRY = 4_500_000_000
 
 
