@@ -46,14 +46,14 @@ def says(folder):
         holds("the node makes it" in keeper.said(), keeper.said())
         tool("feed", FOLDER, keeper.all)
     with Keeper(folder) as keeper:
-        holds("8135 bytes and 12 records" in keeper.said() and "with 3 entries" in keeper.said(), keeper.said())
+        holds("8435 bytes and 12 records" in keeper.said() and "with 3 entries" in keeper.said(), keeper.said())
         same(keeper.kill(), 0)
         same(keeper.said().count("\n"), 3, "the number of lines that it said")
 
 
 # What is asked on the socket `ask` of a node over the example's folder, and how the reply begins.
 ASKED = [
-    ("health", "health", "health entries 3 height 22 wanted 0 queued 0 journal 8135 memory "),
+    ("health", "health", "health entries 3 height 22 wanted 0 queued 0 journal 8435 memory "),
     ("health with a word", "health x", "refused keeper"),
     ("entry", "entry 0", "entry 20 2."), ("entry of none", "entry 3", "refused range"),
     ("entry of no number", "entry x", "refused line number"), ("entry with a zero", "entry 00", "refused line number"),
