@@ -4,6 +4,8 @@ import signal
 import socket
 import stat
 import subprocess
+import threading
+import time
 
 from client import Kept, NoKeeper
 from frame import (FOLDER, SERVICE, TOP, Keeper, Skipped, answers, asked, case, command, create, holds, pairs, same, table,
@@ -208,6 +210,27 @@ def slow(folder):
             same(keeper.kill(), 0)
     finally:
         os.environ["SIDETREE"] = before
+
+
+@case("SIGTERM ends it soon, with twenty askers that never pause")
+def busy(folder):
+    with Keeper(folder) as keeper:
+        def ask():
+            try:
+                with Kept(keeper.ask) as node:
+                    while True:
+                        node.ask("wanted")
+            except NoKeeper:
+                pass
+        askers = [threading.Thread(target=ask) for _ in range(20)]
+        for asker in askers:
+            asker.start()
+        time.sleep(0.5)
+        began = time.monotonic()
+        same(keeper.kill(), 0)
+        holds(time.monotonic() - began < 20, "it took %.1f s" % (time.monotonic() - began))
+        for asker in askers:
+            asker.join()
 
 
 @case("a service manager is told when it is ready")
