@@ -4,8 +4,8 @@
 usage: bench/dear.py
 
 Prints for each the length of the line, the most memory that the node had and how many times the line's length that is
-more than before it, what the node has afterwards, the processor time of the line, and the reply or the rule that `report` names. Where the environment has SIDETREE, that program runs in
-place of the launcher.
+more than before it, what the node has afterwards, the processor time of the line, and the reply or the rule that `report` names. The program is the
+built one, or the one that SIDETREE names in the environment.
 """
 import os
 import sys

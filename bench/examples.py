@@ -4,8 +4,8 @@
 usage: bench/examples.py [FOLDER]
 
 They go to examples/, or to FOLDER. The requests are signed by the wallet of the program, each person's with a vault
-of its own; only what the wallet refuses to sign is signed here. Where the environment has SIDETREE, that program runs
-in place of the launcher. What the sessions must print stands beside them in NAME.out. It comes from another program,
+of its own; only what the wallet refuses to sign is signed here. The program is the built one,
+or the one that SIDETREE names in the environment. What the sessions must print stands beside them in NAME.out. It comes from another program,
 which reads the formats in its own way, and is not written here.
 """
 import hashlib

@@ -4,7 +4,7 @@ the same, and looks that the page shows nothing else.
 
 usage: bench/worked.py
 
-Where the environment has SIDETREE, that program runs in place of the launcher. The last line is 'N values'; what is
+The program is the built one, or the one that SIDETREE names in the environment. The last line is 'N values'; what is
 otherwise is told before, and then the status is 1.
 """
 import hashlib

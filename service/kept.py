@@ -88,6 +88,10 @@ class Ledger:
         return 2 if self.later_from is not None and (self.height() or 0) >= self.later_from else 1
 
 
+class Ending(Exception):
+    """A line that came after the keeper had begun to end its node."""
+
+
 class KeptNode:
     """A node with a journal, its ledger, and the words of the keeper. One lock is held for each line."""
 
@@ -95,7 +99,7 @@ class KeptNode:
         self.path, self.began, self.answered = os.path.join(folder, "sidetree.journal"), time.monotonic(), 0
         self.later_from = next((int(word.partition("=")[2]) for word in options if word.startswith("--v2-at=")), None)
         self.node = Node("node", *options, "--journal", folder=folder, apart=True)
-        self.ledger = None
+        self.ledger, self.is_ending = None, False
 
     def wait(self):
         """Waits until the node has done its journal. Only then has it locked the file, so only then is the file's end
@@ -122,6 +126,8 @@ class KeptNode:
         """The reply to a line of the node's or of the keeper's own."""
         word, _, rest = line.partition(" ")
         own = OWN.get(word)
+        if self.is_ending:
+            raise Ending
         if own is None:
             return self.ask(line)
         with self.node.lock:

@@ -119,11 +119,11 @@ def fault_of_rest(rest, end):
     return None
 
 
-def fault_of(path):
-    """Why a node must not be started over a journal, or None."""
+def fault_of(path, take=lambda record: None):
+    """Why a node must not be started over a journal, or None. Each record is taken on the way."""
     journal = Journal(path)
     try:
-        journal.look()
+        journal.look(take)
         return journal.fault
     finally:
         journal.close()

@@ -6,6 +6,7 @@ import socketserver
 import threading
 
 from client import LONGEST_PATH, NodeEnded
+from kept import Ending
 from records import LONGEST_LINE
 
 # By its first word the longest line that a stranger may give, in bytes.
@@ -44,8 +45,8 @@ class Asker(socketserver.StreamRequestHandler):
             try:
                 reply = self.server.node.answer(line.decode("utf-8", "surrogateescape")) if rules.takes(line) else [
                     "refused keeper"]
-            except (NodeEnded, ValueError):
-                # A node that has ended, or is being ended.
+            except (NodeEnded, Ending, ValueError):
+                # The node has ended, or its input is closed.
                 return
             self.wfile.write("".join(one + "\n" for one in reply).encode("utf-8", "surrogateescape"))
 

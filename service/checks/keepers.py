@@ -4,6 +4,8 @@ import signal
 import socket
 import stat
 import subprocess
+import threading
+import time
 
 from client import Kept, NoKeeper
 from frame import (FOLDER, SERVICE, TOP, Keeper, Skipped, answers, asked, case, command, create, holds, pairs, same, table,
@@ -46,14 +48,15 @@ def says(folder):
         holds("the node makes it" in keeper.said(), keeper.said())
         tool("feed", FOLDER, keeper.all)
     with Keeper(folder) as keeper:
-        holds("8135 bytes and 12 records" in keeper.said() and "with 3 entries" in keeper.said(), keeper.said())
+        holds("8435 bytes and 12 records" in keeper.said() and "with 3 entries" in keeper.said(), keeper.said())
         same(keeper.kill(), 0)
-        same(keeper.said().count("\n"), 3, "the number of lines that it said")
+        said = [line for line in keeper.said().splitlines() if "starting for" not in line]
+        same(len(said), 3, "the number of lines that it said besides its progress")
 
 
 # What is asked on the socket `ask` of a node over the example's folder, and how the reply begins.
 ASKED = [
-    ("health", "health", "health entries 3 height 22 wanted 0 queued 0 journal 8135 memory "),
+    ("health", "health", "health entries 3 height 22 wanted 0 queued 0 journal 8435 memory "),
     ("health with a word", "health x", "refused keeper"),
     ("entry", "entry 0", "entry 20 2."), ("entry of none", "entry 3", "refused range"),
     ("entry of no number", "entry x", "refused line number"), ("entry with a zero", "entry 00", "refused line number"),
@@ -208,6 +211,27 @@ def slow(folder):
             same(keeper.kill(), 0)
     finally:
         os.environ["SIDETREE"] = before
+
+
+@case("SIGTERM ends it soon, with twenty askers that never pause")
+def busy(folder):
+    with Keeper(folder) as keeper:
+        def ask():
+            try:
+                with Kept(keeper.ask) as node:
+                    while True:
+                        node.ask("wanted")
+            except NoKeeper:
+                pass
+        askers = [threading.Thread(target=ask) for _ in range(20)]
+        for asker in askers:
+            asker.start()
+        time.sleep(0.5)
+        began = time.monotonic()
+        same(keeper.kill(), 0)
+        holds(time.monotonic() - began < 20, "it took %.1f s" % (time.monotonic() - began))
+        for asker in askers:
+            asker.join()
 
 
 @case("a service manager is told when it is ready")

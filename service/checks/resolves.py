@@ -43,6 +43,7 @@ def nothing(folder):
 # An identifier over the example's folder, what is changed there, the status, and what standard error has.
 ROWS = [
     ("one that is there", FIRST, nothing, [], 0, "ends with entry 2 at height 22, 0 files are missing"),
+    ("a key of it", FIRST + "#sign", nothing, [], 0, ""),
     ("a service of it", FIRST + "#home", nothing, [], 0, ""),
     ("a fragment that it has not", FIRST + "#nosuchkey", nothing, [], 5, "nothing named #nosuchkey"),
     ("a query and a path", FIRST + "/path?service=home", nothing, [], 0, ""),
@@ -83,6 +84,8 @@ def prints(folder):
         wanted = next(line for line in file if FIRST in line)
     same("resolved " + tool("resolve", FOLDER, FIRST).out, wanted)
     same(json.loads(tool("resolve", FOLDER, FIRST + "#home").out)["id"], "#home")
+    same(tool("resolve", FOLDER, FIRST + "#sign").out, '{"controller":"%s","id":"#sign","publicKeyJwk":{"crv":"Ed25519","kty":"OKP",'
+         '"x":"11qYAYKxCrfVS_7TyWQHOg7hcvPapiMlrwIaaPcHURo"},"type":"JsonWebKey2020"}\n' % FIRST)
     same(tool("resolve", FOLDER, FIRST + "#none").out, "")
 
 
