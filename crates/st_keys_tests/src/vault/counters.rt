@@ -64,14 +64,20 @@ fn is_next(alloc: Global, count: u32, left: u32) -> Result<bool, WantOfMemory> {
     }
 }
 
-/// Whether a vault none of whose counters is left hands itself back.
+/// Whether the vault hands itself back, since none of its counters is left.
+fn hands_itself_back<D: Disk>(disk: &mut D, vault: Vault) -> bool
+    requires { ReadsAs (D.reads disk.old) vault }
+{
+    match vault.reserve(disk) {
+        Err(ReserveRefused::Exhausted(vault)) => vault.left() == 0,
+        _ => false,
+    }
+}
+
 fn is_exhausted(alloc: Global) -> Result<bool, WantOfMemory> {
     let (mut disk, made) = spent_disk(alloc, 32)?;
     match open_vault(&mut disk) {
-        Ok(vault) => match vault.reserve(&mut disk) {
-            Err(ReserveRefused::Exhausted(vault)) => Ok(made && vault.left() == 0),
-            _ => Ok(false),
-        },
+        Ok(vault) => Ok(hands_itself_back(&mut disk, vault) && made),
         Err(_) => Ok(false),
     }
 }
