@@ -64,6 +64,7 @@ def follows(folder):
             same(done.status, status, done.err)
             holds(done.out.startswith(said) and done.out.endswith("0 missing\n"), "%s, not %s" % (done.out, said))
             same(entries_of(keeper.ask), lines)
+            same(follow(ledger, keeper).out, "%d entries: 0 taken back, 0 new; 0 files fed, 0 missing\n" % len(lines), "a second run")
 
 
 @case("follow names entries that give nothing, lines that are refused, files that are missing, and ledgers that shrink")

@@ -132,6 +132,10 @@ def packaged(folder):
     same(command(os.path.join(folder, "unpacked/usr/local/bin/sidetree"), "node", given="wanted\n").out, "wanted 0\n")
     sums = command("sha256sum", "-c", "SHA256SUMS", cwd=os.path.join(folder, "one"))
     same((sums.status, sums.out.count(": OK")), (0, 2))
+    write(os.path.join(folder, "built", "level"), "x86-64-v3\n")
+    done = command(os.path.join(SERVICE, "package"), program, os.path.join(folder, "three"))
+    same((done.status, done.err.count("\n")), (1, 1), "a program for newer processors")
+    os.remove(os.path.join(folder, "built", "level"))
     os.remove(os.path.join(folder, "built", "commit"))
     same(command(os.path.join(SERVICE, "package"), program, os.path.join(folder, "three")).status, 1, "the status without a commit")
 
