@@ -2,6 +2,7 @@ mod core_files;
 mod hash_texts;
 mod provisional_files;
 
+use crate::words::three;
 use st_base::{List, read_number};
 use st_canon::scan::CanonicalText;
 use st_canon::{Json, write};
@@ -43,8 +44,7 @@ fn spelled(alloc: Global, short: &str) -> Option<String> {
 
 // A case of a table: a version, a declared count, the answer, and the file.
 fn case_of(line: &str) -> Option<(u32, u32, &str, &str)> {
-    let (version, rest) = line.split_once(' ')?;
-    let (count, rest) = rest.split_once(' ')?;
+    let (version, count, rest) = three(line)?;
     let (answer, file) = rest.split_once(' ')?;
     let version = read_number(version.as_bytes(), 2)?;
     let count = read_number(count.as_bytes(), 10_000)?;

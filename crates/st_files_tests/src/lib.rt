@@ -7,3 +7,5 @@ mod datafiles;
 mod indexfiles;
 #[cfg(test)]
 mod ops;
+#[cfg(test)]
+mod words;

@@ -19,14 +19,20 @@ fn is_put(
     Ok(named == *uri && put == found)
 }
 
+fn are_put(alloc: Global, content: &mut Content, uri: &Hash) -> Result<bool, WantOfMemory> {
+    Ok(
+        is_put(alloc, content, b"abc", uri, Put::New)?
+            && is_put(alloc, content, b"abc", uri, Put::Had)?
+            && is_put(alloc, content, b"", &hash256(b""), Put::New)?,
+    )
+}
+
 fn stays(alloc: Global) -> Result<bool, WantOfMemory> {
     let mut content = Content::new(alloc);
     let uri = hash256(b"abc");
     Ok(
         hash_text(alloc, &uri)?.as_str() == OF_ABC
-            && is_put(alloc, &mut content, b"abc", &uri, Put::New)?
-            && is_put(alloc, &mut content, b"abc", &uri, Put::Had)?
-            && is_put(alloc, &mut content, b"", &hash256(b""), Put::New)?
+            && are_put(alloc, &mut content, &uri)?
             && is_file(&content, &uri, b"abc")
             && content.get(&hash256(b"{}")).is_none()
             && content.get(&hash_with(b"abc", SHA_512)).is_none(),

@@ -1,3 +1,4 @@
+use crate::words::three;
 use st_base::{Bytes, WantOfMemory};
 use st_content::Content;
 use st_exchange::{Answer, DecodeRefused, Message, answer, ask, decode, encode};
@@ -64,10 +65,7 @@ fn first_other(alloc: Global) -> Result<Option<&'static str>, WantOfMemory> {
 }
 
 fn is_answered(alloc: Global, content: &Content, line: &str) -> Result<bool, WantOfMemory> {
-    let Some((text, rest)) = line.split_once(' ') else {
-        return Ok(false);
-    };
-    let Some((wanted, told)) = rest.split_once(' ') else {
+    let Some((text, wanted, told)) = three(line) else {
         return Ok(false);
     };
     let bytes = decoded(alloc, text)?;

@@ -1,3 +1,4 @@
+use crate::words::three;
 use st_base::{Bytes, Copied, WantOfMemory, read_number};
 use st_hash::read_hash;
 use st_ledger::{Entry, Ledger, LedgerRefused, read_anchor};
@@ -34,24 +35,38 @@ fn is_entry(alloc: Global, entry: Option<&Entry>, height: u32) -> Result<bool, W
     Ok(copied.height == height && copied.text.as_slice() == b"text".as_slice())
 }
 
-fn never_falls(alloc: Global) -> Result<bool, WantOfMemory> {
-    let mut ledger = Ledger::new(alloc);
+fn is_filled(alloc: Global, ledger: &mut Ledger) -> Result<bool, WantOfMemory> {
     Ok(
         ledger.len() == 0
             && ledger.last_height() == 0
-            && is_appended(alloc, &mut ledger, 5, 0)?
-            && is_appended(alloc, &mut ledger, 5, 1)?
-            && is_appended(alloc, &mut ledger, 9, 2)?
-            && ledger.admits(8) == Err(LedgerRefused::HeightFalls(9))
-            && ledger.admits(9) == Ok(())
-            && ledger.entries().len() == 3
+            && is_appended(alloc, ledger, 5, 0)?
+            && is_appended(alloc, ledger, 5, 1)?
+            && is_appended(alloc, ledger, 9, 2)?,
+    )
+}
+
+fn admits_no_fall(ledger: &Ledger) -> bool {
+    ledger.admits(8) == Err(LedgerRefused::HeightFalls(9))
+        && ledger.admits(9) == Ok(())
+        && ledger.entries().len() == 3
+        && ledger.entry(3).is_none()
+}
+
+fn is_cut(ledger: &mut Ledger) -> bool {
+    ledger.len() == 3
+        && ledger.cut(1) == 2
+        && ledger.len() == 1
+        && ledger.last_height() == 5
+        && ledger.admits(5) == Ok(())
+}
+
+fn never_falls(alloc: Global) -> Result<bool, WantOfMemory> {
+    let mut ledger = Ledger::new(alloc);
+    Ok(
+        is_filled(alloc, &mut ledger)?
+            && admits_no_fall(&ledger)
             && is_entry(alloc, ledger.entry(2), 9)?
-            && ledger.entry(3).is_none()
-            && ledger.len() == 3
-            && ledger.cut(1) == 2
-            && ledger.len() == 1
-            && ledger.last_height() == 5
-            && ledger.admits(5) == Ok(()),
+            && is_cut(&mut ledger),
     )
 }
 
@@ -96,10 +111,7 @@ fn is_read(text: &[u8], params: &Params, wanted: &str) -> bool {
 }
 
 fn is_so(alloc: Global, case: &str) -> Result<bool, WantOfMemory> {
-    let Some((version, rest)) = case.split_once(' ') else {
-        return Ok(false);
-    };
-    let Some((wanted, text)) = rest.split_once(' ') else {
+    let Some((version, wanted, text)) = three(case) else {
         return Ok(false);
     };
     let text = text.replace(alloc, "*", URI)?;

@@ -9,3 +9,5 @@ mod content;
 mod exchange;
 #[cfg(test)]
 mod ledger;
+#[cfg(test)]
+mod words;

@@ -125,7 +125,13 @@ fn texts(alloc: Global, lines: &str) -> Result<List<KeptText>, WantOfMemory> {
 }
 
 fn are(texts: &[KeptText], lines: &str) -> bool {
-    texts.iter().map(KeptText::as_str).eq(lines.lines())
+    let mut lines = lines.lines();
+    for text in texts {
+        if lines.next() != Some(text.as_str()) {
+            return false;
+        }
+    }
+    lines.next().is_none()
 }
 
 // Whether a core proof file is read as these recovers and deactivates, one file in all.

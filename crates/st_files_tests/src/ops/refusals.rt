@@ -1,7 +1,9 @@
 use super::samples::request;
+use crate::words::three;
 use st_base::{WantOfMemory, Work};
 use st_ops::{RequestRefused, read_request};
-use st_params::Schedule;
+use st_params::{Params, Schedule};
+use std::alloc::Global;
 use std::test::Fail;
 
 // The version, what is replaced in the request and by what, how it is answered, and how many signed texts were
@@ -58,27 +60,31 @@ fn word(refused: RequestRefused) -> &'static str {
     }
 }
 
-// Whether bytes are answered so at the limits of this version.
-fn is_answered(rt: &HostRuntime, bytes: &[u8], version: u32, answer: &str, opened: &str) -> bool {
-    let params = Schedule::with_second(2).at(version);
-    let mut work = Work::new(rt);
-    let found = match read_request(rt.alloc(), bytes, &params, &mut work) {
+// How bytes are answered at these limits: `read`, or why they are refused.
+fn answer_of(alloc: Global, bytes: &[u8], params: &Params, work: &mut Work) -> &'static str {
+    match read_request(alloc, bytes, params, work) {
         Ok(_) => "read",
         Err(refused) => word(refused),
-    };
-    found == answer && work.proofs() == if opened == "1" { 1 } else { 0 }
+    }
+}
+
+// Whether bytes are answered so at the limits of this version, and so many signed texts are opened.
+fn is_answered(rt: &HostRuntime, bytes: &[u8], version: u32, answer: &str, opened: u64) -> bool {
+    let params = Schedule::with_second(2).at(version);
+    let mut work = Work::new(rt);
+    answer_of(rt.alloc(), bytes, &params, &mut work) == answer && work.proofs() == opened
 }
 
 // Whether the request of this name is answered as the case says.
 fn is_so(rt: &HostRuntime, name: &str, case: &str) -> Result<bool, WantOfMemory> {
-    let mut words = case.split(' ');
-    let version = if words.next() == Some("1") { 1 } else { 2 };
-    let (Some(old), Some(new)) = (words.next(), words.next()) else {
+    let Some((version, old, rest)) = three(case) else {
         return Ok(false);
     };
-    let (Some(answer), Some(opened)) = (words.next(), words.next()) else {
+    let Some((new, answer, opened)) = three(rest) else {
         return Ok(false);
     };
+    let version = if version == "1" { 1 } else { 2 };
+    let opened = if opened == "1" { 1 } else { 0 };
     let changed = request(name).replace(rt.alloc(), old, new)?;
     Ok(is_answered(rt, changed.as_bytes(), version, answer, opened))
 }

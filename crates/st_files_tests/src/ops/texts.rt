@@ -1,4 +1,8 @@
+ghost use Rattle.st_ops.specs.Operation.{plain_operation};
+ghost use Rattle.st_ops.specs.Request.{IsComplete};
+
 use super::samples::request;
+use crate::words::three;
 use st_base::{Copied, WantOfMemory, Work};
 use st_hash::{Hash, hash_text};
 use st_ops::{Claim, Operation, claim_of, read_request, suffix, write_request};
@@ -18,26 +22,40 @@ fn is(alloc: Global, hash: &Hash, text: &str) -> Result<bool, WantOfMemory> {
     Ok(hash_text(alloc, hash)?.as_str() == text)
 }
 
+fn is_update(alloc: Global, delta_hash: &Hash, words: &str) -> Result<bool, WantOfMemory> {
+    match words.strip_prefix("update ") {
+        Some(text) => is(alloc, delta_hash, text),
+        None => Ok(false),
+    }
+}
+
+fn is_recover(
+    alloc: Global,
+    recovery_commitment: &Hash,
+    delta_hash: &Hash,
+    words: &str,
+) -> Result<bool, WantOfMemory> {
+    match three(words) {
+        Some((kind, first, second)) => Ok(
+            kind == "recover"
+                && is(alloc, recovery_commitment, first)?
+                && is(alloc, delta_hash, second)?,
+        ),
+        None => Ok(false),
+    }
+}
+
 fn is_claim(alloc: Global, claim: &Option<Claim>, words: &str) -> Result<bool, WantOfMemory> {
-    match (claim, words.split_once(' ')) {
-        (None, None) => Ok(words == "nothing"),
-        (Some(Claim::Deactivate), None) => Ok(words == "deactivate"),
-        (Some(Claim::Update { delta_hash }), Some(("update", text))) => is(alloc, delta_hash, text),
-        (
-            Some(
-                Claim::Recover {
-                    recovery_commitment,
-                    delta_hash,
-                },
-            ),
-            Some(("recover", texts)),
-        ) => match texts.split_once(' ') {
-            Some((first, second)) => {
-                Ok(is(alloc, recovery_commitment, first)? && is(alloc, delta_hash, second)?)
-            }
-            None => Ok(false),
-        },
-        _ => Ok(false),
+    match claim {
+        None => Ok(words == "nothing"),
+        Some(Claim::Deactivate) => Ok(words == "deactivate"),
+        Some(Claim::Update { delta_hash }) => is_update(alloc, delta_hash, words),
+        Some(
+            Claim::Recover {
+                recovery_commitment,
+                delta_hash,
+            },
+        ) => is_recover(alloc, recovery_commitment, delta_hash, words),
     }
 }
 
@@ -48,7 +66,9 @@ fn is_shown(
     params: &Params,
     request: &str,
     words: &str,
-) -> Result<bool, WantOfMemory> {
+) -> Result<bool, WantOfMemory>
+    requires { IsComplete (plain_operation operation.now) }
+{
     let Some((named, claim)) = words.split_once(' ') else {
         return Ok(false);
     };
@@ -59,22 +79,30 @@ fn is_shown(
     )
 }
 
-// Whether a copy of what the request is read as is as the case says.
+// The same of a copy of the operation.
+fn is_copied(
+    alloc: Global,
+    operation: &Operation,
+    params: &Params,
+    request: &str,
+    words: &str,
+) -> Result<bool, WantOfMemory>
+    requires { IsComplete (plain_operation operation.now) }
+{
+    let copied = operation.copy(alloc)?;
+    is_shown(alloc, &copied, params, request, words)
+}
+
+// Whether what the request is read as is as the case says.
 fn is_so(rt: &HostRuntime, case: &str) -> Result<bool, WantOfMemory> {
-    let Some((name, rest)) = case.split_once(' ') else {
-        return Ok(false);
-    };
-    let Some((version, words)) = rest.split_once(' ') else {
+    let Some((name, version, words)) = three(case) else {
         return Ok(false);
     };
     let version = if version == "1" { 1 } else { 2 };
     let params = Schedule::with_second(2).at(version);
     let bytes = request(name).as_bytes();
     match read_request(rt.alloc(), bytes, &params, &mut Work::new(rt)) {
-        Ok(operation) => {
-            let operation = operation.copy(rt.alloc())?;
-            is_shown(rt.alloc(), &operation, &params, request(name), words)
-        }
+        Ok(operation) => is_copied(rt.alloc(), &operation, &params, request(name), words),
         Err(_) => Ok(false),
     }
 }

@@ -1,5 +1,6 @@
 use super::files::{FULL, FULL_TEXT, LONE, LONE_TEXT, SHARED};
 use super::stands;
+use crate::words::three;
 use st_base::WantOfMemory;
 use std::test::Fail;
 
@@ -17,10 +18,7 @@ x A1 {}
 
 // Whether the entry stands so. A bad anchor string asks for no file.
 fn is_judged(rt: &HostRuntime, case: &str) -> Result<bool, WantOfMemory> {
-    let Some((text, rest)) = case.split_once(' ') else {
-        return Ok(false);
-    };
-    let Some((rule, file)) = rest.split_once(' ') else {
+    let Some((text, rule, file)) = three(case) else {
         return Ok(false);
     };
     let files = if rule.starts_with('A') { 0 } else { 1 };

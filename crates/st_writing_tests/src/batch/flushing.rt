@@ -7,7 +7,6 @@ use crate::batch::submit_all;
 use st_base::Work;
 use st_batch::{Batch, FlushRefused, Queue, SubmitRefused};
 use st_datafiles::Role;
-use st_hash::{SHA_256, SHA_512};
 use st_params::{Params, Schedule};
 use std::alloc::Global;
 
@@ -114,15 +113,15 @@ fn takes_the_last(alloc: Global, queue: Queue, params: &Params) -> bool {
 #[test]
 fn a_batch_of_version_1_takes_a_thousand(rt: HostRuntime) {
     let params = Schedule::new().at(0);
-    let queue = many(&rt, &params, SHORT_CREATE, SHA_256, 1_001);
+    let queue = many(&rt, &params, SHORT_CREATE, false, 1_001);
     assert!(rt; takes_a_thousand(rt.alloc(), queue, &params));
 }
 
 // Whether one request more finds ten thousand queued, and leaves so many.
 fn is_full(rt: &HostRuntime, params: &Params) -> bool {
-    let mut queue = many(rt, params, SHORT_CREATE, SHA_256, 10_000);
+    let mut queue = many(rt, params, SHORT_CREATE, false, 10_000);
     let before = queue.len();
-    let answer = submit_one(rt, &mut queue, params, SHORT_CREATE, SHA_256, 10_000);
+    let answer = submit_one(rt, &mut queue, params, SHORT_CREATE, false, 10_000);
     before == 10_000 && answer == Err(SubmitRefused::QueueFull) && queue.len() == 10_000
 }
 
@@ -134,7 +133,7 @@ fn ten_thousand_are_queued_and_no_more(rt: HostRuntime) {
 // Whether a batch of creates with wide hashes, at the limits of version 2, is cut by its core index file.
 fn is_cut(rt: &HostRuntime) -> bool {
     let params = Schedule::with_second(0).at(0);
-    let queue = many(rt, &params, WIDE_CREATE, SHA_512, 4_400);
+    let queue = many(rt, &params, WIDE_CREATE, true, 4_400);
     match rest_after(rt.alloc(), queue, &params, "4309.", 3) {
         Some(rest) => rest.len() == 91,
         None => false,

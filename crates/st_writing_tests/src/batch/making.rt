@@ -2,13 +2,14 @@
 
 use st_base::{WantOfMemory, Work};
 use st_batch::{Queue, SubmitRefused};
-use st_hash::{hash_text, hash_with};
+use st_hash::{SHA_256, SHA_512, hash_text, hash_with};
 use st_params::Params;
 use std::alloc::Global;
 
-// The request for a create of this kind, with a commitment by this algorithm. The number tells its suffix
-// from those of others.
-fn request(alloc: Global, kind: &str, code: u8, number: u32) -> Result<String, WantOfMemory> {
+// The request for a create of this kind, with a commitment by SHA-512 if it is wide, else by SHA-256. The
+// number tells its suffix from those of others.
+fn request(alloc: Global, kind: &str, wide: bool, number: u32) -> Result<String, WantOfMemory> {
+    let code = if wide { SHA_512 } else { SHA_256 };
     let commitment = hash_text(alloc, &hash_with(&number.to_be_bytes(), code))?;
     Ok(kind.replace(alloc, "*", commitment.as_str())?)
 }
@@ -19,11 +20,11 @@ pub(crate) fn submit_one(
     queue: &mut Queue,
     params: &Params,
     kind: &str,
-    code: u8,
+    wide: bool,
     number: u32,
 ) -> Result<(), SubmitRefused> {
     let mut work = Work::new(rt);
-    match request(rt.alloc(), kind, code, number) {
+    match request(rt.alloc(), kind, wide, number) {
         Ok(request) => match queue.submit(rt.alloc(), request.as_bytes(), params, &mut work) {
             Ok(_) => Ok(()),
             Err(refused) => Err(refused),
@@ -33,10 +34,10 @@ pub(crate) fn submit_one(
 }
 
 /// A queue of so many; those that are refused are left out.
-pub(crate) fn many(rt: &HostRuntime, params: &Params, kind: &str, code: u8, count: u32) -> Queue {
+pub(crate) fn many(rt: &HostRuntime, params: &Params, kind: &str, wide: bool, count: u32) -> Queue {
     let mut queue = Queue::new(rt.alloc());
     for number in 0..count {
-        let _answer = submit_one(rt, &mut queue, params, kind, code, number);
+        let _answer = submit_one(rt, &mut queue, params, kind, wide, number);
     }
     queue
 }
