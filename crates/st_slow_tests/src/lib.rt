@@ -4,6 +4,8 @@
 #[cfg(test)]
 mod batches;
 #[cfg(test)]
+mod large_files;
+#[cfg(test)]
 mod signatures;
 #[cfg(test)]
 mod sizes;

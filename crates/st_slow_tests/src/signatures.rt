@@ -108,9 +108,10 @@ fn signs(
 fn signs_line(alloc: Global, secret: &Secret, signer: &Signer, line: &str) -> bool
     requires { signer.now ≡ secret.now }
 {
-    let Some((q, message, digest)) = case_of(line) else {
+    let Some(case) = case_of(line) else {
         return false;
     };
+    let (q, message, digest) = case;
     match hex::decode(alloc, message) {
         Ok(message) => match signs(alloc, secret, signer, q, message.as_slice(), digest) {
             Ok(right) => right,
@@ -142,9 +143,10 @@ fn signs_so(alloc: Global, text: &str) -> bool {
     let Some((first, lines)) = text.split_once('\n') else {
         return false;
     };
-    let Some((secret, written)) = keys_of(first) else {
+    let Some(keys) = keys_of(first) else {
         return false;
     };
+    let (secret, written) = keys;
     match Signer::new(alloc, &secret) {
         Ok(signer) => is_public(&secret, &signer, &written)
             && signs_all(alloc, &secret, &signer, lines),

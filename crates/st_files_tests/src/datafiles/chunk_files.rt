@@ -1,4 +1,4 @@
-use super::{case_of, spaces};
+use super::case_of;
 use st_base::{Bytes, Copied, FileRefused, List, Shared, WantOfMemory, Work};
 use st_canon::{Json, PackedJson, equal, read, write};
 use st_datafiles::{Role, read_chunk, write_chunk};
@@ -78,6 +78,12 @@ fn a_chunk_file_fails_its_first_rule(rt: HostRuntime) -> Result<(), Fail> {
         assert!(rt; is_so(&rt, case)?, "{case}");
     }
     Ok(())
+}
+
+// So many spaces.
+fn spaces(alloc: Global, count: usize) -> Result<Bytes, WantOfMemory> {
+    let bytes = vec![in alloc; b' '; count]?;
+    Bytes::from_slice(alloc, bytes.as_slice())
 }
 
 #[test]

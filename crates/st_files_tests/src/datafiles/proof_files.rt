@@ -1,4 +1,4 @@
-use super::{case_of, spaces};
+use super::case_of;
 use st_base::{Bytes, Copied, FileRefused, List, Shared, Text, WantOfMemory, Work};
 use st_canon::KeptText;
 use st_datafiles::{
@@ -97,21 +97,6 @@ fn a_provisional_proof_file_fails_its_first_rule(rt: HostRuntime) -> Result<(), 
     for case in PROVISIONAL.lines() {
         assert!(rt; is_so(&rt, case, false)?, "{case}");
     }
-    Ok(())
-}
-
-// Whether files of so many spaces are answered so.
-fn spaces_are(rt: &HostRuntime, size: usize, answer: &str) -> Result<bool, WantOfMemory> {
-    Ok(
-        core_is(rt, spaces(rt.alloc(), size)?, 1, answer)?
-            && provisional_is(rt, spaces(rt.alloc(), size)?, 1, answer)?,
-    )
-}
-
-#[test]
-fn a_proof_file_has_a_largest_size(rt: HostRuntime) -> Result<(), Fail> {
-    assert!(rt; spaces_are(&rt, 16_000_000, "Q2")?);
-    assert!(rt; spaces_are(&rt, 16_000_001, "Q1")?);
     Ok(())
 }
 

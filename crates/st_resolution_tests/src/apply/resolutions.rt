@@ -11,8 +11,8 @@ use st_params::Schedule;
 use std::alloc::Global;
 use std::test::Fail;
 
-// The state that operations leave: the keys of its recovery and its update commitment, and its services; and
-// behind the bar the operations in the order of their places.
+// The state that operations leave: the keys of its recovery and its update commitment, and its services.
+// After the bar: the operations in the order of their places.
 const CASES: &str = "active r v (bd)|update u - v a;create - r u b;create - r u c;update u - v d
 active q v (b)|create - r u a;recover r q v b;recover r p w c
 active r v (ac)|create - r u a;update v - w b;update u - v c
@@ -24,8 +24,8 @@ active r u (a)|create - r u a;recover u q v b;update r - v c
 deactivated|create - r u a;deactivate r - - -;recover r q v b;create - r u a
 absent|deactivate r - - -;recover r q v b";
 
-// How many operations are counted where the state is opened that the operations behind the bar leave. What a
-// create began is looked at where it is opened; what an update left was looked at.
+// How many operations are counted when the state is opened. The operations after the bar leave the state.
+// Opening looks at the delta of a create, unless an update has looked at it before.
 const OPENED: &str = "0|
 1|create - r u a
 0|create - r u a;update u - v b";

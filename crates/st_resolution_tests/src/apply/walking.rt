@@ -1,5 +1,5 @@
 //! Resolution from nothing as a person follows it: by searches over all operations, from the first
-//! create along recovers and deactivates, and then along the updates behind the last of these.
+//! create along recovers and deactivates, and then along the updates after the last of these.
 
 use st_apply::{DidState, StateParts, apply, counts_for};
 use st_base::{WantOfMemory, Work};
@@ -67,7 +67,7 @@ fn update_in(
     }
 }
 
-// The first recover or deactivate behind a place that meets the recovery commitment, and its place.
+// The first recover or deactivate after a place that meets the recovery commitment, and its place.
 fn next_full<'a>(
     alloc: Global,
     operations: &'a [Operation],
@@ -87,7 +87,7 @@ fn next_full<'a>(
     Ok(None)
 }
 
-// The first update behind a place that meets the update commitment and whose delta counts.
+// The first update after a place that meets the update commitment and whose delta counts.
 fn next_update<'a>(
     alloc: Global,
     operations: &'a [Operation],
@@ -117,7 +117,7 @@ fn start(operations: &[Operation]) -> Option<(usize, &Operation)> {
     None
 }
 
-/// The state that the operations resolve to, each standing at its place in the list.
+/// The state that the operations resolve to. The place of each is its index in the list.
 pub(crate) fn walk(
     alloc: Global,
     operations: &[Operation],

@@ -9,7 +9,7 @@ use st_params::Schedule;
 use std::alloc::Global;
 use std::test::Fail;
 
-// How many operations act, and behind the bar the operations in the order of their places, each with its verdict.
+// How many operations act. After the bar: the operations in the order of their places, each with its verdict.
 const STORIES: &str =
     "2|before update u - v a;created create - r u b;again create - r u c;updated update u - v d
 2|created create - r u a;recovered recover r q v b;wrongReveal recover r p w c
@@ -45,7 +45,7 @@ fn item(alloc: Global, place: u32, line: &str) -> Option<CertItem> {
     })
 }
 
-// The operations that are written so, each two places behind the one before it.
+// The operations that are written so, each two places after the one before it.
 fn items(alloc: Global, lines: &str) -> Option<List<CertItem>> {
     let mut items = List::new(alloc);
     let mut place = 0;
@@ -56,7 +56,7 @@ fn items(alloc: Global, lines: &str) -> Option<List<CertItem>> {
     Some(items)
 }
 
-// The certificate with this in place of its last verdict, or without that.
+// The certificate with this as its last verdict, or without its last verdict.
 fn with_last(
     alloc: Global,
     certificate: &Certificate,
@@ -121,7 +121,7 @@ fn right_is_accepted(
     Ok(is_accepted(rt, items, right, acting) && is_accepted(rt, items, &packed, acting))
 }
 
-// With an absent state in place of its own it is accepted only where no operation acts.
+// With an absent state it is accepted only if no operation acts.
 fn other_state_is_refused(
     rt: &HostRuntime,
     items: &[CertItem],
@@ -135,7 +135,7 @@ fn other_state_is_refused(
     Ok(is_refused(rt, items, &absent))
 }
 
-// With this in place of its last verdict it is not.
+// With this as its last verdict, or without its last verdict, it is refused.
 fn other_last_is_refused(
     rt: &HostRuntime,
     items: &[CertItem],
@@ -206,7 +206,7 @@ fn operations_have_their_verdicts(rt: HostRuntime) -> Result<(), Fail> {
     Ok(())
 }
 
-// The certificate of these items with the verdict `again` behind the others.
+// The certificate of these items with the verdict `again` after the others.
 fn with_again(rt: &HostRuntime, items: &[CertItem]) -> Option<Certificate> {
     let Certificate {
         mut verdicts,

@@ -19,7 +19,7 @@ fn word(state: &RoleState) -> &str {
     }
 }
 
-// Whether it stands so with the roles of an entry, or `none`: there is no entry.
+// Whether the roles of an entry have these states, or with `none`: there is no entry.
 fn reports(observer: &Observer, n: u32, words: &str) -> bool {
     match observer.report(n) {
         Some(states) => states.iter().map(word).eq(words.split(' ')),
@@ -95,7 +95,7 @@ fn place(held: &Held) -> Option<u32> {
     Some(held.place)
 }
 
-// Whether the operations of a suffix stand at these places in turn, or there are none.
+// Whether the operations of a suffix have these places in turn, or there are none.
 fn stand_at(alloc: Global, observer: &Observer, suffix: &Hash, places: &str) -> bool {
     match observer.items(alloc, suffix) {
         Ok(items) => if places == "none" {
@@ -228,7 +228,7 @@ fn is_seen(rt: &HostRuntime, observer: &Observer, applied: u64, look: &str) -> b
     }
 }
 
-// Whether all of these are seen, which stand between bars.
+// Whether all of these are seen. Bars separate them.
 pub(super) fn are_seen(rt: &HostRuntime, observer: &Observer, applied: u64, looks: &str) -> bool {
     for look in looks.split('|') {
         if !is_seen(rt, observer, applied, look) {

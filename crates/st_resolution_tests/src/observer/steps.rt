@@ -8,7 +8,7 @@ use st_observer::Observer;
 use st_params::Schedule;
 use std::alloc::Global;
 
-// What stands behind a name in a table.
+// The text after a name in a table.
 pub(super) fn found(table: &'static str, name: &str) -> Option<&'static str> {
     for line in table.lines() {
         if let Some((named, text)) = line.split_once(' ')
@@ -109,7 +109,7 @@ fn stepped(alloc: Global, observer: Observer, step: &str, work: &mut Work) -> Op
     }
 }
 
-// What there is after these steps more.
+// The observer after these further steps.
 pub(super) fn after(
     alloc: Global,
     observer: Observer,

@@ -1,4 +1,4 @@
-//! Stories: each line has steps, and behind a bar what is seen after them. A line that says nothing applies at
+//! Stories: each line has steps, and after a bar what is seen then. A line that says nothing applies at
 //! most 8 operations.
 use super::seen::are_seen;
 use super::steps::{after, are_known};
@@ -13,7 +13,7 @@ fn steps_of(line: &str) -> &str {
     }
 }
 
-// Whether it stands as the line says, or where it says nothing, as the words say that stand for all lines.
+// Whether the observer is as the line says, or if the line says nothing, as the words for all lines say.
 fn is_so(rt: &HostRuntime, observer: &Observer, applied: u64, line: &str, all: &str) -> bool {
     match line.split_once('|') {
         Some((steps, looks)) => { are_known(steps) && are_seen(rt, observer, applied, looks) }
@@ -21,7 +21,7 @@ fn is_so(rt: &HostRuntime, observer: &Observer, applied: u64, line: &str, all: &
     }
 }
 
-// The first line after which it stands otherwise.
+// The first line after which the observer is otherwise.
 pub(super) fn first_other(rt: &HostRuntime, story: &'static str) -> Option<&'static str> {
     first_other_under(rt, story, "applied 8")
 }

@@ -5,10 +5,11 @@ use super::keys_of;
 use std::test::Fail;
 
 fn has_its_public_key(line: &str) -> bool {
-    match keys_of(line) {
-        Some((secret, public)) => secret.public().write() == public,
-        None => false,
-    }
+    let Some(keys) = keys_of(line) else {
+        return false;
+    };
+    let (secret, public) = keys;
+    secret.public().write() == public
 }
 
 #[test]
