@@ -6,7 +6,7 @@ import subprocess
 import time
 
 from client import Kept
-from frame import (FOLDER, SERVICE, Batches, Keeper, answers, asked, case, copy_of_folder, holds, pairs, same, tool, until,
+from frame import (FOLDER, SERVICE, Batches, Keeper, asked, case, copy_of_folder, holds, pairs, same, tool, until,
                    write)
 from ledger import lines_of
 
@@ -143,7 +143,9 @@ def kills(folder):
         return process is None or process.poll() is not None
 
     put()
-    while sum(killed.values()) < 50:
+    rounds = 0
+    while rounds < 500 and (sum(killed.values()) < 50 or min(killed.values()) < 6):
+        rounds += 1
         if keeper.process.poll() is not None:
             keeper.log.close()
             keeper = Keeper(folder)
@@ -161,8 +163,9 @@ def kills(folder):
         if ended(follower):
             follower = subprocess.Popen([os.path.join(SERVICE, "follow"), path, files, keeper.all],
                                         stdout=subprocess.DEVNULL, stderr=subprocess.DEVNULL)
-        time.sleep(chance.random() * 0.25)
         who = chance.choice(list(killed))
+        # A follower that has done all ends by itself, so it is killed sooner.
+        time.sleep(chance.random() * (0.12 if who == "follower" else 0.25))
         try:
             if who == "follower" and not ended(follower):
                 follower.kill()
@@ -178,11 +181,17 @@ def kills(folder):
             continue
     if follower:
         follower.wait()
-    until(lambda: ended(keeper.process) or answers(keeper.ask))
-    if ended(keeper.process):
-        keeper = Keeper(folder)
+
+    # A keeper ends soon after its node was killed, and then another is started.
+    def has_followed():
+        nonlocal keeper
+        if ended(keeper.process):
+            keeper.log.close()
+            keeper = Keeper(folder)
+        return tool("follow", path, files, keeper.all).status == 0
+
+    until(has_followed, 60)
     with keeper:
-        until(lambda: tool("follow", path, files, keeper.all).status == 0, 60)
         same(entries_of(keeper.ask), lines, "the node's entries")
         same(pairs(asked(keeper.ask, "health")[0])["wanted"], "0")
         same(tool("journal", "check", keeper.journal).status, 0, "the status of journal check")
