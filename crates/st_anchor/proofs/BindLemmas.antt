@@ -1,6 +1,6 @@
 -- Reading the missing file of a role, where the core index is missing or was read.
 use Rattle.std.proofs.Common.{◌≡◌, ◌∙◌, ◌-◌, ℕ, List, Option, Some, None, refl, sym, ap, subst, arith}
-use Rattle.st_canon.specs.Shapes.{json_in}
+use Rattle.st_plain.specs.Shapes.{json_in}
 use Rattle.st_datafiles.specs.declared.role.Role.{Role}
 use Rattle.st_datafiles.specs.declared.role.Role.TheVariants.{Core, CoreProof, Provisional, ProvisionalProof, Chunk}
 use Rattle.st_hash.specs.Hash.{HashValue}

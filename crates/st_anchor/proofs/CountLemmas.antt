@@ -5,7 +5,7 @@
 --     opened_proofs-with    reading a file undoes no reading
 --     opened_proofs-up      nor does looking up
 use Rattle.std.proofs.Common.{◌≡◌, ◌∙◌, ◌+◌, ◌≤◌, ℕ, List, length, Option, Some, None, refl, ap, sym, arith}
-use Rattle.st_canon.specs.Shapes.{json_in}
+use Rattle.st_plain.specs.Shapes.{json_in}
 use Rattle.st_content.specs.Files.{Files}
 use Rattle.st_datafiles.specs.declared.role.Role.{Role}
 use Rattle.st_datafiles.specs.declared.role.Role.TheVariants.{Core, CoreProof, Provisional, ProvisionalProof, Chunk}

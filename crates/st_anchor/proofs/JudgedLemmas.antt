@@ -1,8 +1,8 @@
 -- What a reader answers is what the bytes make of the role; and how many signed texts there are.
 use Rattle.std.proofs.Common.{◌≡◌, ◌∙◌, ◌+◌, ℕ, List, codes, length, map, Option, Some, None, refl, sym, ap}
 use Rattle.std.proofs.lemmas.List.{length-map}
-use Rattle.st_canon.specs.Plain.{Plain}
-use Rattle.st_canon.specs.Shapes.{json_in}
+use Rattle.st_plain.specs.Plain.{Plain}
+use Rattle.st_plain.specs.Shapes.{json_in}
 use Rattle.st_datafiles.specs.Chunk.{deltas_of, first_failing_chunk_rule}
 use Rattle.st_datafiles.specs.ProofFiles.{core_proofs_of, signed_of}
 use Rattle.st_datafiles.specs.ProofRules.{first_failing_core_proof_rule, first_failing_provisional_proof_rule}

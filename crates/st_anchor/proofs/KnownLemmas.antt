@@ -5,7 +5,7 @@
 --     turned               what looking up does to a role
 --     known_from-missing   what is still missing hasn't come
 use Rattle.std.proofs.Common.{◌≡◌, ◌∙◌, ◌≤◌, ℕ, List, length, Option, Some, None, refl, sym, ap, subst, arith}
-use Rattle.st_canon.specs.Shapes.{json_in}
+use Rattle.st_plain.specs.Shapes.{json_in}
 use Rattle.st_content.specs.Files.{Files, file_at}
 use Rattle.st_datafiles.specs.Chunk.{first_failing_chunk_rule}
 use Rattle.st_datafiles.specs.ProofRules.{first_failing_core_proof_rule, first_failing_provisional_proof_rule}

@@ -9,8 +9,8 @@ use Rattle.std.proofs.lemmas.Bool.{and_parts, eqb-true, ltb-false}
 use Rattle.std.proofs.lemmas.List.{length-map}
 use Rattle.st_base.specs.Rules.{Table, first_failing}
 use Rattle.st_base.proofs.RuleLemmas.{none_fails, passes}
-use Rattle.st_canon.specs.Plain.{Plain}
-use Rattle.st_canon.specs.Shapes.{json_in}
+use Rattle.st_plain.specs.Plain.{Plain}
+use Rattle.st_plain.specs.Shapes.{json_in}
 use Rattle.st_content.specs.Files.{Files, file_at}
 use Rattle.st_datafiles.specs.ProofFiles.{core_proofs_of, proofs_of, signed_in, signed_of}
 use Rattle.st_datafiles.specs.ProofRules.{core_proof_rules, first_failing_core_proof_rule, first_failing_provisional_proof_rule, has_proofs, proof_rule_name, provisional_proof_rules}

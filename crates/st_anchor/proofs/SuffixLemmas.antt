@@ -2,7 +2,7 @@
 use Rattle.std.proofs.Common.{◌≡◌, ◌∙◌, List, [], ◌∷◌, ◌++◌, drop, length, map, Option, option_and_then, refl, ap}
 use Rattle.std.specs.Prelude.{slice_get}
 use Rattle.std.proofs.lemmas.List.{map-append}
-use Rattle.st_canon.specs.Plain.{Plain}
+use Rattle.st_plain.specs.Plain.{Plain}
 use Rattle.st_hash.specs.Hash.{HashValue}
 use Rattle.st_indexfiles.specs.ProvisionalIndex.{suffixes_in}
 use Rattle.st_indexfiles.specs.SuffixData.{suffix_of as suffix_of_data}

@@ -2,7 +2,7 @@
 -- deactivates and updates, each with its suffix. An operation is withheld only where a file that it
 -- needs itself wasn't read.
 use Rattle.std.specs.Prelude.{ℕ, List, [], ◌∷◌, ◌++◌, drop, length, map, slice_get, Option, option_and_then}
-use Rattle.st_canon.specs.Plain.{Plain}
+use Rattle.st_plain.specs.Plain.{Plain}
 use Rattle.st_content.specs.Files.{Files}
 use Rattle.st_hash.specs.Hash.{HashValue}
 use Rattle.st_indexfiles.specs.declared.core_index.CoreIndex.{CoreIndex}

@@ -1,6 +1,6 @@
 -- The operation of a kind with a target, a proof and a delta. A deactivate has no delta.
 use Rattle.std.specs.Prelude.{Option}
-use Rattle.st_canon.specs.Plain.{Plain}
+use Rattle.st_plain.specs.Plain.{Plain}
 use Rattle.st_indexfiles.specs.declared.target.Target.{Target}
 use Rattle.st_ops.specs.Operation.{Proof, PlainOperation, updating, recovering}
 use Rattle.st_anchor.specs.Gives.{deactivating_only}

@@ -4,8 +4,8 @@
 use Rattle.std.specs.Prelude.{ℕ, ◌+◌, List, codes, length, map, Option, Some, None, refl}
 use Rattle.std.specs.Coded.{Coded, code_by, coded×}
 use Rattle.st_base.specs.Rules.{first_failing}
-use Rattle.st_canon.specs.Plain.{Plain}
-use Rattle.st_canon.specs.Shapes.{json_in}
+use Rattle.st_plain.specs.Plain.{Plain}
+use Rattle.st_plain.specs.Shapes.{json_in}
 use Rattle.st_content.specs.Files.{Files, file_at}
 use Rattle.st_datafiles.specs.Chunk.{deltas_of, first_failing_chunk_rule}
 use Rattle.st_datafiles.specs.ProofFiles.{core_proofs_of, signed_of}

@@ -4,8 +4,7 @@ ghost use Rattle.st_anchor.specs.Counting.{WorkedAtMost, more_proofs};
 ghost use Rattle.st_anchor.specs.SignedTexts.{proof_of};
 ghost use Rattle.st_ops.specs.Operation.{plain_proof};
 
-use st_base::{Copied, List, Shared, WantOfMemory, Work};
-use st_canon::KeptText;
+use st_base::{Copied, KeptText, List, Shared, WantOfMemory, Work};
 use st_jws::{Signed, SignedRefused, open_signed};
 use std::alloc::Global;
 use std::marker::Model;

@@ -2,9 +2,9 @@
 use Rattle.std.proofs.Common.{◌≡◌, ℕ, ◌-◌, ◌<◌, ◌^◌, min, Bool, true, false, if◌then◌else◌, Some, None, Result, Err, refl, ap, arith}
 use Rattle.std.specs.Result.{result_ok}
 use Rattle.std.proofs.lemmas.Bool.Decides.{nat_tests}
-use Rattle.st_canon.specs.Canonical.{canonical}
-use Rattle.st_canon.specs.Measure.{size_of}
-use Rattle.st_canon.specs.Plain.{Plain}
+use Rattle.st_plain.specs.Canonical.{canonical}
+use Rattle.st_plain.specs.Measure.{size_of}
+use Rattle.st_plain.specs.Plain.{Plain}
 use Rattle.st_doc.proofs.DeltaLemmas.{long_refused}
 use Rattle.st_doc.specs.Delta.{PlainDelta, delta_of}
 use Rattle.st_doc.specs.declared.refused.DeltaRefused.{DeltaRefused}

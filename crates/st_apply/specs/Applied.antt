@@ -1,6 +1,6 @@
 -- What resolution sees of an operation at the limits of its height, and the state that it leaves.
 use Rattle.std.specs.Prelude.{Bool, Option, Some}
-use Rattle.st_canon.specs.Plain.{Plain}
+use Rattle.st_plain.specs.Plain.{Plain}
 use Rattle.st_doc.specs.Document.{PlainDocument, empty_document}
 use Rattle.st_hash.specs.Hash.{HashValue, hash_of_with, same_hash}
 use Rattle.st_ops.specs.Claim.{claim_of}

@@ -1,10 +1,10 @@
 -- How the logic stores a state. Nothing that is said of states turns on it.
 use Rattle.std.specs.Prelude.{◌≡◌, ℕ, List, Option, Some, None, refl}
 use Rattle.std.specs.Coded.{Coded, code_by, coded×, coded_list, coded_option, coded_ℕ}
-use Rattle.st_canon.specs.Plain.{Plain}
+use Rattle.st_plain.specs.Plain.{Plain}
 use Rattle.st_doc.specs.Document.{PlainDocument}
 use Rattle.st_hash.specs.Hash.{HashValue}
-use Rattle.st_canon.specs.PlainCodes.{coded_plain}
+use Rattle.st_plain.specs.PlainCodes.{coded_plain}
 use Rattle.st_apply.specs.Seen.{State, absent, active, deactivated}
 
 abbrev hash_code : Coded HashValue

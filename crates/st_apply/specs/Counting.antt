@@ -3,8 +3,8 @@
 use Rattle.std.specs.Prelude.{IsTrue, Option, is_some, option_map}
 use Rattle.std.specs.Result.{result_ok}
 use Rattle.st_base.specs.Options.{◌>>=◌, ◌>>◌}
-use Rattle.st_canon.specs.Canonical.{canonical}
-use Rattle.st_canon.specs.Plain.{Plain}
+use Rattle.st_plain.specs.Canonical.{canonical}
+use Rattle.st_plain.specs.Plain.{Plain}
 use Rattle.st_doc.specs.Delta.{PlainDelta, delta_of}
 use Rattle.st_doc.specs.Document.{PlainDocument}
 use Rattle.st_doc.specs.Patched.{patched}

@@ -3,8 +3,8 @@ ghost use Rattle.std.specs.Result.{result_ok};
 ghost use Rattle.st_apply.specs.Counting.{change_by, counted};
 ghost use Rattle.st_apply.specs.Step.{changed};
 ghost use Rattle.st_base.specs.Answers.{GivesAs};
-ghost use Rattle.st_canon.specs.Canonical.{canonical};
-ghost use Rattle.st_canon.specs.Proper.{IsProper};
+ghost use Rattle.st_plain.specs.Canonical.{canonical};
+ghost use Rattle.st_plain.specs.Proper.{IsProper};
 ghost use Rattle.st_doc.specs.Delta.{delta_of, plain_delta, refusal_of};
 ghost use Rattle.st_doc.specs.Document.{empty_document};
 ghost use Rattle.st_hash.specs.Hash.{IsCode, hash_of_with};
@@ -17,6 +17,7 @@ use st_doc::{
 };
 use st_hash::{Hash, hash_with};
 use st_params::Params;
+use st_scan::Scanned;
 use std::alloc::Global;
 
 // The delta, where it counts for the delta hash.
@@ -84,8 +85,8 @@ fn may_count(
 fn is_one(alloc: Global, params: &Params, delta: &PackedJson) -> Result<bool, WantOfMemory>
     ensures { IfOk result (λ is. is ≡ is_some (result_ok (delta_of params.now delta.now))) }
 {
-    if let Some(text) = delta.scanned() {
-        return is_delta(alloc, &text, params);
+    if let Some(text) = delta.text() {
+        return is_delta(alloc, &Scanned::again(text), params);
     }
     let read = read(alloc, params, delta)?;
     Ok(read.is_some())
@@ -107,8 +108,8 @@ fn read(alloc: Global, params: &Params, delta: &PackedJson) -> Result<Option<Del
 fn read_or_refuse(alloc: Global, params: &Params, delta: &PackedJson) -> Result<Delta, DeltaRefused>
     ensures { GivesAs plain_delta refusal_of (delta_of params.now delta.now) result }
 {
-    match delta.scanned() {
-        Some(text) => read_delta(alloc, &text, params),
+    match delta.text() {
+        Some(text) => read_delta(alloc, &Scanned::again(text), params),
         None => {
             let value = delta.unpack(alloc)?;
             check_delta(alloc, &value, params)

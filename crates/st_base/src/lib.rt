@@ -1,15 +1,17 @@
 //! The plain values that every layer shares: lists, texts and bytes that contracts see as lists,
-//! values that several owners share or that stand in a box, the words and numbers that lines are cut
-//! into and the replies that are put together of them, want of memory and the refusals of files,
-//! copies, and counters of work.
+//! values that several owners share or that stand in a box, texts and parts of files that are kept
+//! with them, the words and numbers that lines are cut into and the replies that are put together of
+//! them, want of memory and the refusals of files, copies, and counters of work.
 #![tactic(auto)]
 
 mod boxed;
 mod bytes;
 mod copied;
 mod cut;
+mod kept_text;
 mod list;
 mod number;
+mod part;
 mod refused;
 mod replies;
 mod shared;
@@ -22,8 +24,10 @@ pub use boxed::Boxed;
 pub use bytes::Bytes;
 pub use copied::Copied;
 pub use cut::cut_at;
+pub use kept_text::KeptText;
 pub use list::List;
 pub use number::read_number;
+pub use part::Part;
 pub use refused::FileRefused;
 pub use replies::{push_word, reply};
 pub use shared::Shared;

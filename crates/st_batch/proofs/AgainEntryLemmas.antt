@@ -4,7 +4,7 @@ use Rattle.std.proofs.Common.{◌≡◌, ℕ, true, List, [], ◌∷◌, codes, 
 use Rattle.std.specs.List.{AllByRecursion, filter_map}
 use Rattle.std.specs.Str.{IsUtf8}
 use Rattle.st_base.specs.Each.{each_is}
-use Rattle.st_canon.proofs.OnLiterals.{names_on_literals}
+use Rattle.st_plain.proofs.OnLiterals.{names_on_literals}
 use Rattle.st_datafiles.specs.ProofFiles.{signed_in, signed_json}
 use Rattle.st_indexfiles.specs.SuffixData.{create_json, create_of}
 use Rattle.st_indexfiles.specs.Target.{target_json, target_of}
@@ -12,7 +12,7 @@ use Rattle.st_indexfiles.specs.declared.suffix_data.SuffixData.{SuffixData}
 use Rattle.st_indexfiles.specs.declared.target.Target.{Target}
 use Rattle.st_ops.proofs.Accepted.{IsReadAt}
 use Rattle.st_indexfiles.proofs.ReadableLemmas.{utf8}
-use Rattle.st_canon.proofs.ReadableLemmas.{IsReadable}
+use Rattle.st_plain.proofs.ReadableLemmas.{IsReadable}
 use lib.Utf8.{encode}
 
 -- ---- lists of entries

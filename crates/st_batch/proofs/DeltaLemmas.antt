@@ -4,10 +4,10 @@ use Rattle.std.proofs.Common.{◌≡◌, ◌≤◌, Bool, true, false, if◌then
 use Rattle.std.specs.Prelude.{is_some, IfSome}
 use Rattle.std.specs.Result.{result_ok}
 use Rattle.st_apply.specs.Counting.{counted}
-use Rattle.st_canon.specs.Canonical.{canonical}
-use Rattle.st_canon.specs.Depth.{depth_of}
-use Rattle.st_canon.specs.Measure.{size_of}
-use Rattle.st_canon.specs.Plain.{Plain}
+use Rattle.st_plain.specs.Canonical.{canonical}
+use Rattle.st_plain.specs.Depth.{depth_of}
+use Rattle.st_plain.specs.Measure.{size_of}
+use Rattle.st_plain.specs.Plain.{Plain}
 use Rattle.st_doc.proofs.DeltaLemmas.{delta_depth, delta_size}
 use Rattle.st_doc.specs.Delta.{delta_of}
 use Rattle.st_hash.specs.Hash.{HashValue, hash_of_with, same_hash}

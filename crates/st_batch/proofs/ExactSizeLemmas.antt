@@ -1,11 +1,11 @@
 -- How long canonical texts are, by what they are made of.
 use Rattle.std.proofs.Common.{◌≡◌, ◌≢◌, ℕ, ◌+◌, ◌≤◌, ◌++◌, true, List, [], ◌∷◌, length, length-append, refl, arith}
 use Rattle.std.proofs.lemmas.Bool.{ne_eqb}
-use Rattle.st_canon.specs.Canonical.{canonical, canonical_items, canonical_members, quoted}
-use Rattle.st_canon.specs.Measure.{size_of}
-use Rattle.st_canon.specs.Objects.{some_list, some_object}
-use Rattle.st_canon.specs.Plain.{Plain, list, object, Members, no_members, member}
-use Rattle.st_canon.specs.View.{items_of}
+use Rattle.st_plain.specs.Canonical.{canonical, canonical_items, canonical_members, quoted}
+use Rattle.st_plain.specs.Measure.{size_of}
+use Rattle.st_plain.specs.Objects.{some_list, some_object}
+use Rattle.st_plain.specs.Plain.{Plain, list, object, Members, no_members, member}
+use Rattle.st_plain.specs.Entries.{items_of}
 use Rattle.st_batch.proofs.Sizes.{in_brackets, member_size}
 use Rattle.st_batch.proofs.FirstSizeLemmas.{weight, weight_there}
 

@@ -2,10 +2,10 @@
 use Rattle.std.proofs.Common.{◌≡◌, ◌≢◌, ◌∙◌, ℕ, ◌+◌, ◌≤◌, List, [], ◌∷◌, codes, length, map, Option, option_map, refl, ap, sym, arith}
 use Rattle.std.specs.List.{filter_map}
 use Rattle.std.proofs.lemmas.Bool.{ne_eqb}
-use Rattle.st_canon.specs.Canonical.{canonical, escape}
-use Rattle.st_canon.specs.Measure.{size_of}
-use Rattle.st_canon.specs.Objects.{some_list, some_listed, some_object}
-use Rattle.st_canon.specs.Plain.{Plain, Members, no_members, member}
+use Rattle.st_plain.specs.Canonical.{canonical, escape}
+use Rattle.st_plain.specs.Measure.{size_of}
+use Rattle.st_plain.specs.Objects.{some_list, some_listed, some_object}
+use Rattle.st_plain.specs.Plain.{Plain, Members, no_members, member}
 use Rattle.st_datafiles.specs.ProofFiles.{core_proof_json, proof_json, provisional_proof_json, signed_json}
 use Rattle.st_datafiles.specs.declared.role.Role.{Role}
 use Rattle.st_datafiles.specs.declared.role.Role.TheVariants.{Core, CoreProof, Provisional, ProvisionalProof, Chunk}

@@ -13,8 +13,8 @@ use Rattle.st_anchor.specs.declared.branches.OpenedCore.{OpenedCore}
 use Rattle.st_anchor.specs.declared.branches.ProvisionalBranch.{ProvisionalBranch}
 use Rattle.st_anchor.specs.declared.part.Part.{Part}
 use Rattle.st_anchor.specs.declared.part.Part.TheVariants.{Is}
-use Rattle.st_canon.specs.Canonical.{canonical}
-use Rattle.st_canon.specs.Plain.{Plain}
+use Rattle.st_plain.specs.Canonical.{canonical}
+use Rattle.st_plain.specs.Plain.{Plain}
 use Rattle.st_content.specs.Files.{Files}
 use Rattle.st_datafiles.specs.ProofFiles.{core_proof_json, provisional_proof_json}
 use Rattle.st_hash.specs.Hash.{uri_of}

@@ -4,7 +4,7 @@ use Rattle.std.specs.Prelude.{is_some, IfSome}
 use Rattle.std.specs.List.{AllByRecursion, cons_option, filter_map}
 use Rattle.st_anchor.specs.Gives.{creates_given, deactivating_only, signed_given}
 use Rattle.st_anchor.specs.SignedTexts.{proof_of}
-use Rattle.st_canon.specs.Plain.{Plain}
+use Rattle.st_plain.specs.Plain.{Plain}
 use Rattle.st_indexfiles.specs.SuffixData.{create_json, create_of, suffix_of as suffix_of_data}
 use Rattle.st_indexfiles.specs.Target.{target_json, target_of}
 use Rattle.st_indexfiles.specs.declared.suffix_data.SuffixData.{SuffixData}

@@ -1,9 +1,9 @@
 -- How long hashes are as JSON: nothing in a hash text is escaped.
 use Rattle.std.proofs.Common.{◌≡◌, ◌+◌, [], ◌∷◌, length, ap, length-append, arith}
 use Rattle.std.specs.List.{flat_map}
-use Rattle.st_canon.specs.Canonical.{escape}
-use Rattle.st_canon.specs.Measure.{size_of}
-use Rattle.st_canon.specs.Plain.{text}
+use Rattle.st_plain.specs.Canonical.{escape}
+use Rattle.st_plain.specs.Measure.{size_of}
+use Rattle.st_plain.specs.Plain.{text}
 use Rattle.st_hash.specs.Hash.{HashValue, IsHash, hash_text, text_length}
 use Rattle.st_hash.proofs.HashTexts.{length-hash_text}
 use Rattle.st_indexfiles.proofs.BareLemmas.{hash_text_bare}

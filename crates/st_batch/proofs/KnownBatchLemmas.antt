@@ -14,7 +14,7 @@ use Rattle.st_anchor.specs.declared.part.Part.{Part}
 use Rattle.st_anchor.specs.declared.part.Part.TheVariants.{Is, Unneeded}
 use Rattle.st_base.specs.Twice.{has_twice}
 use Rattle.st_base.proofs.Quantifiers.{each-append, each-both, each-weaker}
-use Rattle.st_canon.specs.Canonical.{canonical}
+use Rattle.st_plain.specs.Canonical.{canonical}
 use Rattle.st_content.specs.Files.{Files, file_at}
 use Rattle.st_datafiles.specs.ProofFiles.{core_proof_json, provisional_proof_json}
 use Rattle.st_datafiles.specs.declared.core_proofs.CoreProofs.{CoreProofs}
@@ -38,7 +38,7 @@ use Rattle.st_batch.specs.ReadBack.{HasFiles}
 use Rattle.st_batch.specs.declared.batch.BatchFile.{BatchFile}
 use Rattle.st_batch.proofs.AgainEntryLemmas.{IsAgain}
 use Rattle.st_batch.proofs.AgainHashLemmas.{uri_again}
-use Rattle.st_canon.proofs.ReadableLemmas.{IsReadable}
+use Rattle.st_plain.proofs.ReadableLemmas.{IsReadable}
 use Rattle.st_batch.proofs.GivenDifferentLemmas.{apart, different, named_in_groups, times, times-append}
 use Rattle.st_batch.proofs.GivenOperationsLemmas.{AreOfKind, HasDelta, IsOfKind, as_many, create_data, create_suffixes, data_again, delta_kept, each_taken, named_again, target_suffixes, target_there, text_there}
 use Rattle.st_batch.proofs.KnownCoreLemmas.{IsCoreSound, core_known}

@@ -10,12 +10,12 @@ use Rattle.st_anchor.specs.declared.rule.Rule.TheVariants as fails
 use Rattle.st_base.specs.Each.{each_is}
 use Rattle.st_base.specs.Rules.{first_failing}
 use Rattle.st_base.specs.Twice.{has_twice}
-use Rattle.st_canon.specs.Canonical.{canonical}
-use Rattle.st_canon.specs.Find.{member_at}
-use Rattle.st_canon.specs.Objects.{some_list, some_object}
-use Rattle.st_canon.specs.Plain.{Plain}
-use Rattle.st_canon.specs.Shapes.{entries_in, is_list_if_there, member_in}
-use Rattle.st_canon.proofs.ObjectLemmas.{entries_in-some_list, has_only-some_listed, member_at-some_listed, member_in-some_object}
+use Rattle.st_plain.specs.Canonical.{canonical}
+use Rattle.st_plain.specs.Find.{member_at}
+use Rattle.st_plain.specs.Objects.{some_list, some_object}
+use Rattle.st_plain.specs.Plain.{Plain}
+use Rattle.st_plain.specs.Shapes.{entries_in, is_list_if_there, member_in}
+use Rattle.st_plain.proofs.ObjectLemmas.{entries_in-some_list, has_only-some_listed, member_at-some_listed, member_in-some_object}
 use Rattle.st_hash.specs.Hash.{same_hash}
 use Rattle.st_indexfiles.specs.CoreIndex.{core_index_of, core_json, core_lists, core_members, core_operations, operations_of, suffixes_of}
 use Rattle.st_indexfiles.specs.CoreRules.{core_json_rules, core_kinds, core_names, first_failing_core_rule, has_core_entries, has_core_form, has_core_members, has_signed, one_alone, operation_count}
@@ -27,7 +27,7 @@ use Rattle.st_indexfiles.specs.declared.core_rule.CoreRule.TheVariants.{C1, C2}
 use Rattle.st_params.specs.Limits.{Limits}
 use Rattle.st_indexfiles.proofs.ReadableLemmas.{core_readable}
 use Rattle.st_batch.proofs.AgainEntryLemmas.{IsAgain, all_again, each_again}
-use Rattle.st_canon.proofs.ReadableLemmas.{json_again}
+use Rattle.st_plain.proofs.ReadableLemmas.{json_again}
 use Rattle.st_batch.proofs.KnownRuleLemmas.{IsUriAgain, both, list_passes, lists_pass, mapped_some, none_failing, not_above, not_failing, uri_passes, uri_read}
 
 -- what is known of a core index that is written at these limits under this count

@@ -12,14 +12,14 @@ use Rattle.st_anchor.specs.declared.part.Part.TheVariants.{Is}
 use Rattle.st_anchor.specs.declared.rule.Rule.TheVariants as fails
 use Rattle.st_base.specs.Each.{each_is}
 use Rattle.st_base.specs.Rules.{first_failing}
-use Rattle.st_canon.specs.Canonical.{canonical}
-use Rattle.st_canon.specs.Entries.{items_in}
-use Rattle.st_canon.specs.Find.{member_at}
-use Rattle.st_canon.specs.Objects.{some_list, some_listed, some_object}
-use Rattle.st_canon.specs.ObjectsOfLists.{is_object_of_lists}
-use Rattle.st_canon.specs.Plain.{Plain, object, Members}
-use Rattle.st_canon.specs.Shapes.{entries_in, is_list_if_there, member_in, only_member}
-use Rattle.st_canon.proofs.ObjectLemmas.{entries_in-some_list, has_only-some_listed, member_at-some_listed, member_in-some_object}
+use Rattle.st_plain.specs.Canonical.{canonical}
+use Rattle.st_plain.specs.Entries.{items_in}
+use Rattle.st_plain.specs.Find.{member_at}
+use Rattle.st_plain.specs.Objects.{some_list, some_listed, some_object}
+use Rattle.st_scan.specs.ObjectsOfLists.{is_object_of_lists}
+use Rattle.st_plain.specs.Plain.{Plain, object, Members}
+use Rattle.st_plain.specs.Shapes.{entries_in, is_list_if_there, member_in, only_member}
+use Rattle.st_plain.proofs.ObjectLemmas.{entries_in-some_list, has_only-some_listed, member_at-some_listed, member_in-some_object}
 use Rattle.st_datafiles.specs.Chunk.{chunk_json, chunk_json_rules, deltas_of, first_failing_chunk_rule, has_chunk_form}
 use Rattle.st_datafiles.specs.ProofFiles.{core_proof_json, core_proofs_of, proof_json, proofs_of, provisional_proof_json, signed_in, signed_json, signed_of}
 use Rattle.st_datafiles.specs.ProofRules.{core_proof_json_rules, core_proof_kinds, first_failing_core_proof_rule, first_failing_provisional_proof_rule, has_proof_form, has_proofs, provisional_proof_json_rules, provisional_proof_kinds}
@@ -32,7 +32,7 @@ use Rattle.st_indexfiles.specs.declared.provisional_index.ProvisionalIndex.{Prov
 use Rattle.st_params.specs.Limits.{Limits}
 use Rattle.st_batch.proofs.AgainEntryLemmas.{IsAgain, each_again, signed_again, signed_readable}
 use Rattle.st_indexfiles.proofs.ReadableLemmas.{each_holds, each_map, utf8}
-use Rattle.st_canon.proofs.ReadableLemmas.{IsReadable, MembersAreReadable, deeper, json_again, list_there, listed_readable, object_readable, object_there}
+use Rattle.st_plain.proofs.ReadableLemmas.{IsReadable, MembersAreReadable, deeper, json_again, list_there, listed_readable, object_readable, object_there}
 use Rattle.st_batch.proofs.KnownRuleLemmas.{both, list_is_there, list_passes, none_failing, not_above, not_failing, object_is_there}
 use lib.Utf8.{encode}
 

@@ -10,11 +10,11 @@ use Rattle.st_anchor.specs.declared.branches.Context.{Context}
 use Rattle.st_anchor.specs.declared.part.Part.TheVariants.{Is}
 use Rattle.st_base.specs.Each.{each_is}
 use Rattle.st_base.specs.Rules.{first_failing}
-use Rattle.st_canon.specs.Canonical.{canonical}
-use Rattle.st_canon.specs.Objects.{some_object}
-use Rattle.st_canon.specs.Plain.{Plain}
-use Rattle.st_canon.specs.Shapes.{entries_in, is_list_if_there, member_in, only_member, only_of}
-use Rattle.st_canon.proofs.ObjectLemmas.{entries_in-some_list, has_only-some_listed, member_at-some_listed, member_in-some_object}
+use Rattle.st_plain.specs.Canonical.{canonical}
+use Rattle.st_plain.specs.Objects.{some_object}
+use Rattle.st_plain.specs.Plain.{Plain}
+use Rattle.st_plain.specs.Shapes.{entries_in, is_list_if_there, member_in, only_member, only_of}
+use Rattle.st_plain.proofs.ObjectLemmas.{entries_in-some_list, has_only-some_listed, member_at-some_listed, member_in-some_object}
 use Rattle.st_hash.specs.Hash.{hash_of_text, hash_text}
 use Rattle.st_indexfiles.specs.CoreIndex.{operations_of}
 use Rattle.st_indexfiles.specs.CoreRules.{one_alone}
@@ -28,7 +28,7 @@ use Rattle.st_indexfiles.specs.declared.provisional_rule.ProvisionalRule.TheVari
 use Rattle.st_params.specs.Limits.{Limits}
 use Rattle.st_indexfiles.proofs.ReadableLemmas.{provisional_readable}
 use Rattle.st_batch.proofs.AgainEntryLemmas.{IsAgain, all_again, each_again}
-use Rattle.st_canon.proofs.ReadableLemmas.{json_again}
+use Rattle.st_plain.proofs.ReadableLemmas.{json_again}
 use Rattle.st_batch.proofs.KnownRuleLemmas.{IsUriAgain, both, list_passes, lists_pass, mapped_some, none_failing, not_above, not_failing, uri_passes, uri_read}
 
 -- what is known of a provisional index that is written at these limits under this count, beside a core

@@ -4,11 +4,11 @@ use Rattle.std.specs.Prelude.{◌&&◌, is_some, option_map, IfSome}
 use Rattle.std.specs.List.{AllByRecursion, list_all}
 use Rattle.std.proofs.lemmas.Bool.Decides.{nat_tests}
 use Rattle.st_base.specs.Rules.{Table, first_failing}
-use Rattle.st_canon.specs.Find.{has_only, member_at}
-use Rattle.st_canon.specs.Objects.{some_list, some_object}
-use Rattle.st_canon.specs.ObjectsOfLists.{is_object_of_lists_if_there}
-use Rattle.st_canon.specs.Plain.{Plain, object, Members, no_members, member}
-use Rattle.st_canon.specs.Shapes.{is_list_if_there}
+use Rattle.st_plain.specs.Find.{has_only, member_at}
+use Rattle.st_plain.specs.Objects.{some_list, some_object}
+use Rattle.st_scan.specs.ObjectsOfLists.{is_object_of_lists_if_there}
+use Rattle.st_plain.specs.Plain.{Plain, object, Members, no_members, member}
+use Rattle.st_plain.specs.Shapes.{is_list_if_there}
 use Rattle.st_hash.specs.Hash.{HashValue, hash_of_text, hash_text}
 use Rattle.st_indexfiles.specs.Hashes.{hash_json, is_uri_if_there, uri_in}
 

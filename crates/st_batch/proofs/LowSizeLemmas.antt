@@ -5,8 +5,8 @@ use Rattle.std.specs.Prelude.{◌==◌, is_some, IfSome}
 use Rattle.std.specs.List.{AllByRecursion, sum_by}
 use Rattle.std.proofs.lemmas.List.Sums.{sum_by-cons}
 use Rattle.st_apply.specs.Counting.{counted}
-use Rattle.st_canon.specs.Measure.{size_of}
-use Rattle.st_canon.specs.Plain.{Plain}
+use Rattle.st_plain.specs.Measure.{size_of}
+use Rattle.st_plain.specs.Plain.{Plain}
 use Rattle.st_datafiles.specs.ProofFiles.{signed_json}
 use Rattle.st_hash.specs.Hash.{HashValue, IsHash}
 use Rattle.st_indexfiles.specs.Target.{target_json}

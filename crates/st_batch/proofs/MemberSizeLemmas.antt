@@ -1,8 +1,8 @@
 -- How long the members of each object in a file are together.
 use Rattle.std.proofs.Common.{◌≡◌, ℕ, ◌+◌, List, [], ◌∷◌, codes, Option, Some, None, arith}
-use Rattle.st_canon.specs.Objects.{put_some, some_listed}
-use Rattle.st_canon.specs.Plain.{Plain}
-use Rattle.st_canon.proofs.OnLiterals.{names_on_literals}
+use Rattle.st_plain.specs.Objects.{put_some, some_listed}
+use Rattle.st_plain.specs.Plain.{Plain}
+use Rattle.st_plain.proofs.OnLiterals.{names_on_literals}
 use Rattle.st_batch.proofs.FirstSizeLemmas.{weight, weight_there}
 
 -- of a core index

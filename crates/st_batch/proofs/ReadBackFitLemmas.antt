@@ -3,9 +3,9 @@
 use Rattle.std.proofs.Common.{◌≡◌, ℕ, ◌≤◌, Bool, true, false, if◌then◌else◌, Option, Some, None, option_and_then, refl}
 use Rattle.std.specs.Prelude.{IfSome, IsSome}
 use Rattle.std.specs.Str.{IsUtf8}
-use Rattle.st_canon.specs.Depth.{depth_of}
-use Rattle.st_canon.specs.Plain.{Plain}
-use Rattle.st_canon.specs.Proper.{IsProper}
+use Rattle.st_plain.specs.Depth.{depth_of}
+use Rattle.st_plain.specs.Plain.{Plain}
+use Rattle.st_plain.specs.Proper.{IsProper}
 use Rattle.st_hash.specs.Hash.{HashValue, same_hash}
 use Rattle.st_indexfiles.specs.declared.target.Target.{Target}
 use Rattle.st_ops.proofs.Accepted.{IsAccepted}
@@ -20,7 +20,7 @@ use Rattle.st_batch.specs.Fits.{Fits, delta_counts, has_right_delta}
 use Rattle.st_batch.specs.Groups.{signed_text_in}
 use Rattle.st_batch.specs.Kept.{IsFormed}
 use Rattle.st_batch.specs.ReadBack.{SaysAll}
-use Rattle.st_canon.proofs.ReadableLemmas.{IsReadable}
+use Rattle.st_plain.proofs.ReadableLemmas.{IsReadable}
 use Rattle.st_batch.proofs.DeltaLemmas.{counted_depth, right_holds}
 
 -- an operation of which all parts are read again at these limits

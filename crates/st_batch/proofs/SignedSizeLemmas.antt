@@ -9,8 +9,8 @@ use Rattle.std.proofs.lemmas.Option.{same_Some}
 use Rattle.st_base.specs.Answers.{◌>>=◌, ◌>>◌, holds_or}
 use Rattle.st_base.specs.Words.{cut_at}
 use Rattle.st_base.proofs.Cuts.{around}
-use Rattle.st_canon.specs.Canonical.{escape}
-use Rattle.st_canon.specs.Measure.{size_of}
+use Rattle.st_plain.specs.Canonical.{escape}
+use Rattle.st_plain.specs.Measure.{size_of}
 use Rattle.st_datafiles.specs.ProofFiles.{signed_json}
 use Rattle.st_hash.specs.Base64url.{bytes_of_text}
 use Rattle.st_hash.proofs.Symbols.{decoded_apart}

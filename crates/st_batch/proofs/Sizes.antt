@@ -3,8 +3,8 @@
 use Rattle.std.proofs.Common.{ℕ, ◌+◌, ◌==◌, Bool, List, length, codes, if◌then◌else◌, Option, Some, None, option_map}
 use Rattle.std.specs.Prelude.{max}
 use Rattle.std.specs.List.{sum_by}
-use Rattle.st_canon.specs.Measure.{size_of}
-use Rattle.st_canon.specs.Plain.{Plain}
+use Rattle.st_plain.specs.Measure.{size_of}
+use Rattle.st_plain.specs.Plain.{Plain}
 use Rattle.st_datafiles.specs.ProofFiles.{signed_json}
 use Rattle.st_datafiles.specs.declared.role.Role.{Role}
 use Rattle.st_datafiles.specs.declared.role.Role.TheVariants.{Core, CoreProof, Provisional, ProvisionalProof, Chunk}

@@ -3,10 +3,10 @@ use Rattle.std.proofs.Common.{◌≡◌, ◌∙◌, ℕ, ◌≤◌, Bool, true, 
 use Rattle.std.specs.Prelude.{slice_get}
 use Rattle.std.specs.List.{filter_map}
 use Rattle.std.proofs.lemmas.Bool.Decides.{nat_tests}
-use Rattle.st_canon.specs.Canonical.{canonical, canonical_items, escape}
-use Rattle.st_canon.specs.Objects.{put_some, some_list}
-use Rattle.st_canon.specs.Plain.{Plain}
-use Rattle.st_canon.specs.View.{items_of}
+use Rattle.st_plain.specs.Canonical.{canonical, canonical_items, escape}
+use Rattle.st_plain.specs.Objects.{put_some, some_list}
+use Rattle.st_plain.specs.Plain.{Plain}
+use Rattle.st_plain.specs.Entries.{items_of}
 use Rattle.st_datafiles.specs.Chunk.{chunk_json}
 use Rattle.st_datafiles.specs.ProofFiles.{core_proof_json, provisional_proof_json}
 use Rattle.st_datafiles.specs.declared.role.Role.{Role}

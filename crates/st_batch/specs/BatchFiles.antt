@@ -3,7 +3,7 @@
 use Rattle.std.specs.Prelude.{ℕ, List, [], ◌∷◌, ◌++◌, length, Option, Some, None, option_map}
 use Rattle.std.specs.Fmt.{decimal}
 use Rattle.std.specs.List.{filter_map}
-use Rattle.st_canon.specs.Canonical.{canonical}
+use Rattle.st_plain.specs.Canonical.{canonical}
 use Rattle.st_datafiles.specs.Chunk.{chunk_json}
 use Rattle.st_datafiles.specs.ProofFiles.{core_proof_json, provisional_proof_json}
 use Rattle.st_datafiles.specs.declared.role.Role.{Role}

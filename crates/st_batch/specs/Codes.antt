@@ -1,10 +1,10 @@
 -- How the logic stores queued operations. Nothing that is said of them turns on it.
 use Rattle.std.specs.Prelude.{◌≡◌, ℕ, Bool, true, false, List, Option, None, refl}
 use Rattle.std.specs.Coded.{Coded, code_by, coded×, coded_bool, coded_list, coded_option, coded_ℕ}
-use Rattle.st_canon.specs.Plain.{Plain}
+use Rattle.st_plain.specs.Plain.{Plain}
 use Rattle.st_hash.specs.Hash.{HashValue}
 use Rattle.st_ops.specs.Codes.{coded_proof}
-use Rattle.st_canon.specs.PlainCodes.{coded_plain}
+use Rattle.st_plain.specs.PlainCodes.{coded_plain}
 use Rattle.st_ops.specs.Operation.{PlainOperation, Proof, creating, updating, recovering, deactivating}
 
 -- two hashes, and a proof and a delta that may be there

@@ -3,7 +3,7 @@ use Rattle.std.specs.Prelude.{◌≡◌, ◌≤◌, ℕ, false, List, length, ma
 use Rattle.std.specs.List.{AllByRecursion}
 use Rattle.std.specs.Str.{IsUtf8}
 use Rattle.st_base.specs.Twice.{has_twice}
-use Rattle.st_canon.specs.Proper.{IsProper}
+use Rattle.st_plain.specs.Proper.{IsProper}
 use Rattle.st_hash.specs.Hash.{HashValue, same_hash}
 use Rattle.st_ops.specs.KnownHashes.{HasHashes}
 use Rattle.st_ops.specs.Operation.{PlainOperation, plain_operation, suffix_of}

@@ -6,7 +6,7 @@ ghost use Rattle.st_batch.specs.Fits.{Fits, has_right_delta};
 ghost use Rattle.st_batch.specs.Kept.{IsFormed};
 ghost use Rattle.st_batch.specs.Submitted.{asked_rightly, refusal_of};
 ghost use Rattle.st_batch.specs.declared.refused.SubmitRefused.TheVariants.{BadDelta};
-ghost use Rattle.st_canon.specs.Proper.{IsProper};
+ghost use Rattle.st_plain.specs.Proper.{IsProper};
 ghost use Rattle.st_ops.specs.Operation.{plain_operation};
 ghost use Rattle.st_ops.specs.Request.{request_of};
 ghost use Rattle.st_ops.specs.RequestText.{delta_there};

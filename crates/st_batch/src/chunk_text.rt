@@ -1,6 +1,6 @@
 ghost use Rattle.std.specs.Prelude.{◌≡◌, ◌++◌, false, IfOk, OnOk};
-ghost use Rattle.st_canon.specs.Canonical.{canonical, canonical_items};
-ghost use Rattle.st_canon.specs.View.{items_of};
+ghost use Rattle.st_plain.specs.Canonical.{canonical, canonical_items};
+ghost use Rattle.st_plain.specs.Entries.{items_of};
 ghost use Rattle.st_datafiles.specs.Chunk.{chunk_json};
 
 use st_base::{Bytes, WantOfMemory};

@@ -1,6 +1,6 @@
 ghost use Rattle.std.specs.Prelude.{◌≡◌, true, IfOk, IfSome};
 ghost use Rattle.st_batch.specs.Fits.{delta_counts, has_right_delta};
-ghost use Rattle.st_canon.specs.Proper.{IsProper};
+ghost use Rattle.st_plain.specs.Proper.{IsProper};
 ghost use Rattle.st_ops.specs.Operation.{plain_operation};
 ghost use Rattle.st_ops.specs.RequestText.{delta_there};
 

@@ -6,8 +6,8 @@ ghost use Rattle.st_ops.specs.RequestText.{delta_there};
 
 use crate::in_files::{delta_in, suffix_data_in, target_in};
 use crate::parts::signed_text_in;
-use st_base::{Copied, List, WantOfMemory};
-use st_canon::{KeptText, PackedJson};
+use st_base::{Copied, KeptText, List, WantOfMemory};
+use st_canon::PackedJson;
 use st_indexfiles::{SuffixData, Target};
 use st_ops::Operation;
 use std::alloc::Global;

@@ -2,8 +2,7 @@ ghost use Rattle.std.specs.Prelude.{◌≡◌, option_map};
 ghost use Rattle.st_batch.specs.Groups.{signed_text_in};
 ghost use Rattle.st_ops.specs.Operation.{plain_operation, plain_proof};
 
-use st_base::Shared;
-use st_canon::KeptText;
+use st_base::{KeptText, Shared};
 use st_jws::Signed;
 use st_ops::Operation;
 

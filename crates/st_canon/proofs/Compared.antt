@@ -1,7 +1,7 @@
 -- Items and members that are compared one after another.
 use Rattle.std.proofs.Common.{◌≡◌, ◌↔◌, ℕ, ◌+◌, suc, List, [], ◌∷◌, length, drop, refl, ap, sym, ◌∙◌}
-use Rattle.st_canon.specs.Entries.{entries}
-use Rattle.st_canon.specs.Plain.{Plain, Members, no_members, member}
+use Rattle.st_plain.specs.Entries.{entries}
+use Rattle.st_plain.specs.Plain.{Plain, Members, no_members, member}
 use Rattle.st_canon.specs.View.{plain, plain_items, plain_members}
 use Rattle.st_canon.specs.declared.value.Json.{Json}
 use Rattle.st_canon.proofs.ItemLists.{length-entries}

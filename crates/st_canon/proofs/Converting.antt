@@ -1,5 +1,5 @@
 -- Items and members that are converted one after another.
-use Rattle.std.proofs.Common.{◌≡◌, ℕ, List, [], ◌∷◌, ◌++◌, map, String, Global, string_bytes, Option, Some, None, option_map, Ok, Less, Equal, refl}
+use Rattle.std.proofs.Common.{◌≡◌, ℕ, List, [], ◌∷◌, ◌++◌, map, String, Global, string_bytes, Option, Some, None, option_map, Result, Less, Equal, refl}
 use Rattle.std.proofs.Common.{sym, ap, ◌∙◌, subst, append-nil, append_assoc, is_eq, true, false}
 use mathlib.Core.Bool.{true≢false}
 use Rattle.std.specs.List.{AllByRecursion}
@@ -10,39 +10,34 @@ use Rattle.std.specs.String.{string_cmp}
 use Rattle.std.proofs.lemmas.Map.Text.{is_eq-slice_cmp}
 use Rattle.std.proofs.lemmas.Slice.Eq.{bytes_eq-Decides}
 use Rattle.std.proofs.lemmas.Str.{IsUtf8-string_bytes}
+use Rattle.serde_json.specs.Data.{Data}
+use Rattle.serde_json.specs.Read.{read}
 use Rattle.serde_json.specs.View.{view, items_view, members_view}
 use Rattle.serde_json.specs.declared.value.Value.{Value}
 use Rattle.std.specs.Prelude.{ok_or}
-use Rattle.st_canon.specs.Find.{put}
-use Rattle.st_canon.specs.InOrder.{in_order, AreApart, NamesDiffer}
-use Rattle.st_canon.specs.Names.{name_cmp}
-use Rattle.st_canon.specs.Plain.{Plain, Items, no_items, item, Members, no_members}
-use Rattle.st_canon.specs.Reading.{whole_value, whole_items, whole_members}
-use Rattle.st_canon.specs.View.{plain, items_of, plain_items, plain_members}
-use Rattle.st_canon.specs.declared.refused.ReadRefused.TheVariants.{NotWhole}
+use Rattle.std.specs.Str.{IsUtf8}
+use Rattle.st_base.specs.Answers.{GivesAs}
+use Rattle.st_plain.specs.Find.{put}
+use Rattle.st_plain.specs.InOrder.{in_order, AreApart, NamesDiffer}
+use Rattle.st_plain.specs.Names.{name_cmp}
+use Rattle.st_plain.specs.Plain.{Items, item, Members, no_members}
+use Rattle.st_plain.specs.Reading.{json_of, json_of_data, refusal_of, whole_value, whole_items, whole_members}
+use Rattle.st_plain.specs.declared.refused.ReadRefused.{ReadRefused}
+use Rattle.st_plain.specs.declared.refused.ReadRefused.TheVariants.{NotWhole}
+use Rattle.st_plain.proofs.ItemLemmas.{items_after, items_after-nil, items_after_push}
+use Rattle.st_plain.proofs.Order.{same_from_tied}
+use Rattle.st_plain.proofs.Outcomes.{json_of-utf8}
+use Rattle.st_canon.specs.View.{plain, plain_items, plain_members}
 use Rattle.st_canon.specs.declared.value.Json.{Json}
-use Rattle.st_canon.proofs.Order.{same_from_tied}
 use Rattle.st_canon.proofs.Places.{plain_members-placed}
 
--- a value that was given is that of whole numbers
-pub whole_from : {P : Type 0} (o : Option P) (p : P) → ok_or o NotWhole ≡ Ok p → o ≡ Some p
-whole_from None p h = cc
-whole_from (Some q) p h = cc
+-- what was read is converted
+pub gives_converted : (bytes : List ℕ) (d : Data) (r : Result Json ReadRefused) → IsUtf8 bytes → read bytes ≡ Some d
+    → GivesAs plain refusal_of (ok_or (whole_value d) NotWhole) r → GivesAs plain refusal_of (json_of bytes) r
+gives_converted bytes d r utf8 is h =
+    subst (λ says. GivesAs plain refusal_of says r) (sym (json_of-utf8 bytes utf8 ∙ ap json_of_data is)) h
 
 -- ---- items
-
--- the items before the others
-abbrev pub items_after : List Plain → Items → Items
-items_after [] rest = rest
-items_after (p ∷ ps) rest = item p (items_after ps rest)
-
-pub items_after-nil : (ps : List Plain) → items_after ps no_items ≡ items_of ps
-items_after-nil [] = refl
-items_after-nil (p ∷ ps) = ap (item p) (items_after-nil ps)
-
-pub items_after_push : (ps : List Plain) (p : Plain) (rest : Items) → items_after (ps ++ p ∷ []) rest ≡ items_after ps (item p rest)
-items_after_push [] p rest = refl
-items_after_push (q ∷ ps) p rest = ap (item q) (items_after_push ps p rest)
 
 pub plain_pushed : (js : List Json) (j : Json) → map plain js ++ plain j ∷ [] ≡ map plain (js ++ j ∷ [])
 plain_pushed [] j = refl

@@ -2,18 +2,11 @@
 use Rattle.std.proofs.Common.{◌≡◌, ℕ, suc, List, [], ◌∷◌, length, take, drop, set, map, refl, ap, sym, ◌∙◌}
 use Rattle.std.proofs.lemmas.List.{length-map, map-append, map-set, take-map, drop-map}
 use Rattle.std.specs.List.{insert, remove}
-use Rattle.st_canon.specs.Entries.{entries}
-use Rattle.st_canon.specs.Plain.{Plain, Items, no_items, item}
-use Rattle.st_canon.specs.View.{items_of, plain, plain_items}
+use Rattle.st_plain.specs.Entries.{entries}
+use Rattle.st_plain.specs.Entries.{items_of}
+use Rattle.st_plain.proofs.ItemLemmas.{entries-items_of}
+use Rattle.st_canon.specs.View.{plain, plain_items}
 use Rattle.st_canon.specs.declared.value.Json.{Json}
-
-pub entries-items_of : (ps : List Plain) → entries (items_of ps) ≡ ps
-entries-items_of [] = refl
-entries-items_of (p ∷ ps) = ap (λ l. p ∷ l) (entries-items_of ps)
-
-pub items_of-entries : (ps : Items) → items_of (entries ps) ≡ ps
-items_of-entries no_items = refl
-items_of-entries (item p ps) = ap (item p) (items_of-entries ps)
 
 pub entries-plain_items : (values : List Json) → entries (plain_items values) ≡ map plain values
 entries-plain_items values = entries-items_of (map plain values)

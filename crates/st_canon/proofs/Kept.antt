@@ -6,12 +6,12 @@ use Rattle.std.specs.Map.{keys_of}
 use Rattle.std.specs.Ordering.{match_ordering}
 use Rattle.std.specs.Str.{IsUtf8}
 use Rattle.st_base.proofs.Lists.{next_item}
-use Rattle.st_canon.specs.InOrder.{in_order, placed}
-use Rattle.st_canon.specs.Names.{name_cmp, NamesAscend}
-use Rattle.st_canon.specs.Proper.{AllAbove, IsProper, ItemsAreProper, MembersAreProper}
+use Rattle.st_plain.specs.InOrder.{in_order, placed}
+use Rattle.st_plain.specs.Names.{name_cmp, NamesAscend}
+use Rattle.st_plain.specs.Proper.{AllAbove, IsProper, ItemsAreProper, MembersAreProper}
+use Rattle.st_plain.proofs.Sorting.{ascend_in_order}
 use Rattle.st_canon.specs.View.{plain, plain_items, plain_members}
 use Rattle.st_canon.specs.declared.value.Json.{Json}
-use Rattle.st_canon.proofs.Sorting.{ascend_in_order}
 
 above : (k : List ℕ) (es : List (List ℕ × Json)) → AllByRecursion (λ l. name_cmp k l ≡ Less) (keys_of es)
     → AllAbove k (plain_members es)

@@ -1,19 +1,22 @@
 -- What stands at the place of a name, and at its gap, among pairs whose names ascend.
 use Rattle.std.proofs.Common.{◌≡◌, ℕ, zero, suc, ◌<◌, Bool, true, false, cond, List, [], ◌∷◌, length, get_or, set, Option, Some, None, option_map}
 use Rattle.std.proofs.Common.{Ordering, Less, Equal, Greater, refl, sym, ap, ◌∙◌, subst, arith}
+use Rattle.std.specs.Prelude.{nat_eq}
+use Rattle.std.proofs.lemmas.Bool.Decides.{nat_tests}
 use Rattle.std.specs.List.{insert, remove, AllByRecursion}
 use Rattle.std.specs.List.Sorted.{IsStrictlySortedBy}
 use Rattle.std.specs.Map.{keys_of, lookup}
 use Rattle.std.proofs.lemmas.Map.{NonePasses, lookup-none}
 use Rattle.std.specs.Ordering.{match_ordering}
-use Rattle.st_canon.specs.Find.{member_at, put, without}
-use Rattle.st_canon.specs.InOrder.{placed, IsApart}
-use Rattle.st_canon.specs.Names.{name_cmp, is_name, NamesAscend}
+use Rattle.st_plain.specs.Find.{member_at, put, without}
+use Rattle.st_plain.specs.InOrder.{placed, IsApart}
+use Rattle.st_plain.specs.Names.{name_cmp, is_name, NamesAscend}
+use Rattle.st_plain.specs.Objects.{is_empty}
+use Rattle.st_plain.specs.Plain.{Plain, member}
+use Rattle.st_plain.proofs.Order.{greater_from_less, less_from_greater, tied_from_same, is_name_from_same, not_name_from_less, not_name_from_greater}
 use Rattle.st_canon.specs.Place.{IsPlaceOf, IsGapFor}
-use Rattle.st_canon.specs.Plain.{Plain, member}
 use Rattle.st_canon.specs.View.{plain, plain_members}
 use Rattle.st_canon.specs.declared.value.Json.{Json}
-use Rattle.st_canon.proofs.Order.{greater_from_less, less_from_greater, tied_from_same, is_name_from_same, not_name_from_less, not_name_from_greater}
 
 module _ {X : Type 0} where
   pub place_moved : {name other : List ℕ} {es fs : List (List ℕ × X)} {i : ℕ} → other ≡ name → fs ≡ es
@@ -194,3 +197,12 @@ pub plain_members-placed : (name : List ℕ) (v : Json) (es : List (List ℕ × 
 plain_members-placed name v [] = refl
 plain_members-placed name v (e ∷ es) =
     plain_members-match_ordering (name_cmp name e.0) _ _ _ ∙ rw (plain_members-placed name v es) refl
+
+-- ---- no members
+
+not_zero : (n : ℕ) → nat_eq (suc n) 0 ≡ false
+not_zero n = grind (arith, nat_tests)
+
+pub is_empty-length : (pairs : List (List ℕ × Json)) → nat_eq (length pairs) 0 ≡ is_empty (plain_members pairs)
+is_empty-length [] = refl
+is_empty-length (pair ∷ pairs) = not_zero (length pairs)

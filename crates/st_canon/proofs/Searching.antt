@@ -5,10 +5,10 @@ use Rattle.std.specs.Prelude.{IfOk, IfErr}
 use Rattle.std.specs.List.Sorted.{IsStrictlySortedBy, IsSortedBy, IsSearchInRange, IsBinarySearchResult}
 use Rattle.std.specs.Ordering.{is_lt}
 use Rattle.std.proofs.lemmas.List.Sorted.{searchable_from_sorted}
-use Rattle.st_canon.specs.Names.{name_cmp, is_name, NamesAscend}
+use Rattle.st_plain.specs.Names.{name_cmp, is_name, NamesAscend}
+use Rattle.st_plain.proofs.Order.{name_total, greater_from_less, tied_from_same, same_from_is_name, is_name_from_same}
+use Rattle.st_plain.proofs.Sorting.{named_below}
 use Rattle.st_canon.specs.Place.{IsPlaceOf, IsGapFor}
-use Rattle.st_canon.proofs.Order.{name_total, greater_from_less, tied_from_same, same_from_is_name, is_name_from_same}
-use Rattle.st_canon.proofs.Sorting.{named_below}
 
 rises : {X : Type 0} (p : List ℕ × X) (pairs : List (List ℕ × X)) (k : ℕ) (d : List ℕ × X) → NamesAscend (p ∷ pairs)
     → k < length pairs → named_below (get_or pairs k d) (get_or (p ∷ pairs) k d) ≡ false

@@ -1,7 +1,7 @@
 -- What members end as once a `&mut` to the value of one of them has ended.
 use Rattle.std.specs.Prelude.{◌≡◌, ℕ, List, Option, OnSome}
 use Rattle.std.specs.Borrow.{Fml, RattleType, MutBor, LendsSo}
-use Rattle.st_canon.specs.InOrder.{placed}
+use Rattle.st_plain.specs.InOrder.{placed}
 use Rattle.st_canon.specs.contracts.members.Members.{the_row}
 
 -- the member of this name has the last value that was written, and members without it stay

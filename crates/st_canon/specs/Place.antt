@@ -1,7 +1,7 @@
 -- Where a name stands among pairs whose names ascend, or would go.
 use Rattle.std.specs.Prelude.{◌≡◌, ℕ, ◌<◌, ◌≤◌, List, length, slice_index_or}
 use Rattle.std.specs.declared.cmp.Ordering.TheVariants.{Less, Greater}
-use Rattle.st_canon.specs.Names.{name_cmp}
+use Rattle.st_plain.specs.Names.{name_cmp}
 
 -- the pair at this place has this name
 pub record IsPlaceOf {X : Type 0} (name : List ℕ) (pairs : List (List ℕ × X)) (at : ℕ) : Type 0 where

@@ -1,18 +1,9 @@
 -- The plain value that a `Json` stands for.
-use Rattle.std.specs.Prelude.{ℕ, List, [], ◌∷◌, map}
-use Rattle.st_canon.specs.Plain.{Plain, null, boolean, whole, text, list, object, Items, no_items, item, Members, no_members, member}
+use Rattle.std.specs.Prelude.{ℕ, List, map}
+use Rattle.st_plain.specs.Entries.{items_of, members_of}
+use Rattle.st_plain.specs.Plain.{Plain, null, boolean, whole, text, list, object, Items, Members}
 use Rattle.st_canon.specs.declared.value.Json.{Json, fold-Json}
 use Rattle.st_canon.specs.declared.value.Json.TheOpen.{Json-F}
-
--- values as the items of a list
-abbrev pub items_of : List Plain → Items
-items_of [] = no_items
-items_of (p ∷ ps) = item p (items_of ps)
-
--- pairs of a name and a value as the members of an object
-abbrev pub members_of : List (List ℕ × Plain) → Members
-members_of [] = no_members
-members_of (m ∷ ms) = member m.0 m.1 (members_of ms)
 
 -- one level, once each value inside is plain
 abbrev pub plain_step : Json-F Plain → Plain

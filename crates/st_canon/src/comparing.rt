@@ -1,7 +1,7 @@
 ghost use Rattle.std.specs.Prelude.{◌≡◌, ◌↔◌, IsTrue};
-ghost use Rattle.st_canon.specs.Canonical.{canonical};
-ghost use Rattle.st_canon.specs.Measure.{is_equal};
-ghost use Rattle.st_canon.specs.Plain.{null, boolean, whole, text};
+ghost use Rattle.st_plain.specs.Canonical.{canonical};
+ghost use Rattle.st_plain.specs.Measure.{is_equal};
+ghost use Rattle.st_plain.specs.Plain.{null, boolean, whole, text};
 ghost use Rattle.st_canon.specs.View.{plain, plain_items, plain_members};
 
 use crate::counting::size;

@@ -2,18 +2,16 @@ ghost use Rattle.std.specs.Prelude.{◌≡◌, IfOk, ok_or, string_bytes};
 ghost use Rattle.std.specs.Str.{IsUtf8};
 ghost use Rattle.serde_json.specs.View.{view, items_view, members_view, number_view};
 ghost use Rattle.st_base.specs.Answers.{GivesAs};
-ghost use Rattle.st_canon.specs.Proper.{IsProper, ItemsAreProper, MembersAreProper};
-ghost use Rattle.st_canon.specs.Reading.{refusal_of, whole_value, whole_items, whole_members, whole_number};
+ghost use Rattle.st_plain.specs.Proper.{IsProper, ItemsAreProper, MembersAreProper};
+ghost use Rattle.st_plain.specs.Reading.{refusal_of, whole_value, whole_items, whole_members, whole_number};
+ghost use Rattle.st_plain.specs.declared.refused.ReadRefused.TheVariants.{NotWhole};
 ghost use Rattle.st_canon.specs.View.{plain, plain_items, plain_members};
-ghost use Rattle.st_canon.specs.declared.refused.ReadRefused.TheVariants.{NotWhole};
 
 use crate::members::Members;
-use crate::refused::ReadRefused;
-use crate::room::room_for;
 use crate::value::{Json, Object};
-use crate::whole::Whole;
 use serde_json::{Map, Number, Value};
 use st_base::{List, Text};
+use st_plain::{ReadRefused, Whole};
 use std::alloc::Global;
 
 // The value, where each number in it is whole. It takes the texts over, without a copy.
@@ -40,12 +38,12 @@ fn convert_items(alloc: Global, items: Vec<Value>) -> Result<List<Json>, ReadRef
     ensures value { GivesAs plain_items refusal_of (ok_or (whole_items (items_view items.items)) NotWhole) result }
     ensures proper { IfOk result (λ items. ItemsAreProper (plain_items items)) }
 {
-    let mut found = room_for(alloc, items.len())?;
+    let mut found = Vec::with_capacity(alloc, items.len())?;
     for item in items {
         let json = convert(alloc, item)?;
-        found.push(alloc, json)?;
+        found.push(json)?;
     }
-    Ok(found)
+    Ok(List::from_vec(found))
 }
 
 #[cycle(convert)]
@@ -53,12 +51,12 @@ fn convert_members(alloc: Global, members: Map<String, Value>) -> Result<Object,
     ensures value { GivesAs plain_members refusal_of (ok_or (whole_members (members_view members.entries)) NotWhole) result }
     ensures proper { IfOk result (λ members. MembersAreProper (plain_members members)) }
 {
-    let mut pairs = room_for(alloc, members.len())?;
+    let mut pairs = Vec::with_capacity(alloc, members.len())?;
     for (key, member) in members {
         let json = convert(alloc, member)?;
-        pairs.push(alloc, (text_of(key), json))?;
+        pairs.push((text_of(key), json))?;
     }
-    Ok(Members::sorted(pairs.into_vec())?)
+    Ok(Members::sorted(pairs)?)
 }
 
 fn text_of(string: String) -> Text

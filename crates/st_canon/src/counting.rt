@@ -2,15 +2,15 @@ ghost use Rattle.std.specs.Prelude.{◌≡◌, ◌+◌, ◌-◌, ◌^◌, false,
 ghost use Rattle.std.specs.Fmt.{signed_decimal};
 ghost use Rattle.std.specs.List.{flat_map};
 ghost use Rattle.std.specs.Str.{IsUtf8};
-ghost use Rattle.st_canon.specs.Canonical.{canonical, canonical_items, canonical_members, comma as comma_text, escape, quoted};
-ghost use Rattle.st_canon.specs.Measure.{saturated, size_of};
-ghost use Rattle.st_canon.specs.Proper.{IsProper, ItemsAreProper, MembersAreProper};
+ghost use Rattle.st_plain.specs.Canonical.{canonical, canonical_items, canonical_members, comma as comma_text, escape, quoted};
+ghost use Rattle.st_plain.specs.Measure.{saturated, size_of};
+ghost use Rattle.st_plain.specs.Proper.{IsProper, ItemsAreProper, MembersAreProper};
 ghost use Rattle.st_canon.specs.View.{plain, plain_items, plain_members};
 
-use crate::runs::split_run;
 use crate::value::{Json, Object};
 use itoa::Buffer;
 use st_base::List;
+use st_plain::split_run;
 
 /// The length of the canonical text of a value, or `u64::MAX` where that is longer.
 pub fn size(value: &Json) -> u64
@@ -94,7 +94,7 @@ fn comma_size(comma: bool) -> u64
     if comma { 1 } else { 0 }
 }
 
-#[tactic(auto, unfolding(crate::specs::Canonical::escape))]
+#[tactic(auto, unfolding(st_plain::specs::Canonical::escape))]
 pub(crate) fn escape_size(byte: u8) -> u64
     ensures { result ≡ length (escape byte) }
 {

@@ -1,14 +1,14 @@
 ghost use Rattle.std.specs.Prelude.{◌≡◌, false, length};
 ghost use Rattle.std.specs.List.{flat_map};
-ghost use Rattle.st_canon.specs.Canonical.{canonical_items, canonical_members, comma as comma_text, escape, quoted};
-ghost use Rattle.st_canon.specs.Depth.{depth_of, items_depth, members_depth};
-ghost use Rattle.st_canon.specs.Measure.{fits, less, room_after, size_of};
+ghost use Rattle.st_plain.specs.Canonical.{canonical_items, canonical_members, comma as comma_text, escape, quoted};
+ghost use Rattle.st_plain.specs.Depth.{depth_of, items_depth, members_depth};
+ghost use Rattle.st_plain.specs.Measure.{fits, less, room_after, size_of};
 ghost use Rattle.st_canon.specs.View.{plain, plain_items, plain_members};
 
 use crate::counting::{digits, escape_size};
-use crate::runs::split_run;
 use crate::value::{Json, Object};
 use st_base::List;
+use st_plain::split_run;
 
 /// Whether a value nests no deeper than `max_depth`, and its canonical text has at most `max_size`
 /// bytes. It stops where either is passed.

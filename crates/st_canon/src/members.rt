@@ -1,12 +1,12 @@
 ghost use Rattle.std.specs.Prelude.{◌≡◌, [], IfOk, OnOk, OnErr};
 ghost use Rattle.std.specs.Str.{IsUtf8};
-ghost use Rattle.st_canon.specs.Names.{NamesAscend};
-ghost use Rattle.st_canon.specs.InOrder.{in_order, placed, NamesDiffer};
+ghost use Rattle.st_plain.specs.InOrder.{in_order, placed, NamesDiffer};
+ghost use Rattle.st_plain.specs.Names.{NamesAscend};
 
-use crate::names::compare;
 use crate::place::place_of;
 use st_base::{Text, WantOfMemory};
-use std::alloc::Global;
+use st_plain::compare;
+use std::alloc::{AllocError, Global};
 use std::marker::Model;
 
 /// Named values, each name once. Contracts see them as their pairs of a name and a value, whose
@@ -20,7 +20,7 @@ impl<T> Model for Members<T> {
     ghost use Rattle.std.specs.Prelude.{List, ℕ};
     ghost use Rattle.std.specs.Coded.{coded_list, coded_ℕ, coded×};
     ghost use Rattle.std.specs.Str.{IsUtf8};
-    ghost use Rattle.st_canon.specs.Names.{NamesAscend};
+    ghost use Rattle.st_plain.specs.Names.{NamesAscend};
 
     ghost Value = { List (List ℕ × T) };
 
@@ -52,9 +52,9 @@ impl<T> Members<T> {
     ghost use Rattle.std.specs.Borrow.{sem};
     ghost use Rattle.std.specs.Map.{lookup};
     ghost use Rattle.std.specs.Option.{option_copied_mut};
-    ghost use Rattle.st_canon.specs.Lends.{lends_member};
     ghost use Rattle.std.specs.Str.{IsUtf8};
-    ghost use Rattle.st_canon.specs.Names.{is_name};
+    ghost use Rattle.st_plain.specs.Names.{is_name};
+    ghost use Rattle.st_canon.specs.Lends.{lends_member};
 
     /// The value of the member of this name, to be changed.
     pub fn get_mut(&mut self, name: &str) -> Option<&mut T>
@@ -81,7 +81,7 @@ impl<T> Members<T> {
 
 impl<T: Drop> Members<T> {
     // Takes pairs over in any order, whose names are all different.
-    pub(crate) fn sorted(mut pairs: Vec<(Text, T)>) -> Result<Members<T>, WantOfMemory>
+    pub(crate) fn sorted(mut pairs: Vec<(Text, T)>) -> Result<Members<T>, AllocError>
         requires { NamesDiffer pairs.items }
         ensures { IfOk result (λ members. members ≡ in_order pairs.items) }
     {

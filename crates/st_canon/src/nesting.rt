@@ -1,6 +1,6 @@
 ghost use Rattle.std.specs.Prelude.{◌≡◌, ◌-◌, ◌^◌, min};
-ghost use Rattle.st_canon.specs.Depth.{depth_of, items_depth, members_depth};
-ghost use Rattle.st_canon.specs.Measure.{saturated};
+ghost use Rattle.st_plain.specs.Depth.{depth_of, items_depth, members_depth};
+ghost use Rattle.st_plain.specs.Measure.{saturated};
 ghost use Rattle.st_canon.specs.View.{plain, plain_items, plain_members};
 
 use crate::value::{Json, Object};

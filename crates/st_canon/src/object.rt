@@ -2,11 +2,11 @@ ghost use Rattle.std.specs.Prelude.{◌≡◌, Some, None, map, option_map, IfNo
 ghost use Rattle.std.specs.List.{list_any};
 ghost use Rattle.std.specs.Map.{lookup};
 ghost use Rattle.std.specs.Option.{option_copied};
-ghost use Rattle.st_canon.specs.Find.{OthersStay, has_only, member_at, put, without};
-ghost use Rattle.st_canon.specs.Names.{is_name};
-ghost use Rattle.st_canon.specs.Objects.{is_empty};
-ghost use Rattle.st_canon.specs.Plain.{object};
-ghost use Rattle.st_canon.specs.Shapes.{list_at, object_at, only_member, text_at};
+ghost use Rattle.st_plain.specs.Find.{OthersStay, has_only, member_at, put, without};
+ghost use Rattle.st_plain.specs.Names.{is_name};
+ghost use Rattle.st_plain.specs.Objects.{is_empty};
+ghost use Rattle.st_plain.specs.Plain.{object};
+ghost use Rattle.st_plain.specs.Shapes.{text_at};
 ghost use Rattle.st_canon.specs.View.{plain, plain_members};
 
 use crate::place::place_of;
@@ -53,31 +53,6 @@ impl Object {
         ensures { option_map (λ text. text.now) result ≡ text_at name.now (Some (object (plain_members self.now))) }
     {
         self.get(name)?.as_text()
-    }
-
-    /// The list that the member of this name is.
-    pub fn list(&self, name: &str) -> Option<&List<Json>>
-        ensures { option_map (λ items. map plain items.now) result ≡ list_at name.now (Some (object (plain_members self.now))) }
-    {
-        self.get(name)?.as_list()
-    }
-
-    /// The object that the member of this name is.
-    pub fn object(&self, name: &str) -> Option<&Object>
-        ensures { option_map (λ members. plain_members members.now) result ≡ object_at name.now (Some (object (plain_members self.now))) }
-    {
-        self.get(name)?.as_object()
-    }
-
-    /// The value of the member of this name, where there is no other member.
-    pub fn only(&self, name: &str) -> Option<&Json>
-        ensures { option_map plain (option_copied result) ≡ only_member name.now (Some (object (plain_members self.now))) }
-    {
-        if self.has_only(&[name]) {
-            self.get(name)
-        } else {
-            None
-        }
     }
 
     /// Adds the member, or replaces the one of its name.

@@ -1,16 +1,15 @@
 ghost use Rattle.std.specs.Prelude.{◌≡◌, IfOk, Ok};
-ghost use Rattle.st_canon.specs.Reading.{json_of};
+ghost use Rattle.st_plain.specs.ReadAgain.{IsReadAgain, value_read};
+ghost use Rattle.st_plain.specs.Reading.{json_of};
+ghost use Rattle.st_canon.specs.Packed.{IsPacked, packed_value};
 ghost use Rattle.st_canon.specs.View.{plain};
-ghost use Rattle.st_canon.specs.Packed.{IsPacked, IsReadAgain, packed_value, value_read};
 
 use crate::counting::size;
 use crate::nesting::depth;
-use crate::part::Part;
-use crate::reading::read;
-use crate::scan::Scanned;
+use crate::reading::read_again;
 use crate::value::Json;
 use crate::writing::write;
-use st_base::{Bytes, Copied, Shared, WantOfMemory};
+use st_base::{Bytes, Copied, Part, Shared, WantOfMemory};
 use std::alloc::Global;
 use std::marker::Model;
 
@@ -36,8 +35,8 @@ pub(crate) enum Form {
 }
 
 impl Model for PackedJson {
-    ghost use Rattle.st_canon.specs.Plain.{Plain};
-    ghost use Rattle.st_canon.specs.PlainCodes.{coded_plain};
+    ghost use Rattle.st_plain.specs.Plain.{Plain};
+    ghost use Rattle.st_plain.specs.PlainCodes.{coded_plain};
     ghost use Rattle.st_canon.specs.Packed.{IsPacked, packed_value};
 
     ghost Value = { Plain };
@@ -51,9 +50,9 @@ impl Model for PackedJson {
 
 impl PackedJson {
     ghost use Rattle.std.specs.Prelude.{IfSome, min, ◌^◌, ◌-◌};
-    ghost use Rattle.st_canon.specs.Canonical.{canonical};
-    ghost use Rattle.st_canon.specs.Measure.{size_of};
-    ghost use Rattle.st_canon.specs.Proper.{IsProper};
+    ghost use Rattle.st_plain.specs.Canonical.{canonical};
+    ghost use Rattle.st_plain.specs.Measure.{size_of};
+    ghost use Rattle.st_plain.specs.Proper.{IsProper};
 
     /// The value in little memory.
     pub fn pack(alloc: Global, value: &Json) -> Result<PackedJson, WantOfMemory>
@@ -109,22 +108,12 @@ impl PackedJson {
     pub fn text(&self) -> Option<&[u8]>
         ensures value { IfSome result (λ text. text.now ≡ canonical self.now) }
         ensures proper { IfSome result (λ _. IsProper self.now) }
+        ensures again { IfSome result (λ text. IsReadAgain text.now) }
+        ensures read { IfSome result (λ text. value_read (json_of text.now) ≡ self.now) }
     {
         match self.form.get() {
             Form::Text(text) => Some(text.as_slice()),
             Form::Within(part) => Some(part.as_slice()),
-            Form::Parts(_) => None,
-        }
-    }
-
-    /// The value, as it stands in its canonical text, where it is kept as that.
-    pub fn scanned(&self) -> Option<Scanned<'_>>
-        ensures value { IfSome result (λ scanned. scanned ≡ self.now) }
-        ensures proper { IfSome result (λ _. IsProper self.now) }
-    {
-        match self.form.get() {
-            Form::Text(text) => Some(Scanned::again(text.as_slice())),
-            Form::Within(part) => Some(Scanned::again(part.as_slice())),
             Form::Parts(_) => None,
         }
     }
@@ -179,15 +168,4 @@ fn form_of_text(
     }
     // A copy has room for the text alone.
     Ok(Form::Text(Bytes::from_slice(alloc, text)?))
-}
-
-// The value of a text that was written of one, so nothing but memory can be wanting.
-fn read_again(alloc: Global, text: &[u8]) -> Result<Json, WantOfMemory>
-    requires { json_of text.now ≡ Ok (value_read (json_of text.now)) }
-    ensures { IfOk result (λ value. plain value ≡ value_read (json_of text.now)) }
-{
-    match read(alloc, text) {
-        Ok(value) => Ok(value),
-        Err(_) => Err(WantOfMemory),
-    }
 }

@@ -1,9 +1,9 @@
 ghost use Rattle.std.specs.Prelude.{IfOk, IfErr};
-ghost use Rattle.st_canon.specs.Names.{NamesAscend};
+ghost use Rattle.st_plain.specs.Names.{NamesAscend};
 ghost use Rattle.st_canon.specs.Place.{IsPlaceOf, IsGapFor};
 
-use crate::names::compare;
 use st_base::Text;
+use st_plain::compare;
 
 // Where the member of this name is, or would go.
 pub(crate) fn place_of<T>(pairs: &[(Text, T)], name: &str) -> Result<usize, usize>

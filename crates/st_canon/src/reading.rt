@@ -1,15 +1,16 @@
 ghost use Rattle.std.specs.Prelude.{◌≡◌, IfOk, IfSome, option_map};
 ghost use Rattle.st_base.specs.Answers.{GivesAs};
-ghost use Rattle.st_canon.specs.Proper.{IsProper};
-ghost use Rattle.st_canon.specs.Reading.{json_of, refusal_of};
-ghost use Rattle.st_canon.specs.Shapes.{json_in};
+ghost use Rattle.st_plain.specs.Proper.{IsProper};
+ghost use Rattle.st_plain.specs.ReadAgain.{IsReadAgain, value_read};
+ghost use Rattle.st_plain.specs.Reading.{json_of, refusal_of};
+ghost use Rattle.st_plain.specs.Shapes.{json_in};
 ghost use Rattle.st_canon.specs.View.{plain};
 
 use crate::convert::convert;
-use crate::refused::ReadRefused;
 use crate::value::Json;
 use serde_json::Value;
 use st_base::WantOfMemory;
+use st_plain::ReadRefused;
 use std::alloc::Global;
 
 /// Reads a JSON text of any spelling. A member whose name stands twice has its last value.
@@ -40,5 +41,17 @@ pub fn read_json(alloc: Global, bytes: &[u8]) -> Result<Option<Json>, WantOfMemo
         Err(ReadRefused::NotJson) => Ok(None),
         Err(ReadRefused::NotWhole) => Ok(None),
         Err(ReadRefused::WantOfMemory) => Err(WantOfMemory),
+    }
+}
+
+/// The value whose canonical text this is.
+pub fn read_again(alloc: Global, text: &[u8]) -> Result<Json, WantOfMemory>
+    requires { IsReadAgain text.now }
+    ensures { IfOk result (λ value. plain value ≡ value_read (json_of text.now)) }
+{
+    match read(alloc, text) {
+        Ok(value) => Ok(value),
+        // A text that was written of a value is read, so nothing but memory can be wanting.
+        Err(_) => Err(WantOfMemory),
     }
 }

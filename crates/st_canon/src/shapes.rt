@@ -1,9 +1,9 @@
 ghost use Rattle.std.specs.Prelude.{◌≡◌, Some, map, option_map};
 ghost use Rattle.std.specs.Borrow.{sem};
 ghost use Rattle.std.specs.Option.{option_copied};
-ghost use Rattle.st_canon.specs.Entries.{items_in, list_in, members_in, text_in};
+ghost use Rattle.st_plain.specs.Entries.{items_in, list_in, members_in, text_in};
+ghost use Rattle.st_plain.specs.Shapes.{is_object_of, member_in, only_member};
 ghost use Rattle.st_canon.specs.LendsValue.{LendsList, LendsObject};
-ghost use Rattle.st_canon.specs.Shapes.{is_object_of, member_in, only_member};
 ghost use Rattle.st_canon.specs.View.{plain, plain_items, plain_members};
 
 use crate::value::{Json, Object};
@@ -29,16 +29,6 @@ impl Json {
         match items_of(self) {
             Some(items) => Some(items),
             None => None,
-        }
-    }
-
-    /// The object that this value is.
-    pub fn as_object(&self) -> Option<&Object>
-        ensures { option_map (λ members. plain_members members.now) result ≡ members_in (plain self.now) }
-    {
-        match self {
-            Json::Object(members) => Some(members),
-            _ => None,
         }
     }
 
@@ -72,16 +62,6 @@ impl Json {
     {
         match self {
             Json::Object(members) => members.get(name),
-            _ => None,
-        }
-    }
-
-    /// The value of the member of this name, where this is an object that has it and no other.
-    pub fn only_member(&self, name: &str) -> Option<&Json>
-        ensures { option_map plain (option_copied result) ≡ only_member name.now (Some (plain self.now)) }
-    {
-        match self {
-            Json::Object(members) => members.only(name),
             _ => None,
         }
     }

@@ -1,5 +1,5 @@
 ghost use Rattle.std.specs.Prelude.{◌≡◌, OnOk, OnErr, map, option_map};
-ghost use Rattle.st_canon.specs.Objects.{put_some, some_list, some_object};
+ghost use Rattle.st_plain.specs.Objects.{put_some, some_list, some_object};
 ghost use Rattle.st_canon.specs.View.{plain, plain_members};
 
 use crate::value::{Json, Object};
@@ -8,7 +8,7 @@ use std::alloc::Global;
 
 impl Object {
     /// `set`, where there is a value.
-    #[tactic(auto, unfolding(crate::specs::Objects::put_some))]
+    #[tactic(auto, unfolding(st_plain::specs::Objects::put_some))]
     pub fn set_some(
         &mut self,
         alloc: Global,
@@ -26,7 +26,7 @@ impl Object {
 }
 
 /// A list, but for an empty one.
-#[tactic(auto, unfolding(crate::specs::Objects::some_list))]
+#[tactic(auto, unfolding(st_plain::specs::Objects::some_list))]
 pub fn some_list(list: List<Json>) -> Option<Json>
     ensures { option_map plain result ≡ some_list (map plain list) }
 {
@@ -38,7 +38,7 @@ pub fn some_list(list: List<Json>) -> Option<Json>
 }
 
 /// An object, but for an empty one.
-#[tactic(auto, unfolding(crate::specs::Objects::some_object))]
+#[tactic(auto, unfolding(st_plain::specs::Objects::some_object))]
 pub fn some_object(object: Object) -> Option<Json>
     ensures { option_map plain result ≡ some_object (plain_members object) }
 {

@@ -1,7 +1,7 @@
 ghost use Rattle.std.specs.Prelude.{◌≡◌, map, option_and_then, option_map};
 ghost use Rattle.std.specs.Option.{option_copied};
-ghost use Rattle.st_canon.specs.Entries.{list_in};
-ghost use Rattle.st_canon.specs.Shapes.{entries_in, is_list_if_there, is_text_if_there};
+ghost use Rattle.st_plain.specs.Entries.{list_in};
+ghost use Rattle.st_plain.specs.Shapes.{entries_in, is_list_if_there, is_text_if_there};
 ghost use Rattle.st_canon.specs.View.{plain};
 
 use crate::value::Json;

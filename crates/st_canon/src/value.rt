@@ -1,6 +1,6 @@
 use crate::members::Members;
-use crate::whole::Whole;
 use st_base::{List, Text};
+use st_plain::Whole;
 
 /// A JSON value (RFC 8259) whose numbers are whole. Contracts speak of its plain value.
 #[derive(Drop)]

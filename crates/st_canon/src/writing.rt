@@ -1,17 +1,17 @@
 ghost use Rattle.std.specs.Prelude.{◌≡◌, ◌++◌, ◌≤◌, IfOk, OnOk, Ok, false, option_map};
 ghost use Rattle.std.specs.Option.{option_copied};
-ghost use Rattle.st_canon.specs.Canonical.{canonical, canonical_items, canonical_members, comma as comma_text};
-ghost use Rattle.st_canon.specs.Depth.{depth_of};
-ghost use Rattle.st_canon.specs.Listed.{text_there};
-ghost use Rattle.st_canon.specs.Plain.{IsWhole, Plain, boolean, whole as whole_number};
-ghost use Rattle.st_canon.specs.Proper.{IsProper, ItemsAreProper, MembersAreProper};
-ghost use Rattle.st_canon.specs.Reading.{json_of};
+ghost use Rattle.st_plain.specs.Canonical.{canonical, canonical_items, canonical_members, comma as comma_text};
+ghost use Rattle.st_plain.specs.Depth.{depth_of};
+ghost use Rattle.st_plain.specs.Listed.{text_there};
+ghost use Rattle.st_plain.specs.Plain.{IsWhole, Plain, boolean, whole as whole_number};
+ghost use Rattle.st_plain.specs.Proper.{IsProper, ItemsAreProper, MembersAreProper};
+ghost use Rattle.st_plain.specs.Reading.{json_of};
 ghost use Rattle.st_canon.specs.View.{plain, plain_items, plain_members};
 
 use crate::escape::append_text;
 use crate::value::{Json, Object};
-use crate::whole::Whole;
 use st_base::{Bytes, List, WantOfMemory};
+use st_plain::Whole;
 use std::alloc::Global;
 
 // Room that most texts do not outgrow, so that they are not moved while they are written: a delta has at

@@ -1,7 +1,7 @@
 -- What a chunk file says that is nothing but a list of deltas.
 use Rattle.std.proofs.Common.{◌≡◌, List, Some, codes, true, refl}
-use Rattle.st_canon.specs.Plain.{Plain}
-use Rattle.st_canon.proofs.ItemLists.{entries-items_of}
+use Rattle.st_plain.specs.Plain.{Plain}
+use Rattle.st_plain.proofs.ItemLemmas.{entries-items_of}
 use Rattle.st_datafiles.specs.OnlyList.{object_of_list}
 use Rattle.st_datafiles.specs.Chunk.{deltas_of, has_chunk_form}
 

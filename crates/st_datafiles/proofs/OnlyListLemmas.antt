@@ -9,16 +9,16 @@ use Rattle.json.specs.Lex.{tokens}
 use Rattle.json.specs.Token.{Token}
 use Rattle.json.proofs.Grammar.{members_end, members_more, value-begin_object}
 use Rattle.serde_json.specs.Read.{converted}
-use Rattle.st_canon.specs.Direct.{whole_json, whole_json_items}
-use Rattle.st_canon.specs.Plain.{Plain, list}
-use Rattle.st_canon.specs.Reading.{json_of}
-use Rattle.st_canon.specs.Rewritten.{IsNext}
-use Rattle.st_canon.specs.Shapes.{json_in}
-use Rattle.st_canon.specs.View.{items_of}
-use Rattle.st_canon.proofs.DirectLemmas.{list_value, one_member, text_read, was_read}
-use Rattle.st_canon.proofs.NestsLemmas.{back_within}
+use Rattle.st_plain.specs.Direct.{whole_json, whole_json_items}
+use Rattle.st_plain.specs.Plain.{Plain, list}
+use Rattle.st_plain.specs.Reading.{json_of}
+use Rattle.st_plain.specs.Rewritten.{IsNext}
+use Rattle.st_plain.specs.Shapes.{json_in}
+use Rattle.st_plain.specs.Entries.{items_of}
+use Rattle.st_plain.proofs.DirectLemmas.{list_value, one_member, text_read, was_read}
+use Rattle.st_plain.proofs.NestsLemmas.{back_within}
 use Rattle.st_datafiles.specs.OnlyList.{ends, object_of_list, opens_list}
-use Rattle.st_canon.specs.Packed.{IsReadAgain, value_read}
+use Rattle.st_plain.specs.ReadAgain.{IsReadAgain, value_read}
 
 module _ (name : List ℕ) (entries : List Plain) (inside : List Token)
     (read : converted whole_json_items (items (value 125) (length inside) inside) ≡ Some (items_of entries, ends)) where

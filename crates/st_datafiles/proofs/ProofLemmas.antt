@@ -1,11 +1,11 @@
 -- The signed texts of a proof file, as they were written.
 use Rattle.std.proofs.Common.{◌≡◌, ◌∙◌, ℕ, List, [], ◌∷◌, Option, Some, map, codes, refl, ap}
 use Rattle.std.specs.List.{filter_map}
-use Rattle.st_canon.proofs.ObjectLemmas.{entries_in-some_list, member_at-some_listed, member_in-some_object}
-use Rattle.st_canon.specs.Find.{member_at}
-use Rattle.st_canon.specs.Objects.{some_list, some_object}
-use Rattle.st_canon.specs.Plain.{Plain, Members}
-use Rattle.st_canon.specs.Shapes.{entries_in, member_in}
+use Rattle.st_plain.proofs.ObjectLemmas.{entries_in-some_list, member_at-some_listed, member_in-some_object}
+use Rattle.st_plain.specs.Find.{member_at}
+use Rattle.st_plain.specs.Objects.{some_list, some_object}
+use Rattle.st_plain.specs.Plain.{Plain, Members}
+use Rattle.st_plain.specs.Shapes.{entries_in, member_in}
 use Rattle.st_datafiles.specs.ProofFiles.{core_proof_json, core_proofs_of, proof_json, provisional_proof_json, signed_in, signed_json, signed_of}
 use Rattle.st_datafiles.specs.declared.core_proofs.CoreProofs.{CoreProofs}
 

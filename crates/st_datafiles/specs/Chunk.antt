@@ -2,10 +2,10 @@
 -- which they are accepted (DIF Sidetree v1.0.0, "Chunk Files"). `None` is a file that is no JSON.
 use Rattle.std.specs.Prelude.{ℕ, ◌==◌, Bool, not, nat_lt, List, [], ◌∷◌, codes, length, Option, is_none, is_some, option_and_then}
 use Rattle.st_base.specs.Rules.{Table, first_failing}
-use Rattle.st_canon.specs.Entries.{items_in}
-use Rattle.st_canon.specs.Objects.{object_of_some, some_list}
-use Rattle.st_canon.specs.Plain.{Plain}
-use Rattle.st_canon.specs.Shapes.{entries_in, json_in, member_in, only_member}
+use Rattle.st_plain.specs.Entries.{items_in}
+use Rattle.st_plain.specs.Objects.{object_of_some, some_list}
+use Rattle.st_plain.specs.Plain.{Plain}
+use Rattle.st_plain.specs.Shapes.{entries_in, json_in, member_in, only_member}
 use Rattle.st_datafiles.specs.declared.chunk_rule.ChunkRule.{ChunkRule}
 use Rattle.st_datafiles.specs.declared.chunk_rule.ChunkRule.TheVariants.{K1, K2, K3, K4}
 use Rattle.st_params.specs.Limits.{Limits}

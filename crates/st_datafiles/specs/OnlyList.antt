@@ -1,8 +1,8 @@
 -- An object whose only member is a list, and the tokens around the items of that.
 use Rattle.std.specs.Prelude.{ℕ, List, [], ◌∷◌}
 use Rattle.json.specs.Token.{Token}
-use Rattle.st_canon.specs.Plain.{Plain, list, object, no_members, member}
-use Rattle.st_canon.specs.View.{items_of}
+use Rattle.st_plain.specs.Plain.{Plain, list, object, no_members, member}
+use Rattle.st_plain.specs.Entries.{items_of}
 
 -- the object whose only member, of this name, is the list of these entries
 abbrev pub object_of_list : List ℕ → List Plain → Plain

@@ -2,10 +2,10 @@
 -- written (DIF Sidetree v1.0.0, "Core Proof File" and "Provisional Proof File").
 use Rattle.std.specs.Prelude.{ℕ, List, [], ◌∷◌, codes, map, Option, Some, option_and_then}
 use Rattle.std.specs.List.{filter_map}
-use Rattle.st_canon.specs.Entries.{text_in}
-use Rattle.st_canon.specs.Objects.{object_of, object_of_some, some_list, some_listed, some_object}
-use Rattle.st_canon.specs.Plain.{Plain, text, Members}
-use Rattle.st_canon.specs.Shapes.{entries_in, member_in, only_member}
+use Rattle.st_plain.specs.Entries.{text_in}
+use Rattle.st_plain.specs.Objects.{object_of, object_of_some, some_list, some_listed, some_object}
+use Rattle.st_plain.specs.Plain.{Plain, text, Members}
+use Rattle.st_plain.specs.Shapes.{entries_in, member_in, only_member}
 use Rattle.st_datafiles.specs.declared.core_proofs.CoreProofs.{CoreProofs}
 
 -- ---- read

@@ -5,9 +5,9 @@ use Rattle.std.specs.Prelude.{ℕ, ◌==◌, Bool, not, ◌&&◌, nat_lt, List, 
 use Rattle.std.specs.List.{list_all}
 use Rattle.st_base.specs.Each.{each_is}
 use Rattle.st_base.specs.Rules.{Table, first_failing}
-use Rattle.st_canon.specs.Plain.{Plain}
-use Rattle.st_canon.specs.ObjectsOfLists.{is_object_of_lists}
-use Rattle.st_canon.specs.Shapes.{json_in, only_member}
+use Rattle.st_plain.specs.Plain.{Plain}
+use Rattle.st_scan.specs.ObjectsOfLists.{is_object_of_lists}
+use Rattle.st_plain.specs.Shapes.{json_in, only_member}
 use Rattle.st_datafiles.specs.ProofFiles.{proofs_of, signed_in}
 use Rattle.st_datafiles.specs.declared.proof_rule.ProofRule.{ProofRule}
 use Rattle.st_datafiles.specs.declared.proof_rule.ProofRule.TheVariants.{Q1, Q2, Q3, Q4}

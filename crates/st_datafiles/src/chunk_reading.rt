@@ -1,7 +1,7 @@
 ghost use Rattle.std.specs.Prelude.{◌≡◌, ◌==◌, IfOk, codes, length, Some};
 ghost use Rattle.st_base.specs.Rules.{Answers};
 ghost use Rattle.st_base.specs.Work.{one_file};
-ghost use Rattle.st_canon.specs.Shapes.{json_in};
+ghost use Rattle.st_plain.specs.Shapes.{json_in};
 ghost use Rattle.st_datafiles.specs.Chunk.{chunk_json_rules, chunk_rules, deltas_of, has_chunk_form};
 ghost use Rattle.st_datafiles.specs.OnlyList.{object_of_list};
 
@@ -9,8 +9,8 @@ use crate::chunk_rule::{ChunkRefused, ChunkRule};
 use crate::entries::read_entries;
 use st_base::{Bytes, FileRefused, List, Shared, WantOfMemory, Work};
 use st_canon::PackedJson;
-use st_canon::scan::{CanonicalText, Entries, Scanned, entries_in};
 use st_params::Params;
+use st_scan::{CanonicalText, Entries, Scanned, entries_in};
 use std::alloc::Global;
 
 /// The deltas of a chunk file, of which so many are wanted, each in little memory. It counts as one file,
@@ -76,7 +76,7 @@ fn pack_all(alloc: Global, deltas: Entries<'_>) -> Result<List<PackedJson>, Want
     let mut packed = List::new(alloc);
     let mut left = deltas;
     'deltas: while let Some(delta) = left.next() {
-        packed.push(alloc, delta.pack(alloc)?)?;
+        packed.push(alloc, PackedJson::keep(alloc, delta.as_slice())?)?;
     }
     Ok(packed)
 }

@@ -1,6 +1,6 @@
 ghost use Rattle.std.specs.Prelude.{◌≡◌, ℕ, IfOk, None, map};
-ghost use Rattle.st_canon.specs.Canonical.{canonical};
-ghost use Rattle.st_canon.specs.Shapes.{json_in};
+ghost use Rattle.st_plain.specs.Canonical.{canonical};
+ghost use Rattle.st_plain.specs.Shapes.{json_in};
 ghost use Rattle.st_canon.specs.View.{plain};
 ghost use Rattle.st_datafiles.specs.Chunk.{chunk_json, deltas_of, first_failing_chunk_rule};
 ghost use Rattle.st_params.specs.Limits.{Limits};

@@ -1,5 +1,4 @@
-use st_base::{Copied, List, WantOfMemory};
-use st_canon::KeptText;
+use st_base::{Copied, KeptText, List, WantOfMemory};
 use std::alloc::Global;
 
 /// What a core proof file says: the signed texts of the recovers and of the deactivates.

@@ -1,14 +1,15 @@
 ghost use Rattle.std.specs.Prelude.{◌≡◌, ◌<◌, length, IfOk, IfSome, IsTrue, OnOk, Some};
 ghost use Rattle.json.specs.Json.{items, value};
 ghost use Rattle.serde_json.specs.Read.{converted};
-ghost use Rattle.st_canon.specs.Direct.{whole_json, whole_json_items};
-ghost use Rattle.st_canon.specs.Shapes.{json_in};
-ghost use Rattle.st_canon.specs.View.{items_of};
+ghost use Rattle.st_plain.specs.Direct.{whole_json, whole_json_items};
+ghost use Rattle.st_plain.specs.Shapes.{json_in};
+ghost use Rattle.st_plain.specs.Entries.{items_of};
 ghost use Rattle.st_datafiles.specs.OnlyList.{ends, object_of_list, opens_list};
 
 use json::{Reader, Scratch, Token};
 use st_base::{Bytes, List, Shared, WantOfMemory};
-use st_canon::{MAX_DEPTH, PackedJson, ReadStopped, rewrite};
+use st_canon::PackedJson;
+use st_plain::{MAX_DEPTH, ReadStopped, rewrite};
 use std::alloc::Global;
 
 // How deep the entries may nest, which stand in a list in an object.
@@ -70,15 +71,15 @@ fn pack_items(
 ) -> Result<List<PackedJson>, ReadStopped>
     ensures { IfOk result (λ found. converted whole_json_items (items (value 125) (length reader.old) reader.old) ≡ Some (items_of found, reader.new)) }
 {
-    let mut found = List::new(alloc);
+    let mut found = Vec::new(alloc);
     'items: while !reader.take_end_array() {
         if found.len() == most {
             return Err(ReadStopped::Left);
         }
         let packed = pack_next(alloc, reader, file)?;
-        found.push(alloc, packed)?;
+        found.push(packed)?;
     }
-    Ok(found)
+    Ok(List::from_vec(found))
 }
 
 // The next value, straight from its tokens.
@@ -92,9 +93,12 @@ fn pack_next(
 {
     // Its text is looked for in the file where the reader stands.
     let at = reader.offset();
-    let mut text = Bytes::with_room(alloc, USUAL)?;
+    let mut text = Vec::with_capacity(alloc, USUAL)?;
     rewrite(alloc, &mut text, reader, INSIDE)?;
-    Ok(PackedJson::keep_within(alloc, text.as_slice(), file, at)?)
+    match PackedJson::keep_within(alloc, text.as_slice(), file, at) {
+        Ok(packed) => Ok(packed),
+        Err(_) => Err(ReadStopped::WantOfMemory),
+    }
 }
 
 // Whether the object is closed, and nothing follows.

@@ -1,4 +1,4 @@
-use st_canon::KeptText;
+use st_base::KeptText;
 
 // What stands before the name of the first kind.
 const FRONT: &str = "{\"operations\":{\"";

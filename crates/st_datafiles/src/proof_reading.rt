@@ -3,17 +3,16 @@ ghost use Rattle.std.specs.List.{filter_map, list_all};
 ghost use Rattle.st_base.specs.Each.{each_is};
 ghost use Rattle.st_base.specs.Rules.{Answers};
 ghost use Rattle.st_base.specs.Work.{one_file};
-ghost use Rattle.st_canon.specs.Shapes.{json_in};
+ghost use Rattle.st_plain.specs.Shapes.{json_in};
 ghost use Rattle.st_datafiles.specs.ProofFiles.{core_proofs_of, proofs_of, signed_in, signed_of};
 ghost use Rattle.st_datafiles.specs.ProofRules.{core_proof_json_rules, core_proof_rules, has_proof_form, has_proofs, provisional_proof_json_rules, provisional_proof_rules};
 
 use crate::core_proofs::CoreProofs;
 use crate::place::Place;
 use crate::proof_rule::{ProofRefused, ProofRule};
-use st_base::{Bytes, FileRefused, List, Shared, WantOfMemory, Work};
-use st_canon::KeptText;
-use st_canon::scan::{CanonicalText, Entries, Scanned, entries_in};
+use st_base::{Bytes, FileRefused, KeptText, List, Shared, WantOfMemory, Work};
 use st_params::Params;
+use st_scan::{CanonicalText, Entries, Scanned, entries_in};
 use std::alloc::Global;
 
 /// The signed texts of a core proof file, of which so many are wanted of each kind. They are shared with the

@@ -1,15 +1,15 @@
 ghost use Rattle.std.specs.Prelude.{◌≡◌, ℕ, IfOk, None, codes, map};
-ghost use Rattle.st_canon.specs.Canonical.{canonical};
-ghost use Rattle.st_canon.specs.Objects.{some_list, some_listed};
-ghost use Rattle.st_canon.specs.Shapes.{json_in};
+ghost use Rattle.st_plain.specs.Canonical.{canonical};
+ghost use Rattle.st_plain.specs.Objects.{some_list, some_listed};
+ghost use Rattle.st_plain.specs.Shapes.{json_in};
 ghost use Rattle.st_canon.specs.View.{plain, plain_members};
 ghost use Rattle.st_datafiles.specs.ProofFiles.{core_proof_json, core_proofs_of, proof_json, provisional_proof_json, signed_json, signed_of};
 ghost use Rattle.st_datafiles.specs.ProofRules.{first_failing_core_proof_rule, first_failing_provisional_proof_rule};
 ghost use Rattle.st_params.specs.Limits.{Limits};
 
 use crate::core_proofs::CoreProofs;
-use st_base::{Bytes, List, Text, WantOfMemory};
-use st_canon::{Json, KeptText, Object, some_list, some_object, write};
+use st_base::{Bytes, KeptText, List, Text, WantOfMemory};
+use st_canon::{Json, Object, some_list, some_object, write};
 use std::alloc::Global;
 
 /// The canonical text of the core proof file of these signed texts. Empty lists are left out, and an

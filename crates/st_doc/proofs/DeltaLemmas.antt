@@ -4,11 +4,11 @@ use Rattle.std.specs.Prelude.{is_some, ok_or}
 use Rattle.std.specs.Result.{result_ok}
 use Rattle.std.proofs.lemmas.Bool.Decides.{nat_tests}
 use Rattle.st_base.specs.Answers.{◌>>=◌, ◌>>◌, holds_or}
-use Rattle.st_canon.specs.Depth.{depth_of}
-use Rattle.st_canon.specs.Entries.{list_in}
-use Rattle.st_canon.specs.Measure.{size_of}
-use Rattle.st_canon.specs.Plain.{Plain}
-use Rattle.st_canon.specs.Shapes.{both_members}
+use Rattle.st_plain.specs.Depth.{depth_of}
+use Rattle.st_plain.specs.Entries.{list_in}
+use Rattle.st_plain.specs.Measure.{size_of}
+use Rattle.st_plain.specs.Plain.{Plain}
+use Rattle.st_plain.specs.Shapes.{both_members}
 use Rattle.st_hash.specs.Hash.{HashValue}
 use Rattle.st_params.specs.Limits.{Limits}
 use Rattle.st_doc.specs.Delta.{delta_of, hash_in, outer_of}

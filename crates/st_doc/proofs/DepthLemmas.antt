@@ -2,10 +2,10 @@
 use Rattle.std.proofs.Common.{◌≡◌, ℕ, ◌+◌, ◌-◌, ◌<◌, ◌≤◌, ◌^◌, max, Bool, true, false, nat_le, [], ◌∷◌, ◌++◌, length, arith, length-append}
 use Rattle.std.specs.Prelude.{◌&&◌}
 use Rattle.std.proofs.lemmas.Bool.Decides.{nat_tests}
-use Rattle.st_canon.specs.Canonical.{canonical, canonical_items, canonical_members, comma, quoted}
-use Rattle.st_canon.specs.Depth.{depth_of, items_depth, members_depth}
-use Rattle.st_canon.specs.Measure.{fits, size_of}
-use Rattle.st_canon.specs.Plain.{Plain, null, boolean, whole, text, list, object, Items, no_items, item, Members, no_members, member}
+use Rattle.st_plain.specs.Canonical.{canonical, canonical_items, canonical_members, comma, quoted}
+use Rattle.st_plain.specs.Depth.{depth_of, items_depth, members_depth}
+use Rattle.st_plain.specs.Measure.{fits, size_of}
+use Rattle.st_plain.specs.Plain.{Plain, null, boolean, whole, text, list, object, Items, no_items, item, Members, no_members, member}
 
 mutual
   shallow : (p : Plain) → depth_of p ≤ max 1 (length (canonical p))

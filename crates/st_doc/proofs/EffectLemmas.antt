@@ -3,7 +3,7 @@ use Rattle.std.proofs.Common.{◌≡◌, ℕ, zero, suc, ◌+◌, ◌<◌, nat_e
 use Rattle.std.proofs.lemmas.Bool.Decides.{nat_tests}
 use Rattle.std.proofs.lemmas.List.{map-set, take-map, drop-map, length-map}
 use Rattle.std.proofs.Math.ListN.{get_or-map as get_or-plain}
-use Rattle.st_canon.specs.Plain.{Plain}
+use Rattle.st_plain.specs.Plain.{Plain}
 use Rattle.st_canon.specs.View.{plain}
 use Rattle.st_canon.specs.declared.value.Json.{Json}
 use Rattle.st_doc.specs.Effects.{added}

@@ -4,7 +4,7 @@ use Rattle.std.specs.Prelude.{◌&&◌, is_some, ok_or}
 use Rattle.std.specs.List.{list_all}
 use Rattle.std.specs.Result.{result_ok}
 use Rattle.st_base.specs.Answers.{◌>>=◌}
-use Rattle.st_canon.specs.Plain.{Plain}
+use Rattle.st_plain.specs.Plain.{Plain}
 use Rattle.st_hash.specs.Hash.{HashValue}
 use Rattle.st_params.specs.Limits.{Limits}
 use Rattle.st_doc.specs.Delta.{PlainDelta, delta_of, outer_of, patches_of}

@@ -1,9 +1,9 @@
 -- The entries of a value that is a list, and of one that is none.
 use Rattle.std.proofs.Common.{◌≡◌, true, false, Option, Some, None, option_map, unwrap_or, [], refl}
 use Rattle.std.specs.Prelude.{is_some}
-use Rattle.st_canon.specs.Entries.{entries, items_in, list_in}
-use Rattle.st_canon.specs.Plain.{Plain, Items}
-use Rattle.st_canon.specs.Shapes.{entries_in}
+use Rattle.st_plain.specs.Entries.{entries, items_in, list_in}
+use Rattle.st_plain.specs.Plain.{Plain, Items}
+use Rattle.st_plain.specs.Shapes.{entries_in}
 
 some_items : (there : Option Items) → is_some there ≡ true → Some (unwrap_or (option_map entries there) []) ≡ option_map entries there
 some_items (Some items) is = refl

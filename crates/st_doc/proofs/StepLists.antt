@@ -1,7 +1,7 @@
 -- Steps that were read, and those still to be read.
 use Rattle.std.proofs.Common.{List, ◌++◌, Option, option_map}
 use Rattle.std.specs.Result.{result_ok}
-use Rattle.st_canon.specs.Plain.{Plain}
+use Rattle.st_plain.specs.Plain.{Plain}
 use Rattle.st_jsonpatch.specs.Step.{PlainStep, step_of}
 use Rattle.st_base.specs.Each.{each_of}
 

@@ -1,13 +1,13 @@
 -- What is taken out of a document's JSON is the document.
 use Rattle.std.proofs.Common.{◌≡◌, ℕ, Bool, true, false, List, [], ◌∷◌, map, Option, Some, None, if◌then◌else◌, refl, ap, sym, ◌∙◌}
 use Rattle.std.specs.Prelude.{codes, ◌&&◌}
-use Rattle.st_canon.specs.Measure.{fits}
-use Rattle.st_canon.specs.Objects.{some_list}
-use Rattle.st_canon.specs.Plain.{Plain, text, list}
-use Rattle.st_canon.specs.Shapes.{entries_in}
-use Rattle.st_canon.specs.View.{items_of}
-use Rattle.st_canon.proofs.ItemLists.{entries-items_of}
-use Rattle.st_canon.proofs.ObjectLemmas.{entries_in-some_list, member_at-some_listed}
+use Rattle.st_plain.specs.Measure.{fits}
+use Rattle.st_plain.specs.Objects.{some_list}
+use Rattle.st_plain.specs.Plain.{Plain, text, list}
+use Rattle.st_plain.specs.Shapes.{entries_in}
+use Rattle.st_plain.specs.Entries.{items_of}
+use Rattle.st_plain.proofs.ItemLemmas.{entries-items_of}
+use Rattle.st_plain.proofs.ObjectLemmas.{entries_in-some_list, member_at-some_listed}
 use Rattle.st_params.specs.Limits.{Limits}
 use Rattle.st_doc.specs.Document.{PlainDocument, document_in, document_json, if_document, is_document, keeps_rules}
 use Rattle.st_doc.specs.Entries.{texts_of}

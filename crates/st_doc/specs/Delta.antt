@@ -2,11 +2,11 @@
 -- patches, and the commitment to the next update.
 use Rattle.std.specs.Prelude.{ℕ, ◌+◌, nat_le, List, [], ◌∷◌, map, codes, Option, Some, None, ok_or, option_and_then, Result, Ok}
 use Rattle.st_base.specs.Answers.{◌>>=◌, ◌>>◌, holds_or}
-use Rattle.st_canon.specs.Depth.{depth_of}
-use Rattle.st_canon.specs.Entries.{list_in, text_in}
-use Rattle.st_canon.specs.Measure.{size_of}
-use Rattle.st_canon.specs.Plain.{Plain}
-use Rattle.st_canon.specs.Shapes.{both_members}
+use Rattle.st_plain.specs.Depth.{depth_of}
+use Rattle.st_plain.specs.Entries.{list_in, text_in}
+use Rattle.st_plain.specs.Measure.{size_of}
+use Rattle.st_plain.specs.Plain.{Plain}
+use Rattle.st_plain.specs.Shapes.{both_members}
 use Rattle.st_hash.specs.Hash.{HashValue, hash_of_text_at}
 use Rattle.st_params.specs.Limits.{Limits}
 use Rattle.st_doc.specs.Patch.{PlainPatch, patch_of, plain_patch}

@@ -2,12 +2,13 @@
 use Rattle.std.specs.Prelude.{ℕ, ◌==◌, Bool, ◌&&◌, ◌||◌, List, [], ◌∷◌, length, map, codes, if◌then◌else◌, Option, Some, None, Result, Ok, Err}
 use Rattle.std.specs.List.{list_all}
 use Rattle.st_base.specs.Each.{each_is}
-use Rattle.st_canon.specs.Entries.{text_in}
-use Rattle.st_canon.specs.Measure.{fits}
-use Rattle.st_canon.specs.Objects.{some_list, some_listed}
-use Rattle.st_canon.specs.Plain.{Plain, text, list, object, Members}
-use Rattle.st_canon.specs.Shapes.{entries_in, is_list_if_there, is_object_of, member_in}
-use Rattle.st_canon.specs.View.{items_of, plain}
+use Rattle.st_plain.specs.Entries.{text_in}
+use Rattle.st_plain.specs.Measure.{fits}
+use Rattle.st_plain.specs.Objects.{some_list, some_listed}
+use Rattle.st_plain.specs.Plain.{Plain, text, list, object, Members}
+use Rattle.st_plain.specs.Shapes.{entries_in, is_list_if_there, is_object_of, member_in}
+use Rattle.st_plain.specs.Entries.{items_of}
+use Rattle.st_canon.specs.View.{plain}
 use Rattle.st_params.specs.Limits.{Limits}
 use Rattle.st_doc.specs.Alike.{none_twice}
 use Rattle.st_doc.specs.Entries.{all_hold, id_of, is_key, is_name, is_service, texts_of}

@@ -1,6 +1,6 @@
 -- What adding and removing leaves of a document's lists.
 use Rattle.std.specs.Prelude.{ℕ, not, bytes_eq, List, ◌++◌, map, filter, unwrap_or, find, Option}
-use Rattle.st_canon.specs.Plain.{Plain}
+use Rattle.st_plain.specs.Plain.{Plain}
 use Rattle.st_doc.specs.Alike.{is_among}
 use Rattle.st_doc.specs.Entries.{id_of}
 

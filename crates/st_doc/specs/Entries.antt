@@ -3,10 +3,10 @@
 use Rattle.std.specs.Prelude.{ℕ, ◌==◌, Bool, true, false, ◌&&◌, ◌||◌, nat_le, List, [], ◌∷◌, length, codes, Option, Some, None, is_some, option_and_then, option_map, unwrap_or}
 use Rattle.std.specs.Char.{is_ascii_alphanumeric}
 use Rattle.std.specs.List.{list_all, list_any, filter_map}
-use Rattle.st_canon.specs.Entries.{list_in, members_in, text_in}
-use Rattle.st_canon.specs.Plain.{Plain}
-use Rattle.st_canon.specs.Shapes.{is_object_of, member_in, text_at}
-use Rattle.st_canon.specs.Texts.{is_text_of}
+use Rattle.st_plain.specs.Entries.{list_in, members_in, text_in}
+use Rattle.st_plain.specs.Plain.{Plain}
+use Rattle.st_plain.specs.Shapes.{is_object_of, member_in, text_at}
+use Rattle.st_scan.specs.Texts.{is_text_of}
 use Rattle.st_doc.specs.Alike.{none_twice}
 
 -- every one of the tests is true

@@ -5,9 +5,9 @@ use Rattle.std.specs.List.{list_all}
 use Rattle.std.specs.Result.{result_ok}
 use Rattle.st_base.specs.Each.{each_of}
 use Rattle.st_base.specs.Options.{◌>>=◌, ◌>>◌}
-use Rattle.st_canon.specs.Entries.{list_in, text_in}
-use Rattle.st_canon.specs.Plain.{Plain}
-use Rattle.st_canon.specs.Shapes.{both_members, text_at}
+use Rattle.st_plain.specs.Entries.{list_in, text_in}
+use Rattle.st_plain.specs.Plain.{Plain}
+use Rattle.st_plain.specs.Shapes.{both_members, text_at}
 use Rattle.st_canon.specs.View.{plain}
 use Rattle.st_jsonpatch.specs.Step.{PlainStep, plain_step, step_of}
 use Rattle.st_params.specs.Limits.{Limits}

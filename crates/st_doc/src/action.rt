@@ -3,7 +3,7 @@ ghost use Rattle.st_doc.specs.Patch.{action_named, action_of};
 
 use crate::check::may_have_names;
 use st_base::WantOfMemory;
-use st_canon::scan::Scanned;
+use st_scan::Scanned;
 use std::alloc::Global;
 
 /// What a patch does, by its `action`.

@@ -1,6 +1,6 @@
 ghost use Rattle.std.specs.Prelude.{◌≡◌, ◌&&◌, option_map, IfOk};
 ghost use Rattle.std.specs.List.{list_all};
-ghost use Rattle.st_canon.specs.Measure.{fits};
+ghost use Rattle.st_plain.specs.Measure.{fits};
 ghost use Rattle.st_canon.specs.View.{plain};
 ghost use Rattle.st_doc.specs.Document.{document_in, if_document, keeps_rules, may_have_names, plain_document};
 ghost use Rattle.st_doc.specs.Entries.{is_name};
@@ -9,12 +9,12 @@ use crate::document::Document;
 use crate::forms::is_name;
 use crate::ids::{ids_stand_once, texts_stand_once};
 use crate::key::are_keys;
-use crate::scanned::texts_in;
+use crate::scanned::{text_of, texts_in};
 use crate::service::are_services;
 use st_base::{Text, WantOfMemory};
-use st_canon::scan::{CanonicalText, Scanned, entries_in};
 use st_canon::{Json, fits};
 use st_params::Params;
+use st_scan::{Scanned, entries_in};
 use std::alloc::Global;
 
 /// Whether names may stand in documents of this version.
@@ -50,7 +50,7 @@ fn is_right(alloc: Global, json: &Json, params: &Params) -> Result<bool, WantOfM
     if !fits(json, params.max_depth(), params.max_document()) {
         return Ok(false);
     }
-    let text = CanonicalText::of(alloc, json)?;
+    let text = text_of(alloc, json)?;
     keeps_rules(alloc, &text.root(), version)
 }
 

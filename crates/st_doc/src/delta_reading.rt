@@ -2,8 +2,8 @@ ghost use Rattle.std.specs.Prelude.{◌≡◌, ◌≤◌, is_some, map, nat_le, 
 ghost use Rattle.std.specs.List.{list_all};
 ghost use Rattle.std.specs.Result.{result_ok};
 ghost use Rattle.st_base.specs.Answers.{Gives, GivesAs};
-ghost use Rattle.st_canon.specs.Depth.{depth_of};
-ghost use Rattle.st_canon.specs.Measure.{size_of};
+ghost use Rattle.st_plain.specs.Depth.{depth_of};
+ghost use Rattle.st_plain.specs.Measure.{size_of};
 ghost use Rattle.st_canon.specs.View.{plain};
 ghost use Rattle.st_doc.specs.Delta.{delta_of, hash_in, outer_of, patches_of, plain_delta, refusal_of};
 ghost use Rattle.st_doc.specs.Patch.{patch_of, plain_patch};
@@ -12,12 +12,12 @@ use crate::delta::Delta;
 use crate::patch::Patch;
 use crate::patch_reading::{read_patch, whole};
 use crate::refused::DeltaRefused;
-use crate::scanned::list_in;
+use crate::scanned::{list_in, text_of, tree_of};
 use st_base::{List, WantOfMemory};
-use st_canon::scan::{CanonicalText, Entries, Scanned};
 use st_canon::{Json, depth, fits};
 use st_hash::{Hash, read_hash_at};
 use st_params::Params;
+use st_scan::{Entries, Scanned};
 use std::alloc::Global;
 
 const MAX_DEPTH: u64 = 64;
@@ -36,7 +36,7 @@ pub fn check_delta(alloc: Global, value: &Json, params: &Params) -> Result<Delta
     if !is_shallow(value) {
         return Err(DeltaRefused::BadDelta);
     }
-    let text = CanonicalText::of(alloc, value)?;
+    let text = text_of(alloc, value)?;
     read_delta(alloc, &text.root(), params)
 }
 
@@ -114,7 +114,7 @@ fn nests_little(alloc: Global, value: &Scanned<'_>) -> Result<bool, WantOfMemory
     if value.depth_bound() as u64 <= MAX_DEPTH {
         return Ok(true);
     }
-    let json = value.json(alloc)?;
+    let json = tree_of(alloc, value)?;
     Ok(is_shallow(&json))
 }
 

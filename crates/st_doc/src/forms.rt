@@ -3,7 +3,7 @@ ghost use Rattle.std.specs.List.{list_all};
 ghost use Rattle.st_doc.specs.Entries.{is_base64url_sign, is_id, is_id_text, is_name, is_object, is_short, is_short_text, is_short_text_if_there};
 
 use st_base::WantOfMemory;
-use st_canon::scan::Scanned;
+use st_scan::Scanned;
 use std::alloc::Global;
 
 /// 1 to so many bytes.

@@ -6,7 +6,7 @@ ghost use Rattle.st_doc.specs.Entries.{id_of};
 
 use st_base::{List, Text, WantOfMemory};
 use st_canon::Json;
-use st_canon::scan::{Entries, Scanned};
+use st_scan::{Entries, Scanned};
 use std::alloc::{AllocError, Global};
 use std::collections::BTreeSet;
 

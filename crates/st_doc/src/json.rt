@@ -1,5 +1,5 @@
 ghost use Rattle.std.specs.Prelude.{◌≡◌, map, IfOk};
-ghost use Rattle.st_canon.specs.Plain.{text};
+ghost use Rattle.st_plain.specs.Plain.{text};
 ghost use Rattle.st_canon.specs.View.{plain, plain_members};
 ghost use Rattle.st_doc.specs.Document.{document_json, document_members, plain_document};
 
@@ -24,7 +24,7 @@ impl Document {
         Ok(Json::Object(self.into_members(alloc)?))
     }
 
-    #[tactic(auto, unfolding(st_canon::specs::Objects::put_some))]
+    #[tactic(auto, unfolding(st_plain::specs::Objects::put_some))]
     fn into_members(self, alloc: Global) -> Result<Object, WantOfMemory>
         ensures { IfOk result (λ members. plain_members members ≡ document_members (plain_document self)) }
     {

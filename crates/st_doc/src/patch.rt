@@ -1,8 +1,8 @@
 use crate::document::Document;
 use st_base::{Copied, List, Text, WantOfMemory};
 use st_canon::Json;
-use st_canon::scan::Entries;
 use st_jsonpatch::Step;
+use st_scan::Entries;
 use std::alloc::Global;
 
 /// A change of a document.

@@ -14,14 +14,14 @@ use crate::ids::{ids_stand_once, texts_stand_once};
 use crate::key::are_keys;
 use crate::patch::{Found, Patch};
 use crate::reading::{are_texts, take_document};
-use crate::scanned::{list_in, values_of};
+use crate::scanned::{list_in, tree_of, values_of};
 use crate::service::are_services;
 use crate::taking::texts_of;
 use st_base::{List, Text, WantOfMemory};
 use st_canon::Json;
-use st_canon::scan::{Entries, Scanned};
 use st_jsonpatch::{Step, StepRefused};
 use st_params::Params;
+use st_scan::{Entries, Scanned};
 use std::alloc::Global;
 
 /// The patch that this value is, where it is one.
@@ -146,7 +146,7 @@ fn read_replace(
     let Some(document) = beside_action(patch, "document") else {
         return Ok(None);
     };
-    match take_document(alloc, document.json(alloc)?, params)? {
+    match take_document(alloc, tree_of(alloc, &document)?, params)? {
         Some(document) => Ok(Some(Patch::Replace(document))),
         None => Ok(None),
     }

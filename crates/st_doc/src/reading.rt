@@ -2,8 +2,8 @@ ghost use Rattle.std.specs.Prelude.{◌≡◌, map, option_map, IfOk, Some};
 ghost use Rattle.std.specs.Result.{result_ok};
 ghost use Rattle.st_base.specs.Answers.{GivesAs};
 ghost use Rattle.st_base.specs.Each.{each_is};
-ghost use Rattle.st_canon.specs.Entries.{text_in};
-ghost use Rattle.st_canon.specs.Shapes.{is_object_of};
+ghost use Rattle.st_plain.specs.Entries.{text_in};
+ghost use Rattle.st_plain.specs.Shapes.{is_object_of};
 ghost use Rattle.st_canon.specs.View.{plain};
 ghost use Rattle.st_doc.specs.Document.{document_in, document_names, document_of, has_document_form, if_document, plain_document, refusal_of};
 

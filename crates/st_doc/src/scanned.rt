@@ -1,11 +1,12 @@
-ghost use Rattle.std.specs.Prelude.{◌≡◌, map, IfOk};
-ghost use Rattle.st_canon.specs.Entries.{list_in};
+ghost use Rattle.std.specs.Prelude.{◌≡◌, ◌≤◌, map, IfOk};
+ghost use Rattle.st_plain.specs.Depth.{depth_of};
+ghost use Rattle.st_plain.specs.Entries.{list_in};
 ghost use Rattle.st_canon.specs.View.{plain};
 ghost use Rattle.st_doc.specs.Entries.{texts_of};
 
 use st_base::{List, Text, WantOfMemory};
-use st_canon::Json;
-use st_canon::scan::{Entries, Scanned, entries_in};
+use st_canon::{Json, read_again, write};
+use st_scan::{CanonicalText, Entries, Scanned, entries_in};
 use std::alloc::Global;
 
 /// The entries of the list that it is.
@@ -19,6 +20,22 @@ pub(crate) fn list_in<'a>(value: Scanned<'a>) -> Option<Entries<'a>>
     Some(entries_in(Some(value)))
 }
 
+/// The value as a tree.
+pub(crate) fn tree_of(alloc: Global, value: &Scanned<'_>) -> Result<Json, WantOfMemory>
+    ensures { IfOk result (λ json. plain json ≡ value.now) }
+{
+    Ok(read_again(alloc, value.as_slice())?)
+}
+
+/// The canonical text of a value that does not nest too deep to be read again.
+pub(crate) fn text_of(alloc: Global, value: &Json) -> Result<CanonicalText, WantOfMemory>
+    requires { depth_of (plain value.now) ≤ 127 }
+    ensures { IfOk result (λ text. text ≡ plain value.now) }
+{
+    let text = write(alloc, value)?;
+    Ok(CanonicalText::again(text))
+}
+
 /// Entries as trees.
 pub(crate) fn values_of(alloc: Global, entries: Entries<'_>) -> Result<List<Json>, WantOfMemory>
     ensures { IfOk result (λ values. map plain values ≡ entries.entry) }
@@ -26,7 +43,7 @@ pub(crate) fn values_of(alloc: Global, entries: Entries<'_>) -> Result<List<Json
     let mut values = List::new(alloc);
     let mut left = entries;
     'entries: while let Some(entry) = left.next() {
-        values.push(alloc, entry.json(alloc)?)?;
+        values.push(alloc, tree_of(alloc, &entry)?)?;
     }
     Ok(values)
 }

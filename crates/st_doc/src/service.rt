@@ -1,11 +1,11 @@
 ghost use Rattle.std.specs.Prelude.{◌≡◌, true, codes, is_some, IfOk, IfSome, Some};
 ghost use Rattle.std.specs.List.{list_all};
-ghost use Rattle.st_canon.specs.Shapes.{is_object_of, member_in};
+ghost use Rattle.st_plain.specs.Shapes.{is_object_of, member_in};
 ghost use Rattle.st_doc.specs.Entries.{is_endpoint, is_service, service_names};
 
 use crate::forms::{is_id_text, is_object, is_short_text};
 use st_base::WantOfMemory;
-use st_canon::scan::{Entries, Scanned};
+use st_scan::{Entries, Scanned};
 use std::alloc::Global;
 
 /// Whether this is a service of a document.

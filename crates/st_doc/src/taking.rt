@@ -1,7 +1,7 @@
 ghost use Rattle.std.specs.Prelude.{◌≡◌, map, option_map, IfOk, Some};
-ghost use Rattle.st_canon.specs.Entries.{items_in};
-ghost use Rattle.st_canon.specs.Plain.{object};
-ghost use Rattle.st_canon.specs.Shapes.{entries_in, list_at, member_in};
+ghost use Rattle.st_plain.specs.Entries.{items_in};
+ghost use Rattle.st_plain.specs.Plain.{object};
+ghost use Rattle.st_plain.specs.Shapes.{entries_in, list_at, member_in};
 ghost use Rattle.st_canon.specs.View.{plain, plain_items, plain_members};
 ghost use Rattle.st_doc.specs.Document.{document_in, plain_document};
 ghost use Rattle.st_doc.specs.Entries.{texts_of};
@@ -24,7 +24,7 @@ impl Document {
     }
 }
 
-#[tactic(auto, using(st_canon::proofs::Named::by_name))]
+#[tactic(auto, using(st_plain::proofs::Named::by_name))]
 fn taken_out(alloc: Global, members: Object) -> Result<Document, WantOfMemory>
     ensures { IfOk result (λ document. plain_document document ≡ document_in (object (plain_members members))) }
 {

@@ -4,9 +4,9 @@ mod provisional_files;
 
 use crate::words::three;
 use st_base::{List, read_number};
-use st_canon::scan::CanonicalText;
 use st_canon::{Json, write};
 use st_indexfiles::Target;
+use st_scan::CanonicalText;
 use std::alloc::Global;
 
 // The hash texts of `abc` by SHA-256 and by SHA-512 (FIPS 180-4).

@@ -13,3 +13,7 @@ mod io;
 mod opindex;
 #[cfg(test)]
 mod params;
+#[cfg(test)]
+mod plain;
+#[cfg(test)]
+mod scan;

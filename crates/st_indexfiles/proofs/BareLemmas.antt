@@ -4,11 +4,11 @@ use Rattle.std.proofs.Common.{◌≡◌, ◌≢◌, ◌==◌, ◌++◌, Bool, tr
 use Rattle.std.specs.List.{AllByRecursion, flat_map}
 use Rattle.std.specs.Option.{option_or}
 use Rattle.std.proofs.lemmas.Bool.Decides.{nat_tests}
-use Rattle.st_canon.specs.Canonical.{canonical, escape}
-use Rattle.st_canon.specs.Entries.{text_in}
-use Rattle.st_canon.specs.Objects.{object_of}
-use Rattle.st_canon.specs.Plain.{Plain, null, boolean, whole, text, list, object}
-use Rattle.st_canon.proofs.OnLiterals.{names_on_literals}
+use Rattle.st_plain.specs.Canonical.{canonical, escape}
+use Rattle.st_plain.specs.Entries.{text_in}
+use Rattle.st_plain.specs.Objects.{object_of}
+use Rattle.st_plain.specs.Plain.{Plain, null, boolean, whole, text, list, object}
+use Rattle.st_plain.proofs.OnLiterals.{names_on_literals}
 use Rattle.st_hash.specs.Base64url.{bytes_of_text}
 use Rattle.st_hash.specs.Hash.{HashValue, IsHash, hash_of_multihash, hash_of_text_at, hash_of_text_with, hash_text, multihash}
 use Rattle.st_hash.proofs.HashTexts.{multihash_bytes}

@@ -1,9 +1,9 @@
 -- What the JSON of a core index that was written says.
 use Rattle.std.proofs.Common.{◌≡◌, ◌∙◌, ℕ, true, List, Some, codes, refl, ap}
 use Rattle.std.proofs.lemmas.Bool.{and_parts}
-use Rattle.st_canon.specs.Find.{member_at}
-use Rattle.st_canon.specs.Shapes.{member_in}
-use Rattle.st_canon.proofs.ObjectLemmas.{member_at-some_listed, member_in-some_object}
+use Rattle.st_plain.specs.Find.{member_at}
+use Rattle.st_plain.specs.Shapes.{member_in}
+use Rattle.st_plain.proofs.ObjectLemmas.{member_at-some_listed, member_in-some_object}
 use Rattle.st_indexfiles.specs.CoreIndex.{core_index_of, core_json, core_lists, core_members, core_operations}
 use Rattle.st_indexfiles.specs.CoreRules.{has_core_entries, has_core_members}
 use Rattle.st_indexfiles.specs.SuffixData.{create_json, create_of}

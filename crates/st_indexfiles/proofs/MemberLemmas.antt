@@ -5,13 +5,13 @@ use Rattle.std.proofs.lemmas.Bool.Decides.{nat_tests}
 use Rattle.std.specs.Prelude.{◌||◌, is_some}
 use Rattle.std.proofs.lemmas.List.{append-nil}
 use Rattle.std.specs.Str.{chars}
-use Rattle.st_canon.specs.Canonical.{canonical, comma, escape}
-use Rattle.st_canon.specs.Listed.{member_text, name_text}
-use Rattle.st_canon.specs.Objects.{put_some, some_list, some_listed, some_object}
-use Rattle.st_canon.specs.Plain.{Plain, list, object, Members, no_members, member}
-use Rattle.st_canon.specs.View.{items_of}
-use Rattle.st_canon.proofs.ListedLemmas.{canonical-sorted}
-use Rattle.st_canon.proofs.OnLiterals.{names_on_literals}
+use Rattle.st_plain.specs.Canonical.{canonical, comma, escape}
+use Rattle.st_plain.specs.Listed.{member_text, name_text}
+use Rattle.st_plain.specs.Objects.{put_some, some_list, some_listed, some_object}
+use Rattle.st_plain.specs.Plain.{Plain, list, object, Members, no_members, member}
+use Rattle.st_plain.specs.Entries.{items_of}
+use Rattle.st_plain.proofs.ListedLemmas.{canonical-sorted}
+use Rattle.st_plain.proofs.OnLiterals.{names_on_literals}
 use Rattle.st_indexfiles.specs.CoreIndex.{core_json, core_lists, core_members, core_operations}
 use Rattle.st_indexfiles.specs.Hashes.{hash_json}
 use Rattle.st_indexfiles.specs.ProvisionalIndex.{chunk_json, provisional_json, provisional_lists, provisional_members, provisional_operations}

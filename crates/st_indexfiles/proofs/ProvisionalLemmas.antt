@@ -2,10 +2,10 @@
 use Rattle.std.specs.Prelude.{is_some}
 use Rattle.std.proofs.Common.{◌≡◌, ◌∙◌, ℕ, true, [], ◌∷◌, Option, Some, option_map, map, codes, refl, sym, ap}
 use Rattle.std.proofs.lemmas.Bool.{and_parts}
-use Rattle.st_canon.specs.Objects.{some_list}
-use Rattle.st_canon.specs.Plain.{Plain}
-use Rattle.st_canon.specs.Shapes.{entries_in, member_in, only_member, only_of}
-use Rattle.st_canon.proofs.ObjectLemmas.{entries_in-some_list, member_at-some_listed, member_in-some_object}
+use Rattle.st_plain.specs.Objects.{some_list}
+use Rattle.st_plain.specs.Plain.{Plain}
+use Rattle.st_plain.specs.Shapes.{entries_in, member_in, only_member, only_of}
+use Rattle.st_plain.proofs.ObjectLemmas.{entries_in-some_list, member_at-some_listed, member_in-some_object}
 use Rattle.st_indexfiles.specs.Hashes.{hash_json, uri_in}
 use Rattle.st_indexfiles.specs.ProvisionalIndex.{chunk_in, chunk_json, provisional_index_of, provisional_json, provisional_lists, provisional_members, provisional_operations, provisional_with, updates_in}
 use Rattle.st_indexfiles.specs.ProvisionalRules.{has_provisional_entries}

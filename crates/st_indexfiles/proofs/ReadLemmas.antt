@@ -4,8 +4,8 @@ use Rattle.std.specs.Prelude.{◌||◌, is_some, nat_lt}
 use Rattle.std.specs.List.{cons_option, filter_map}
 use Rattle.std.proofs.lemmas.Bool.{and_parts}
 use Rattle.st_base.specs.Each.{each_is}
-use Rattle.st_canon.specs.Plain.{Plain}
-use Rattle.st_canon.specs.Shapes.{member_in}
+use Rattle.st_plain.specs.Plain.{Plain}
+use Rattle.st_plain.specs.Shapes.{member_in}
 use Rattle.st_indexfiles.specs.CoreIndex.{core_index_of, operations_of}
 use Rattle.st_indexfiles.specs.CoreParts.{core_operations_in, core_said, core_uris_in, says_stray_proof}
 use Rattle.st_indexfiles.specs.CoreRules.{has_core_entries, has_core_members, has_signed, one_alone, operation_count}

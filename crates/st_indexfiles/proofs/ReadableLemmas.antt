@@ -6,8 +6,8 @@ use Rattle.std.specs.Str.{IsUtf8}
 use Rattle.std.proofs.lemmas.Str.{IsUtf8-from_ascii}
 use Rattle.base64.specs.Engines.{url_safe_no_pad}
 use Rattle.base64.proofs.EngineFacts.{IsAscii-encode_of}
-use Rattle.st_canon.proofs.OnLiterals.{names_on_literals}
-use Rattle.st_canon.proofs.ReadableLemmas.{IsReadable, IsReadableThere, deeper, list_there, listed_readable, object_readable, object_there}
+use Rattle.st_plain.proofs.OnLiterals.{names_on_literals}
+use Rattle.st_plain.proofs.ReadableLemmas.{IsReadable, IsReadableThere, deeper, list_there, listed_readable, object_readable, object_there}
 use Rattle.st_hash.specs.Hash.{HashValue, hash_text}
 use Rattle.st_indexfiles.specs.CoreIndex.{core_json, core_lists, core_members, core_operations}
 use Rattle.st_indexfiles.specs.Hashes.{hash_json}

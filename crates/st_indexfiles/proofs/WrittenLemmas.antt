@@ -5,10 +5,10 @@ use Rattle.std.specs.Option.{option_or}
 use Rattle.std.proofs.Common.{◌≡◌, ◌∙◌, ℕ, ◌==◌, Bool, true, false, cond, List, [], ◌∷◌, Option, Some, None, option_and_then, option_map, map, refl, sym, ap}
 use Rattle.std.proofs.lemmas.Bool.{and_parts}
 use Rattle.st_base.specs.Each.{each_is}
-use Rattle.st_canon.specs.Objects.{some_list}
-use Rattle.st_canon.specs.Plain.{Plain}
-use Rattle.st_canon.specs.Shapes.{entries_in}
-use Rattle.st_canon.proofs.ObjectLemmas.{entries_in-some_list}
+use Rattle.st_plain.specs.Objects.{some_list}
+use Rattle.st_plain.specs.Plain.{Plain}
+use Rattle.st_plain.specs.Shapes.{entries_in}
+use Rattle.st_plain.proofs.ObjectLemmas.{entries_in-some_list}
 use Rattle.st_hash.specs.Hash.{HashValue, hash_of_text, hash_of_text_at, hash_of_text_with, hash_text}
 use Rattle.st_indexfiles.specs.Hashes.{hash_json, is_uri_if_there, uri_in}
 use Rattle.st_indexfiles.specs.Written.{AreReadAgain, IsHashReadAgain, IsUriReadAgain, ReadsAs}

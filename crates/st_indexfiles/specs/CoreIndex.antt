@@ -2,9 +2,9 @@
 -- Index File").
 use Rattle.std.specs.Prelude.{ℕ, List, [], ◌∷◌, ◌++◌, codes, map, Option, option_map}
 use Rattle.std.specs.List.{filter_map}
-use Rattle.st_canon.specs.Objects.{object_of_some, some_list, some_listed, some_object}
-use Rattle.st_canon.specs.Plain.{Plain, Members}
-use Rattle.st_canon.specs.Shapes.{entries_in, member_in}
+use Rattle.st_plain.specs.Objects.{object_of_some, some_list, some_listed, some_object}
+use Rattle.st_plain.specs.Plain.{Plain, Members}
+use Rattle.st_plain.specs.Shapes.{entries_in, member_in}
 use Rattle.st_hash.specs.Hash.{HashValue}
 use Rattle.st_indexfiles.specs.Hashes.{hash_json, uri_in}
 use Rattle.st_indexfiles.specs.SuffixData.{create_json, create_of, suffix_of}

@@ -2,8 +2,8 @@
 use Rattle.std.specs.Prelude.{ℕ, Bool, ◌&&◌, ◌||◌, nat_lt, if◌then◌else◌, codes, length, Option, Some, None, is_some}
 use Rattle.std.specs.List.{filter_map}
 use Rattle.st_base.specs.Each.{each_is}
-use Rattle.st_canon.specs.Plain.{Plain}
-use Rattle.st_canon.specs.Shapes.{member_in}
+use Rattle.st_plain.specs.Plain.{Plain}
+use Rattle.st_plain.specs.Shapes.{member_in}
 use Rattle.st_indexfiles.specs.CoreIndex.{operations_of}
 use Rattle.st_indexfiles.specs.CoreRules.{one_alone}
 use Rattle.st_indexfiles.specs.Hashes.{uri_in}

@@ -1,7 +1,7 @@
 -- Hash texts that stand in JSON. `None` is a value that isn't there.
 use Rattle.std.specs.Prelude.{ℕ, Bool, true, Option, Some, None, is_some, option_and_then}
-use Rattle.st_canon.specs.Entries.{text_in}
-use Rattle.st_canon.specs.Plain.{Plain, text}
+use Rattle.st_plain.specs.Entries.{text_in}
+use Rattle.st_plain.specs.Plain.{Plain, text}
 use Rattle.st_hash.specs.Hash.{HashValue, hash_of_text, hash_of_text_at, hash_text}
 
 -- the hash whose hash text of the version stands there

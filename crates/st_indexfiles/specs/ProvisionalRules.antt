@@ -5,9 +5,9 @@ use Rattle.std.specs.Prelude.{ℕ, ◌+◌, ◌==◌, Bool, not, ◌&&◌, ◌||
 use Rattle.st_base.specs.Each.{each_is}
 use Rattle.st_base.specs.Rules.{Table, first_failing}
 use Rattle.st_base.specs.Twice.{has_twice, shares_one}
-use Rattle.st_canon.specs.Plain.{Plain}
-use Rattle.st_canon.specs.ObjectsOfLists.{is_object_of_lists_if_there}
-use Rattle.st_canon.specs.Shapes.{is_object_of, json_in, member_in}
+use Rattle.st_plain.specs.Plain.{Plain}
+use Rattle.st_scan.specs.ObjectsOfLists.{is_object_of_lists_if_there}
+use Rattle.st_plain.specs.Shapes.{is_object_of, json_in, member_in}
 use Rattle.st_hash.specs.Hash.{HashValue, same_hash}
 use Rattle.st_indexfiles.specs.CoreIndex.{operations_of, suffixes_of}
 use Rattle.st_indexfiles.specs.CoreRules.{one_alone}

@@ -2,10 +2,10 @@
 -- URI Composition").
 use Rattle.std.specs.Prelude.{ℕ, [], ◌∷◌, codes, Option, Some}
 use Rattle.st_base.specs.Options.{◌>>=◌, ◌>>◌}
-use Rattle.st_canon.specs.Canonical.{canonical}
-use Rattle.st_canon.specs.Objects.{object_of}
-use Rattle.st_canon.specs.Plain.{Plain}
-use Rattle.st_canon.specs.Shapes.{is_object_of, member_in, only_member}
+use Rattle.st_plain.specs.Canonical.{canonical}
+use Rattle.st_plain.specs.Objects.{object_of}
+use Rattle.st_plain.specs.Plain.{Plain}
+use Rattle.st_plain.specs.Shapes.{is_object_of, member_in, only_member}
 use Rattle.st_hash.specs.Hash.{HashValue, hash_of_with}
 use Rattle.st_indexfiles.specs.Hashes.{hash_in, hash_json}
 use Rattle.st_indexfiles.specs.declared.suffix_data.SuffixData.{SuffixData}

@@ -1,9 +1,9 @@
 -- What an update, a recover or a deactivate names.
 use Rattle.std.specs.Prelude.{ℕ, [], ◌∷◌, codes, Option, Some}
 use Rattle.st_base.specs.Options.{◌>>=◌, ◌>>◌}
-use Rattle.st_canon.specs.Objects.{object_of}
-use Rattle.st_canon.specs.Plain.{Plain}
-use Rattle.st_canon.specs.Shapes.{is_object_of, member_in}
+use Rattle.st_plain.specs.Objects.{object_of}
+use Rattle.st_plain.specs.Plain.{Plain}
+use Rattle.st_plain.specs.Shapes.{is_object_of, member_in}
 use Rattle.st_indexfiles.specs.Hashes.{hash_in, hash_json}
 use Rattle.st_indexfiles.specs.declared.target.Target.{Target}
 

@@ -1,7 +1,7 @@
 -- What was written is read as what it was written of, wherever it is read.
 use Rattle.std.specs.Prelude.{◌≡◌, ⊤, ℕ, List, Option, Some, None, IfSome}
 use Rattle.std.specs.List.{AllByRecursion}
-use Rattle.st_canon.specs.Plain.{Plain}
+use Rattle.st_plain.specs.Plain.{Plain}
 use Rattle.st_hash.specs.Hash.{HashValue, hash_of_text_at, hash_text}
 use Rattle.st_indexfiles.specs.SuffixData.{create_json, create_of}
 use Rattle.st_indexfiles.specs.Target.{target_json, target_of}

@@ -5,8 +5,8 @@ ghost use Rattle.st_indexfiles.specs.CoreRules.{has_core_form, has_core_members,
 use crate::entries::entries_of;
 use crate::hashes::{is_uri_if_there, uri_in};
 use st_base::WantOfMemory;
-use st_canon::scan::{Entries, Scanned, is_object_of_lists_if_there};
 use st_hash::Hash;
+use st_scan::{Entries, Scanned, is_object_of_lists_if_there};
 use std::alloc::Global;
 
 /// The operations of a core index file by kind.

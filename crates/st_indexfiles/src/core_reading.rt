@@ -2,7 +2,7 @@ ghost use Rattle.std.specs.Prelude.{◌≡◌, ◌≤◌, IfOk, Some, nat_lt};
 ghost use Rattle.st_base.specs.Rules.{Answers};
 ghost use Rattle.st_base.specs.Twice.{has_twice};
 ghost use Rattle.st_base.specs.Work.{one_file};
-ghost use Rattle.st_canon.specs.Shapes.{json_in};
+ghost use Rattle.st_plain.specs.Shapes.{json_in};
 ghost use Rattle.st_hash.specs.Hash.{same_hash};
 ghost use Rattle.st_indexfiles.specs.CoreIndex.{core_index_of, suffixes_of};
 ghost use Rattle.st_indexfiles.specs.CoreParts.{core_said, says_stray_proof};
@@ -15,8 +15,8 @@ use crate::core_rule::{CoreRefused, CoreRule};
 use crate::entries::read_entries;
 use crate::twice::has_twice;
 use st_base::{FileRefused, WantOfMemory, Work};
-use st_canon::scan::{CanonicalText, Scanned};
 use st_params::Params;
+use st_scan::{CanonicalText, Scanned};
 use std::alloc::Global;
 
 /// What a core index file says, under the count that its anchor string declares. It counts as one

@@ -1,8 +1,8 @@
 ghost use Rattle.std.specs.Prelude.{◌≡◌, ◌++◌, ◌||◌, ℕ, codes, is_some, IfOk, OnOk, None};
-ghost use Rattle.st_canon.specs.Canonical.{canonical};
-ghost use Rattle.st_canon.specs.Listed.{member_text};
-ghost use Rattle.st_canon.specs.Objects.{some_object};
-ghost use Rattle.st_canon.specs.Shapes.{json_in};
+ghost use Rattle.st_plain.specs.Canonical.{canonical};
+ghost use Rattle.st_plain.specs.Listed.{member_text};
+ghost use Rattle.st_plain.specs.Objects.{some_object};
+ghost use Rattle.st_plain.specs.Shapes.{json_in};
 ghost use Rattle.st_indexfiles.specs.CoreIndex.{core_index_of, core_json, core_operations};
 ghost use Rattle.st_indexfiles.specs.CoreRules.{first_failing_core_rule};
 ghost use Rattle.st_indexfiles.specs.SuffixData.{create_json, create_of};

@@ -1,13 +1,13 @@
 ghost use Rattle.std.specs.Prelude.{◌≡◌, ◌≤◌, ◌++◌, ℕ, Option, Some, IfOk, OnOk};
 ghost use Rattle.std.specs.Option.{option_copied};
 ghost use Rattle.st_base.specs.Each.{each_of};
-ghost use Rattle.st_canon.specs.Canonical.{canonical};
-ghost use Rattle.st_canon.specs.Plain.{Plain};
-ghost use Rattle.st_canon.specs.Shapes.{entries_in, member_in};
+ghost use Rattle.st_plain.specs.Canonical.{canonical};
+ghost use Rattle.st_plain.specs.Plain.{Plain};
+ghost use Rattle.st_plain.specs.Shapes.{entries_in, member_in};
 ghost use Rattle.st_indexfiles.specs.Written.{ReadsAs};
 
 use st_base::{Bytes, List, WantOfMemory};
-use st_canon::scan::{Entries, Scanned, entries_in};
+use st_scan::{Entries, Scanned, entries_in};
 use std::alloc::Global;
 
 /// What an entry of a list of operations says.

@@ -7,8 +7,8 @@ ghost use Rattle.st_indexfiles.specs.Written.{IsHashReadAgain};
 
 use st_base::WantOfMemory;
 use st_canon::Json;
-use st_canon::scan::Scanned;
 use st_hash::{Hash, hash_text, read_hash, read_hash_at};
+use st_scan::Scanned;
 use std::alloc::Global;
 
 /// The hash whose hash text of the version stands there. It takes no memory.

@@ -1,8 +1,8 @@
 ghost use Rattle.std.specs.Prelude.{◌≡◌, ◌++◌, ◌||◌, false, is_some, map, IfOk, OnOk, option_map};
-ghost use Rattle.st_canon.specs.Canonical.{canonical, canonical_items, comma};
-ghost use Rattle.st_canon.specs.Listed.{member_text, name_text};
-ghost use Rattle.st_canon.specs.Objects.{some_list};
-ghost use Rattle.st_canon.specs.View.{items_of};
+ghost use Rattle.st_plain.specs.Canonical.{canonical, canonical_items, comma};
+ghost use Rattle.st_plain.specs.Listed.{member_text, name_text};
+ghost use Rattle.st_plain.specs.Objects.{some_list};
+ghost use Rattle.st_plain.specs.Entries.{items_of};
 ghost use Rattle.st_indexfiles.specs.Hashes.{hash_json};
 ghost use Rattle.st_indexfiles.specs.Written.{AreReadAgain, IsHashReadAgain, IsUriReadAgain};
 

@@ -1,7 +1,7 @@
 ghost use Rattle.std.specs.Prelude.{◌≡◌, ◌≤◌, ◌+◌, ◌==◌, IfOk, Some, None, codes, is_some, length, nat_lt, if◌then◌else◌};
 ghost use Rattle.st_base.specs.Rules.{Answers};
 ghost use Rattle.st_base.specs.Work.{one_file};
-ghost use Rattle.st_canon.specs.Shapes.{json_in, member_in};
+ghost use Rattle.st_plain.specs.Shapes.{json_in, member_in};
 ghost use Rattle.st_indexfiles.specs.CoreIndex.{operations_of};
 ghost use Rattle.st_indexfiles.specs.CoreRules.{one_alone};
 ghost use Rattle.st_indexfiles.specs.ProvisionalIndex.{chunk_in, provisional_index_of, provisional_with, suffixes_in};
@@ -16,11 +16,9 @@ use crate::provisional_rule::{ProvisionalRefused, ProvisionalRule};
 use crate::suffixes::push_targets;
 use crate::twice::{has_twice, shares_one};
 use st_base::{FileRefused, List, WantOfMemory, Work};
-use st_canon::scan::{
-    CanonicalText, Entries, Scanned, entries_in, is_object_of_lists_if_there, only_of,
-};
 use st_hash::Hash;
 use st_params::Params;
+use st_scan::{CanonicalText, Entries, Scanned, entries_in, is_object_of_lists_if_there, only_of};
 use std::alloc::Global;
 
 /// What a provisional index file says, beside its core index and under the count that the anchor

@@ -1,8 +1,8 @@
 ghost use Rattle.std.specs.Prelude.{◌≡◌, ◌++◌, ℕ, codes, true, IfOk, OnOk, None, Some};
-ghost use Rattle.st_canon.specs.Canonical.{canonical};
-ghost use Rattle.st_canon.specs.Listed.{member_text};
-ghost use Rattle.st_canon.specs.Objects.{some_object};
-ghost use Rattle.st_canon.specs.Shapes.{json_in};
+ghost use Rattle.st_plain.specs.Canonical.{canonical};
+ghost use Rattle.st_plain.specs.Listed.{member_text};
+ghost use Rattle.st_plain.specs.Objects.{some_object};
+ghost use Rattle.st_plain.specs.Shapes.{json_in};
 ghost use Rattle.st_indexfiles.specs.ProvisionalIndex.{provisional_index_of, provisional_json, provisional_operations};
 ghost use Rattle.st_indexfiles.specs.ProvisionalRules.{first_failing_provisional_rule};
 ghost use Rattle.st_indexfiles.specs.Target.{target_json, target_of};

@@ -1,5 +1,5 @@
 ghost use Rattle.std.specs.Prelude.{◌≡◌, ◌++◌, ◌≤◌, codes, IfOk, OnOk, Some};
-ghost use Rattle.st_canon.specs.Canonical.{canonical};
+ghost use Rattle.st_plain.specs.Canonical.{canonical};
 ghost use Rattle.st_canon.specs.View.{plain};
 ghost use Rattle.st_hash.specs.Hash.{IsHash};
 ghost use Rattle.st_indexfiles.specs.SuffixData.{suffix_data_json, suffix_data_of, suffix_of};
@@ -9,9 +9,9 @@ use crate::entries::Entry;
 use crate::hashes::{hash_in, hash_json};
 use crate::members::append_hash;
 use st_base::{Bytes, Copied, WantOfMemory};
-use st_canon::scan::Scanned;
 use st_canon::{Json, Object};
 use st_hash::{Hash, hash_text, hash_with};
+use st_scan::Scanned;
 use std::alloc::Global;
 
 // What stands round the two hash texts in the canonical text of suffix data.
@@ -49,7 +49,7 @@ impl SuffixData {
 
     /// The suffix data as a JSON object. In whatever version its hash texts are read, they are read
     /// as these hashes.
-    #[tactic(auto, unfolding(st_canon::proofs::OnLiterals::names_on_literals))]
+    #[tactic(auto, unfolding(st_plain::proofs::OnLiterals::names_on_literals))]
     pub fn json(&self, alloc: Global) -> Result<Json, WantOfMemory>
         ensures value { IfOk result (λ json. plain json ≡ suffix_data_json self.now) }
         ensures delta_hash { OnOk result (IsHashReadAgain self.now.delta_hash) }

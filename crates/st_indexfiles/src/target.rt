@@ -2,8 +2,8 @@ use crate::entries::Entry;
 use crate::hashes::hash_in;
 use crate::members::append_hash;
 use st_base::{Bytes, Copied, WantOfMemory};
-use st_canon::scan::Scanned;
 use st_hash::Hash;
+use st_scan::Scanned;
 use std::alloc::Global;
 
 /// What an update, a recover or a deactivate names: the suffix that it is for, and the reveal value

@@ -1,7 +1,7 @@
 -- Changes that are handed on by the calls above.
 use Rattle.std.proofs.Common.{◌≡◌, Option, Some, None, option_map, Result, Ok, Err, ap, sym, subst, ◌∙◌}
 use Rattle.std.specs.Option.{OnSome}
-use Rattle.st_canon.specs.Plain.{Plain}
+use Rattle.st_plain.specs.Plain.{Plain}
 use Rattle.st_jsonpatch.specs.Changed.{Changes}
 use Rattle.st_jsonpatch.specs.Edited.{put_back}
 use Rattle.st_jsonpatch.specs.declared.refused.ChangeRefused.{ChangeRefused}

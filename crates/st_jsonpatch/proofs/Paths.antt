@@ -1,8 +1,8 @@
 -- Paths, token by token.
 use Rattle.std.proofs.Common.{◌≡◌, ℕ, ◌<◌, ◌≤◌, Bool, true, false, List, [], ◌∷◌, length, Option, Some, None, option_map, option_and_then, refl, ap, sym, ◌∙◌, arith}
 use Rattle.std.specs.Prelude.{◌&&◌, bytes_eq}
-use Rattle.st_canon.specs.Find.{member_at, put, without}
-use Rattle.st_canon.specs.Plain.{Plain, null, boolean, whole, text, list, object}
+use Rattle.st_plain.specs.Find.{member_at, put, without}
+use Rattle.st_plain.specs.Plain.{Plain, null, boolean, whole, text, list, object}
 use Rattle.st_jsonpatch.specs.At.{at, item_at, selected}
 use Rattle.st_jsonpatch.specs.Edited.{parent_after, edited, inside, put_back, take_out, with_item, without_item}
 use Rattle.st_jsonpatch.specs.Stepped.{is_above}

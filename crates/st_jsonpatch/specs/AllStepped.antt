@@ -1,7 +1,7 @@
 -- A list of steps, one after another (RFC 6902, section 5).
 use Rattle.std.specs.Prelude.{ℕ, ◌+◌, List, [], ◌∷◌, Option, Some, None, ok_or, Result, Ok}
 use Rattle.st_base.specs.Answers.{◌>>=◌}
-use Rattle.st_canon.specs.Plain.{Plain}
+use Rattle.st_plain.specs.Plain.{Plain}
 use Rattle.st_jsonpatch.specs.Step.{PlainStep}
 use Rattle.st_jsonpatch.specs.Stepped.{stepped}
 use Rattle.st_jsonpatch.specs.declared.refused.StepsRefused.{StepsRefused}

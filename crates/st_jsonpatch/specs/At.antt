@@ -2,9 +2,9 @@
 use Rattle.std.specs.Prelude.{ℕ, ◌==◌, Bool, false, List, [], ◌∷◌, slice_get, if◌then◌else◌, Option, Some, None, option_and_then}
 use Rattle.std.specs.Str.{all_ascii_digits}
 use Rattle.std.specs.Str.Parse.{digits_value}
-use Rattle.st_canon.specs.Entries.{entries}
-use Rattle.st_canon.specs.Find.{member_at}
-use Rattle.st_canon.specs.Plain.{Plain, list, object, Items}
+use Rattle.st_plain.specs.Entries.{entries}
+use Rattle.st_plain.specs.Find.{member_at}
+use Rattle.st_plain.specs.Plain.{Plain, list, object, Items}
 
 -- `0`, or digits that do not begin with 0
 abbrev pub is_index : List ℕ → Bool

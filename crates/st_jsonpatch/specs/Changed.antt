@@ -1,6 +1,6 @@
 -- What a call that changes a value in place answers, and what it leaves.
 use Rattle.std.specs.Prelude.{◌≡◌, ⊤, Option, Some, None, option_map, Result, Ok, Err, IfOk}
-use Rattle.st_canon.specs.Plain.{Plain}
+use Rattle.st_plain.specs.Plain.{Plain}
 use Rattle.st_canon.specs.View.{plain}
 use Rattle.st_canon.specs.declared.value.Json.{Json}
 use Rattle.st_jsonpatch.specs.Edited.{Act, put_new, take_out, set_to}

@@ -2,10 +2,10 @@
 -- the selected entry changes.
 use Rattle.std.specs.Prelude.{ℕ, nat_le, List, [], ◌∷◌, length, bytes_eq, codes, insert, remove, slice_set, if◌then◌else◌, Option, Some, None, option_map, option_and_then}
 use Rattle.std.specs.Option.{option_map_or}
-use Rattle.st_canon.specs.Entries.{entries}
-use Rattle.st_canon.specs.Find.{member_at, put, without}
-use Rattle.st_canon.specs.Plain.{Plain, list, object, Items, Members}
-use Rattle.st_canon.specs.View.{items_of}
+use Rattle.st_plain.specs.Entries.{entries}
+use Rattle.st_plain.specs.Find.{member_at, put, without}
+use Rattle.st_plain.specs.Plain.{Plain, list, object, Items, Members}
+use Rattle.st_plain.specs.Entries.{items_of}
 use Rattle.st_jsonpatch.specs.At.{index_of, item_at}
 
 -- what a token does to the parent that it acts on

@@ -1,9 +1,9 @@
 -- The steps of a JSON Patch (RFC 6902, section 4).
 use Rattle.std.specs.Prelude.{ℕ, List, codes, if◌then◌else◌, Option, Some, None, ok_or, Result, Ok, Err}
 use Rattle.st_base.specs.Answers.{◌>>=◌}
-use Rattle.st_canon.specs.Names.{is_name}
-use Rattle.st_canon.specs.Plain.{Plain}
-use Rattle.st_canon.specs.Shapes.{member_in, text_at}
+use Rattle.st_plain.specs.Names.{is_name}
+use Rattle.st_plain.specs.Plain.{Plain}
+use Rattle.st_plain.specs.Shapes.{member_in, text_at}
 use Rattle.st_canon.specs.View.{plain}
 use Rattle.st_jsonpatch.specs.Pointer.{pointer_of}
 use Rattle.st_jsonpatch.specs.declared.refused.PointerRefused.{PointerRefused}

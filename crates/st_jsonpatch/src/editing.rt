@@ -1,5 +1,5 @@
 ghost use Rattle.std.specs.Prelude.{◌∷◌, option_and_then};
-ghost use Rattle.st_canon.specs.Find.{member_at};
+ghost use Rattle.st_plain.specs.Find.{member_at};
 ghost use Rattle.st_canon.specs.View.{plain, plain_items, plain_members};
 ghost use Rattle.st_jsonpatch.specs.At.{at, item_at, selected};
 ghost use Rattle.st_jsonpatch.specs.Changed.{plain_act, Changes, HandsOut};

@@ -1,5 +1,5 @@
 ghost use Rattle.std.specs.Prelude.{◌≡◌, option_map, IfOk, Some};
-ghost use Rattle.st_canon.specs.Find.{member_at};
+ghost use Rattle.st_plain.specs.Find.{member_at};
 ghost use Rattle.st_canon.specs.View.{plain, plain_members};
 ghost use Rattle.st_jsonpatch.specs.Changed.{plain_act, Changes, HandsOut};
 ghost use Rattle.st_jsonpatch.specs.Edited.{members_after, set_to, take_out};

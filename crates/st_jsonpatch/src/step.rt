@@ -1,6 +1,6 @@
 ghost use Rattle.std.specs.Prelude.{◌≡◌, option_map, Some};
 ghost use Rattle.st_base.specs.Answers.{Gives, GivesAs};
-ghost use Rattle.st_canon.specs.Shapes.{text_at};
+ghost use Rattle.st_plain.specs.Shapes.{text_at};
 ghost use Rattle.st_canon.specs.View.{plain};
 ghost use Rattle.st_jsonpatch.specs.Step.{add, remove, replace, move, copy, test, path_at, plain_step, refusal_of, step_named, step_of, value_in, with_from, with_path, with_value};
 

@@ -5,8 +5,8 @@ use Rattle.std.proofs.lemmas.Str.{IsAscii-append}
 use Rattle.std.proofs.lemmas.Str.Ascii.{IsAscii-cons}
 use Rattle.base64.specs.Engines.{url_safe_no_pad}
 use Rattle.base64.proofs.EngineFacts.{IsAscii-encode_of}
-use Rattle.st_canon.specs.Canonical.{canonical}
-use Rattle.st_canon.specs.Plain.{Plain}
+use Rattle.st_plain.specs.Canonical.{canonical}
+use Rattle.st_plain.specs.Plain.{Plain}
 use Rattle.st_hash.specs.Base64url.{base64url}
 use Rattle.st_jws.specs.Signing.{header_text, signing_input}
 use Rattle.st_jws.specs.Texts.{dot}

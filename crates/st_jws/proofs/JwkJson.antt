@@ -1,10 +1,10 @@
 -- The JSON of a key, read again.
 use Rattle.std.proofs.Common.{◌≡◌, ◌∙◌, ℕ, true, List, [], ◌∷◌, codes, length, Option, Some, None, option_map, option_and_then, refl, ap}
 use Rattle.base64.specs.GeneralPurpose.{IsBytes}
-use Rattle.st_canon.specs.Objects.{object_of_some, put_some}
-use Rattle.st_canon.specs.Plain.{Plain, text}
-use Rattle.st_canon.specs.Shapes.{member_in}
-use Rattle.st_canon.proofs.OnLiterals.{names_on_literals}
+use Rattle.st_plain.specs.Objects.{object_of_some, put_some}
+use Rattle.st_plain.specs.Plain.{Plain, text}
+use Rattle.st_plain.specs.Shapes.{member_in}
+use Rattle.st_plain.proofs.OnLiterals.{names_on_literals}
 use Rattle.st_hash.specs.Base64url.{base64url}
 use Rattle.st_hash.proofs.FixedLemmas.{fixed_of_text-base64url}
 use Rattle.st_jws.specs.Jwk.{lms, bytes_json, jwk_json, is_lms_key, public_of_text, nonce_at, jwk_of, IsNonce}

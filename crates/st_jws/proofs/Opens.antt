@@ -5,12 +5,12 @@ use Rattle.std.specs.Result.{result_ok}
 use Rattle.std.specs.Str.{IsUtf8}
 use Rattle.base64.specs.GeneralPurpose.{IsBytes}
 use Rattle.st_base.proofs.Cuts.{cut_at-append}
-use Rattle.st_canon.specs.Canonical.{canonical, escape}
-use Rattle.st_canon.specs.Plain.{Plain, text, object, no_members, member}
-use Rattle.st_canon.specs.Proper.{IsProper}
-use Rattle.st_canon.specs.Shapes.{json_in}
-use Rattle.st_canon.proofs.Back.{reads_back}
-use Rattle.st_canon.proofs.Texts.{IsUtf8-canonical}
+use Rattle.st_plain.specs.Canonical.{canonical, escape}
+use Rattle.st_plain.specs.Plain.{Plain, text, object, no_members, member}
+use Rattle.st_plain.specs.Proper.{IsProper}
+use Rattle.st_plain.specs.Shapes.{json_in}
+use Rattle.st_plain.proofs.Back.{reads_back}
+use Rattle.st_plain.proofs.Texts.{IsUtf8-canonical}
 use Rattle.st_hash.specs.Base64url.{base64url}
 use Rattle.st_hash.proofs.Spelling.{bytes_of_text-base64url}
 use Rattle.st_hash.proofs.Symbols.{base64url_apart, no_dot}

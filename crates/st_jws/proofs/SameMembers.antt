@@ -3,11 +3,11 @@ use Rattle.std.proofs.Common.{◌≡◌, ◌≢◌, ◌∙◌, ℕ, true, false,
 use Rattle.std.proofs.lemmas.Bool.{and_parts}
 use Rattle.std.proofs.lemmas.Option.{same_Some}
 use Rattle.std.specs.List.{list_any}
-use Rattle.st_canon.specs.Find.{has_only, member_at}
-use Rattle.st_canon.specs.Names.{is_name, name_cmp}
-use Rattle.st_canon.specs.Plain.{Plain, Members, no_members, member}
-use Rattle.st_canon.specs.Proper.{AllAbove, MembersAreProper}
-use Rattle.st_canon.proofs.Order.{name_total, less_from_greater, same_from_tied, same_from_is_name, is_name_from_same, not_name_from_less}
+use Rattle.st_plain.specs.Find.{has_only, member_at}
+use Rattle.st_plain.specs.Names.{is_name, name_cmp}
+use Rattle.st_plain.specs.Plain.{Plain, Members, no_members, member}
+use Rattle.st_plain.specs.Proper.{AllAbove, MembersAreProper}
+use Rattle.st_plain.proofs.Order.{name_total, less_from_greater, same_from_tied, same_from_is_name, is_name_from_same, not_name_from_less}
 
 -- a name below all others is none of them
 not_above : (name : List ℕ) (ms : Members) → AllAbove name ms → member_at name ms ≡ None

@@ -4,13 +4,13 @@ use Rattle.std.specs.Str.{IsUtf8}
 use Rattle.std.proofs.lemmas.Str.{IsUtf8-from_ascii}
 use Rattle.base64.specs.Engines.{url_safe_no_pad}
 use Rattle.base64.proofs.EngineFacts.{IsAscii-encode_of}
-use Rattle.st_canon.specs.Find.{member_at}
-use Rattle.st_canon.specs.Names.{is_name}
-use Rattle.st_canon.specs.Objects.{put_some, some_listed}
-use Rattle.st_canon.specs.Plain.{Plain, text, Members}
-use Rattle.st_canon.specs.Proper.{MembersAreProper}
-use Rattle.st_canon.proofs.OnLiterals.{names_on_literals}
-use Rattle.st_canon.proofs.Order.{same_from_is_name}
+use Rattle.st_plain.specs.Find.{member_at}
+use Rattle.st_plain.specs.Names.{is_name}
+use Rattle.st_plain.specs.Objects.{put_some, some_listed}
+use Rattle.st_plain.specs.Plain.{Plain, text, Members}
+use Rattle.st_plain.specs.Proper.{MembersAreProper}
+use Rattle.st_plain.proofs.OnLiterals.{names_on_literals}
+use Rattle.st_plain.proofs.Order.{same_from_is_name}
 use Rattle.st_hash.specs.Base64url.{base64url}
 use Rattle.st_jws.specs.HasKey.{HasKey}
 use Rattle.st_jws.specs.Jwk.{lms, bytes_json, jwk_members, jwk_names}

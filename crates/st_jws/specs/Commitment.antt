@@ -1,7 +1,7 @@
 -- Reveal values and commitments of keys (DIF Sidetree v1.0.0, "Public Key Commitment Scheme"), by the
 -- multihash code of their algorithm.
 use Rattle.std.specs.Prelude.{◌≡◌, ℕ}
-use Rattle.st_canon.specs.Canonical.{canonical}
+use Rattle.st_plain.specs.Canonical.{canonical}
 use Rattle.st_hash.specs.Hash.{HashValue, hash_of_with}
 use Rattle.st_jws.specs.Jwk.{jwk_json}
 use Rattle.st_jws.specs.declared.jwk.Jwk.{Jwk}

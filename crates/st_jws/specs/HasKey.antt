@@ -1,7 +1,7 @@
 -- What stands in the object of a key, however it was read.
 use Rattle.std.specs.Prelude.{◌≡◌, true, Some, codes, option_map}
-use Rattle.st_canon.specs.Find.{has_only, member_at}
-use Rattle.st_canon.specs.Plain.{Members, text}
+use Rattle.st_plain.specs.Find.{has_only, member_at}
+use Rattle.st_plain.specs.Plain.{Members, text}
 use Rattle.st_jws.specs.Jwk.{bytes_json, jwk_names, lms}
 use Rattle.st_jws.specs.declared.jwk.Jwk.{Jwk}
 use Rattle.st_lms.specs.Keys.{public_text}

@@ -2,11 +2,11 @@
 use Rattle.std.specs.Prelude.{◌≡◌, ⊤, ℕ, Bool, false, ◌&&◌, List, [], ◌∷◌, length, codes, Option, Some, None, option_map, option_and_then}
 use Rattle.base64.specs.GeneralPurpose.{IsBytes}
 use Rattle.st_base.specs.Options.{◌>>=◌, ◌>>◌}
-use Rattle.st_canon.specs.Entries.{text_in}
-use Rattle.st_canon.specs.Names.{is_name}
-use Rattle.st_canon.specs.Objects.{object_of_some}
-use Rattle.st_canon.specs.Plain.{Plain, text}
-use Rattle.st_canon.specs.Shapes.{is_object_of, member_in, text_at}
+use Rattle.st_plain.specs.Entries.{text_in}
+use Rattle.st_plain.specs.Names.{is_name}
+use Rattle.st_plain.specs.Objects.{object_of_some}
+use Rattle.st_plain.specs.Plain.{Plain, text}
+use Rattle.st_plain.specs.Shapes.{is_object_of, member_in, text_at}
 use Rattle.st_hash.specs.Base64url.{base64url, fixed_of_text}
 use Rattle.st_jws.specs.declared.jwk.Jwk.{Jwk}
 use Rattle.st_lms.specs.Decided.{public_in}

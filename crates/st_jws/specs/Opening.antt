@@ -3,8 +3,8 @@
 use Rattle.std.specs.Prelude.{ℕ, Bool, ◌&&◌, nat_le, List, [], ◌∷◌, length, codes, Option, Some, None, option_and_then, Result, Ok}
 use Rattle.std.specs.Option.{ok_or, option_xor}
 use Rattle.st_base.specs.Answers.{◌>>=◌, ◌>>◌, holds_or}
-use Rattle.st_canon.specs.Plain.{Plain}
-use Rattle.st_canon.specs.Shapes.{is_object_of, is_text_if_there, json_in, member_in, text_at}
+use Rattle.st_plain.specs.Plain.{Plain}
+use Rattle.st_plain.specs.Shapes.{is_object_of, is_text_if_there, json_in, member_in, text_at}
 use Rattle.st_hash.specs.Base64url.{bytes_of_text}
 use Rattle.st_jws.specs.Jwk.{is_lms, jwk_of}
 use Rattle.st_jws.specs.Texts.{texts_of}

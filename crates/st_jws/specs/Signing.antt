@@ -1,9 +1,9 @@
 -- Compact signed texts (RFC 7515, section 5.1), written.
 use Rattle.std.specs.Prelude.{◌≡◌, ◌≤◌, ℕ, List, ◌∷◌, ◌++◌, codes, Some}
-use Rattle.st_canon.specs.Canonical.{canonical}
-use Rattle.st_canon.specs.Depth.{depth_of}
-use Rattle.st_canon.specs.Plain.{Plain}
-use Rattle.st_canon.specs.Proper.{IsProper}
+use Rattle.st_plain.specs.Canonical.{canonical}
+use Rattle.st_plain.specs.Depth.{depth_of}
+use Rattle.st_plain.specs.Plain.{Plain}
+use Rattle.st_plain.specs.Proper.{IsProper}
 use Rattle.st_hash.specs.Base64url.{base64url}
 use Rattle.st_jws.specs.Opening.{key_in}
 use Rattle.st_jws.specs.Texts.{dot}

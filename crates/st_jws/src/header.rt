@@ -1,6 +1,6 @@
 ghost use Rattle.std.specs.Prelude.{◌≡◌, option_map, IfOk, Some};
-ghost use Rattle.st_canon.specs.Plain.{object};
-ghost use Rattle.st_canon.specs.Shapes.{json_in};
+ghost use Rattle.st_plain.specs.Plain.{object};
+ghost use Rattle.st_plain.specs.Shapes.{json_in};
 ghost use Rattle.st_canon.specs.View.{plain, plain_members};
 ghost use Rattle.st_jws.specs.Opening.{is_header};
 

@@ -1,11 +1,11 @@
 ghost use Rattle.std.specs.Prelude.{◌≡◌, codes, length, option_and_then, option_map, IfOk, IfSome, OnOk, Some};
 ghost use Rattle.std.specs.Result.{result_ok};
 ghost use Rattle.base64.specs.GeneralPurpose.{IsBytes};
-ghost use Rattle.st_canon.specs.Find.{member_at};
-ghost use Rattle.st_canon.specs.Objects.{some_listed};
-ghost use Rattle.st_canon.specs.Plain.{object, text};
-ghost use Rattle.st_canon.specs.Proper.{IsProper, MembersAreProper};
-ghost use Rattle.st_canon.specs.Shapes.{text_at};
+ghost use Rattle.st_plain.specs.Find.{member_at};
+ghost use Rattle.st_plain.specs.Objects.{some_listed};
+ghost use Rattle.st_plain.specs.Plain.{object, text};
+ghost use Rattle.st_plain.specs.Proper.{IsProper, MembersAreProper};
+ghost use Rattle.st_plain.specs.Shapes.{text_at};
 ghost use Rattle.st_canon.specs.View.{plain, plain_members};
 ghost use Rattle.st_hash.specs.Base64url.{base64url, fixed_of_text};
 ghost use Rattle.st_jws.specs.HasKey.{HasKey};
@@ -76,7 +76,7 @@ fn all_members(alloc: Global, key: &Jwk) -> Result<Object, WantOfMemory>
     Ok(members)
 }
 
-#[tactic(auto, unfolding(st_canon::proofs::OnLiterals::names_on_literals, st_canon::specs::Objects::put_some))]
+#[tactic(auto, unfolding(st_plain::proofs::OnLiterals::names_on_literals, st_plain::specs::Objects::put_some))]
 fn set_members(alloc: Global, key: &Jwk) -> Result<Object, WantOfMemory>
     ensures members { IfOk result (λ members.
         plain_members members ≡ some_listed (jwk_members key.now)) }

@@ -1,7 +1,7 @@
 ghost use Rattle.std.specs.Prelude.{◌≡◌, ◌≤◌, ◌++◌, ◌∷◌, ℕ, length, IfOk, IsAscii, OnOk, Ok};
 ghost use Rattle.base64.specs.GeneralPurpose.{IsBytes};
-ghost use Rattle.st_canon.specs.Plain.{Plain};
-ghost use Rattle.st_canon.specs.Proper.{IsProper};
+ghost use Rattle.st_plain.specs.Plain.{Plain};
+ghost use Rattle.st_plain.specs.Proper.{IsProper};
 ghost use Rattle.st_canon.specs.View.{plain};
 ghost use Rattle.st_jws.specs.Opening.{opened};
 ghost use Rattle.st_jws.specs.Signing.{Signs, join_signed, signing_input};

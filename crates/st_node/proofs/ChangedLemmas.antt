@@ -18,7 +18,7 @@ use Rattle.st_batch.specs.BatchLaws.{TakesTheFirst}
 use Rattle.st_batch.specs.Prefix.{batch_count, batch_of, rest_of}
 use Rattle.st_batch.specs.Submitted.{asked_rightly, queued_with, submitted, suffix_to_queue}
 use Rattle.st_batch.specs.declared.refused.SubmitRefused.{SubmitRefused}
-use Rattle.st_canon.specs.Plain.{Plain}
+use Rattle.st_plain.specs.Plain.{Plain}
 use Rattle.st_anchor.specs.declared.role_state.RoleState.{RoleState}
 use Rattle.st_batch.specs.Fits.{Fits}
 use Rattle.st_ledger.specs.Ledger.{admitted, last_height}

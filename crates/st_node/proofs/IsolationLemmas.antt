@@ -2,7 +2,7 @@
 use Rattle.std.proofs.Common.{◌≡◌, ◌∙◌, ℕ, List, Option, Result, Ok, sym, ap}
 use Rattle.st_apply.specs.Anchored.{Anchored, resolved}
 use Rattle.st_base.specs.Answers.{◌>>=◌}
-use Rattle.st_canon.specs.Plain.{Plain}
+use Rattle.st_plain.specs.Plain.{Plain}
 use Rattle.st_hash.specs.Hash.{HashValue}
 use Rattle.st_node.specs.Isolation.{AsksAbout, to_resolve, to_explain, AsksFor, IsolatesIdentifiers}
 use Rattle.st_node.specs.Machine.{Machine, answered, answered_read, did_word, explain_reply, explained, newest, or_word, resolve_reply, result_for, result_word}

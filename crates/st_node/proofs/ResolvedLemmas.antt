@@ -4,8 +4,8 @@
 use Rattle.std.specs.Prelude.{Result, Ok, Err}
 use Rattle.std.proofs.Common.{◌≡◌, ℕ, List, codes, ap}
 use Rattle.st_base.specs.Replies.{reply}
-use Rattle.st_canon.specs.Canonical.{canonical}
-use Rattle.st_canon.specs.Plain.{Plain}
+use Rattle.st_plain.specs.Canonical.{canonical}
+use Rattle.st_plain.specs.Plain.{Plain}
 use Rattle.st_node.specs.Machine.{or_word, resolve_reply, result_word}
 use Rattle.st_resolve.specs.Texts.{text_of}
 use Rattle.st_resolve.specs.declared.refused.RenderRefused.{RenderRefused}

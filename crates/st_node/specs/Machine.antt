@@ -14,8 +14,8 @@ use Rattle.st_batch.specs.declared.batch.Batch.{Batch}
 use Rattle.st_batch.specs.declared.batch.BatchFile.{BatchFile}
 use Rattle.st_batch.specs.declared.refused.SubmitRefused.{SubmitRefused}
 use Rattle.st_batch.specs.declared.refused.SubmitRefused.TheVariants as submit_is
-use Rattle.st_canon.specs.Canonical.{canonical}
-use Rattle.st_canon.specs.Plain.{Plain}
+use Rattle.st_plain.specs.Canonical.{canonical}
+use Rattle.st_plain.specs.Plain.{Plain}
 use Rattle.st_cert.specs.Certificate.{verdicts}
 use Rattle.st_cert.specs.declared.verdict.Verdict.{Verdict}
 use Rattle.st_cert.specs.declared.verdict.Verdict.TheVariants as verdict_is

@@ -1,7 +1,7 @@
 -- What stands behind an operation that a request asks for.
 use Rattle.std.specs.Prelude.{◌≡◌, ℕ, is_some, IsSome, IsSomeAnd, Bool, true, Option, Some, option_and_then}
-use Rattle.st_canon.specs.Entries.{members_in}
-use Rattle.st_canon.specs.Plain.{Plain}
+use Rattle.st_plain.specs.Entries.{members_in}
+use Rattle.st_plain.specs.Plain.{Plain}
 use Rattle.st_hash.specs.Hash.{HashValue, hash_of_text_at, hash_text}
 use Rattle.st_indexfiles.specs.declared.target.Target.{Target}
 use Rattle.st_ops.specs.Claim.{claim_of}

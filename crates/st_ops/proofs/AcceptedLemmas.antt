@@ -3,8 +3,8 @@ use Rattle.std.proofs.Common.{◌≡◌, ℕ, List, codes, Option, Some, None, o
 use Rattle.std.specs.Prelude.{IsSome}
 use Rattle.std.specs.Result.{result_ok}
 use Rattle.std.proofs.lemmas.Option.{same_Some}
-use Rattle.st_canon.specs.Plain.{Plain}
-use Rattle.st_canon.specs.Shapes.{member_in, text_at}
+use Rattle.st_plain.specs.Plain.{Plain}
+use Rattle.st_plain.specs.Shapes.{member_in, text_at}
 use Rattle.st_indexfiles.specs.declared.target.Target.{Target}
 use Rattle.st_jws.specs.Opening.{Opened, opened}
 use Rattle.st_ops.proofs.Accepted.{IsAccepted, IsProved, IsReadAt}

@@ -3,13 +3,13 @@ use Rattle.std.proofs.Common.{◌≡◌, ◌∙◌, ℕ, ◌≤◌, true, List, 
 use Rattle.std.specs.Prelude.{is_some, IsSome}
 use Rattle.std.specs.Result.{result_map_both}
 use Rattle.st_base.specs.Answers.{◌>>=◌}
-use Rattle.st_canon.specs.Depth.{depth_of}
-use Rattle.st_canon.specs.Entries.{members_in}
-use Rattle.st_canon.specs.Objects.{put_some}
-use Rattle.st_canon.specs.Plain.{Plain}
-use Rattle.st_canon.specs.Proper.{IsProper}
-use Rattle.st_canon.proofs.Back.{reads_back}
-use Rattle.st_canon.proofs.OnLiterals.{names_on_literals}
+use Rattle.st_plain.specs.Depth.{depth_of}
+use Rattle.st_plain.specs.Entries.{members_in}
+use Rattle.st_plain.specs.Objects.{put_some}
+use Rattle.st_plain.specs.Plain.{Plain}
+use Rattle.st_plain.specs.Proper.{IsProper}
+use Rattle.st_plain.proofs.Back.{reads_back}
+use Rattle.st_plain.proofs.OnLiterals.{names_on_literals}
 use Rattle.st_indexfiles.specs.declared.suffix_data.SuffixData.{SuffixData}
 use Rattle.st_indexfiles.specs.declared.target.Target.{Target}
 use Rattle.st_ops.proofs.Accepted.{IsAccepted, IsProved, IsReadAt}

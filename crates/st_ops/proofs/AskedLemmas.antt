@@ -5,13 +5,13 @@ use Rattle.std.specs.List.{flat_map}
 use Rattle.std.specs.Option.{ok_or}
 use Rattle.std.proofs.lemmas.Bool.{and_parts}
 use Rattle.st_base.specs.Answers.{◌>>=◌}
-use Rattle.st_canon.specs.Canonical.{escape}
-use Rattle.st_canon.specs.Entries.{members_in}
-use Rattle.st_canon.specs.Names.{is_name}
-use Rattle.st_canon.specs.Plain.{Plain}
-use Rattle.st_canon.proofs.Order.{same_from_is_name}
-use Rattle.st_canon.specs.Reading.{json_of}
-use Rattle.st_canon.specs.Shapes.{member_in, object_at, text_at}
+use Rattle.st_plain.specs.Canonical.{escape}
+use Rattle.st_plain.specs.Entries.{members_in}
+use Rattle.st_plain.specs.Names.{is_name}
+use Rattle.st_plain.specs.Plain.{Plain}
+use Rattle.st_plain.proofs.Order.{same_from_is_name}
+use Rattle.st_plain.specs.Reading.{json_of}
+use Rattle.st_plain.specs.Shapes.{member_in, object_at, text_at}
 use Rattle.st_indexfiles.specs.SuffixData.{suffix_data_of}
 use Rattle.st_indexfiles.specs.declared.suffix_data.SuffixData.{SuffixData}
 use Rattle.st_indexfiles.specs.declared.target.Target.{Target}

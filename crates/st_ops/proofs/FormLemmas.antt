@@ -2,8 +2,8 @@
 use Rattle.std.proofs.Common.{◌≡◌, true, Option, codes}
 use Rattle.std.specs.Prelude.{is_some}
 use Rattle.std.proofs.lemmas.Bool.{and_parts}
-use Rattle.st_canon.specs.Plain.{Plain}
-use Rattle.st_canon.specs.Shapes.{text_at}
+use Rattle.st_plain.specs.Plain.{Plain}
+use Rattle.st_plain.specs.Shapes.{text_at}
 use Rattle.st_ops.specs.RequestForm.{has_signed_texts, is_change_form, is_deactivate_form}
 
 signed_text : (request : Option Plain) → has_signed_texts request ≡ true → is_some (text_at (codes "signedData") request) ≡ true

@@ -1,9 +1,9 @@
 -- Hashes that were read, and are read again from their own texts.
 use Rattle.std.proofs.Common.{◌≡◌, ◌∙◌, ℕ, Bool, true, false, cond, List, [], ◌∷◌, Option, Some, None, codes, refl, ap, subst, option_and_then}
 use Rattle.std.specs.Str.{IsUtf8}
-use Rattle.st_canon.specs.Entries.{text_in}
-use Rattle.st_canon.specs.Plain.{Plain}
-use Rattle.st_canon.specs.Shapes.{member_in, is_object_of}
+use Rattle.st_plain.specs.Entries.{text_in}
+use Rattle.st_plain.specs.Plain.{Plain}
+use Rattle.st_plain.specs.Shapes.{member_in, is_object_of}
 use Rattle.st_hash.specs.Hash.{HashValue, IsHash, IsOfVersion, hash_of_multihash, hash_of_text_at, hash_text}
 use Rattle.st_hash.specs.Base64url.{bytes_of_text}
 use Rattle.st_hash.proofs.HashTexts.{hash_of_multihash-spelled, hash_of_text_at-hash_text, hash_of_text_at-spelled}

@@ -2,14 +2,14 @@
 use Rattle.std.proofs.Common.{◌≡◌, ℕ, true, List, codes, Option, Some, None, option_and_then, inl, inr, refl, subst}
 use Rattle.std.specs.Str.{IsUtf8}
 use Rattle.std.proofs.lemmas.Option.{same_Some}
-use Rattle.st_canon.specs.Entries.{text_in}
-use Rattle.st_canon.specs.Find.{member_at}
-use Rattle.st_canon.specs.Names.{is_name}
-use Rattle.st_canon.specs.Objects.{put_some}
-use Rattle.st_canon.specs.Plain.{Plain, null, boolean, whole, text, list, object, Members, no_members, member}
-use Rattle.st_canon.specs.Proper.{IsProper, MembersAreProper}
-use Rattle.st_canon.specs.Shapes.{member_in, text_at}
-use Rattle.st_canon.proofs.OnLiterals.{names_on_literals}
+use Rattle.st_plain.specs.Entries.{text_in}
+use Rattle.st_plain.specs.Find.{member_at}
+use Rattle.st_plain.specs.Names.{is_name}
+use Rattle.st_plain.specs.Objects.{put_some}
+use Rattle.st_plain.specs.Plain.{Plain, null, boolean, whole, text, list, object, Members, no_members, member}
+use Rattle.st_plain.specs.Proper.{IsProper, MembersAreProper}
+use Rattle.st_plain.specs.Shapes.{member_in, text_at}
+use Rattle.st_plain.proofs.OnLiterals.{names_on_literals}
 use Rattle.st_hash.specs.Hash.{HashValue, hash_of_text_at, hash_text}
 use Rattle.st_indexfiles.specs.Hashes.{hash_in}
 use Rattle.st_indexfiles.specs.SuffixData.{suffix_data_json}

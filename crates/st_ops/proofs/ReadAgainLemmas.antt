@@ -3,10 +3,10 @@ use Rattle.std.proofs.Common.{◌≡◌, ℕ, true, List, codes, Option, Some, N
 use Rattle.std.specs.Prelude.{is_some}
 use Rattle.std.specs.Str.{IsUtf8}
 use Rattle.std.proofs.lemmas.Option.{same_Some}
-use Rattle.st_canon.specs.Entries.{members_in}
-use Rattle.st_canon.specs.Plain.{Plain}
-use Rattle.st_canon.specs.Proper.{IsProper}
-use Rattle.st_canon.specs.Shapes.{member_in}
+use Rattle.st_plain.specs.Entries.{members_in}
+use Rattle.st_plain.specs.Plain.{Plain}
+use Rattle.st_plain.specs.Proper.{IsProper}
+use Rattle.st_plain.specs.Shapes.{member_in}
 use Rattle.st_hash.specs.Hash.{hash_text}
 use Rattle.st_indexfiles.specs.declared.suffix_data.SuffixData.{SuffixData}
 use Rattle.st_indexfiles.specs.declared.target.Target.{Target}

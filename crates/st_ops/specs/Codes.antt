@@ -1,11 +1,11 @@
 -- How the logic stores proofs: by their fields.
 use Rattle.std.specs.Prelude.{ℕ, List, Option, refl}
 use Rattle.std.specs.Coded.{Coded, code_by, coded_list, coded_option, coded×}
-use Rattle.st_canon.specs.Plain.{Plain}
+use Rattle.st_plain.specs.Plain.{Plain}
 use Rattle.st_jws.specs.contracts.jwk.Jwk as jwk
 use Rattle.st_jws.specs.declared.jwk.Jwk.{Jwk}
 use Rattle.st_ops.specs.Operation.{Proof}
-use Rattle.st_canon.specs.PlainCodes.{coded_bytes, coded_plain}
+use Rattle.st_plain.specs.PlainCodes.{coded_bytes, coded_plain}
 
 -- a proof by the triple of its fields
 abbrev pub coded_proof : Coded Proof

@@ -1,6 +1,6 @@
 -- Operations, after DIF Sidetree v1.0.0, "DID Operations", over plain values.
 use Rattle.std.specs.Prelude.{ℕ, List, Option, option_map}
-use Rattle.st_canon.specs.Plain.{Plain}
+use Rattle.st_plain.specs.Plain.{Plain}
 use Rattle.st_hash.specs.Hash.{HashValue}
 use Rattle.st_indexfiles.specs.SuffixData.{suffix_of as suffix_of_data}
 use Rattle.st_indexfiles.specs.declared.suffix_data.SuffixData.{SuffixData}

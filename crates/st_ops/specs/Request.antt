@@ -4,12 +4,12 @@ use Rattle.std.specs.Prelude.{ℕ, List, codes, if◌then◌else◌, IsSome, Opt
 use Rattle.std.specs.Option.{ok_or}
 use Rattle.std.specs.Result.{result_map_both}
 use Rattle.st_base.specs.Answers.{◌>>=◌, ◌>>◌, holds_or}
-use Rattle.st_canon.specs.Names.{is_name}
-use Rattle.st_canon.specs.Plain.{Plain}
-use Rattle.st_canon.specs.Reading.{json_of}
-use Rattle.st_canon.specs.Shapes.{member_in, text_at}
-use Rattle.st_canon.specs.declared.refused.ReadRefused.{ReadRefused}
-use Rattle.st_canon.specs.declared.refused.ReadRefused.TheVariants as reading
+use Rattle.st_plain.specs.Names.{is_name}
+use Rattle.st_plain.specs.Plain.{Plain}
+use Rattle.st_plain.specs.Reading.{json_of}
+use Rattle.st_plain.specs.Shapes.{member_in, text_at}
+use Rattle.st_plain.specs.declared.refused.ReadRefused.{ReadRefused}
+use Rattle.st_plain.specs.declared.refused.ReadRefused.TheVariants as reading
 use Rattle.st_indexfiles.specs.SuffixData.{suffix_data_of}
 use Rattle.st_ops.specs.Claim.{claim_of}
 use Rattle.st_ops.specs.Operation.{PlainOperation, creating, updating, recovering, deactivating}

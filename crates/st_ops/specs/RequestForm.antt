@@ -1,8 +1,8 @@
 -- The forms of requests, after DIF Sidetree v1.0.0, "DID Operations"; the rules are this project's own: which
 -- members a request of each kind has, and what stands there. `None` is a value that isn't there.
 use Rattle.std.specs.Prelude.{Bool, ◌&&◌, [], ◌∷◌, codes, is_some, Option}
-use Rattle.st_canon.specs.Plain.{Plain}
-use Rattle.st_canon.specs.Shapes.{is_object_of, member_in, object_at, text_at}
+use Rattle.st_plain.specs.Plain.{Plain}
+use Rattle.st_plain.specs.Shapes.{is_object_of, member_in, object_at, text_at}
 
 -- an object with exactly two texts, `deltaHash` and `recoveryCommitment`
 unfoldable pub is_suffix_data_form : Option Plain → Bool

@@ -1,9 +1,9 @@
 -- The canonical texts of requests, and that they are read again.
 use Rattle.std.specs.Prelude.{◌≡◌, ◌≤◌, ℕ, List, [], ◌∷◌, ◌++◌, codes, IfSome, Option, Some, None, option_map, Ok}
-use Rattle.st_canon.specs.Canonical.{canonical}
-use Rattle.st_canon.specs.Depth.{depth_of}
-use Rattle.st_canon.specs.Objects.{object_of_some}
-use Rattle.st_canon.specs.Plain.{Plain, text}
+use Rattle.st_plain.specs.Canonical.{canonical}
+use Rattle.st_plain.specs.Depth.{depth_of}
+use Rattle.st_plain.specs.Objects.{object_of_some}
+use Rattle.st_plain.specs.Plain.{Plain, text}
 use Rattle.st_indexfiles.specs.Hashes.{hash_json}
 use Rattle.st_indexfiles.specs.SuffixData.{suffix_data_json}
 use Rattle.st_indexfiles.specs.declared.target.Target.{Target}

@@ -2,8 +2,8 @@
 use Rattle.std.specs.Prelude.{ℕ, List, codes, Option, Some}
 use Rattle.std.specs.Result.{result_ok}
 use Rattle.st_base.specs.Options.{◌>>=◌}
-use Rattle.st_canon.specs.Plain.{Plain}
-use Rattle.st_canon.specs.Shapes.{member_in, text_at}
+use Rattle.st_plain.specs.Plain.{Plain}
+use Rattle.st_plain.specs.Shapes.{member_in, text_at}
 use Rattle.st_indexfiles.specs.Hashes.{hash_in}
 use Rattle.st_indexfiles.specs.declared.target.Target.{Target}
 use Rattle.st_jws.specs.Opening.{opened}

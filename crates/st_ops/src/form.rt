@@ -1,8 +1,8 @@
 ghost use Rattle.std.specs.Prelude.{◌≡◌, true, IfSome, Some, codes, is_some};
-ghost use Rattle.st_canon.specs.Shapes.{member_in, object_at, text_at};
+ghost use Rattle.st_plain.specs.Shapes.{member_in, object_at, text_at};
 ghost use Rattle.st_ops.specs.RequestForm.{has_signed_texts, is_change_form, is_create_form, is_deactivate_form, is_suffix_data_form};
 
-use st_canon::scan::Scanned;
+use st_scan::Scanned;
 
 /// What stands in a create.
 #[derive(Drop)]

@@ -2,8 +2,8 @@ ghost use Rattle.std.specs.Prelude.{◌≡◌, ◌≢◌, ◌≤◌, ℕ, List, 
 ghost use Rattle.std.specs.List.{flat_map};
 ghost use Rattle.st_base.specs.Answers.{GivesAs};
 ghost use Rattle.st_base.specs.Work.{Counts, ProofsAtMost};
-ghost use Rattle.st_canon.specs.Canonical.{escape};
-ghost use Rattle.st_canon.specs.Shapes.{member_in, text_at};
+ghost use Rattle.st_plain.specs.Canonical.{escape};
+ghost use Rattle.st_plain.specs.Shapes.{member_in, text_at};
 ghost use Rattle.st_ops.specs.Counting.{CountsOpening};
 ghost use Rattle.st_ops.specs.Operation.{plain_operation};
 ghost use Rattle.st_ops.specs.Request.{asked, create_asked, create_of, deactivate_asked, recover_asked, refusal_of, request_of, update_asked, with_claim, IsComplete};
@@ -16,10 +16,11 @@ use crate::operation::Operation;
 use crate::refused::RequestRefused;
 use crate::signed::{proof_in, target_in};
 use st_base::{WantOfMemory, Work};
-use st_canon::scan::{CanonicalText, Scanned};
-use st_canon::{PackedJson, ReadRefused};
+use st_canon::PackedJson;
 use st_indexfiles::SuffixData;
 use st_params::Params;
+use st_plain::ReadRefused;
+use st_scan::{CanonicalText, Scanned};
 use std::alloc::Global;
 
 const CREATE: &[u8] = b"create";
@@ -127,7 +128,7 @@ fn create_of(
     let Some(suffix_data) = SuffixData::read(&parts.suffix_data, params.version()) else {
         return Err(RequestRefused::BadHash);
     };
-    let delta = Some(parts.delta.pack(alloc)?);
+    let delta = Some(PackedJson::keep(alloc, parts.delta.as_slice())?);
     Ok(Operation::Create { suffix_data, delta })
 }
 
@@ -234,7 +235,7 @@ fn delta_in(alloc: Global, request: &Scanned<'_>) -> Result<Option<PackedJson>, 
     ensures { IfOk result (λ delta. delta ≡ member_in (codes "delta") (Some request.now)) }
 {
     match request.member("delta") {
-        Some(delta) => Ok(Some(delta.pack(alloc)?)),
+        Some(delta) => Ok(Some(PackedJson::keep(alloc, delta.as_slice())?)),
         None => Ok(None),
     }
 }

@@ -1,14 +1,13 @@
 ghost use Rattle.std.specs.Prelude.{◌≡◌, ◌≤◌, codes, option_map, IfOk, IsSome, Some};
 ghost use Rattle.st_base.specs.Work.{one_proof};
-ghost use Rattle.st_canon.specs.Shapes.{text_at};
+ghost use Rattle.st_plain.specs.Shapes.{text_at};
 ghost use Rattle.st_ops.specs.Operation.{plain_proof};
 ghost use Rattle.st_ops.specs.SignedPart.{proof_in, proof_of, target_in};
 
-use st_base::{Shared, WantOfMemory, Work};
-use st_canon::KeptText;
-use st_canon::scan::Scanned;
+use st_base::{KeptText, Shared, WantOfMemory, Work};
 use st_indexfiles::{Target, hash_in};
 use st_jws::{Signed, SignedRefused, open_signed};
+use st_scan::Scanned;
 use std::alloc::Global;
 
 /// What a request names: the suffix and the reveal value whose hash texts of the version stand in it.

@@ -1,7 +1,7 @@
 ghost use Rattle.std.specs.Prelude.{◌≡◌, ℕ, List, IfOk, Ok, option_map};
 ghost use Rattle.std.specs.Option.{option_copied};
-ghost use Rattle.st_canon.specs.Objects.{some_listed};
-ghost use Rattle.st_canon.specs.Plain.{object, text};
+ghost use Rattle.st_plain.specs.Objects.{some_listed};
+ghost use Rattle.st_plain.specs.Plain.{object, text};
 ghost use Rattle.st_canon.specs.View.{plain, plain_members};
 ghost use Rattle.st_hash.specs.Hash.{IsHash};
 ghost use Rattle.st_ops.specs.KnownHashes.{HasHashes};
@@ -96,7 +96,7 @@ fn request_members(alloc: Global, operation: &Operation) -> Result<Object, WantO
     }
 }
 
-#[tactic(auto, unfolding(st_canon::specs::Objects::put_some))]
+#[tactic(auto, unfolding(st_plain::specs::Objects::put_some))]
 fn create_members(
     alloc: Global,
     suffix_data: &SuffixData,
@@ -133,7 +133,7 @@ fn signed_members(
     Ok(members)
 }
 
-#[tactic(auto, unfolding(st_canon::specs::Objects::put_some))]
+#[tactic(auto, unfolding(st_plain::specs::Objects::put_some))]
 fn named_members(
     alloc: Global,
     kind: &str,

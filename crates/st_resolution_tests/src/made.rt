@@ -2,8 +2,8 @@
 //! signed, since a step looks at claims alone.
 
 use crate::words::three;
-use st_base::{Shared, Text};
-use st_canon::{Json, KeptText, PackedJson, read};
+use st_base::{KeptText, Shared, Text};
+use st_canon::{Json, PackedJson, read};
 use st_hash::{Hash, hash_text, hash256};
 use st_indexfiles::SuffixData;
 use st_jws::{Jwk, Signed, commitment, reveal};

@@ -1,9 +1,9 @@
 -- What a long form holds.
 use Rattle.std.proofs.Common.{◌≡◌, ℕ, List, Bool, not, true, false, Some, Ok, Err, refl}
 use Rattle.std.specs.Prelude.{bytes_eq}
-use Rattle.st_canon.specs.Canonical.{canonical}
-use Rattle.st_canon.specs.Plain.{Plain}
-use Rattle.st_canon.specs.Shapes.{json_in}
+use Rattle.st_plain.specs.Canonical.{canonical}
+use Rattle.st_plain.specs.Plain.{Plain}
+use Rattle.st_plain.specs.Shapes.{json_in}
 use Rattle.st_hash.specs.Hash.{HashValue, same_hash}
 use Rattle.st_indexfiles.specs.SuffixData.{suffix_of}
 use Rattle.st_resolve.specs.Identifier.{long_of}

@@ -3,16 +3,16 @@ use Rattle.std.specs.Prelude.{is_some}
 use Rattle.std.proofs.Common.{◌≡◌, ◌∙◌, ℕ, Bool, true, false, List, [], ◌∷◌, ◌++◌, codes, map, Some, option_map, refl, append_assoc, append-nil, ap}
 use Rattle.std.specs.Str.{chars}
 use Rattle.st_apply.specs.Seen.{State}
-use Rattle.st_canon.specs.Canonical.{canonical, canonical_items, escape, quoted}
-use Rattle.st_canon.specs.Objects.{object_of_some, some_list}
-use Rattle.st_canon.specs.Plain.{Plain, boolean, text}
-use Rattle.st_canon.specs.Shapes.{member_in}
-use Rattle.st_canon.specs.View.{items_of}
+use Rattle.st_plain.specs.Canonical.{canonical, canonical_items, escape, quoted}
+use Rattle.st_plain.specs.Objects.{object_of_some, some_list}
+use Rattle.st_plain.specs.Plain.{Plain, boolean, text}
+use Rattle.st_plain.specs.Shapes.{member_in}
+use Rattle.st_plain.specs.Entries.{items_of}
 use Rattle.st_doc.specs.Document.{PlainDocument}
 use Rattle.st_hash.specs.Hash.{HashValue}
 use Rattle.st_indexfiles.specs.Hashes.{hash_json}
-use Rattle.st_canon.specs.Listed.{text_there}
-use Rattle.st_canon.proofs.ListedLemmas.{canonical-listed}
+use Rattle.st_plain.specs.Listed.{text_there}
+use Rattle.st_plain.proofs.ListedLemmas.{canonical-listed}
 use Rattle.st_resolve.specs.DidDocument.{described, id_alone}
 use Rattle.st_resolve.specs.Identifier.{PlainDid}
 use Rattle.st_resolve.specs.Keys.{controller_of, method_members, method_of, reference_to, references_for}

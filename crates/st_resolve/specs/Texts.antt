@@ -2,14 +2,14 @@
 use Rattle.std.specs.Prelude.{ℕ, Bool, List, [], ◌++◌, codes, map, Some, option_map, Result, Ok}
 use Rattle.st_base.specs.Answers.{◌>>=◌}
 use Rattle.st_apply.specs.Seen.{State}
-use Rattle.st_canon.specs.Canonical.{canonical, quoted}
-use Rattle.st_canon.specs.Objects.{some_list}
-use Rattle.st_canon.specs.Plain.{Plain, boolean, text}
-use Rattle.st_canon.specs.Shapes.{member_in}
+use Rattle.st_plain.specs.Canonical.{canonical, quoted}
+use Rattle.st_plain.specs.Objects.{some_list}
+use Rattle.st_plain.specs.Plain.{Plain, boolean, text}
+use Rattle.st_plain.specs.Shapes.{member_in}
 use Rattle.st_doc.specs.Document.{PlainDocument}
 use Rattle.st_hash.specs.Hash.{HashValue}
 use Rattle.st_indexfiles.specs.Hashes.{hash_json}
-use Rattle.st_canon.specs.Listed.{text_there}
+use Rattle.st_plain.specs.Listed.{text_there}
 use Rattle.st_resolve.specs.Identifier.{PlainDid}
 use Rattle.st_resolve.specs.DidDocument.{did_document}
 use Rattle.st_resolve.specs.Keys.{controller_of, method_of, reference_to, references_for}

@@ -1,5 +1,5 @@
 ghost use Rattle.std.specs.Prelude.{◌≡◌, ◌++◌, OnOk, codes};
-ghost use Rattle.st_canon.specs.Canonical.{quoted};
+ghost use Rattle.st_plain.specs.Canonical.{quoted};
 ghost use Rattle.st_canon.specs.View.{plain};
 ghost use Rattle.st_doc.specs.Entries.{id_of};
 ghost use Rattle.st_resolve.specs.Keys.{reference_to};
@@ -9,7 +9,7 @@ use st_canon::{Json, append_escaped};
 use std::alloc::Global;
 
 /// Appends the reference to a key or a service: `#` and its id, between quotes.
-#[tactic(auto, unfolding(st_canon::specs::Canonical::escape))]
+#[tactic(auto, unfolding(st_plain::specs::Canonical::escape))]
 pub(crate) fn append_reference(
     alloc: Global,
     out: &mut Bytes,

@@ -1,8 +1,9 @@
 ghost use Rattle.std.specs.Prelude.{◌≡◌, ◌++◌, ◌∷◌, [], OnOk, false, is_some, map, true};
-ghost use Rattle.st_canon.specs.Canonical.{canonical, canonical_items};
-ghost use Rattle.st_canon.specs.Objects.{some_list};
-ghost use Rattle.st_canon.specs.View.{items_of, plain};
-ghost use Rattle.st_canon.specs.Listed.{text_there};
+ghost use Rattle.st_plain.specs.Canonical.{canonical, canonical_items};
+ghost use Rattle.st_plain.specs.Objects.{some_list};
+ghost use Rattle.st_plain.specs.Entries.{items_of};
+ghost use Rattle.st_canon.specs.View.{plain};
+ghost use Rattle.st_plain.specs.Listed.{text_there};
 ghost use Rattle.st_doc.specs.Alike.{is_among};
 ghost use Rattle.st_doc.specs.Entries.{texts_of};
 ghost use Rattle.st_resolve.specs.Keys.{controller_of, has_purpose, method_of, references_for};
@@ -14,7 +15,7 @@ use st_canon::{Json, append, append_comma, append_text, append_there, entries_in
 use std::alloc::Global;
 
 /// Appends the list of the keys as verification methods behind this front, and nothing where there is none.
-#[tactic(auto, unfolding(st_canon::specs::Objects::some_list))]
+#[tactic(auto, unfolding(st_plain::specs::Objects::some_list))]
 pub(crate) fn append_methods(
     alloc: Global,
     out: &mut Bytes,
@@ -115,7 +116,7 @@ pub(crate) fn append_references(
 }
 
 // Whether a key serves this purpose.
-#[tactic(auto, unfolding(st_canon::specs::Objects::some_list))]
+#[tactic(auto, unfolding(st_plain::specs::Objects::some_list))]
 fn serves_any(purpose: &str, keys: &[Json]) -> bool
     ensures { result ≡ is_some (some_list (references_for purpose.now (map plain keys.now))) }
 {

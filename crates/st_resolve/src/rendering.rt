@@ -2,7 +2,7 @@ ghost use Rattle.std.specs.Prelude.{◌≡◌, ◌++◌, [], IfOk, IsSome, OnOk,
 ghost use Rattle.st_apply.specs.Shown.{opened};
 ghost use Rattle.st_base.specs.Answers.{Gives};
 ghost use Rattle.st_base.specs.Work.{one_apply, AppliesAtMost};
-ghost use Rattle.st_canon.specs.Canonical.{canonical};
+ghost use Rattle.st_plain.specs.Canonical.{canonical};
 ghost use Rattle.st_resolve.specs.Identifier.{plain_did};
 ghost use Rattle.st_resolve.specs.LongForm.{plain_long};
 ghost use Rattle.st_resolve.specs.Result.{is_absent, is_deactivated, made_by, refusal_of, result_of, said_of};

@@ -4,11 +4,12 @@ ghost use Rattle.st_wallet.specs.Drafts.{delta_asked, delta_hash, json_asked, re
 
 use crate::refused::DraftRefused;
 use st_base::WantOfMemory;
-use st_canon::scan::CanonicalText;
-use st_canon::{PackedJson, ReadRefused, write};
+use st_canon::{PackedJson, write};
 use st_doc::is_delta;
 use st_hash::{Hash, hash256, read_hash};
 use st_params::Schedule;
+use st_plain::ReadRefused;
+use st_scan::CanonicalText;
 use std::alloc::Global;
 
 /// The suffix that a text is.
@@ -30,7 +31,7 @@ pub(crate) fn read_delta(alloc: Global, bytes: &[u8]) -> Result<PackedJson, Draf
     if !is_delta(alloc, &text.root(), &params)? {
         return Err(DraftRefused::BadDelta);
     }
-    Ok(text.root().pack(alloc)?)
+    Ok(PackedJson::keep(alloc, text.root().as_slice())?)
 }
 
 fn read_text(alloc: Global, bytes: &[u8]) -> Result<CanonicalText, DraftRefused>

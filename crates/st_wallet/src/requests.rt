@@ -6,8 +6,7 @@ ghost use Rattle.st_wallet.specs.Machine.{request_reply};
 
 use crate::drafting::{Change, Draft};
 use crate::replies::tell_request;
-use st_base::{Bytes, Shared, WantOfMemory};
-use st_canon::KeptText;
+use st_base::{Bytes, KeptText, Shared, WantOfMemory};
 use st_indexfiles::Target;
 use st_jws::{Signed, join_signed};
 use st_lms::Signer;

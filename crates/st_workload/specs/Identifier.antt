@@ -6,10 +6,10 @@ use Rattle.std.specs.Prelude.{ℕ, ◌+◌, ◌*◌, ◌-◌, ◌==◌, List, []
 use Rattle.std.specs.Fmt.{decimal}
 use Rattle.std.specs.Int.{w32, to_be_bytes}
 use Rattle.hex.specs.Hex.{encode_lower}
-use Rattle.st_canon.specs.Canonical.{canonical}
-use Rattle.st_canon.specs.Objects.{object_of}
-use Rattle.st_canon.specs.Plain.{Plain, text, list}
-use Rattle.st_canon.specs.View.{items_of}
+use Rattle.st_plain.specs.Canonical.{canonical}
+use Rattle.st_plain.specs.Objects.{object_of}
+use Rattle.st_plain.specs.Plain.{Plain, text, list}
+use Rattle.st_plain.specs.Entries.{items_of}
 use Rattle.st_workload.specs.Words.{bytes, word}
 use Rattle.st_hash.specs.Hash.{HashValue, hash_of}
 use Rattle.st_indexfiles.specs.Hashes.{hash_json}

@@ -2,8 +2,8 @@ ghost use Rattle.std.specs.Prelude.{◌≡◌, ◌≤◌, ◌++◌, ◌∷◌, [
 ghost use Rattle.std.specs.Fmt.{decimal};
 ghost use Rattle.std.specs.Int.{w32, to_be_bytes};
 ghost use Rattle.hex.specs.Hex.{encode_lower};
-ghost use Rattle.st_canon.specs.Canonical.{canonical};
-ghost use Rattle.st_canon.specs.Plain.{object, text};
+ghost use Rattle.st_plain.specs.Canonical.{canonical};
+ghost use Rattle.st_plain.specs.Plain.{object, text};
 ghost use Rattle.st_canon.specs.View.{plain, plain_members};
 ghost use Rattle.st_workload.specs.Identifier.{delta, endpoint, patch, service};
 ghost use Rattle.st_hash.specs.Hash.{hash_of};
@@ -24,7 +24,7 @@ pub(crate) fn delta(alloc: Global, patches: List<Json>, next: &Jwk) -> Result<Js
     Ok(Json::Object(delta_members(alloc, patches, next)?))
 }
 
-#[tactic(auto, unfolding(crate::specs::Identifier::delta, st_canon::proofs::OnLiterals::names_on_literals))]
+#[tactic(auto, unfolding(crate::specs::Identifier::delta, st_plain::proofs::OnLiterals::names_on_literals))]
 fn delta_members(alloc: Global, patches: List<Json>, next: &Jwk) -> Result<Object, WantOfMemory>
     ensures { IfOk result (λ members. object (plain_members members) ≡ delta (map plain patches) next.now) }
 {
@@ -59,7 +59,7 @@ fn patch(alloc: Global, seed: u64, number: u32, round: u32) -> Result<Json, Want
     Ok(Json::Object(patch_members(alloc, seed, number, round)?))
 }
 
-#[tactic(auto, unfolding(crate::specs::Identifier::patch, st_canon::proofs::OnLiterals::names_on_literals))]
+#[tactic(auto, unfolding(crate::specs::Identifier::patch, st_plain::proofs::OnLiterals::names_on_literals))]
 fn patch_members(alloc: Global, seed: u64, number: u32, round: u32) -> Result<Object, WantOfMemory>
     requires { round ≤ 30 }
     ensures { IfOk result (λ members. object (plain_members members) ≡ patch seed number round) }
@@ -89,7 +89,7 @@ fn service(alloc: Global, seed: u64, number: u32, round: u32) -> Result<Json, Wa
     Ok(Json::Object(service_members(alloc, seed, number, round)?))
 }
 
-#[tactic(auto, unfolding(crate::specs::Identifier::service, st_canon::proofs::OnLiterals::names_on_literals))]
+#[tactic(auto, unfolding(crate::specs::Identifier::service, st_plain::proofs::OnLiterals::names_on_literals))]
 fn service_members(
     alloc: Global,
     seed: u64,

@@ -1,6 +1,5 @@
 use super::case_of;
-use st_base::{Bytes, Copied, FileRefused, List, Shared, Text, WantOfMemory, Work};
-use st_canon::KeptText;
+use st_base::{Bytes, Copied, FileRefused, KeptText, List, Shared, Text, WantOfMemory, Work};
 use st_datafiles::{
     CoreProofs, ProofRefused, read_core_proof, read_provisional_proof, write_core_proof,
     write_provisional_proof,

@@ -1,8 +1,8 @@
 use super::{OF_ABC, SHA_512, text_of};
-use st_canon::scan::CanonicalText;
 use st_canon::{Json, write};
 use st_hash::{Hash, SHA_512 as SHA_512_CODE, hash_with, hash256};
 use st_indexfiles::{hash_in, hash_json};
+use st_scan::CanonicalText;
 use std::alloc::Global;
 use std::test::Fail;
 

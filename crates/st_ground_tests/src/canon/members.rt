@@ -1,6 +1,6 @@
 use super::{is_written, moved, object, pair_of, step_of};
 use st_base::{Copied, List, Text, WantOfMemory};
-use st_canon::{Json, Object, Whole, read};
+use st_canon::{Json, Object, read};
 use std::alloc::Global;
 use std::test::Fail;
 
@@ -133,25 +133,5 @@ fn is_changed_in_place(alloc: Global, text: &str) -> Result<bool, WantOfMemory> 
 #[test]
 fn a_value_is_copied_and_changed_in_place(rt: HostRuntime) -> Result<(), Fail> {
     assert!(rt; is_changed_in_place(rt.alloc(), "{\"a\":[true,\"x\",{\"b\":-3}]}")?);
-    Ok(())
-}
-
-fn is_greatest(alloc: Global) -> bool {
-    match Whole::new(9007199254740991) {
-        Some(greatest) =>
-            matches!(greatest.copy(alloc), Ok(whole) if whole.value() == 9007199254740991),
-        None => false,
-    }
-}
-
-fn ends_on_both_sides() -> bool {
-    Whole::new(-9007199254740991).is_some()
-        && Whole::new(9007199254740992).is_none()
-        && Whole::new(-9007199254740992).is_none()
-}
-
-#[test]
-fn a_whole_number_ends_at_2_to_the_53(rt: HostRuntime) -> Result<(), Fail> {
-    assert!(rt; is_greatest(rt.alloc()) && ends_on_both_sides());
     Ok(())
 }

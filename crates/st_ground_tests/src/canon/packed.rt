@@ -1,5 +1,6 @@
 use st_base::{Bytes, Copied, List, Shared};
-use st_canon::{Json, PackedJson, canonical_text, read, write};
+use st_canon::{Json, PackedJson, read, write};
+use st_plain::canonical_text;
 use std::test::Fail;
 
 // The delta of a create that another program made.
@@ -49,19 +50,6 @@ fn is_kept(rt: &HostRuntime, value: &Json, long: u64) -> Result<bool, Fail> {
 fn a_delta_is_kept_as_its_text(rt: HostRuntime) -> Result<(), Fail> {
     let value = read(rt.alloc(), DELTA.as_bytes())?;
     assert!(rt; is_kept(&rt, &value, 82)?);
-    Ok(())
-}
-
-// Two brackets open in it, so it nests three deep at most.
-#[test]
-fn a_delta_is_scanned_where_it_is_kept(rt: HostRuntime) -> Result<(), Fail> {
-    let value = read(rt.alloc(), DELTA.as_bytes())?;
-    let packed = packed_copy(&rt, &value)?;
-    let Some(delta) = packed.scanned() else {
-        return Err(Fail::from("no text"));
-    };
-    assert!(rt; delta.is_object_of(&["patches", "updateCommitment"]));
-    assert!(rt; delta.size() == 82 && delta.depth_bound() == 3);
     Ok(())
 }
 

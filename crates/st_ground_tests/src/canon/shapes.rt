@@ -35,26 +35,9 @@ fn has_texts(members: &Object) -> bool {
     members.text("t") == Some("x") && members.text("l").is_none()
 }
 
-fn has_lists(members: &Object) -> bool {
-    match members.list("l") {
-        Some(list) => list.len() == 1 && members.list("o").is_none(),
-        None => false,
-    }
-}
-
-fn has_objects(members: &Object) -> bool {
-    match members.object("o") {
-        Some(inner) => inner.is_empty() && members.object("t").is_none(),
-        None => false,
-    }
-}
-
 fn finds_members(alloc: Global) -> bool {
     match object(alloc, KINDS) {
-        Some(members) => has_texts(&members)
-            && has_lists(&members)
-            && has_objects(&members)
-            && members.only("t").is_none(),
+        Some(members) => has_texts(&members) && !members.is_empty(),
         None => false,
     }
 }
@@ -89,21 +72,9 @@ fn what_may_be_absent_is_of_its_kind(rt: HostRuntime) -> Result<(), Fail> {
     Ok(())
 }
 
-fn is_list_reached(value: &Json) -> bool {
-    let Some(operations) = value.only_member("operations") else {
-        return false;
-    };
-    match operations.only_member("create") {
-        Some(creates) => creates.as_list().is_some(),
-        None => false,
-    }
-}
-
-fn reaches_the_only_member(alloc: Global) -> bool {
+fn is_of_its_names(alloc: Global) -> bool {
     match read_json(alloc, b"{\"operations\":{\"create\":[null]}}") {
-        Ok(Some(value)) => is_list_reached(&value)
-            && value.is_object_of(&["operations"])
-            && !value.is_object_of(&["create"]),
+        Ok(Some(value)) => value.is_object_of(&["operations"]) && !value.is_object_of(&["create"]),
         _ => false,
     }
 }
@@ -134,8 +105,8 @@ fn are_left(alloc: Global) -> bool {
 }
 
 #[test]
-fn the_only_member_is_reached(rt: HostRuntime) -> Result<(), Fail> {
+fn an_object_is_of_its_names(rt: HostRuntime) -> Result<(), Fail> {
     let alloc = rt.alloc();
-    assert!(rt; reaches_the_only_member(alloc) && is_nothing_read(alloc) && are_left(alloc));
+    assert!(rt; is_of_its_names(alloc) && is_nothing_read(alloc) && are_left(alloc));
     Ok(())
 }

@@ -1,6 +1,7 @@
 use super::is_respelled;
 use st_base::{Bytes, WantOfMemory};
-use st_canon::{ReadRefused, read, write};
+use st_canon::{read, write};
+use st_plain::ReadRefused;
 use std::alloc::Global;
 use std::test::Fail;
 

@@ -1,8 +1,8 @@
 use crate::jws::samples::{
     BAD_FORMS, BAD_HEADERS, BAD_PAYLOADS, BAD_SIGNATURES, PAYLOAD, SIGNED, SPACED, SPACED_PAYLOAD,
 };
-use st_base::{Copied, Text, WantOfMemory, Work, read_number};
-use st_canon::{Json, KeptText, read, write};
+use st_base::{Copied, KeptText, Text, WantOfMemory, Work, read_number};
+use st_canon::{Json, read, write};
 use st_hash::dec;
 use st_jws::{Signed, SignedRefused, join_signed, open_signed, signing_input};
 use std::alloc::Global;

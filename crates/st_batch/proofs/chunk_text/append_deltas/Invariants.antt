@@ -1,6 +1,6 @@
 use Rattle.std.proofs.Common.{◌≡◌, ◌++◌, drop, false}
-use Rattle.st_canon.specs.Canonical.{canonical_items}
-use Rattle.st_canon.specs.View.{items_of}
+use Rattle.st_plain.specs.Canonical.{canonical_items}
+use Rattle.st_plain.specs.Entries.{items_of}
 use Rattle.st_batch.proofs.chunk_text.append_deltas.Given as goal
 
 abbrev pub invariant-deltas : goal.invariant-deltas

@@ -1,6 +1,6 @@
 use Rattle.std.proofs.Common.{◌∙◌, ◌++◌, false, codes, ap, arith}
-use Rattle.st_canon.specs.Canonical.{canonical_items}
-use Rattle.st_canon.specs.View.{items_of}
+use Rattle.st_plain.specs.Canonical.{canonical_items}
+use Rattle.st_plain.specs.Entries.{items_of}
 use Rattle.st_batch.proofs.WrittenLemmas.{no_chunk, some_chunk}
 use Rattle.st_batch.proofs.chunk_text.chunk_text.Goals as goal
 

@@ -1,5 +1,5 @@
 use Rattle.std.proofs.Common.{◌∙◌, Some, sym, ap}
-use Rattle.st_canon.specs.Canonical.{canonical}
+use Rattle.st_plain.specs.Canonical.{canonical}
 use Rattle.st_datafiles.specs.Chunk.{chunk_json}
 use Rattle.st_datafiles.specs.declared.role.Role.TheVariants.{Chunk}
 use Rattle.st_batch.specs.BatchFiles.{chunk_text, filed}

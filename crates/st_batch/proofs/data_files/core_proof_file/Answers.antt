@@ -1,5 +1,5 @@
 use Rattle.std.proofs.Common.{◌∙◌, Some, sym, ap}
-use Rattle.st_canon.specs.Canonical.{canonical}
+use Rattle.st_plain.specs.Canonical.{canonical}
 use Rattle.st_datafiles.specs.ProofFiles.{core_proof_json}
 use Rattle.st_datafiles.specs.declared.role.Role.TheVariants.{CoreProof}
 use Rattle.st_batch.specs.BatchFiles.{filed}

@@ -1,7 +1,7 @@
 use Rattle.std.proofs.Common.{◌≡◌, ◌∙◌, ◌≤◌, length, map, Some, sym, ap, arith}
 use Rattle.std.specs.List.{filter_map}
 use Rattle.std.proofs.lemmas.List.{length-map}
-use Rattle.st_canon.specs.Canonical.{canonical}
+use Rattle.st_plain.specs.Canonical.{canonical}
 use Rattle.st_datafiles.specs.ProofFiles.{provisional_proof_json}
 use Rattle.st_datafiles.specs.declared.role.Role.TheVariants.{ProvisionalProof}
 use Rattle.st_ops.specs.Operation.{plain_operation}

@@ -1,5 +1,5 @@
 use Rattle.std.proofs.Common.{◌∙◌, ap}
-use Rattle.st_canon.specs.Canonical.{canonical}
+use Rattle.st_plain.specs.Canonical.{canonical}
 use Rattle.st_datafiles.specs.declared.role.Role.TheVariants.{CoreProof, Provisional}
 use Rattle.st_indexfiles.specs.CoreIndex.{core_json}
 use Rattle.st_batch.specs.BatchFiles.{core_proof_file, provisional_file}

@@ -1,5 +1,5 @@
 use Rattle.std.proofs.Common.{◌∙◌, Some, sym, ap}
-use Rattle.st_canon.specs.Canonical.{canonical}
+use Rattle.st_plain.specs.Canonical.{canonical}
 use Rattle.st_datafiles.specs.declared.role.Role.TheVariants.{Chunk, Provisional, ProvisionalProof}
 use Rattle.st_indexfiles.specs.ProvisionalIndex.{provisional_json}
 use Rattle.st_batch.specs.BatchFiles.{chunk_file, filed, provisional_proof_file}

@@ -1,9 +1,9 @@
 use Rattle.std.proofs.Common.{ap}
 use Rattle.std.proofs.lemmas.Bool.Decides.{same_from_decides}
 use Rattle.std.specs.Cmp.Lexicographic.{bytes_decides}
-use Rattle.st_canon.specs.Canonical.{canonical}
+use Rattle.st_plain.specs.Canonical.{canonical}
+use Rattle.st_plain.proofs.Back.{same_value}
 use Rattle.st_canon.specs.View.{plain}
-use Rattle.st_canon.proofs.Back.{same_value}
 use Rattle.st_canon.proofs.comparing.equal.Goals as goal
 
 pub returns-then-size-clause-texts : goal.returns-then-size-clause-texts

@@ -1,7 +1,7 @@
 use Rattle.std.proofs.Common.{◌≡◌, ◌++◌}
 use Rattle.std.specs.Map.{keys_of}
 use Rattle.std.specs.Vec.Iter.{into_iter_items}
-use Rattle.st_canon.specs.Proper.{ItemsAreProper}
+use Rattle.st_plain.specs.Proper.{ItemsAreProper}
 use Rattle.st_canon.specs.View.{plain_items}
 use Rattle.st_canon.proofs.Converting.{ItemsSoFar, MembersSoFar, names_in}
 use Rattle.st_canon.proofs.Kept.{PairsAreProper}
@@ -9,13 +9,13 @@ use Rattle.st_canon.proofs.convert.+convert.Given as goal
 
 abbrev pub invariant-convert_items-loop-item : goal.invariant-convert_items-loop-item
 invariant-convert_items-loop-item l = record {
-  whole : ItemsSoFar (into_iter_items l.initial.item-iterator) (into_iter_items l.item-iterator) l.found;
-  proper : ItemsAreProper (plain_items l.found);
+  whole : ItemsSoFar (into_iter_items l.initial.item-iterator) (into_iter_items l.item-iterator) l.found.items;
+  proper : ItemsAreProper (plain_items l.found.items);
 }
 
 abbrev pub invariant-convert_members-loop-key : goal.invariant-convert_members-loop-key
 invariant-convert_members-loop-key l = record {
-  whole : MembersSoFar l.initial.key-iterator l.key-iterator l.pairs;
-  names : names_in l.initial.key-iterator ≡ keys_of l.pairs ++ names_in l.key-iterator;
-  proper : PairsAreProper l.pairs;
+  whole : MembersSoFar l.initial.key-iterator l.key-iterator l.pairs.items;
+  names : names_in l.initial.key-iterator ≡ keys_of l.pairs.items ++ names_in l.key-iterator;
+  proper : PairsAreProper l.pairs.items;
 }

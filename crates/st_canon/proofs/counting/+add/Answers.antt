@@ -1,9 +1,9 @@
 use Rattle.std.proofs.Common.{◌≡◌, ◌+◌, ℕ, Bool, true, List, ◌∷◌, ◌++◌, drop, length, length-append, ap, sym, subst, arith}
 use Rattle.std.specs.Str.{IsUtf8}
 use Rattle.st_base.proofs.Lists.{next_item}
-use Rattle.st_canon.specs.Canonical.{canonical, canonical_members, comma, quoted}
-use Rattle.st_canon.specs.Names.{NamesAscend}
-use Rattle.st_canon.specs.Plain.{Plain, Members, member}
+use Rattle.st_plain.specs.Canonical.{canonical, canonical_members, comma, quoted}
+use Rattle.st_plain.specs.Names.{NamesAscend}
+use Rattle.st_plain.specs.Plain.{Plain, Members, member}
 use Rattle.st_canon.specs.View.{plain, plain_members}
 use Rattle.st_canon.proofs.Kept.{one_more_member}
 use Rattle.st_canon.proofs.counting.+add.Goals as goal

@@ -1,7 +1,7 @@
 use Rattle.std.proofs.Common.{◌≡◌, ◌+◌, ◌<◌, ◌^◌, drop, length, false}
-use Rattle.st_canon.specs.Canonical.{canonical_items, canonical_members}
-use Rattle.st_canon.specs.Measure.{saturated}
-use Rattle.st_canon.specs.Proper.{ItemsAreProper, MembersAreProper}
+use Rattle.st_plain.specs.Canonical.{canonical_items, canonical_members}
+use Rattle.st_plain.specs.Measure.{saturated}
+use Rattle.st_plain.specs.Proper.{ItemsAreProper, MembersAreProper}
 use Rattle.st_canon.specs.View.{plain_items, plain_members}
 use Rattle.st_canon.proofs.counting.+add.Given as goal
 

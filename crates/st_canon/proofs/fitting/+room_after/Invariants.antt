@@ -1,7 +1,7 @@
 use Rattle.std.proofs.Common.{◌≡◌, drop, false, length}
-use Rattle.st_canon.specs.Canonical.{canonical_items, canonical_members}
-use Rattle.st_canon.specs.Depth.{items_depth, members_depth}
-use Rattle.st_canon.specs.Measure.{room_after}
+use Rattle.st_plain.specs.Canonical.{canonical_items, canonical_members}
+use Rattle.st_plain.specs.Depth.{items_depth, members_depth}
+use Rattle.st_plain.specs.Measure.{room_after}
 use Rattle.st_canon.specs.View.{plain_items, plain_members}
 use Rattle.st_canon.proofs.fitting.+room_after.Given as goal
 

@@ -1,7 +1,7 @@
 use Rattle.std.proofs.Common.{◌≡◌, length}
 use Rattle.std.specs.List.{flat_map}
-use Rattle.st_canon.specs.Canonical.{escape}
-use Rattle.st_canon.specs.Measure.{less}
+use Rattle.st_plain.specs.Canonical.{escape}
+use Rattle.st_plain.specs.Measure.{less}
 use Rattle.st_canon.proofs.fitting.less_bytes.Given as goal
 
 abbrev pub invariant-loop-byte : goal.invariant-loop-byte

@@ -1,7 +1,7 @@
 use Rattle.std.proofs.Common.{◌≡◌, ◌<◌, ◌^◌, drop}
 use Rattle.std.specs.Prelude.{max}
-use Rattle.st_canon.specs.Depth.{items_depth, members_depth}
-use Rattle.st_canon.specs.Measure.{saturated}
+use Rattle.st_plain.specs.Depth.{items_depth, members_depth}
+use Rattle.st_plain.specs.Measure.{saturated}
 use Rattle.st_canon.specs.View.{plain_items, plain_members}
 use Rattle.st_canon.proofs.nesting.+depth.Given as goal
 

@@ -1,6 +1,6 @@
 use Rattle.std.proofs.Common.{rules}
 use Rattle.std.proofs.lemmas.Fn.{always_returns_same}
-use Rattle.st_canon.specs.Names.{name_cmp}
+use Rattle.st_plain.specs.Names.{name_cmp}
 use Rattle.st_canon.proofs.Searching.{exact_cmp, exact_from_compare, place_from_search, gap_from_search}
 use Rattle.st_canon.proofs.place.place_of.Goals as goal
 

@@ -1,5 +1,6 @@
 use mathlib.Core.Bool.{false≢true}
-use Rattle.st_canon.proofs.Outcomes.{gives_converted, refused}
+use Rattle.st_plain.proofs.Outcomes.{refused}
+use Rattle.st_canon.proofs.Converting.{gives_converted}
 use Rattle.st_canon.proofs.reading.read.Goals as goal
 
 pub returns-in-Ok-clause-value : goal.returns-in-Ok-clause-value

@@ -1,7 +1,7 @@
 use Rattle.std.proofs.Common.{sym, subst, arith}
 use Rattle.std.proofs.lemmas.Grind.{common_steps}
 use Rattle.std.specs.Str.{IsUtf8}
-use Rattle.st_canon.specs.Names.{NamesAscend}
+use Rattle.st_plain.specs.Names.{NamesAscend}
 use Rattle.st_canon.proofs.Kept.{one_more_member}
 use Rattle.st_canon.proofs.writing.+append.Goals as goal
 

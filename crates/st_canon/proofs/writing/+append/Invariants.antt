@@ -1,6 +1,6 @@
 use Rattle.std.proofs.Common.{◌≡◌, ◌++◌, drop, false}
-use Rattle.st_canon.specs.Canonical.{canonical_items, canonical_members}
-use Rattle.st_canon.specs.Proper.{ItemsAreProper, MembersAreProper}
+use Rattle.st_plain.specs.Canonical.{canonical_items, canonical_members}
+use Rattle.st_plain.specs.Proper.{ItemsAreProper, MembersAreProper}
 use Rattle.st_canon.specs.View.{plain_items, plain_members}
 use Rattle.st_canon.proofs.writing.+append.Given as goal
 

@@ -1,8 +1,8 @@
 use Rattle.std.proofs.Common.{◌≡◌, ◌++◌, ap, sym, ◌∙◌}
-use Rattle.st_canon.specs.Canonical.{canonical}
-use Rattle.st_canon.specs.Reading.{json_of}
+use Rattle.st_plain.specs.Canonical.{canonical}
+use Rattle.st_plain.specs.Reading.{json_of}
+use Rattle.st_plain.proofs.Back.{reads_as, reads_back, same_value}
 use Rattle.st_canon.specs.View.{plain}
-use Rattle.st_canon.proofs.Back.{reads_as, reads_back, same_value}
 use Rattle.st_canon.proofs.writing.write.Goals as goal
 
 pub returns-clause-read : goal.returns-clause-read

@@ -20,11 +20,11 @@ use Rattle.std.specs.declared.alloc.Global.{Global}
 use Rattle.std.specs.contracts.alloc.Global as heap
 use Rattle.std.specs.contracts.impls.GlobalAllocator.TheImpl.{ghosts}
 use Rattle.st_base.specs.contracts.text.Text as text
-use Rattle.st_canon.specs.Names.{name_cmp}
-use Rattle.st_canon.specs.declared.members.Members.TheInside.{Inside}
-use Rattle.st_canon.specs.declared.members.Members.TheView.{view, invariant}
+use Rattle.st_plain.specs.Names.{name_cmp}
 use Rattle.st_canon.specs.contracts.members.Members as M
 use Rattle.st_canon.specs.contracts.members.Members.TheInside as I
+use Rattle.st_canon.specs.declared.members.Members.TheInside.{Inside}
+use Rattle.st_canon.specs.declared.members.Members.TheView.{view, invariant}
 
 abbrev Name : Type 0
 Name = List ℕ

@@ -1,8 +1,8 @@
 use Rattle.std.proofs.Common.{◌≡◌, ◌∙◌, Some, [], ◌∷◌, map, codes, refl, ap}
 use Rattle.st_base.proofs.RuleLemmas.{none_fails, passes}
-use Rattle.st_canon.proofs.ObjectLemmas.{entries_in-some_list, json_in-written, member_at-some_listed}
-use Rattle.st_canon.specs.Objects.{some_list}
-use Rattle.st_canon.specs.Shapes.{entries_in, json_in}
+use Rattle.st_plain.proofs.ObjectLemmas.{entries_in-some_list, json_in-written, member_at-some_listed}
+use Rattle.st_plain.specs.Objects.{some_list}
+use Rattle.st_plain.specs.Shapes.{entries_in, json_in}
 use Rattle.st_canon.specs.View.{plain}
 use Rattle.st_datafiles.specs.Chunk.{chunk_json, chunk_rules, deltas_of}
 use Rattle.st_datafiles.proofs.chunk_writing.write_chunk.Goals as goal

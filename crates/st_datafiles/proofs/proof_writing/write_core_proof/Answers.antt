@@ -1,7 +1,7 @@
 use Rattle.std.proofs.Common.{◌≡◌, ◌∙◌, Some, ap}
 use Rattle.st_base.proofs.RuleLemmas.{none_fails, passes}
-use Rattle.st_canon.proofs.ObjectLemmas.{json_in-written}
-use Rattle.st_canon.specs.Shapes.{json_in}
+use Rattle.st_plain.proofs.ObjectLemmas.{json_in-written}
+use Rattle.st_plain.specs.Shapes.{json_in}
 use Rattle.st_datafiles.specs.ProofFiles.{core_proof_json, core_proofs_of}
 use Rattle.st_datafiles.specs.ProofRules.{core_proof_rules}
 use Rattle.st_datafiles.proofs.ProofLemmas.{core_proofs_of-core_proof_json}

@@ -1,5 +1,5 @@
 use Rattle.std.proofs.Common.{nat_le, ap, ◌∙◌}
-use Rattle.st_canon.specs.Measure.{size_of}
+use Rattle.st_plain.specs.Measure.{size_of}
 use Rattle.st_canon.specs.View.{plain}
 use Rattle.st_doc.proofs.DepthLemmas.{fits_by_size}
 use Rattle.st_doc.proofs.delta_reading.is_within_size.Goals as goal

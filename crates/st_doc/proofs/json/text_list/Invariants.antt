@@ -1,5 +1,5 @@
 use Rattle.std.proofs.Common.{◌≡◌, take, map}
-use Rattle.st_canon.specs.Plain.{text}
+use Rattle.st_plain.specs.Plain.{text}
 use Rattle.st_canon.specs.View.{plain}
 use Rattle.st_doc.proofs.json.text_list.Given as goal
 

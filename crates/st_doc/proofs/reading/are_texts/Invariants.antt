@@ -1,7 +1,7 @@
 use Rattle.std.proofs.Common.{◌≡◌, drop, map}
 use Rattle.st_canon.specs.View.{plain}
 use Rattle.st_base.specs.Each.{each_is}
-use Rattle.st_canon.specs.Entries.{text_in}
+use Rattle.st_plain.specs.Entries.{text_in}
 use Rattle.st_doc.proofs.reading.are_texts.Given as goal
 
 abbrev pub invariant-loop-value : goal.invariant-loop-value

@@ -1,5 +1,5 @@
 use Rattle.std.proofs.Common.{codes, sym}
-use Rattle.st_canon.specs.Plain.{object}
+use Rattle.st_plain.specs.Plain.{object}
 use Rattle.st_indexfiles.specs.CoreIndex.{core_operations}
 use Rattle.st_indexfiles.proofs.MemberLemmas.{an_object, core_operations_text, in_five, no_object, no_operations, nothing_there, now_due, something_there, still_due}
 use Rattle.st_indexfiles.proofs.core_writing.append_operations.Goals as goal

@@ -1,8 +1,8 @@
 use Rattle.std.proofs.Common.{◌≡◌, ◌∙◌, ◌++◌, Some, true, ap, sym}
 use Rattle.st_base.proofs.RuleLemmas.{none_fails, passes}
-use Rattle.st_canon.specs.Canonical.{canonical}
-use Rattle.st_canon.specs.Shapes.{json_in}
-use Rattle.st_canon.proofs.ReadableLemmas.{json_again}
+use Rattle.st_plain.specs.Canonical.{canonical}
+use Rattle.st_plain.specs.Shapes.{json_in}
+use Rattle.st_plain.proofs.ReadableLemmas.{json_again}
 use Rattle.st_indexfiles.specs.CoreIndex.{core_index_of, core_json}
 use Rattle.st_indexfiles.specs.CoreRules.{core_rules, has_core_entries, has_core_members}
 use Rattle.st_indexfiles.specs.Written.{IsCoreReadAgain}

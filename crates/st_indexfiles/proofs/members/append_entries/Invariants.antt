@@ -1,6 +1,6 @@
 use Rattle.std.proofs.Common.{◌≡◌, ◌++◌, drop, false, map, take}
-use Rattle.st_canon.specs.Canonical.{canonical_items}
-use Rattle.st_canon.specs.View.{items_of}
+use Rattle.st_plain.specs.Canonical.{canonical_items}
+use Rattle.st_plain.specs.Entries.{items_of}
 use Rattle.st_indexfiles.specs.Written.{AreReadAgain}
 use Rattle.st_indexfiles.proofs.members.append_entries.Given as goal
 

@@ -1,7 +1,7 @@
 use Rattle.std.proofs.Common.{◌∙◌, ◌++◌, ◌∷◌, [], false, map, ap, append_assoc, arith}
-use Rattle.st_canon.specs.Canonical.{canonical_items}
-use Rattle.st_canon.specs.Plain.{list}
-use Rattle.st_canon.specs.View.{items_of}
+use Rattle.st_plain.specs.Canonical.{canonical_items}
+use Rattle.st_plain.specs.Plain.{list}
+use Rattle.st_plain.specs.Entries.{items_of}
 use Rattle.st_indexfiles.proofs.MemberLemmas.{none_said, nothing_there, now_due, some_said, something_there, still_due}
 use Rattle.st_indexfiles.proofs.members.append_list.Goals as goal
 

@@ -1,6 +1,6 @@
 use Rattle.std.proofs.Common.{◌∙◌, true, ap, codes, arith}
 use Rattle.std.specs.Prelude.{is_some}
-use Rattle.st_canon.specs.Plain.{object}
+use Rattle.st_plain.specs.Plain.{object}
 use Rattle.st_indexfiles.specs.ProvisionalIndex.{provisional_operations}
 use Rattle.st_indexfiles.specs.Target.{target_json}
 use Rattle.st_indexfiles.proofs.MemberLemmas.{an_object, in_three, no_object, none_said, nothing_there, provisional_operations_text, some_said, something_there, updates_there}

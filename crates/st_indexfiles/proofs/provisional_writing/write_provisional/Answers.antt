@@ -1,9 +1,9 @@
 use Rattle.std.proofs.Common.{◌≡◌, ◌∙◌, ◌++◌, Some, true, ap, sym}
 use Rattle.std.specs.Prelude.{is_some}
 use Rattle.st_base.proofs.RuleLemmas.{none_fails, passes}
-use Rattle.st_canon.specs.Canonical.{canonical}
-use Rattle.st_canon.specs.Shapes.{json_in}
-use Rattle.st_canon.proofs.ReadableLemmas.{json_again}
+use Rattle.st_plain.specs.Canonical.{canonical}
+use Rattle.st_plain.specs.Shapes.{json_in}
+use Rattle.st_plain.proofs.ReadableLemmas.{json_again}
 use Rattle.st_indexfiles.specs.ProvisionalIndex.{chunk_in, provisional_index_of, provisional_json}
 use Rattle.st_indexfiles.specs.ProvisionalRules.{has_provisional_entries, provisional_rules}
 use Rattle.st_indexfiles.specs.Written.{IsProvisionalReadAgain}

@@ -1,8 +1,8 @@
 use Rattle.std.proofs.Common.{◌≡◌, [], ◌∷◌, None, Some, IfOk, option_map, option_and_then, ap, sym, subst, ◌∙◌, rules}
 use Rattle.std.proofs.lemmas.List.{nil_from_length}
 use Rattle.std.specs.Map.{lookup}
-use Rattle.st_canon.specs.Find.{member_at, put}
-use Rattle.st_canon.specs.Names.{is_name}
+use Rattle.st_plain.specs.Find.{member_at, put}
+use Rattle.st_plain.specs.Names.{is_name}
 use Rattle.st_canon.specs.View.{plain, plain_items, plain_members}
 use Rattle.st_canon.proofs.Places.{plain-lookup, plain_members-placed}
 use Rattle.st_jsonpatch.specs.At.{at, item_at, selected}

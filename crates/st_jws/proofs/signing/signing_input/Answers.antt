@@ -1,6 +1,6 @@
 use Rattle.std.proofs.Common.{◌≡◌, ◌∙◌, refl, sym, ap, subst}
 use Rattle.std.specs.Str.{IsAscii}
-use Rattle.st_canon.specs.Canonical.{canonical}
+use Rattle.st_plain.specs.Canonical.{canonical}
 use Rattle.st_canon.specs.View.{plain}
 use Rattle.st_hash.specs.Base64url.{base64url}
 use Rattle.st_jws.specs.Signing.{header_text}

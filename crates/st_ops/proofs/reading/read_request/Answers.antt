@@ -1,5 +1,5 @@
 use Rattle.std.proofs.Common.{subst, sym}
-use Rattle.st_canon.specs.Proper.{IsProper}
+use Rattle.st_plain.specs.Proper.{IsProper}
 use Rattle.st_ops.specs.Operation.{plain_operation}
 use Rattle.st_ops.specs.Request.{refusal_of, IsComplete}
 use Rattle.st_ops.specs.RequestText.{IsDeltaWithin, IsReadAgain}

@@ -1,7 +1,7 @@
 -- Whatever asked for the operation, its own text asks for it again.
 use Rattle.std.proofs.Common.{◌∙◌, ap, subst}
-use Rattle.st_canon.specs.Canonical.{canonical}
-use Rattle.st_canon.specs.Proper.{IsProper}
+use Rattle.st_plain.specs.Canonical.{canonical}
+use Rattle.st_plain.specs.Proper.{IsProper}
 use Rattle.st_ops.specs.Operation.{plain_operation}
 use Rattle.st_ops.specs.Request.{request_of}
 use Rattle.st_ops.proofs.AcceptedLemmas.{accepted}

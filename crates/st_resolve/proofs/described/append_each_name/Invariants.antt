@@ -1,7 +1,7 @@
 use Rattle.std.proofs.Common.{◌≡◌, ◌++◌, drop, false, map}
-use Rattle.st_canon.specs.Canonical.{canonical_items}
-use Rattle.st_canon.specs.View.{items_of}
-use Rattle.st_canon.specs.Plain.{text}
+use Rattle.st_plain.specs.Canonical.{canonical_items}
+use Rattle.st_plain.specs.Entries.{items_of}
+use Rattle.st_plain.specs.Plain.{text}
 use Rattle.st_resolve.proofs.described.append_each_name.Given as goal
 
 abbrev pub invariant-loop-name : goal.invariant-loop-name

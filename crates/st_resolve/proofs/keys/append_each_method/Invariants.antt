@@ -1,6 +1,7 @@
 use Rattle.std.proofs.Common.{◌≡◌, ◌++◌, drop, false, map}
-use Rattle.st_canon.specs.Canonical.{canonical_items}
-use Rattle.st_canon.specs.View.{items_of, plain}
+use Rattle.st_plain.specs.Canonical.{canonical_items}
+use Rattle.st_plain.specs.Entries.{items_of}
+use Rattle.st_canon.specs.View.{plain}
 use Rattle.st_resolve.specs.Keys.{method_of}
 use Rattle.st_resolve.proofs.keys.append_each_method.Given as goal
 

@@ -1,7 +1,7 @@
 use Rattle.std.proofs.Common.{◌≡◌, true, false, Some, sym, ap, ◌∙◌}
 use Rattle.std.specs.Prelude.{bytes_eq, option_map}
-use Rattle.st_canon.specs.Canonical.{canonical}
-use Rattle.st_canon.specs.Shapes.{json_in}
+use Rattle.st_plain.specs.Canonical.{canonical}
+use Rattle.st_plain.specs.Shapes.{json_in}
 use Rattle.st_hash.specs.Hash.{same_hash}
 use Rattle.st_indexfiles.specs.SuffixData.{suffix_of}
 use Rattle.st_resolve.specs.LongForm.{long_in, plain_long}

@@ -1,6 +1,6 @@
 use Rattle.std.proofs.Common.{ap, refl, sym, ◌∙◌, Some}
+use Rattle.st_plain.proofs.Sorting.{ascend_from_placed}
 use Rattle.st_canon.proofs.Places.{place_moved, gap_moved, changed_at_place, found_at_place, none_at_gap}
-use Rattle.st_canon.proofs.Sorting.{ascend_from_placed}
 use Rattle.st_canon.proofs.members.Members.get_mut.Goals as goal
 
 pub invariant_of-self-lent : goal.invariant_of-self-lent

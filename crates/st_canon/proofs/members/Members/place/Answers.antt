@@ -1,5 +1,5 @@
+use Rattle.st_plain.proofs.Sorting.{ascend_from_placed}
 use Rattle.st_canon.proofs.Places.{place_moved, gap_moved, placed_at_place, placed_from_gap}
-use Rattle.st_canon.proofs.Sorting.{ascend_from_placed}
 use Rattle.st_canon.proofs.members.Members.place.Goals as goal
 
 pub invariant_of-self : goal.invariant_of-self

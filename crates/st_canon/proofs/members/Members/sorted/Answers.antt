@@ -1,9 +1,9 @@
 use Rattle.std.proofs.Common.{rules, sym, subst}
 use Rattle.std.proofs.lemmas.List.MinMax.{ranks_by}
 use Rattle.std.proofs.lemmas.List.Sorted.{answers_always}
-use Rattle.st_canon.specs.Names.{NamesAscend}
-use Rattle.st_canon.proofs.Order.{name_total}
-use Rattle.st_canon.proofs.Sorting.{named_below, in_order_from_sort, ascend_in_order}
+use Rattle.st_plain.specs.Names.{NamesAscend}
+use Rattle.st_plain.proofs.Order.{name_total}
+use Rattle.st_plain.proofs.Sorting.{named_below, in_order_from_sort, ascend_in_order}
 use Rattle.st_canon.proofs.members.Members.sorted.Goals as goal
 
 pub invariant_of-result : goal.invariant_of-result

@@ -1,5 +1,5 @@
+use Rattle.st_plain.proofs.Named.{member_at-put_same, others_stay_put}
 use Rattle.st_canon.specs.View.{plain, plain_members}
-use Rattle.st_canon.proofs.Named.{member_at-put_same, others_stay_put}
 use Rattle.st_canon.proofs.Places.{plain_members-placed}
 use Rattle.st_canon.proofs.object.Object.insert.Goals as goal
 

@@ -1,4 +1,4 @@
-use Rattle.st_canon.proofs.OnLiterals.{names_on_literals}
+use Rattle.st_plain.proofs.OnLiterals.{names_on_literals}
 use Rattle.st_hash.specs.Hash.{HashValue}
 use Rattle.st_indexfiles.specs.declared.target.Target.{Target}
 use Rattle.st_indexfiles.proofs.MemberLemmas.{in_five, target_text}

@@ -1,0 +1,143 @@
+ghost use Rattle.std.specs.Prelude.{◌≡◌, IfOk};
+ghost use Rattle.std.specs.Str.{IsUtf8};
+ghost use Rattle.st_base.specs.KeptText.{IsKeptText, bytes_of};
+
+use crate::bytes::Bytes;
+use crate::copied::Copied;
+use crate::part::Part;
+use crate::shared::Shared;
+use crate::text::Text;
+use crate::want::WantOfMemory;
+use std::alloc::Global;
+use std::marker::Model;
+
+/// A text in little memory: where it stands in a file that is kept, it shares that; else it is kept by
+/// itself. Contracts see its bytes, which are UTF-8.
+#[derive(Drop)]
+pub struct KeptText {
+    form: KeptForm,
+}
+
+// What is kept of a text: the text itself, or where it stands in a file.
+#[derive(Drop)]
+pub(crate) enum KeptForm {
+    Own(Text),
+    Within(Part),
+}
+
+impl Model for KeptText {
+    ghost use Rattle.std.specs.Prelude.{List, ℕ};
+    ghost use Rattle.st_base.specs.KeptText.{IsKeptText, bytes_of};
+
+    ghost Value = { List ℕ };
+
+    ghost view = { λ kept. bytes_of kept.form };
+
+    ghost invariant = { λ kept. IsKeptText kept.form };
+}
+
+impl KeptText {
+    /// This text, kept by itself.
+    pub fn new(text: Text) -> KeptText
+        ensures { result ≡ text }
+    {
+        KeptText {
+            form: KeptForm::Own(text),
+        }
+    }
+
+    /// This text. Where it stands in the file at this offset, in bytes, it is shared with the file;
+    /// elsewhere, an offset beyond the file's end included, a copy is kept by itself.
+    pub fn within(
+        alloc: Global,
+        text: &str,
+        file: &Shared<Bytes>,
+        at: usize,
+    ) -> Result<KeptText, WantOfMemory>
+        ensures { IfOk result (λ kept. kept ≡ text.now) }
+    {
+        let form = form_of(alloc, text, file, at)?;
+        Ok(KeptText { form })
+    }
+
+    /// Its bytes.
+    pub fn as_slice(&self) -> &[u8]
+        ensures bytes { result.now ≡ self.now }
+        ensures utf8 { IsUtf8 self.now }
+    {
+        bytes_of(&self.form)
+    }
+
+    /// The text. Where it is shared, this looks at all of its bytes.
+    pub fn as_str(&self) -> &str
+        ensures { result.now ≡ self.now }
+    {
+        text_of(&self.form)
+    }
+}
+
+impl Copied for KeptText {
+    /// An equal text. What is shared with a file goes on being shared.
+    fn copy(&self, alloc: Global) -> Result<KeptText, WantOfMemory> {
+        let form = copy_form(alloc, &self.form)?;
+        Ok(KeptText { form })
+    }
+}
+
+fn form_of(
+    alloc: Global,
+    text: &str,
+    file: &Shared<Bytes>,
+    at: usize,
+) -> Result<KeptForm, WantOfMemory>
+    ensures value { IfOk result (λ form. bytes_of form ≡ text.now) }
+    ensures utf8 { IfOk result IsKeptText }
+{
+    match Part::find(alloc, file, at, text.as_bytes())? {
+        Some(part) => Ok(KeptForm::Within(part)),
+        None => Ok(KeptForm::Own(Text::from_text(alloc, text)?)),
+    }
+}
+
+fn bytes_of(form: &KeptForm) -> &[u8]
+    requires { IsKeptText form.now }
+    ensures bytes { result.now ≡ bytes_of form.now }
+    ensures utf8 { IsUtf8 result.now }
+{
+    match form {
+        KeptForm::Own(text) => text.as_str().as_bytes(),
+        KeptForm::Within(part) => part.as_slice(),
+    }
+}
+
+fn copy_form(alloc: Global, form: &KeptForm) -> Result<KeptForm, WantOfMemory>
+    requires { IsKeptText form.now }
+    ensures value { IfOk result (λ copied. bytes_of copied ≡ bytes_of form.now) }
+    ensures utf8 { IfOk result IsKeptText }
+{
+    match form {
+        KeptForm::Own(text) => Ok(KeptForm::Own(text.copy(alloc)?)),
+        KeptForm::Within(part) => Ok(KeptForm::Within(part.copy(alloc)?)),
+    }
+}
+
+fn text_of(form: &KeptForm) -> &str
+    requires { IsKeptText form.now }
+    ensures { result.now ≡ bytes_of form.now }
+{
+    match form {
+        KeptForm::Own(text) => text.as_str(),
+        KeptForm::Within(part) => decoded(part.as_slice()),
+    }
+}
+
+// Bytes in UTF-8 as a text.
+fn decoded(bytes: &[u8]) -> &str
+    requires { IsUtf8 bytes.now }
+    ensures { result.now ≡ bytes.now }
+{
+    match simdutf8::basic::from_utf8(bytes) {
+        Ok(text) => text,
+        Err(_) => unreachable!(),
+    }
+}

@@ -1,8 +1,0 @@
-use Rattle.std.proofs.Common.{ap, ◌∙◌, arith, count_ones}
-use Rattle.std.proofs.lemmas.Simd.{ones-mask_l}
-use Rattle.st_canon.specs.Walk.{opens}
-use Rattle.st_canon.proofs.MarkLanes.{lanes_marked}
-use Rattle.st_canon.proofs.scan.lanes.openings_of_16.Goals as goal
-
-pub returns : goal.returns
-returns c = ap count_ones (lanes_marked 91 123 c.args.step 16 c.fits-step.0 (omega arith)) ∙ ones-mask_l opens c.args.step

@@ -1,7 +1,0 @@
-use Rattle.std.proofs.Common.{◌≡◌, ◌↔◌, ◌++◌, ◌∷◌, [], drop}
-use Rattle.std.specs.List.{flat_map}
-use Rattle.st_canon.specs.Canonical.{escape, quoted}
-use Rattle.st_canon.proofs.scan.quoted.is_quoted.Given as goal
-
-abbrev pub invariant-bytes : goal.invariant-bytes
-invariant-bytes l = (l.text ≡ quoted l.word) ↔ (l.rest ≡ flat_map escape (drop l.byte-index l.others) ++ 34 ∷ [])

@@ -1,0 +1,3 @@
+mod respelled;
+mod tokens;
+mod wholes;

@@ -1,0 +1,35 @@
+-- Bytes of a text that are written as they are.
+use Rattle.std.proofs.Common.{◌≡◌, ℕ, inl, inr, ◌≤◌, List, ◌++◌, true, length, take, drop, sym, ap, ◌∙◌, arith, get_or-take}
+use Rattle.std.specs.List.{flat_map}
+use Rattle.std.proofs.lemmas.Bool.{cases_lt}
+use Rattle.std.proofs.lemmas.List.{length-take-le, take-append-drop}
+use Rattle.std.proofs.lemmas.List.Concat.{flat_map-append}
+use Rattle.json.specs.Run.{is_plain}
+use Rattle.json.specs.Written.{PlainBetween}
+use Rattle.json.proofs.Printed.Plain.{escape_on_plain}
+use Rattle.st_plain.specs.Canonical.{escape}
+use Rattle.st_plain.proofs.Compact.{same_escapes}
+
+-- a front without a byte that is escaped
+pub plain_front : (xs : List ℕ) (n : ℕ) → n ≤ length xs → PlainBetween xs 0 n → flat_map escape (take n xs) ≡ take n xs
+plain_front xs n within plain =
+    let long = length-take-le n xs within in
+    let front : PlainBetween (take n xs) 0 (length (take n xs)) = λ k low high. ap is_plain (get_or-take n xs k 0 (omega (arith, long)))
+    ∙ plain k low (omega (arith, long)) in
+    same_escapes (take n xs) ∙ escape_on_plain true (take n xs) front
+
+-- the front as it is, and the rest escaped
+pub run_first : (xs : List ℕ) (n : ℕ) → n ≤ length xs → PlainBetween xs 0 n
+    → flat_map escape xs ≡ take n xs ++ flat_map escape (drop n xs)
+run_first xs n within plain =
+    ap (flat_map escape) (sym (take-append-drop n xs))
+    ∙ flat_map-append escape (take n xs) (drop n xs)
+    ∙ ap (λ front. front ++ flat_map escape (drop n xs)) (plain_front xs n within plain)
+
+-- two runs that meet or overlap are one
+pub joined_runs : (xs : List ℕ) (first second after last : ℕ) → second ≤ first → last ≤ after → PlainBetween xs 0 first → PlainBetween xs second after
+    → PlainBetween xs 0 last
+joined_runs xs first second after last over ends front behind k low high = elim (cases_lt k first) [
+  | inl sooner ↦ front k low sooner
+  | inr later ↦ behind k (omega (arith, over, later)) (omega (arith, ends, high))
+]

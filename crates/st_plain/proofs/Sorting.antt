@@ -1,0 +1,215 @@
+-- Pairs in the order of their names: there is one such list, so a stable sort gives it.
+use Rattle.std.proofs.Common.{◌≡◌, ℕ, suc, ◌+◌, ◌<◌, Bool, true, false, not, cond, List, [], ◌∷◌, length, get_or, Ordering, Less, Equal, Greater}
+use Rattle.std.proofs.Common.{is_eq, refl, sym, ap, ◌∙◌, subst, arith}
+use Rattle.std.specs.Prelude.{◌&&◌}
+use Rattle.std.specs.Cmp.{IsStrictWeakOrder}
+use Rattle.std.specs.List.{filter, AllByRecursion}
+use Rattle.std.specs.List.Sorted.{IsStrictlySortedBy, IsSortedBy, IsStableBy, ties}
+use Rattle.std.specs.Map.{keys_of}
+use Rattle.std.specs.Ordering.{is_lt, ordering_reverse}
+use Rattle.std.proofs.lemmas.Cmp.{tied_itself}
+use Rattle.std.proofs.lemmas.List.MinMax.{ranks_by}
+use Rattle.std.proofs.lemmas.List.Sorted.{sorted_far}
+use Rattle.st_plain.specs.InOrder.{placed, in_order, NamesDiffer}
+use Rattle.st_plain.specs.Names.{name_cmp, NamesAscend}
+use Rattle.st_plain.proofs.Order.{by_order, name_total, less_from_greater}
+
+pub equal_from_is_eq : (o : Ordering) → is_eq o ≡ true → o ≡ Equal
+equal_from_is_eq Less h = cc
+equal_from_is_eq Equal h = refl
+equal_from_is_eq Greater h = cc
+
+tied_tests : (o : Ordering) → (not (is_lt o) && not (is_lt (ordering_reverse o))) ≡ is_eq o
+tied_tests Less = refl
+tied_tests Equal = refl
+tied_tests Greater = refl
+
+-- ---- names above another
+pub all_above : (x y : List ℕ) → name_cmp x y ≡ Less → (ks : List (List ℕ)) → AllByRecursion (λ k. name_cmp y k ≡ Less) ks
+    → AllByRecursion (λ k. name_cmp x k ≡ Less) ks
+all_above x y lt [] all = tt
+all_above x y lt (k ∷ ks) all = (name_total.trans x y k lt all.0, all_above x y lt ks all.1)
+
+pub all_above_tied : (x y : List ℕ) → name_cmp x y ≡ Equal → (ks : List (List ℕ))
+    → AllByRecursion (λ k. name_cmp y k ≡ Less) ks → AllByRecursion (λ k. name_cmp x k ≡ Less) ks
+all_above_tied x y tied [] all = tt
+all_above_tied x y tied (k ∷ ks) all = (name_total.congr x y k tied ∙ all.0, all_above_tied x y tied ks all.1)
+
+-- ---- what a sort gives
+module _ {A : Type 0} (lt : A → A → Bool) where
+  abbrev pub NoneBelow : A → List A → Type 0
+  NoneBelow y = AllByRecursion (λ z. lt z y ≡ false)
+
+  -- nothing is below what stands before it
+  abbrev pub NeverFall : List A → Type 0
+  NeverFall [] = Unit {0}
+  NeverFall (y ∷ ys) = NoneBelow y ys × NeverFall ys
+
+  none_below_from_places : (y : A) (ys : List A) → ((j : ℕ) (d : A) → j < length ys → lt (get_or ys j d) y ≡ false) → NoneBelow y ys
+  none_below_from_places y [] at = tt
+  none_below_from_places y (z ∷ zs) at =
+      (at 0 z (omega arith), none_below_from_places y zs (λ j d less. at (suc j) d (omega arith)))
+
+  rest_sorted : (y : A) (ys : List A) → IsSortedBy lt (y ∷ ys) → IsSortedBy lt ys
+  rest_sorted y ys sorted = λ k d low less.
+      let next : suc k + 1 ≡ suc (k + 1) = omega arith in rw next at (sorted (suc k) d (omega arith) (omega arith))
+
+  pub never_fall : IsStrictWeakOrder lt → (ys : List A) → IsSortedBy lt ys → NeverFall ys
+  never_fall order [] sorted = tt
+  never_fall order (y ∷ ys) sorted = (
+    none_below_from_places y ys (λ j d below. sorted_far lt order (y ∷ ys) sorted 0 (suc j) d (omega arith) (omega arith)),
+    never_fall order ys (rest_sorted y ys sorted),
+  )
+
+-- ---- things that have names
+module _ {A : Type 0} (name : A → List ℕ) where
+  -- it is named below the other
+  abbrev pub below : A → A → Bool
+  below x y = is_lt (name_cmp (name x) (name y))
+
+  -- its name ties with this one
+  abbrev pub tied_with : List ℕ → A → Bool
+  tied_with k x = is_eq (name_cmp k (name x))
+
+  pub ties_are : (x y : A) → ties below x y ≡ tied_with (name x) y
+  ties_are x y =
+      ap (λ o. not (is_lt (name_cmp (name x) (name y))) && not (is_lt o)) (name_total.antisymm (name y) (name x))
+      ∙ tied_tests (name_cmp (name x) (name y))
+
+module _ {X : Type 0} where
+  abbrev pub name_of : List ℕ × X → List ℕ
+  name_of pair = pair.0
+
+  -- the pair is named below the other
+  abbrev pub named_below : List ℕ × X → List ℕ × X → Bool
+  named_below p q = is_lt (name_cmp p.0 q.0)
+
+  -- ---- placing a pair
+  pub all_placed : (P : List ℕ → Type 0) (e : List ℕ × X) (es : List (List ℕ × X)) → P e.0 → AllByRecursion P (keys_of es)
+      → AllByRecursion P (keys_of (placed e es))
+  all_placed P e [] p all = (p, tt)
+  all_placed P e (f ∷ fs) p all =
+      by_order (λ es. AllByRecursion P (keys_of es)) (name_cmp e.0 f.0) (e ∷ f ∷ fs) (e ∷ fs) (f ∷ placed e fs)
+      (λ is. (p, all)) (λ is. (p, all.1)) (λ is. (all.0, all_placed P e fs p all.1))
+
+  pub ascend_placed : (e : List ℕ × X) (es : List (List ℕ × X)) → NamesAscend es → NamesAscend (placed e es)
+  unfolding IsStrictlySortedBy
+  ascend_placed e [] ascend = (tt, tt)
+  ascend_placed e (f ∷ fs) ascend =
+      let above = all_above e.0 f.0 in
+      let tied = all_above_tied e.0 f.0 in
+      by_order NamesAscend (name_cmp e.0 f.0) (e ∷ f ∷ fs) (e ∷ fs) (f ∷ placed e fs)
+      (λ is. ((is, above is (keys_of fs) ascend.0), ascend))
+      (λ is. (tied is (keys_of fs) ascend.0, ascend.1))
+      (λ is. (all_placed (λ n. name_cmp f.0 n ≡ Less) e fs (less_from_greater e.0 f.0 is) ascend.0, ascend_placed e fs ascend.1))
+
+  pub ascend_from_placed : (e : List ℕ × X) (es fs : List (List ℕ × X)) → fs ≡ placed e es → NamesAscend es
+      → NamesAscend fs
+  ascend_from_placed e es fs is ascend = subst NamesAscend (sym is) (ascend_placed e es ascend)
+
+  pub ascend_in_order : (es : List (List ℕ × X)) → NamesAscend (in_order es)
+  unfolding IsStrictlySortedBy
+  ascend_in_order [] = tt
+  ascend_in_order (e ∷ es) = ascend_placed e (in_order es) (ascend_in_order es)
+
+  all_in_order : (P : List ℕ → Type 0) (es : List (List ℕ × X)) → AllByRecursion P (keys_of es)
+      → AllByRecursion P (keys_of (in_order es))
+  all_in_order P [] all = tt
+  all_in_order P (e ∷ es) all = all_placed P e (in_order es) all.0 (all_in_order P es all.1)
+
+  -- ---- the pairs whose names tie with one
+  abbrev pub tie : List ℕ × X → List ℕ × X → Bool
+  tie x y = is_eq (name_cmp x.0 y.0)
+
+  pub no_two : (x e f : List ℕ × X) → name_cmp e.0 f.0 ≡ Greater → tie x e ≡ true → tie x f ≡ true → ⊥
+  no_two x e f gt a b =
+      let first = name_total.congr x.0 e.0 f.0 (equal_from_is_eq (name_cmp x.0 e.0) a) in
+      let second = equal_from_is_eq (name_cmp x.0 f.0) b in
+      cc
+
+  passed : (s t : Bool) (e f : List ℕ × X) (xs ys : List (List ℕ × X)) → (s ≡ true → t ≡ true → ⊥)
+      → ys ≡ cond t (e ∷ xs) xs → cond s (f ∷ ys) ys ≡ cond t (e ∷ cond s (f ∷ xs) xs) (cond s (f ∷ xs) xs)
+  passed true true e f xs ys apart is = absurd (apart refl refl)
+  passed true false e f xs ys apart is = ap (λ l. f ∷ l) is
+  passed false true e f xs ys apart is = is
+  passed false false e f xs ys apart is = is
+
+  filter_placed : (x e : List ℕ × X) (es : List (List ℕ × X))
+      → AllByRecursion (λ n. name_cmp e.0 n ≡ Equal → ⊥) (keys_of es)
+      → filter (tie x) (placed e es) ≡ filter (tie x) (e ∷ es)
+  filter_placed x e [] differ = refl
+  filter_placed x e (f ∷ fs) differ =
+      let old = filter (tie x) fs in
+      let new = filter (tie x) (placed e fs) in
+      by_order (λ es. filter (tie x) es ≡ filter (tie x) (e ∷ f ∷ fs)) (name_cmp e.0 f.0) (e ∷ f ∷ fs) (e ∷ fs) (f ∷ placed e fs)
+      (λ is. refl)
+      (λ is. absurd (differ.0 is))
+      (λ is. passed (tie x f) (tie x e) e f old new (λ a b. no_two x e f is b a) (filter_placed x e fs differ.1))
+
+  filter_in_order : (x : List ℕ × X) (es : List (List ℕ × X)) → NamesDiffer es
+      → filter (tie x) (in_order es) ≡ filter (tie x) es
+  filter_in_order x [] differ = refl
+  filter_in_order x (e ∷ es) differ =
+      filter_placed x e (in_order es) (all_in_order (λ n. name_cmp e.0 n ≡ Equal → ⊥) es differ.0)
+      ∙ ap (λ l. cond (tie x e) (e ∷ l) l) (filter_in_order x es differ.1)
+
+  -- ---- only one list has given ties, and ascends
+  first_ties : (y : List ℕ × X) (ys : List (List ℕ × X)) → filter (tie y) (y ∷ ys) ≡ y ∷ filter (tie y) ys
+  first_ties y ys = rw (tied_itself name_total y.0) refl
+
+  pub none_tie_above : (y : List ℕ × X) (zs : List (List ℕ × X))
+      → AllByRecursion (λ n. name_cmp y.0 n ≡ Less) (keys_of zs) → filter (tie y) zs ≡ []
+  none_tie_above y [] all = refl
+  none_tie_above y (z ∷ zs) all = rw all.0 (none_tie_above y zs all.1)
+
+  not_tied : (y z w : List ℕ × X) → name_cmp z.0 y.0 ≡ Less → named_below w y ≡ false → (o : Ordering)
+      → name_cmp z.0 w.0 ≡ o → is_eq o ≡ false
+  not_tied y z w lt up Less is = refl
+  not_tied y z w lt up Equal is = let same = name_total.congr z.0 w.0 y.0 is in let below : named_below w y ≡ true = ap is_lt (sym same ∙ lt) in cc
+  not_tied y z w lt up Greater is = refl
+
+  none_tie_below : (y z : List ℕ × X) (ws : List (List ℕ × X)) → name_cmp z.0 y.0 ≡ Less → NoneBelow named_below y ws
+      → filter (tie z) ws ≡ []
+  none_tie_below y z [] lt up = refl
+  none_tie_below y z (w ∷ ws) lt up =
+      rw (not_tied y z w lt up.0 (name_cmp z.0 w.0) refl) (none_tie_below y z ws lt up.1)
+
+  same_rest : (t : Bool) (y : List ℕ × X) (ys zs : List (List ℕ × X)) → cond t (y ∷ ys) ys ≡ cond t (y ∷ zs) zs
+      → ys ≡ zs
+  same_rest true y ys zs e = cc
+  same_rest false y ys zs e = e
+
+  pub one_list : (ys zs : List (List ℕ × X)) → NeverFall named_below ys → NamesAscend zs
+      → ((x : List ℕ × X) → filter (tie x) ys ≡ filter (tie x) zs) → ys ≡ zs
+  unfolding IsStrictlySortedBy
+  one_list [] [] up ascend same = refl
+  one_list [] (z ∷ zs) up ascend same = let e = same z in let f = first_ties z zs in cc
+  one_list (y ∷ ys) [] up ascend same = let e = same y in let f = first_ties y ys in cc
+  one_list (y ∷ ys) (z ∷ zs) up ascend same = elim (name_cmp y.0 z.0) as (λ o. name_cmp y.0 z.0 ≡ o → y ∷ ys ≡ z ∷ zs) [
+    | Less ↦ λ is.
+        let e = same y in
+        let f = first_ties y ys in
+        let none = none_tie_above y (z ∷ zs) (is, all_above y.0 z.0 is (keys_of zs) ascend.0) in
+        cc
+    | Equal ↦ λ is.
+        let tied : filter (tie y) (z ∷ zs) ≡ z ∷ filter (tie y) zs = rw is refl in
+        let e = same y in
+        let f = first_ties y ys in
+        let head : y ≡ z = cc in
+        let rest = one_list ys zs up.1 ascend.1 (λ x. same_rest (tie x y) y (filter (tie x) ys) (filter (tie x) zs)
+        (same x ∙ ap (λ w. cond (tie x w) (w ∷ filter (tie x) zs) (filter (tie x) zs)) (sym head))) in
+        cc
+    | Greater ↦ λ is.
+        let below = less_from_greater y.0 z.0 is in
+        let e = same z in
+        let f = first_ties z zs in
+        let none : filter (tie z) (y ∷ ys) ≡ [] = rw below (none_tie_below y z ys below up.0) in
+        cc
+  ] refl
+
+  -- ---- what a stable sort gives
+  pub in_order_from_sort : (es ys : List (List ℕ × X)) → NamesDiffer es → IsSortedBy named_below ys
+      → IsStableBy named_below es ys → ys ≡ in_order es
+  in_order_from_sort es ys differ sorted stable =
+      one_list ys (in_order es) (never_fall named_below (ranks_by name_total name_of) ys sorted) (ascend_in_order es)
+      (λ x. sym (λ i. filter (λ y. ties_are name_of x y i) ys) ∙ stable x ∙ (λ i. filter (λ y. ties_are name_of x y i) es) ∙ sym (filter_in_order x es differ))

@@ -1,0 +1,46 @@
+-- How deep a plain value nests: a scalar and what is empty have depth 1.
+use Rattle.std.specs.Prelude.{ℕ, ◌+◌, max, List}
+use Rattle.std.specs.List.{count_by}
+use Rattle.st_plain.specs.Plain.{Plain, null, boolean, whole, text, list, object, Items, no_items, item, Members, no_members, member}
+use Rattle.st_plain.specs.Walk.{opens}
+
+abbrev mutual
+  pub depth_of : Plain → ℕ
+  depth_of null = 1
+  depth_of (boolean b) = 1
+  depth_of (whole z) = 1
+  depth_of (text t) = 1
+  depth_of (list ps) = items_depth ps + 1
+  depth_of (object ms) = members_depth ms + 1
+
+  pub items_depth : Items → ℕ
+  items_depth no_items = 0
+  items_depth (item p ps) = max (depth_of p) (items_depth ps)
+
+  pub members_depth : Members → ℕ
+  members_depth no_members = 0
+  members_depth (member k p ms) = max (depth_of p) (members_depth ms)
+
+-- How many lists and objects stand in one another in a plain value: none in a scalar.
+abbrev mutual
+  pub nests : Plain → ℕ
+  nests null = 0
+  nests (boolean b) = 0
+  nests (whole z) = 0
+  nests (text t) = 0
+  nests (list ps) = items_nest ps + 1
+  nests (object ms) = members_nest ms + 1
+
+  pub items_nest : Items → ℕ
+  items_nest no_items = 0
+  items_nest (item p ps) = max (nests p) (items_nest ps)
+
+  pub members_nest : Members → ℕ
+  members_nest no_members = 0
+  members_nest (member k p ms) = max (nests p) (members_nest ms)
+
+-- ---- a bound by the text alone
+
+-- how many brackets and braces that open stand in a text, those within its texts among them
+abbrev pub opening_count : List ℕ → ℕ
+opening_count bytes = count_by opens bytes

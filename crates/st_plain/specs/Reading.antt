@@ -1,0 +1,61 @@
+-- What bytes are as JSON with whole numbers.
+use Rattle.std.specs.Prelude.{ℕ, ℤ, pos, negsuc, List, if◌then◌else◌, nat_le, Option, Some, None, ok_or, Result, Err, IfSome, ◌≡◌, option_map, option_and_then}
+use Rattle.std.specs.Str.{is_utf8}
+use Rattle.serde_json.specs.Data as data'
+use Rattle.serde_json.specs.Read.{read}
+use Rattle.st_plain.specs.Find.{put}
+use Rattle.st_plain.specs.Plain.{Plain, null, boolean, whole, text, list, object, Items, no_items, item, Members, no_members}
+use Rattle.st_plain.specs.declared.refused.ReadRefused.{ReadRefused}
+use Rattle.st_plain.specs.declared.refused.ReadRefused.TheVariants.{NotJson, NotWhole, WantOfMemory}
+
+-- an integer from -(2^53 - 1) to 2^53 - 1
+abbrev pub whole_integer : ℤ → Option ℤ
+whole_integer (pos n) = if nat_le n 9007199254740991 then Some (pos n) else None
+whole_integer (negsuc n) = if nat_le n 9007199254740990 then Some (negsuc n) else None
+
+-- a number that `serde_json` read as an integer of 64 bits, and not as a float
+abbrev pub whole_number : data'.Num → Option ℤ
+whole_number (data'.unsigned n) = whole_integer (pos n)
+whole_number (data'.negative z) = whole_integer z
+whole_number (data'.float x) = None
+
+-- The value, where it has no float; each member is put where the order of names has it.
+abbrev mutual
+  pub whole_value : data'.Data → Option Plain
+  whole_value data'.null = Some null
+  whole_value (data'.boolean b) = Some (boolean b)
+  whole_value (data'.number n) = option_map whole (whole_number n)
+  whole_value (data'.string s) = Some (text s)
+  whole_value (data'.array ds) = option_map list (whole_items ds)
+  whole_value (data'.object ms) = option_map object (whole_members ms)
+
+  pub whole_items : data'.Items → Option Items
+  whole_items data'.no_items = Some no_items
+  whole_items (data'.item d ds) = option_and_then (λ p. option_map (item p) (whole_items ds)) (whole_value d)
+
+  pub whole_members : data'.Members → Option Members
+  whole_members data'.no_members = Some no_members
+  whole_members (data'.member k d ms) = option_and_then (λ p. option_map (put k p) (whole_members ms)) (whole_value d)
+
+-- the JSON text in UTF-8 that the bytes are (RFC 8259), as `serde_json` reads it
+abbrev pub data_of_bytes : List ℕ → Option data'.Data
+data_of_bytes bytes = if is_utf8 bytes then read bytes else None
+
+-- the same of what was read, or was not
+abbrev pub json_of_data : Option data'.Data → Result Plain ReadRefused
+json_of_data None = Err NotJson
+json_of_data (Some value) = ok_or (whole_value value) NotWhole
+
+-- The JSON value with whole numbers that the bytes are, where they are JSON and each number is whole.
+abbrev pub json_of : List ℕ → Result Plain ReadRefused
+json_of bytes = json_of_data (data_of_bytes bytes)
+
+-- what a refusal says of the bytes: nothing, where memory was wanting
+abbrev pub refusal_of : ReadRefused → Option ReadRefused
+refusal_of NotJson = Some NotJson
+refusal_of NotWhole = Some NotWhole
+refusal_of WantOfMemory = None
+
+-- A refusal of the bytes is what is said of them, unless memory was wanting.
+abbrev pub Refuses : Result Plain ReadRefused → ReadRefused → Type 0
+Refuses says refused = IfSome (refusal_of refused) (λ refusal. says ≡ Err refusal)

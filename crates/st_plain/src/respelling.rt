@@ -1,0 +1,182 @@
+ghost use Rattle.std.specs.Prelude.{◌≡◌, true, ◌<◌, length, Err, Ok, None, IfErr, IfOk, IfSome, IsTrue, OnOk, false};
+ghost use Rattle.json.specs.Json.{items, members, value};
+ghost use Rattle.serde_json.specs.Data.{no_members};
+ghost use Rattle.serde_json.specs.Read.{converted, number_of, of_items, of_json, of_members};
+ghost use Rattle.st_plain.specs.ReadAgain.{IsReadAgain, value_read};
+ghost use Rattle.st_plain.specs.Reading.{Refuses, json_of};
+ghost use Rattle.st_plain.specs.Respelled.{IsNoJson, IsNumberWritten, HasNoMark, IsRespelled, ItemsAreRespelled, MembersAreRespelled};
+ghost use Rattle.st_plain.specs.declared.refused.ReadRefused.TheVariants.{NotJson};
+
+use crate::already::is_canonical;
+use crate::appending::{append_bool, append_comma, append_whole, push_all};
+use crate::escape::append_text;
+use crate::names::is_above;
+use crate::numbers::number_in;
+use crate::ordering::{begin, end, put_in_order};
+use crate::refused::ReadRefused;
+use json::{Reader, Scratch, Token};
+use memchr::memchr;
+use std::alloc::Global;
+
+/// How deep lists and objects may nest in a text that is read, as in `serde_json`.
+pub const MAX_DEPTH: usize = 127;
+
+// What goes out for a number that is not whole: a byte that is in no UTF-8.
+const MARK: u8 = 255;
+
+/// The canonical text (RFC 8785) of the JSON that bytes of any spelling are. A member whose name stands twice
+/// has its last value.
+///
+/// `NotJson` comes exactly where `serde_json` refuses the bytes, `NotWhole` exactly where they are JSON with a
+/// number that no `Whole` holds or that is written as a float.
+pub fn canonical_text(alloc: Global, bytes: &[u8]) -> Result<Vec<u8>, ReadRefused>
+    ensures value { IfOk result (λ text. json_of bytes.now ≡ Ok (value_read (json_of text.items))) }
+    ensures refusal { IfErr result (Refuses (json_of bytes.now)) }
+    ensures again { IfOk result (λ text. IsReadAgain text.items) }
+{
+    let Ok(text) = simdutf8::compat::from_utf8(bytes) else {
+        return Err(ReadRefused::NotJson);
+    };
+    if is_canonical(text) {
+        return Ok(Vec::from_slice(alloc, bytes)?);
+    }
+    respell_text(alloc, text)
+}
+
+// The same of a text, by its tokens.
+fn respell_text(alloc: Global, text: &str) -> Result<Vec<u8>, ReadRefused>
+    ensures value { IfOk result (λ out. json_of text.now ≡ Ok (value_read (json_of out.items))) }
+    ensures refusal { IfErr result (Refuses (json_of text.now)) }
+    ensures again { IfOk result (λ out. IsReadAgain out.items) }
+{
+    let mut scratch = Scratch::new(alloc);
+    let Ok(mut reader) = Reader::new(text, &mut scratch) else {
+        return Err(ReadRefused::WantOfMemory);
+    };
+    let mut out = Vec::with_capacity(alloc, text.len())?;
+    respell(alloc, &mut out, &mut reader, MAX_DEPTH)?;
+    if reader.next().is_some() {
+        return Err(ReadRefused::NotJson);
+    }
+    if is_whole(out.as_slice()) {
+        Ok(out)
+    } else {
+        Err(ReadRefused::NotWhole)
+    }
+}
+
+// Whether no mark stands in a text.
+pub(crate) fn is_whole(text: &[u8]) -> bool
+    ensures yes { result ≡ true → HasNoMark text.now }
+    ensures no { result ≡ false → HasNoMark text.now → ⊥ }
+{
+    memchr(MARK, text).is_none()
+}
+
+// Appends the canonical text of the next value of a reader of tokens. For a number that is not whole a mark goes
+// out, so a member with one may still be replaced. Lists and objects may nest `depth` deep.
+#[cycle(respell)]
+pub(crate) fn respell(
+    alloc: Global,
+    out: &mut Vec<u8>,
+    reader: &mut Reader<'_>,
+    depth: usize,
+) -> Result<(), ReadRefused>
+    ensures next { OnOk result (IsRespelled depth reader.old reader.new out.old.items out.new.items) }
+    ensures none { IfErr result (IsNoJson (converted of_json (value depth reader.old) ≡ None)) }
+    ensures shorter { OnOk result (length reader.new < length reader.old) }
+{
+    let Some(token) = reader.next() else {
+        return Err(ReadRefused::NotJson);
+    };
+    match token {
+        Token::Null => Ok(push_all(out, b"null")?),
+        Token::Bool(b) => Ok(append_bool(out, b)?),
+        Token::Number(text) => Ok(respell_number(alloc, out, text)?),
+        Token::String(text) => Ok(append_text(out, text)?),
+        Token::BeginArray => if depth == 0 {
+            Err(ReadRefused::NotJson)
+        } else {
+            push_all(out, b"[")?;
+            respell_items(alloc, out, reader, depth - 1)?;
+            Ok(push_all(out, b"]")?)
+        },
+        Token::BeginObject => if depth == 0 {
+            Err(ReadRefused::NotJson)
+        } else {
+            push_all(out, b"{")?;
+            respell_members(alloc, out, reader, depth - 1)?;
+            Ok(push_all(out, b"}")?)
+        },
+        Token::EndObject | Token::EndArray | Token::Key(_) | Token::Bad => Err(
+            ReadRefused::NotJson,
+        ),
+    }
+}
+
+// The same of a number's text.
+fn respell_number(alloc: Global, out: &mut Vec<u8>, text: &str) -> Result<(), ReadRefused>
+    ensures number { OnOk result (IsNumberWritten text.now out.old.items out.new.items) }
+    ensures none { IfErr result (IsNoJson (number_of text.now ≡ None)) }
+{
+    match number_in(text) {
+        Some(Some(whole)) => Ok(append_whole(out, whole)?),
+        Some(None) => Ok(push_all(out, &[MARK])?),
+        None => Err(ReadRefused::NotJson),
+    }
+}
+
+#[cycle(respell)]
+fn respell_items(
+    alloc: Global,
+    out: &mut Vec<u8>,
+    reader: &mut Reader<'_>,
+    depth: usize,
+) -> Result<(), ReadRefused>
+    ensures items { OnOk result (ItemsAreRespelled depth reader.old reader.new out.old.items out.new.items) }
+    ensures none { IfErr result (IsNoJson (converted of_items (items (value depth) (length reader.old) reader.old) ≡ None)) }
+    ensures shorter { OnOk result (length reader.new < length reader.old) }
+{
+    let mut comma = false;
+    'items: while !reader.take_end_array() {
+        append_comma(out, comma)?;
+        respell(alloc, out, reader, depth)?;
+        comma = true;
+    }
+    Ok(())
+}
+
+// Members go out as they come, and where their names do not ascend, are brought into order once all are there.
+#[cycle(respell)]
+fn respell_members<'a>(
+    alloc: Global,
+    out: &mut Vec<u8>,
+    reader: &mut Reader<'a>,
+    depth: usize,
+) -> Result<(), ReadRefused>
+    ensures members { OnOk result (MembersAreRespelled depth reader.old reader.new out.old.items out.new.items) }
+    ensures none { IfErr result (IsNoJson (converted (λ ms. of_members ms no_members) (members (value depth) (length reader.old) reader.old) ≡ None)) }
+    ensures shorter { OnOk result (length reader.new < length reader.old) }
+{
+    let from = out.len();
+    let mut places = Vec::new(alloc);
+    let mut last: Option<&'a str> = None;
+    let mut up = true;
+    'members: loop {
+        let Ok(key) = reader.next_key() else {
+            return Err(ReadRefused::NotJson);
+        };
+        let Some(key) = key else {
+            if !up {
+                put_in_order(alloc, out, from, places)?;
+            }
+            return Ok(());
+        };
+        let above = is_above(last, key);
+        let begun = begin(out, last.is_some(), key)?;
+        respell(alloc, out, reader, depth)?;
+        end(out, &mut places, begun)?;
+        last = Some(key);
+        up = up & above;
+    }
+}

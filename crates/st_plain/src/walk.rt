@@ -1,0 +1,95 @@
+ghost use Rattle.std.specs.Prelude.{◌≡◌, ◌≤◌, false, length};
+ghost use Rattle.st_plain.specs.Walk.{Splits, outside, behind_brackets, behind_scalar, behind_text, behind_value, follows};
+
+use crate::front::behind_first;
+use crate::marks::next_mark;
+
+/// The canonical text in front, and what stands behind it.
+pub fn split_value(text: &[u8]) -> (&[u8], &[u8])
+    ensures { Splits text.now result.0.now result.1.now }
+{
+    let rest = behind_value(text);
+    let length = text.len() - rest.len();
+    (&text[..length], rest)
+}
+
+#[tactic(auto, unfolding(crate::specs::Walk::behind_value))]
+fn behind_value(text: &[u8]) -> &[u8]
+    ensures value { result.now ≡ behind_value text.now }
+    ensures shorter { length result.now ≤ length text.now }
+{
+    let Some((byte, behind)) = text.split_first() else {
+        return text;
+    };
+    match *byte {
+        b'"' => behind_text(behind),
+        b'[' | b'{' => behind_brackets(behind),
+        _ => behind_scalar(text),
+    }
+}
+
+// What stands behind the closing quotation mark, from behind the other. The byte behind a backslash is none.
+#[tactic(auto, unfolding(crate::specs::Walk::behind_text))]
+fn behind_text(bytes: &[u8]) -> &[u8]
+    ensures value { result.now ≡ behind_text false bytes.now }
+    ensures shorter { length result.now ≤ length bytes.now }
+{
+    let mut rest = bytes;
+    'marks: while let Some((mark, behind)) = next_mark(rest) {
+        if mark == b'"' {
+            return behind;
+        }
+        rest = behind_first(behind);
+    }
+    &[]
+}
+
+// What stands behind the bracket that closes the one before these bytes.
+#[tactic(auto, using(crate::proofs::WalkLemmas::brackets_behind_text), unfolding(crate::specs::Walk::behind_brackets))]
+fn behind_brackets(bytes: &[u8]) -> &[u8]
+    ensures value { result.now ≡ behind_brackets 0 outside bytes.now }
+    ensures shorter { length result.now ≤ length bytes.now }
+{
+    let mut rest = bytes;
+    let mut depth: usize = 0;
+    'bytes: while let Some((byte, behind)) = rest.split_first() {
+        match *byte {
+            b'"' => rest = behind_text(behind),
+            b'[' | b'{' => {
+                depth += 1;
+                rest = behind;
+            }
+            b']' | b'}' => {
+                if depth == 0 {
+                    return behind;
+                }
+                depth -= 1;
+                rest = behind;
+            }
+            _ => rest = behind,
+        }
+    }
+    rest
+}
+
+// From the first byte on that may stand behind a value.
+#[tactic(auto, unfolding(crate::specs::Walk::behind_scalar))]
+fn behind_scalar(bytes: &[u8]) -> &[u8]
+    ensures value { result.now ≡ behind_scalar bytes.now }
+    ensures shorter { length result.now ≤ length bytes.now }
+{
+    let mut rest = bytes;
+    'bytes: while let Some((byte, behind)) = rest.split_first() {
+        if can_follow(*byte) {
+            return rest;
+        }
+        rest = behind;
+    }
+    rest
+}
+
+fn can_follow(byte: u8) -> bool
+    ensures { result ≡ follows byte }
+{
+    byte == b',' || byte == b':' || byte == b']' || byte == b'}'
+}

@@ -1,0 +1,4 @@
+pub mod Lists
+pub mod ObjectsOfLists
+pub mod Standing
+pub mod Texts

@@ -1,0 +1,123 @@
+ghost use Rattle.std.specs.Prelude.{◌≡◌, ◌≢◌, ℕ, List, true, IfNone, IfOk, IfSome, Some, is_some};
+ghost use Rattle.std.specs.List.{flat_map};
+ghost use Rattle.st_plain.specs.Canonical.{escape};
+ghost use Rattle.st_plain.specs.Entries.{text_in};
+ghost use Rattle.st_plain.specs.Held.{name_in};
+ghost use Rattle.st_plain.specs.Measure.{size_of};
+ghost use Rattle.st_plain.specs.Plain.{text};
+ghost use Rattle.st_plain.specs.ReadAgain.{IsReadAgain, value_read};
+ghost use Rattle.st_plain.specs.Reading.{json_of};
+ghost use Rattle.st_scan.specs.Standing.{IsText, value_of};
+ghost use Rattle.st_scan.specs.Texts.{is_text_of};
+
+use crate::bare::bare;
+use crate::kind::is_text;
+use st_base::{Bytes, KeptText, Shared, Text, WantOfMemory};
+use st_plain::{behind_first, is_quoted, next_byte};
+use std::alloc::Global;
+
+// The bytes of the text, where JSON escapes none of them.
+pub(crate) fn bare_text(canonical: &[u8]) -> Option<&[u8]>
+    requires { IsText canonical.now }
+    ensures some { IfSome result (λ bytes. value_of canonical.now ≡ text bytes.now) }
+    ensures none { IfNone result ((bytes : List ℕ) → value_of canonical.now ≡ text bytes → flat_map escape bytes ≢ bytes) }
+{
+    if !is_text(canonical) {
+        return None;
+    }
+    match bare(canonical) {
+        Some(bytes) => Some(bytes),
+        None => None,
+    }
+}
+
+// Whether it is this text.
+pub(crate) fn is_text_of(canonical: &[u8], word: &str) -> bool
+    requires { IsText canonical.now }
+    ensures { result ≡ is_text_of word.now (value_of canonical.now) }
+{
+    if !is_text(canonical) {
+        return false;
+    }
+    is_quoted(canonical, word.as_bytes())
+}
+
+// The text that it is. What JSON escapes is read.
+pub(crate) fn text_of(alloc: Global, canonical: &[u8]) -> Result<Option<Text>, WantOfMemory>
+    requires { IsText canonical.now }
+    ensures { IfOk result (λ found. found ≡ text_in (value_of canonical.now)) }
+{
+    if !is_text(canonical) {
+        return Ok(None);
+    }
+    if let Some(bytes) = bare_text(canonical) {
+        if let Ok(word) = simdutf8::basic::from_utf8(bytes) {
+            return Ok(Some(Text::from_text(alloc, word)?));
+        }
+    }
+    Ok(Some(read_text(alloc, canonical)?))
+}
+
+// The same, which shares its bytes with the file where JSON escapes none of them and they stand there at this
+// offset.
+pub(crate) fn text_within(
+    alloc: Global,
+    canonical: &[u8],
+    file: &Shared<Bytes>,
+    at: usize,
+) -> Result<Option<KeptText>, WantOfMemory>
+    requires { IsText canonical.now }
+    ensures { IfOk result (λ found. found ≡ text_in (value_of canonical.now)) }
+{
+    if let Some(bytes) = bare_text(canonical) {
+        if let Ok(word) = simdutf8::basic::from_utf8(bytes) {
+            return Ok(Some(KeptText::within(alloc, word, file, at)?));
+        }
+    }
+    match text_of(alloc, canonical)? {
+        Some(text) => Ok(Some(KeptText::new(text))),
+        None => Ok(None),
+    }
+}
+
+// The same, where some of its bytes are escaped.
+fn read_text(alloc: Global, canonical: &[u8]) -> Result<Text, WantOfMemory>
+    requires text { IsText canonical.now }
+    requires kind { is_some (text_in (value_of canonical.now)) ≡ true }
+    ensures { IfOk result (λ word. Some word ≡ text_in (value_of canonical.now)) }
+{
+    match String::from_utf8(unescaped(alloc, behind_first(canonical))?) {
+        Ok(word) => Ok(Text::from_string(word)),
+        Err(_) => unreachable!(),
+    }
+}
+
+// The bytes of the text that stands in front of a quotation mark.
+fn unescaped(alloc: Global, inside: &[u8]) -> Result<Vec<u8>, WantOfMemory>
+    ensures { IfOk result (λ word. word.items ≡ name_in inside.now) }
+{
+    let mut word = Vec::with_capacity(alloc, inside.len())?;
+    let mut rest = inside;
+    'bytes: while let Some((byte, behind)) = next_byte(rest) {
+        word.push(byte)?;
+        rest = behind;
+    }
+    Ok(word)
+}
+
+pub(crate) fn size(canonical: &[u8]) -> usize
+    requires { IsText canonical.now }
+    ensures { result ≡ size_of (value_of canonical.now) }
+{
+    canonical.len()
+}
+
+// The text itself, which is read as the value again.
+#[tactic(auto, unfolding(crate::specs::Standing::value_of), using(crate::proofs::ReadLemmas::read_from_text))]
+pub(crate) fn as_slice(canonical: &[u8]) -> &[u8]
+    requires { IsText canonical.now }
+    ensures again { IsReadAgain result.now }
+    ensures value { value_read (json_of result.now) ≡ value_of canonical.now }
+{
+    canonical
+}

@@ -1,0 +1,86 @@
+ghost use Rattle.std.specs.Prelude.{◌≡◌, IfOk};
+ghost use Rattle.st_base.specs.Answers.{GivesAs};
+ghost use Rattle.st_plain.specs.Canonical.{canonical};
+ghost use Rattle.st_plain.specs.Proper.{IsProper};
+ghost use Rattle.st_plain.specs.ReadAgain.{IsReadAgain, value_read};
+ghost use Rattle.st_plain.specs.Reading.{json_of, refusal_of};
+ghost use Rattle.st_plain.specs.Shapes.{json_in};
+
+use crate::scanned::Scanned;
+use crate::spelled::text_of;
+use st_base::{Bytes, WantOfMemory};
+use st_plain::ReadRefused;
+use std::alloc::Global;
+use std::marker::Model;
+
+/// The canonical text (RFC 8785) of a JSON value. Contracts see the plain value.
+#[derive(Drop)]
+pub struct CanonicalText {
+    text: Bytes,
+}
+
+impl Model for CanonicalText {
+    ghost use Rattle.st_plain.specs.Plain.{Plain};
+    ghost use Rattle.st_plain.specs.PlainCodes.{coded_plain};
+    ghost use Rattle.st_scan.specs.Standing.{IsText, value_of};
+
+    ghost Value = { Plain };
+
+    ghost coded = { coded_plain };
+
+    ghost view = { λ canonical. value_of canonical.text };
+
+    ghost invariant = { λ canonical. IsText canonical.text };
+}
+
+impl CanonicalText {
+    /// The canonical text of the JSON that bytes of any spelling are. A member whose name stands twice has
+    /// its last value.
+    ///
+    /// `NotJson` comes exactly where the bytes are no JSON, `NotWhole` exactly where they are JSON with a
+    /// number that no `Whole` holds or that is written as a float.
+    pub fn read(alloc: Global, bytes: &[u8]) -> Result<CanonicalText, ReadRefused>
+        ensures value { GivesAs (λ text. text) refusal_of (json_of bytes.now) result }
+        ensures proper { IfOk result (λ text. IsProper text) }
+    {
+        let text = text_of(alloc, bytes)?;
+        Ok(CanonicalText { text })
+    }
+
+    /// The same, where `None` comes exactly where the bytes are no JSON with whole numbers.
+    pub fn read_json(alloc: Global, bytes: &[u8]) -> Result<Option<CanonicalText>, WantOfMemory>
+        ensures { IfOk result (λ found. found ≡ json_in bytes.now) }
+    {
+        match text_of(alloc, bytes) {
+            Ok(text) => Ok(Some(CanonicalText { text })),
+            Err(ReadRefused::NotJson) => Ok(None),
+            Err(ReadRefused::NotWhole) => Ok(None),
+            Err(ReadRefused::WantOfMemory) => Err(WantOfMemory),
+        }
+    }
+
+    /// The value whose canonical text this is.
+    #[tactic(auto, unfolding(crate::specs::Standing::value_of), using(crate::proofs::ReadLemmas::text_from_read))]
+    pub fn again(text: Bytes) -> CanonicalText
+        requires { IsReadAgain text }
+        ensures { result ≡ value_read (json_of text) }
+    {
+        CanonicalText { text }
+    }
+
+    /// The text.
+    pub fn as_slice(&self) -> &[u8]
+        ensures { result.now ≡ canonical self.now }
+    {
+        self.text.as_slice()
+    }
+
+    /// The value, as it stands in the text.
+    pub fn root(&self) -> Scanned<'_>
+        ensures { result ≡ self.now }
+    {
+        Scanned {
+            text: self.text.as_slice(),
+        }
+    }
+}

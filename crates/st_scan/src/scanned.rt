@@ -1,0 +1,190 @@
+ghost use Rattle.std.specs.Prelude.{◌≡◌, ◌≢◌, ◌+◌, ◌≤◌, ℕ, List, IfOk, IfSome, IfNone, Some, is_some, map};
+ghost use Rattle.std.specs.List.{flat_map};
+ghost use Rattle.st_plain.specs.Canonical.{canonical, escape};
+ghost use Rattle.st_plain.specs.Depth.{depth_of, opening_count};
+ghost use Rattle.st_plain.specs.Entries.{items_in, members_in, text_in};
+ghost use Rattle.st_plain.specs.Measure.{size_of};
+ghost use Rattle.st_plain.specs.Plain.{text};
+ghost use Rattle.st_plain.specs.ReadAgain.{IsReadAgain, value_read};
+ghost use Rattle.st_plain.specs.Reading.{json_of};
+ghost use Rattle.st_plain.specs.Shapes.{both_members, is_object_of, member_in, only_member};
+ghost use Rattle.st_scan.specs.ObjectsOfLists.{is_object_of_lists};
+ghost use Rattle.st_scan.specs.Texts.{is_text_of};
+
+use crate::members_left::Members;
+use crate::{brackets, content, kind, object};
+use st_base::{Bytes, KeptText, Shared, Text, WantOfMemory};
+use std::alloc::Global;
+use std::marker::Model;
+
+/// A JSON value, as it stands in its canonical text (RFC 8785). Contracts see the plain value.
+#[derive(Drop)]
+pub struct Scanned<'a> {
+    pub(crate) text: &'a [u8],
+}
+
+impl<'a> Model for Scanned<'a> {
+    ghost use Rattle.st_plain.specs.Plain.{Plain};
+    ghost use Rattle.st_plain.specs.PlainCodes.{coded_plain};
+    ghost use Rattle.st_scan.specs.Standing.{IsText, value_of};
+
+    ghost Value = { Plain };
+
+    ghost coded = { coded_plain };
+
+    ghost view = { λ scanned. value_of scanned.text.now };
+
+    ghost invariant = { λ scanned. IsText scanned.text.now };
+}
+
+impl<'a> Scanned<'a> {
+    /// The value whose canonical text this is.
+    #[tactic(auto, unfolding(crate::specs::Standing::value_of), using(crate::proofs::ReadLemmas::text_from_read))]
+    pub fn again(text: &'a [u8]) -> Scanned<'a>
+        requires { IsReadAgain text.now }
+        ensures { result ≡ value_read (json_of text.now) }
+    {
+        Scanned { text }
+    }
+
+    /// Whether it is a text.
+    pub fn is_text(&self) -> bool
+        ensures { result ≡ is_some (text_in self.now) }
+    {
+        kind::is_text(self.text)
+    }
+
+    /// Whether it is a list.
+    pub fn is_list(&self) -> bool
+        ensures { result ≡ is_some (items_in self.now) }
+    {
+        kind::is_list(self.text)
+    }
+
+    /// Whether it is an object.
+    pub fn is_object(&self) -> bool
+        ensures { result ≡ is_some (members_in self.now) }
+    {
+        kind::is_object(self.text)
+    }
+
+    /// The text that it is.
+    pub fn text(&self, alloc: Global) -> Result<Option<Text>, WantOfMemory>
+        ensures { IfOk result (λ found. found ≡ text_in self.now) }
+    {
+        Ok(content::text_of(alloc, self.text)?)
+    }
+
+    /// The text that it is. Where JSON escapes none of its bytes and they stand in the file at this offset, they
+    /// are shared with the file.
+    pub fn text_within(
+        &self,
+        alloc: Global,
+        file: &Shared<Bytes>,
+        at: usize,
+    ) -> Result<Option<KeptText>, WantOfMemory>
+        ensures { IfOk result (λ found. found ≡ text_in self.now) }
+    {
+        Ok(content::text_within(alloc, self.text, file, at)?)
+    }
+
+    /// The bytes of the text that it is, where JSON escapes none of them.
+    pub fn bare_text(&self) -> Option<&'a [u8]>
+        ensures some { IfSome result (λ bytes. self.now ≡ text bytes.now) }
+        ensures none { IfNone result ((bytes : List ℕ) → self.now ≡ text bytes → flat_map escape bytes ≢ bytes) }
+    {
+        match content::bare_text(self.text) {
+            Some(bytes) => Some(bytes),
+            None => None,
+        }
+    }
+
+    /// Whether it is this text.
+    pub fn is_text_of(&self, word: &str) -> bool
+        ensures { result ≡ is_text_of word.now self.now }
+    {
+        content::is_text_of(self.text, word)
+    }
+
+    /// Its members, where it is an object.
+    pub fn members(&self) -> Option<Members<'a>>
+        ensures { result ≡ members_in self.now }
+    {
+        match object::members(self.text) {
+            Some(left) => Some(Members { left }),
+            None => None,
+        }
+    }
+
+    /// The value of the member of this name, where it is an object that has one.
+    pub fn member(&self, name: &str) -> Option<Scanned<'a>>
+        ensures { result ≡ member_in name.now (Some self.now) }
+    {
+        match object::member(self.text, name) {
+            Some(text) => Some(Scanned { text }),
+            None => None,
+        }
+    }
+
+    /// The value of the member of this name, where it is an object that has it and no other.
+    pub fn only_member(&self, name: &str) -> Option<Scanned<'a>>
+        ensures { result ≡ only_member name.now (Some self.now) }
+    {
+        match object::only_member(self.text, name) {
+            Some(text) => Some(Scanned { text }),
+            None => None,
+        }
+    }
+
+    /// The values of the members of these names, where it is an object that has both and no other.
+    pub fn both_members(&self, first: &str, second: &str) -> Option<(Scanned<'a>, Scanned<'a>)>
+        ensures { result ≡ both_members first.now second.now (Some self.now) }
+    {
+        if let Some((one, other)) = object::both_in_turn(self.text, first, second) {
+            return Some((Scanned { text: one }, Scanned { text: other }));
+        }
+        if !self.is_object_of(&[first, second]) {
+            return None;
+        }
+        let one = self.member(first)?;
+        let other = self.member(second)?;
+        Some((one, other))
+    }
+
+    /// Whether it is an object whose members all have one of these names.
+    pub fn is_object_of(&self, names: &[&str]) -> bool
+        ensures { result ≡ is_object_of (map (λ n. n.now) names.now) (Some self.now) }
+    {
+        object::is_object_of(self.text, names)
+    }
+
+    /// Whether it is an object whose members all have one of these names and are lists.
+    pub fn is_object_of_lists(&self, names: &[&str]) -> bool
+        ensures { result ≡ is_object_of_lists (map (λ n. n.now) names.now) (Some self.now) }
+    {
+        object::is_object_of_lists(self.text, names)
+    }
+
+    /// The length of its canonical text.
+    pub fn size(&self) -> usize
+        ensures { result ≡ size_of self.now }
+    {
+        content::size(self.text)
+    }
+
+    /// How deep it nests at most, where a scalar and what is empty have depth 1, by the brackets that stand in its text.
+    pub fn depth_bound(&self) -> usize
+        ensures exact { result ≡ opening_count (canonical self.now) + 1 }
+        ensures depth { depth_of self.now ≤ result }
+    {
+        brackets::depth_bound(self.text)
+    }
+
+    /// The text, which is read as the value again.
+    pub fn as_slice(&self) -> &'a [u8]
+        ensures again { IsReadAgain result.now }
+        ensures value { value_read (json_of result.now) ≡ self.now }
+    {
+        content::as_slice(self.text)
+    }
+}
