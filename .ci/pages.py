@@ -1,6 +1,6 @@
 """Whether the pages name what is there: docs/RULES.md each file, each word in the file before it, and each edit; every page
-each module of definitions or lemmas, each path of a crate, and each page that it links to; docs/READING.md and the README
-of each crate, which tests alone may lack, each line of code that they quote."""
+each module of definitions or lemmas, each path of a crate, and each page that it links to; docs/READING.md, docs/PROVED.md
+and the README of each crate each line of code that they quote. Each crate but those of tests has a README."""
 
 import pathlib
 import re
@@ -9,7 +9,7 @@ import sys
 CRATES = pathlib.Path("crates")
 EDITS = {path.stem for path in CRATES.glob("*/must-fail/*.edit")}
 READMES = [crate / "README.md" for crate in sorted(CRATES.iterdir()) if not crate.name.endswith("_tests")]
-QUOTING = [pathlib.Path("docs/READING.md"), *READMES]
+QUOTING = [pathlib.Path("docs/READING.md"), pathlib.Path("docs/PROVED.md"), *READMES]
 PAGES = [pathlib.Path("README.md"), pathlib.Path("examples/README.md"), *sorted(pathlib.Path("docs").glob("*.md")), *READMES]
 
 
