@@ -1,6 +1,6 @@
 """Whether the pages name what is there: docs/RULES.md each file, each word in the file before it, and each edit; every page
-each module of definitions or lemmas, each path of a crate, and each page that it links to; docs/READING.md each line of
-code that it quotes."""
+each module of definitions or lemmas, each path of a crate, and each page that it links to; docs/READING.md, docs/PROVED.md
+and the README of each crate each line of code that they quote. Each crate but those of tests has a README."""
 
 import pathlib
 import re
@@ -8,7 +8,9 @@ import sys
 
 CRATES = pathlib.Path("crates")
 EDITS = {path.stem for path in CRATES.glob("*/must-fail/*.edit")}
-PAGES = [pathlib.Path("README.md"), pathlib.Path("examples/README.md"), *sorted(pathlib.Path("docs").glob("*.md"))]
+READMES = [crate / "README.md" for crate in sorted(CRATES.iterdir()) if not crate.name.endswith("_tests")]
+QUOTING = [pathlib.Path("docs/READING.md"), pathlib.Path("docs/PROVED.md"), *READMES]
+PAGES = [pathlib.Path("README.md"), pathlib.Path("examples/README.md"), *sorted(pathlib.Path("docs").glob("*.md")), *READMES]
 
 
 def rows():
@@ -55,15 +57,21 @@ def page_faults(page):
 
 
 def quote_faults():
-    """What docs/READING.md quotes otherwise than the sources have it, a line each."""
+    """What a page quotes otherwise than the sources have it, a line each."""
     files = [file for folder in ("src", "specs") for file in CRATES.glob(f"*/{folder}/**/*") if file.suffix in (".rt", ".antt")]
-    lines = {line.strip() for file in files for line in file.read_text(encoding="utf-8").splitlines()}
-    page = pathlib.Path("docs/READING.md").read_text(encoding="utf-8")
-    for block in re.findall(r"```(?:rust|antt)\n(.*?)```", page, re.S):
-        yield from (f"docs/READING.md: no source has '{line}'" for line in block.splitlines() if line.strip() not in lines | {""})
+    lines = {"", *(line.strip() for file in files for line in file.read_text(encoding="utf-8").splitlines())}
+    for page in filter(pathlib.Path.is_file, QUOTING):
+        for block in re.findall(r"```(?:rust|antt)\n(.*?)```", page.read_text(encoding="utf-8"), re.S):
+            yield from (f"{page}: no source has '{line}'" for line in block.splitlines() if line.strip() not in lines)
 
 
-found = [*rule_faults(), *quote_faults(), *(fault for page in PAGES for fault in page_faults(page))]
+missing = [page for page in PAGES if not page.is_file()]
+found = [
+    *rule_faults(),
+    *quote_faults(),
+    *(f"{page} is not there" for page in missing),
+    *(fault for page in PAGES if page not in missing for fault in page_faults(page)),
+]
 for fault in found:
     print(f"pages: {fault}")
 sys.exit(1 if found else 0)
