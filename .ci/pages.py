@@ -1,6 +1,7 @@
 """Whether the pages name what is there: docs/RULES.md each file, each word in the file before it, and each edit; every page
-each module of definitions or lemmas, each path of a crate, and each page that it links to; docs/READING.md, docs/PROVED.md
-and the README of each crate each line of code that they quote. Each crate but those of tests has a README."""
+each module of definitions or lemmas, each path, each page that it links to and the heading there. Whether the pages quote
+the sources. Whether each crate but those of tests has a README, one page alone the table of statuses, and one that of the
+limits."""
 
 import pathlib
 import re
@@ -9,24 +10,30 @@ import sys
 CRATES = pathlib.Path("crates")
 EDITS = {path.stem for path in CRATES.glob("*/must-fail/*.edit")}
 READMES = [crate / "README.md" for crate in sorted(CRATES.iterdir()) if not crate.name.endswith("_tests")]
-QUOTING = [pathlib.Path("docs/READING.md"), pathlib.Path("docs/PROVED.md"), *READMES]
-PAGES = [pathlib.Path("README.md"), pathlib.Path("examples/README.md"), *sorted(pathlib.Path("docs").glob("*.md")), *READMES]
+PAGES = [*(pathlib.Path(name) for name in ("README.md", "CHANGELOG.md", "examples/README.md")),
+         *sorted(pathlib.Path("docs").glob("*.md")), *READMES]
+# The head of a table, and the page that has it.
+TABLES = {"| status | when |": "docs/PROTOCOL.md", "| what | limit |": "docs/FORMATS.md", "| what | version 1 |": "docs/FORMATS.md"}
+
+
+def read(path):
+    return pathlib.Path(path).read_text(encoding="utf-8")
 
 
 def rows():
     """The cells of each row of the rules, without the heads of the tables."""
-    for line in pathlib.Path("docs/RULES.md").read_text(encoding="utf-8").splitlines():
+    for line in read("docs/RULES.md").splitlines():
         cells = line.strip("|").split(" | ")
         if line.startswith("| ") and len(cells) == 5 and cells[1] != "definition":
             yield [re.findall(r"`([^`]+)`", cell) for cell in cells]
 
 
 def declares(file, word):
-    return re.search(rf"pub (?:record |data )?{re.escape(word)}\b", file.read_text(encoding="utf-8"))
+    return re.search(rf"pub (?:record |data )?{re.escape(word)}\b", read(file))
 
 
 def rule_faults():
-    """What is otherwise in the rules, a line each."""
+    """What is wrong in the rules, a line each."""
     named = set()
     for _, definition, code, proof, edits in rows():
         file = CRATES
@@ -36,42 +43,55 @@ def rule_faults():
                 if not file.is_file():
                     yield f"docs/RULES.md: {file} is not there"
             elif word in definition and file.is_file() and not declares(file, word):
-                yield f"docs/RULES.md: {word} does not stand in {file}"
+                yield f"docs/RULES.md: {file} does not declare {word}"
         named.update(edits)
     yield from (f"docs/RULES.md: the edit {edit} is not there" for edit in sorted(named - EDITS))
     yield from (f"docs/RULES.md: the edit {edit} turns no rule of the page" for edit in sorted(EDITS - named))
 
 
+def headings(text):
+    """The anchors of a page's headings, as its readers' programs make them."""
+    text = re.sub(r"^```.*?^```$", "", text, flags=re.M | re.S)
+    return {re.sub(r"[^\w\- ]", "", title.lower()).replace(" ", "-") for title in re.findall(r"^#+ (.*)$", text, re.M)}
+
+
+def link_faults(page, text):
+    """The links of a page that lead nowhere, a line each."""
+    for link, heading in sorted(set(re.findall(r"\]\(([^)#:\s]*)(?:#([^)\s]+))?\)", text))):
+        there = page.parent / link if link else page
+        if not there.exists():
+            yield f"{page}: {link} is not there"
+        elif heading and heading not in headings(read(there)):
+            yield f"{page}: {there} has no heading {heading}"
+
+
 def page_faults(page):
-    """What is otherwise in a page, a line each."""
-    text = page.read_text(encoding="utf-8")
+    """What is wrong in a page, a line each."""
+    text = read(page)
     for crate, folder, module in sorted(set(re.findall(r"\b(st_\w+)\.(specs|proofs)\.(\w+)", text))):
         if module != "declared" and not (CRATES / crate / folder / f"{module}.antt").is_file():
             yield f"{page}: {crate}.{folder}.{module} is not there"
-    for path in sorted(set(re.findall(r"`(?:crates/)?(st_\w+/[\w./-]+)`", text))):
-        if path.split("/")[1] != "out" and not (CRATES / path).exists():
-            yield f"{page}: {path} is not there"
-    for link in sorted(set(re.findall(r"\]\(([^)#:]+)", text))):
-        if not (page.parent / link).exists():
-            yield f"{page}: {link} is not there"
+    paths = [CRATES / path for path in re.findall(r"`(?:crates/)?(st_\w+/[\w./-]+)`", text) if path.split("/")[1] != "out"]
+    paths += map(pathlib.Path, re.findall(r"`((?:\.ci|bench|docs|examples|launcher|service)/[\w./-]*)`", text))
+    yield from (f"{page}: {path} is not there" for path in sorted(set(paths)) if path.name != "NAME" and not path.exists())
+    yield from link_faults(page, text)
+    for head, owner in TABLES.items():
+        if head in text and str(page) != owner:
+            yield f"{page}: the table '{head}' is in {owner} alone"
 
 
 def quote_faults():
     """What a page quotes otherwise than the sources have it, a line each."""
-    files = [file for folder in ("src", "specs") for file in CRATES.glob(f"*/{folder}/**/*") if file.suffix in (".rt", ".antt")]
-    lines = {"", *(line.strip() for file in files for line in file.read_text(encoding="utf-8").splitlines())}
-    for page in filter(pathlib.Path.is_file, QUOTING):
-        for block in re.findall(r"```(?:rust|antt)\n(.*?)```", page.read_text(encoding="utf-8"), re.S):
-            yield from (f"{page}: no source has '{line}'" for line in block.splitlines() if line.strip() not in lines)
+    files = [file for folder in ("src", "specs", "proofs") for file in CRATES.glob(f"*/{folder}/**/*") if file.suffix in (".rt", ".antt")]
+    lines = {line.strip() for file in files for line in read(file).splitlines()} | {""}
+    for page in filter(pathlib.Path.is_file, PAGES):
+        for block in re.findall(r"```(?:rust|antt)\n(.*?)```", read(page), re.S):
+            yield from (f"{page}: no source has '{line.strip()}'" for line in block.splitlines() if line.strip() not in lines)
 
 
-missing = [page for page in PAGES if not page.is_file()]
-found = [
-    *rule_faults(),
-    *quote_faults(),
-    *(f"{page} is not there" for page in missing),
-    *(fault for page in PAGES if page not in missing for fault in page_faults(page)),
-]
+found = [*rule_faults(), *quote_faults()]
+for page in PAGES:
+    found += page_faults(page) if page.is_file() else [f"{page} is not there"]
 for fault in found:
     print(f"pages: {fault}")
 sys.exit(1 if found else 0)
