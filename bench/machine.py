@@ -3,17 +3,18 @@
 
 usage: bench/machine.py PROGRAM [IDENTIFIERS..]
 
-PROGRAM is the built program. For each number of identifiers (10000 and 50000) a node with a journal is fed creates with a
-key and a service, in batches of 1,000, and then one signed update of each (LM-OTS type 3). The journal, the memory of the
-node, and the time and the memory of the next start are measured after both. The rest is projected from the two largest
-numbers, in a straight line.
+PROGRAM is the built program. For each number of identifiers (10000 and 50000) it writes the journal of creates with a key
+and a service, in batches of 1,000, and then of one signed update of each (LM-OTS type 3). A node is started over both: its
+journal, its memory and the processor time of the start are measured. The rest is projected from the two largest numbers,
+in a straight line. Python makes 50,000 identifiers with their updates in about three minutes of a processor; several make
+them side by side.
 """
+import multiprocessing
 import os
 import resource
-import subprocess
+import shutil
 import sys
 import tempfile
-import time
 
 sys.dont_write_bytecode = True
 TOP = os.path.dirname(os.path.dirname(os.path.abspath(__file__)))
@@ -21,7 +22,8 @@ sys.path.append(os.path.join(TOP, "service"))
 import client
 from formats import add_keys, anchor_line, batch, create, delta
 from kept import memory_of
-from load import Chain, contents, same_service
+from load import Chain, contents, question, same_service
+from shortening import finish, new_file, write_record
 
 SIZE = 1_000
 PROJECTED = (100_000, 1_000_000, 10_000_000)
@@ -37,22 +39,24 @@ class Owner(Chain):
         self.create = create(self.key("recovery"), delta([add_keys(key), same_service(number)], self.key("0")))
 
 
-def batches(numbers, operation):
-    """The lines of batches of operations, one for each number."""
-    for at in range(0, len(numbers), SIZE):
-        made = batch([operation(Owner(number)) for number in numbers[at:at + SIZE]])
-        yield from contents(made)
-        yield anchor_line(1, made)
+def lines(numbers):
+    """The lines of a batch of creates, and those of a batch of updates of the same identifiers."""
+    owners, found = [Owner(number) for number in numbers], []
+    for operations in ([owner.create for owner in owners], [owner.update(1) for owner in owners]):
+        made = batch(operations)
+        found.append([line.encode() for line in [*contents(made), anchor_line(1, made)]])
+    return found
 
 
 class Measured:
     """What a node over a journal takes."""
 
-    def __init__(self, folder):
-        before, began = used(), time.monotonic()
+    def __init__(self, folder, count):
+        before = used()
         with client.Node("node", "--journal", folder=folder) as node:
-            node.wanted()
-            self.wall, self.memory = time.monotonic() - began, memory_of(node.process.pid)
+            if node.wanted() or not node.resolve(question(Owner(count - 1)).partition(" ")[2]):
+                raise SystemExit("the node has not taken the journal")
+            self.memory = memory_of(node.process.pid)
         self.processor = used() - before
         self.journal = os.path.getsize(os.path.join(folder, "sidetree.journal"))
 
@@ -66,24 +70,31 @@ def used():
     return taken.ru_utime + taken.ru_stime
 
 
-def feed(folder, lines):
-    with client.Node("node", "--journal", folder=folder) as node:
-        for line in lines:
-            node.expect("have anchored", line)
-
-
 def measure(count):
     """What a node takes after the creates, and after the updates."""
-    numbers, found = range(count), []
     with tempfile.TemporaryDirectory() as folder:
-        for operation in (lambda owner: owner.create, lambda owner: owner.update(1)):
-            feed(folder, batches(numbers, operation))
-            found.append(Measured(folder))
-    return found
+        journal, later = os.path.join(folder, "sidetree.journal"), os.path.join(folder, "later")
+        with new_file(journal) as first, new_file(later) as second:
+            with multiprocessing.Pool() as pool:
+                for made in pool.imap(lines, (range(at, min(at + SIZE, count)) for at in range(0, count, SIZE))):
+                    for file, records in zip((first, second), made):
+                        for line in records:
+                            write_record(file, line)
+                pool.close()
+                pool.join()
+            finish(first, journal)
+        creates = Measured(folder, count)
+        with open(journal, "r+b") as file, open(later, "rb") as more:
+            # The closed gate at the end goes.
+            file.seek(-1, os.SEEK_END)
+            shutil.copyfileobj(more, file)
+            finish(file, journal)
+        return creates, Measured(folder, count)
 
 
 def show(count, what, row, how):
-    print("%12s  %-22s %9.1f MB %10.1f MB %9.1f s  %s" % ("{:,}".format(count), what, row[0] / 1e6, row[1] / 1e6, row[2], how))
+    print("%12s  %-22s %9.1f MB %10.1f MB %9.1f s  %s" % ("{:,}".format(count), what, row[0] / 1e6, row[1] / 1e6, row[2], how),
+          flush=True)
 
 
 def main(program, *counts):

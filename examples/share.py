@@ -31,7 +31,7 @@ def listing(kind, uris):
 
 
 def listed(message):
-    """The URIs that a message lists, or none where it is no spelling of a message."""
+    """The URIs that a message lists, or none if the bytes are no message."""
     count = int.from_bytes(message[1:5], "big")
     if count > MOST_URIS or len(message) != 5 + 32 * count:
         return []
@@ -71,7 +71,7 @@ class Adapter:
 
 
 class Network:
-    """Messages on their way, each with the adapter that it is for and the one that it comes from."""
+    """Messages on their way, each with its receiver and its sender."""
 
     def __init__(self):
         self.carried = []

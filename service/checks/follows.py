@@ -126,6 +126,19 @@ def goes_on(folder):
     same(said(err).count("\n"), 1, "how many lines it says while the keeper is away")
 
 
+@case("a file that rots in the journal is another file, and follow feeds the right one again")
+def rots(folder):
+    ledger = copy_of_folder(folder)
+    with Keeper(folder) as keeper:
+        same(follow(ledger, keeper).status, 0)
+    with open(keeper.journal, "r+b") as file:
+        file.seek(file.read().index(b"content e") + len("content "))
+        file.write(b"d")
+    with Keeper(folder) as keeper:
+        same(pairs(asked(keeper.ask, "health")[0])["wanted"], "1")
+        same(follow(ledger, keeper).out, "3 entries: 0 taken back, 0 new; 1 files fed, 0 missing\n")
+
+
 @case("kill -9 of node, keeper and follower at 50 random moments: the entries are the ledger's, none twice")
 def kills(folder):
     chance, batches = random.Random(58), Batches(40)
