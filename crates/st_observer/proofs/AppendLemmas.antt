@@ -65,7 +65,7 @@ module _ (observed : Observed) (entry : Entry) (text : List ℕ) (limits : Limit
       let at : entry_cost n entry after ≡ entry_cost (length observed.ledger) entry after = ap (λ k. entry_cost k entry after) number in
       grew-more decided-few opened-few (omega (arith, cost, same, at)) (grew-worked few (applied names covers))
 
--- memory ran out before its files were all read
+-- memory ran out before all its files were read
 pub appended-wanting : (observed : Observed) (entry : Entry) (text : List ℕ) (limits : Limits) (anchored : Known) → text ≡ entry.text
     → limits ≡ params_at observed.schedule entry.height
     → anchored ≡ known_of_text limits text → (old new : Counts)

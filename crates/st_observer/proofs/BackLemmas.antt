@@ -17,7 +17,7 @@ module _ {X : Type 0} (items rest pushed after : List X) (n last : ℕ) (out ite
   more : length pushed ≡ last + 1
   more = omega (arith, many, ap length pushes, length-append rest (item ∷ []))
 
-  -- the first of them are as they were, but for the last in the place of the one that was taken out
+  -- the first of them are unchanged, except for the last at the place of the one taken out
   at-first : (i : ℕ) → i < last → get_or pushed i item ≡ get_or (set items n (get_or items last out)) i item
   at-first i lt =
       let end : length items - 1 ≡ last = omega (arith, fewer) in
