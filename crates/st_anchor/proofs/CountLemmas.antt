@@ -1,9 +1,9 @@
--- How many roles are decided, and how many signed texts stand in the proof files that were read.
---     decided_roles-with    reading a missing file decides exactly one role more
---     decided_roles-up      looking up undoes no decision
+-- The number of decided roles, and of signed texts in the proof files that were read.
+--     decided_roles-with    reading a missing file decides exactly one more role
+--     decided_roles-up      a lookup undoes no decision
 --     decided_roles-small   there are at most five
 --     opened_proofs-with    reading a file undoes no reading
---     opened_proofs-up      nor does looking up
+--     opened_proofs-up      nor does a lookup
 use Rattle.std.proofs.Common.{◌≡◌, ◌∙◌, ◌+◌, ◌≤◌, ℕ, List, length, Option, Some, None, refl, ap, sym, arith}
 use Rattle.st_plain.specs.Shapes.{json_in}
 use Rattle.st_content.specs.Files.{Files}

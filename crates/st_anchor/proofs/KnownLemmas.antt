@@ -1,9 +1,9 @@
--- How what is known of an entry grows with the files that come.
---     known_from-with      a missing file that has come may be read: what is known over the files stays
---     known_from-rest      where no missing file has come, looking up changes nothing
+-- How more files add to what is known about an entry.
+--     known_from-with      a missing file that was received may be read: the knowledge over the files stays
+--     known_from-rest      if no missing file was received, a lookup changes nothing
 --     known_from-again     what was looked up is looked up again over more files
---     turned               what looking up does to a role
---     known_from-missing   what is still missing hasn't come
+--     turned               the effect of a lookup on a role
+--     known_from-missing   a file that is still missing wasn't received
 use Rattle.std.proofs.Common.{◌≡◌, ◌∙◌, ◌≤◌, ℕ, List, length, Option, Some, None, refl, sym, ap, subst, arith}
 use Rattle.st_plain.specs.Shapes.{json_in}
 use Rattle.st_content.specs.Files.{Files, file_at}

@@ -1,7 +1,7 @@
--- What follows for an entry from the rules of its files.
---     given-once, gives-once   no suffix stands twice among what an entry gives
---     given-kept               a suffix that is given is given over more files too
---     opened_proofs-few        the signed texts in the proof files that were read are at most the declared count
+-- Consequences of the rules of files for an entry.
+--     given-once, gives-once   no suffix appears twice among the operations of an entry
+--     given-kept               a suffix with an operation has one over more files too
+--     opened_proofs-few        the proof files that were read have at most as many signed texts as the declared count
 use Rattle.std.proofs.Common.{◌≡◌, ◌∙◌, ℕ, ◌+◌, ◌≤◌, Bool, true, false, List, [], ◌∷◌, ◌++◌, length, map, Option, refl, sym, ap, subst, append-nil, arith}
 use Rattle.std.specs.Prelude.{◌||◌}
 use Rattle.std.specs.List.{list_any}

@@ -1,7 +1,7 @@
--- What is known keeps the rules by which its files were accepted: that no suffix stands twice, and that
--- there are no more operations than the declared count.
---     sound-known      what is known of an entry keeps them
---     sound-core_in, sound-core_with      and so does what is read on the way
+-- Everything known satisfies the rules by which its files were accepted: no suffix appears twice, and there are at
+-- most as many operations as the declared count.
+--     sound-known      what is known about an entry satisfies them
+--     sound-core_in, sound-core_with      and so does each part read on the way
 use Rattle.std.proofs.Common.{◌≡◌, ℕ, suc, ◌+◌, ◌≤◌, Bool, true, false, List, [], ◌∷◌, codes, length, map, Option, Some, None, option_map, refl, arith}
 use Rattle.std.specs.Prelude.{◌&&◌, bytes_eq, if◌then◌else◌}
 use Rattle.std.specs.List.{AllByRecursion, cons_option, filter_map}
