@@ -1,9 +1,9 @@
--- What stands in base64url (RFC 4648, section 5): what one table has a value for, and nothing else, whatever the text
--- is, bytes or not. So it has nothing that JSON escapes, and no dot and no colon: a text that is joined with these is
--- cut there again.
---     decoded_apart      each number in a text that is decoded stands apart from those
---     base64url_apart    and so each in the base64url of bytes
---     hash_apart         and each in a text that is read as a hash
+-- The characters of base64url (RFC 4648, section 5): a decoded text has only characters of one table, for any input,
+-- bytes or not. So JSON escapes none of them, and none is a dot or a colon: a text joined with these is split there
+-- again.
+--     decoded_apart      no number in a decoded text is one of those
+--     base64url_apart    nor is any in the base64url of bytes
+--     hash_apart         nor is any in a text that is read as a hash
 use Rattle.std.proofs.Common.{◌≡◌, ◌∙◌, ℕ, zero, suc, ◌+◌, ◌*◌, ◌-◌, ◌<◌, ◌==◌, ◌&&◌, ◌||◌, inl, inr, Bool, true, false, not, if◌then◌else◌, nat_le, nat_lt, List, [], ◌∷◌, length, drop, slice_index, Option, Some, None, option_and_then, refl, ap, subst, arith}
 use Rattle.std.specs.List.{AllByRecursion}
 use Rattle.std.specs.Option.{option_or}
