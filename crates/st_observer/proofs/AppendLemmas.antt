@@ -1,5 +1,5 @@
--- An entry is appended: what is kept, and what was counted.
---     appended-known    what is known of it
+-- An entry is appended: the stored data, and the counts.
+--     appended-known    what is known about it
 --     appended-kept, appended-few, appended-wanting
 use Rattle.std.proofs.Common.{◌≡◌, ◌∙◌, ℕ, ◌≤◌, List, length, ap, refl, subst, sym, arith}
 use Rattle.std.specs.List.{AllByRecursion}

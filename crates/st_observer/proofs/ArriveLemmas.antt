@@ -1,7 +1,7 @@
--- A file arrives: what is kept, and what was counted.
+-- A file is received: the stored data, and the counts.
 --     arrived-start     the entries that wait for it
---     arrived-kept      once they have been looked at again
---     arrived-exact, arrived-few     what was counted
+--     arrived-kept      after they have been checked again
+--     arrived-exact, arrived-few     the counts
 use Rattle.std.proofs.Common.{◌≡◌, ◌∙◌, ℕ, ◌+◌, ◌-◌, ◌<◌, List, Option, length, map, ap, subst, sym, arith}
 use Rattle.std.specs.List.{sum_by}
 use Rattle.std.proofs.lemmas.List.Folds.{fold-map}

@@ -1,7 +1,7 @@
--- A file is missed exactly where some entry waits for it.
---     asked-missed      what is missed is what entries wait for
---     asked-by          and what the reports of entries say
---     asked-wanted, asked-wants     all that are wanted, and whether one is
+-- A file is missing if and only if some entry waits for it.
+--     asked-missed      the missing files are those that entries wait for
+--     asked-by          and those in the reports of entries
+--     asked-wanted, asked-wants     all wanted files, and whether one is
 use Rattle.std.proofs.Common.{◌≡◌, ◌∙◌, ⊎_elim, ℕ, ◌<◌, ◌≤◌, ◌↔◌, Bool, true, false, ◌||◌, List, [], ◌∷◌, length, map, get_or, slice_get, Some, option_map, refl, sym, ap, arith}
 use Rattle.std.specs.Cmp.{both_ways}
 use Rattle.std.specs.List.{flat_map, list_any}

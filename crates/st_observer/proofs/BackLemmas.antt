@@ -1,5 +1,5 @@
--- An item is taken out of a list, the last stands in its place meanwhile, and it is put back.
---     put-back        then it is the item at its place that changed
+-- An item is taken out of a list, the last one is at its place meanwhile, and it is put back.
+--     put-back        then only the item at its place has changed
 use Rattle.std.proofs.Common.{◌≡◌, ◌∙◌, ℕ, ◌+◌, ◌-◌, ◌<◌, List, [], ◌∷◌, ◌++◌, get_or, length, set, take, inl, inr, ap, sym, arith}
 use Rattle.std.proofs.lemmas.Bool.{cases_eq}
 use Rattle.std.proofs.lemmas.List.{ext_get_or, get_or_append_left, get_or-set_other, get_or-set_same, get_or-take, get_or_default, length-append, length-set, length-take-le}

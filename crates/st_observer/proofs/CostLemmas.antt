@@ -1,7 +1,7 @@
--- What may be folded, by what has been seen.
+-- Bounds on folding, by the entries received.
 --     kept-cost, folded-few     by names
---     pushed-cost     of an entry that comes last
---     cut-cost        of identifiers that lose an operation
+--     pushed-cost     for an appended entry
+--     cut-cost        for identifiers that lose an operation
 use Rattle.std.proofs.Common.{◌≡◌, ◌∙◌, ℕ, ◌+◌, ◌*◌, ◌≤◌, Bool, leb, ltb, List, [], ◌∷◌, length, ap, arith, subst, sym}
 use Rattle.std.specs.List.{AllByRecursion}
 use Rattle.std.proofs.lemmas.Bool.{lt-leb, ltb-true}

@@ -1,6 +1,6 @@
--- The operations for a suffix among what entries give, as entries come, change and go.
+-- The operations for a suffix among those of entries, when entries are added, changed and removed.
 --     given_from-append     of two lists of entries, one after the other
---     operations-put        an entry gives for the suffix, at its place, where it gave nothing else or less
+--     operations-put        an entry gives one for the suffix, at its place, and gave no other before
 --     operations-before     of the first entries alone
 use Rattle.std.proofs.Common.{◌≡◌, ◌∙◌, ℕ, suc, ◌+◌, ◌<◌, ◌≤◌, Bool, true, false, nat_lt, List, [], ◌∷◌, ◌++◌, length, filter, Option, Some, None, option_map, refl, sym, ap, arith, append-nil}
 use Rattle.std.specs.List.{cons_option}

@@ -1,8 +1,8 @@
--- What is kept, as a file arrives and the entries that wait for it are looked at again.
---     kept-length, going-length   something is known of each entry
+-- The stored data while a file is received and the entries that wait for it are checked again.
+--     kept-length, going-length   something is known about each entry
 --     going-start      before the first of them
 --     going-settled    one of them
---     going-end        after the last of them, it is what is kept with the file
+--     going-end        after the last of them, it is the stored data with the file
 use Rattle.std.proofs.Common.{◌≡◌, ◌≢◌, ◌∙◌, ◌⊎◌, ⊎_elim, inl, inr, ℕ, ◌+◌, ◌<◌, ◌≤◌, ◌==◌, Bool, true, false, List, [], ◌∷◌, length, map, drop, set, get_or, refl, sym, ap, subst, arith}
 use Rattle.std.specs.List.{AllByRecursion, list_any}
 use Rattle.std.proofs.lemmas.Bool.{cases_eq, eqb-true, or_from, or_parts, true≢false}

@@ -1,9 +1,9 @@
--- What is kept, as the observer's calls use and change it.
+-- The stored data, as the observer's calls use and change it.
 --     kept-operations, kept-state     the operations and the state of an identifier
---     kept-folded                     once what pends is folded
---     kept-pushed, kept-cut           once an entry has come, or entries are cut
---     losing-covers                   whose operations are fewer then
---     settled-known    what a new entry's text and the files make of it
+--     kept-folded                     after pending changes are folded
+--     kept-pushed, kept-cut           after an entry is appended, or entries are cut
+--     losing-covers                   the identifiers that then have fewer operations
+--     settled-known    what a new entry's text and the files give
 use Rattle.std.proofs.Common.{◌≡◌, ◌∙◌, ℕ, ◌≤◌, List, [], ◌∷◌, ◌++◌, length, take, Option, Some, None, option_map, unwrap_or, sym, ap, subst, arith}
 use Rattle.std.proofs.lemmas.List.{map_push, take-map}
 use Rattle.st_anchor.specs.Known.{Known, known, known_from, known_of_text}

@@ -1,6 +1,6 @@
--- What is kept while the entries that wait for a file are looked at again, one after the other.
---     looking-next, looking-skipped     after one, and after one that isn't there
---     looking-few, looking-wanting      what was counted at the end, and where memory ran out
+-- The stored data while the entries that wait for a file are checked again, one after another.
+--     looking-next, looking-skipped     after one, and after one that does not exist
+--     looking-few, looking-wanting      the counts at the end, and if memory ran out
 use Rattle.std.proofs.Common.{◌≡◌, ◌∙◌, inl, inr, ℕ, zero, suc, ◌+◌, ◌<◌, ◌≤◌, ◌==◌, true, ◌||◌, List, [], ◌∷◌, length, map, drop, take, get_or, slice_get, Some, None, refl, sym, ap, subst, arith}
 use Rattle.std.specs.List.{AllByRecursion}
 use Rattle.std.proofs.lemmas.Bool.{eq-eqb, false≢true, or_cases, or_left, or_right}

@@ -1,6 +1,6 @@
--- Identifiers, each once, of which entries give operations.
---     losing-has      those that lose an operation where entries are cut
---     names-late      those of which entries give one that missed a file
+-- Identifiers, each once, for which entries give operations.
+--     losing-has      those that lose an operation if entries are cut
+--     names-late      those for which entries that missed a file give one
 use Rattle.std.proofs.Common.{◌≡◌, ◌∙◌, ◌⊎◌, ℕ, zero, suc, ◌+◌, ◌≤◌, leb, true, false, not, ◌&&◌, Bool, List, [], ◌∷◌, ◌++◌, drop, filter, length, map, slice_get, Option, Some, None, Equal, option_map, is_some, unwrap_or, if◌then◌else◌, inl, inr, ⊎_elim, is_eq, refl, sym, ap, subst, arith}
 use Rattle.std.proofs.lemmas.Bool.{cases_Bool, true≢false, and_parts, le-leb, leb-true, or_cases, or_left, or_right}
 use Rattle.std.proofs.lemmas.List.Folds.{list_any-append}

@@ -1,9 +1,9 @@
--- What the operations of a suffix are, by what is known of the entries.
---     gifts-length, gifts-append, gifts-take, gifts-at   what entries give, as lists
---     operations-known    what is known of each entry is what the files make of it
---     given-stays         a suffix that is given is given over more files too
---     operations-pushed, operations-settled   once an entry comes, and once more is known of one
---     agree-pushed, agree-settled, agree-cut  the states go on agreeing with what is known
+-- The operations of a suffix, from what is known about the entries.
+--     gifts-length, gifts-append, gifts-take, gifts-at   the operations of entries, as lists
+--     operations-known    what is known about each entry is what the files give
+--     given-stays         a suffix with an operation has one over more files too
+--     operations-pushed, operations-settled   after an entry is appended, and after more is known about one
+--     agree-pushed, agree-settled, agree-cut  the states still agree with what is known
 use Rattle.std.proofs.Common.{◌≡◌, ◌∙◌, ℕ, zero, suc, ◌+◌, ◌<◌, ◌≤◌, Bool, true, false, ◌||◌, cond, List, [], ◌∷◌, ◌++◌, length, map, take, drop, set, get_or, Option, Some, None, is_some, refl, sym, ap, arith}
 use Rattle.std.specs.List.{cons_option, list_any}
 use Rattle.std.proofs.lemmas.Bool.{false≢true}

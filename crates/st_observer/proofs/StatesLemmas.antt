@@ -1,9 +1,9 @@
--- Operations at their places, kept by suffix.
---     put_operations, cut_operations          what a put and a cut of the index leave of each identifier
---     state_resolved                          what the index folds is what the operations resolve to
+-- Operations at their places, stored by suffix.
+--     put_operations, cut_operations          the operations of each identifier after a put and a cut of the index
+--     state_resolved                          the state that the index folds is the one the operations resolve to
 --     goes_on, way-done                       given operations, put one after another
 --     covers-itself, covers-before, covers-put     names that cover changes
---     from-length, loses                      what is folded from a place on, and what a cut drops
+--     from-length, loses                      the operations folded from a place on, and those that a cut drops
 use Rattle.std.proofs.Common.{◌≡◌, ◌∙◌, ℕ, ◌≤◌, Bool, true, false, cond, ltb, leb, List, [], ◌∷◌, ◌++◌, length, filter, reverse, sym, ap, subst, refl, arith, append-nil, append_assoc, inl, inr}
 use Rattle.std.specs.Prelude.{map, Option, Some, None, ◌||◌, ◌&&◌}
 use Rattle.std.specs.BTreeMap.{is_at}

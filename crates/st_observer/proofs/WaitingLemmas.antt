@@ -1,7 +1,7 @@
--- What waits for a file, after the row of a URI was changed.
---     text-same, at-same        texts tell hashes apart that are read from them
---     rows-insert, rows-remove  the rows stay right
---     sets-gone, sets-back      what a change of one row makes of who waits
+-- The entries that wait for a file, after the row of a URI was changed.
+--     text-same, at-same        texts distinguish hashes that are read from them
+--     rows-insert, rows-remove  the rows stay valid
+--     sets-gone, sets-back      how a change of one row changes who waits
 --     row-waited, rows-read     the row of a URI, and that it is read from its text
 use Rattle.std.proofs.Common.{◌≡◌, ◌∙◌, ◌⊎◌, ℕ, ◌≤◌, ◌↔◌, eqb, Bool, true, false, cond, ◌&&◌, ◌||◌, List, [], ◌∷◌, length, Option, Some, None, is_some, unwrap_or, option_map, Ordering, Less, Equal, Greater, nat_cmp, is_eq, inl, inr, ⊎_elim, refl, sym, ap, subst, arith}
 use Rattle.std.proofs.lemmas.Bool.{eq-eqb, false_from_ne_true, or_cases, true≢false}

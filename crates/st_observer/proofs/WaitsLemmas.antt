@@ -1,4 +1,4 @@
--- Entries wait by what is known of them, as entries come, are looked at again, and go.
+-- Entries wait by what is known about them, when entries are appended, checked again, and removed.
 --     waits-pushed, waits-settled, waits-popped
 use Rattle.std.proofs.Common.{◌≡◌, ◌≢◌, ◌∙◌, ◌⊎◌, inl, inr, ℕ, ◌<◌, ◌≤◌, List, [], ◌∷◌, ◌++◌, length, map, set, get_or, sym, ap, arith}
 use Rattle.std.proofs.lemmas.Bool.{cases_eq, cases_lt}

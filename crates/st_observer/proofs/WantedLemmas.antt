@@ -1,6 +1,6 @@
--- Lists that ascend, and which list `ascending_once` is.
---     ascending_once-is        a list that does, and has the same hashes, is it
---     ascending_once-has       which hashes it has
+-- Ascending lists, and which of them `ascending_once` is.
+--     ascending_once-is        an ascending list with the same hashes is it
+--     ascending_once-has       its hashes
 use Rattle.std.proofs.Common.{◌≡◌, ◌∙◌, Bool, true, false, List, [], ◌∷◌, Ordering, Less, Equal, Greater, is_eq, ⊎_elim, refl, sym, ap, subst}
 use Rattle.std.proofs.lemmas.Bool.{or_left, or_right, or_cases, true≢false}
 use Rattle.std.proofs.lemmas.Map.Lookups.{exact_bytes}

@@ -1,6 +1,6 @@
--- Work that is counted while entries are looked at again.
---     counted_more-few, counted_more-least   so many more are at most so many more, and no fewer than before
---     Reading                                what was counted on the way, from where it began
+-- Work that is counted while entries are checked again.
+--     counted_more-few, counted_more-least   this many more are at most this many more, and no fewer than before
+--     Reading                                the counts on the way, from the start
 --     reading-settled, reading-few, reading-wanting
 use Rattle.std.proofs.Common.{◌≡◌, ◌∙◌, ℕ, zero, suc, ◌+◌, ◌-◌, ◌<◌, ◌≤◌, List, length, map, set, ap, subst, arith}
 use Rattle.std.specs.List.{sum_by}
