@@ -1,4 +1,4 @@
--- Reading the missing file of a role, where the core index is missing or was read.
+-- Reading the missing file of a role, if the core index is missing or was read.
 use Rattle.std.proofs.Common.{◌≡◌, ◌∙◌, ◌-◌, ℕ, List, Option, Some, None, refl, sym, ap, subst, arith}
 use Rattle.st_plain.specs.Shapes.{json_in}
 use Rattle.st_datafiles.specs.declared.role.Role.{Role}
@@ -22,7 +22,7 @@ use Rattle.st_anchor.specs.declared.part.Part.TheVariants.{Missing, Is}
 use Rattle.st_anchor.specs.declared.role_state.RoleState.TheVariants as role_is
 use Rattle.st_anchor.specs.declared.rule.Rule.TheVariants as fails
 
--- ---- an index file that is read opens no signed text
+-- ---- reading an index file opens no signed text
 
 none-named : {Says : Type 0} (count : Says → ℕ) (uri : Option HashValue) → count_read count (named uri) ≡ 0
 none-named count None = refl

@@ -1,7 +1,7 @@
 -- The files with one more.
---     with_file-extends    they have each of those before
---     with_file-others     none but that one is new
---     known_from-unmissed  a file that no role of an entry misses leaves what is known of it
+--     with_file-extends    they have all the earlier ones
+--     with_file-others     only that one is new
+--     known_from-unmissed  a file that is missing for no role of an entry adds nothing to it
 use Rattle.std.proofs.Common.{◌≡◌, ◌≢◌, ◌∙◌, ◌⊎◌, inl, inr, ℕ, Bool, true, false, List, Some, None, refl, sym, ap}
 use Rattle.std.specs.Option.{option_or}
 use Rattle.st_content.specs.Files.{Files, file_at, with_file}

@@ -1,9 +1,9 @@
--- How many roles are decided, and how many signed texts stand in the proof files that were read.
---     decided_roles-with    reading a missing file decides exactly one role more
---     decided_roles-up      looking up undoes no decision
+-- The number of decided roles, and of signed texts in the proof files that were read.
+--     decided_roles-with    reading a missing file decides exactly one more role
+--     decided_roles-up      a lookup undoes no decision
 --     decided_roles-small   there are at most five
 --     opened_proofs-with    reading a file undoes no reading
---     opened_proofs-up      nor does looking up
+--     opened_proofs-up      nor does a lookup
 use Rattle.std.proofs.Common.{◌≡◌, ◌∙◌, ◌+◌, ◌≤◌, ℕ, List, length, Option, Some, None, refl, ap, sym, arith}
 use Rattle.st_plain.specs.Shapes.{json_in}
 use Rattle.st_content.specs.Files.{Files}
@@ -40,7 +40,7 @@ decided-one (Missing uri) was = absurd was
 decided-one (Rejected rule) was = refl
 decided-one (Is says) was = refl
 
--- a missing file is filled in, which counts for nothing while it is missing and for one when it is read
+-- a missing file is filled in: it counts 0 while missing, and 1 when read
 counted-filled : {Says : Type 0} (count : Part Says → ℕ) (read : List ℕ → Part Says) (part : Part Says) (uri : HashValue) (bytes : List ℕ)
     → state part ≡ role_is.Missing uri → count (Missing uri) ≡ 0 → count (read bytes) ≡ 1 → count (filled read bytes part) ≡ count part + 1
 counted-filled count read Unneeded uri bytes is none one = cc
@@ -196,7 +196,7 @@ decided_roles-small bound =
       decided-small (role_state Chunk bound),
     )
 
--- ---- looking up
+-- ---- looking up files
 
 pub decided_roles-up : (files : Files) (bound : Known) → decided_roles bound ≤ decided_roles (known_from files bound)
 decided_roles-up files bound =
@@ -213,7 +213,7 @@ decided_roles-up files bound =
 
 -- ---- signed texts
 
--- what is read stays read
+-- a file that was read stays read
 count_read-filled : {Says : Type 0} (count : Says → ℕ) (read : List ℕ → Part Says) (bytes : List ℕ) (part : Part Says)
     → count_read count part ≤ count_read count (filled read bytes part)
 count_read-filled count read bytes Unneeded = omega arith

@@ -1,4 +1,4 @@
--- Sums of files that were read and of signed texts that were opened.
+-- Sums of files read and of signed texts opened.
 use Rattle.std.proofs.Common.{◌≡◌, ◌∙◌, ℕ, zero, suc, ◌+◌, ◌<◌, ◌≤◌, sym, ap, arith}
 use Rattle.st_base.specs.Work.{Counts, counted, one_file, one_proof}
 use Rattle.st_anchor.specs.Counting.{WorkedAtMost, counted_more, more_proofs, one_file_with, worked}
@@ -9,7 +9,7 @@ counted_more-both first (suc second) count =
     ap counted (counted_more-both first second count)
     ∙ ap (λ n. counted_more n count) (let e : suc (second + first) ≡ suc second + first = omega arith in e)
 
--- first so much, and then so much more
+-- first this much, and then this much more
 pub worked-both : (files proofs more_files more : ℕ) (work : Counts)
     → worked more_files more (worked files proofs work) ≡ worked (more_files + files) (more + proofs) work
 worked-both files proofs more_files more work = λ i. record {
@@ -22,7 +22,7 @@ pub one_more-proof : (more : ℕ) (work : Counts) → one_proof (more_proofs mor
 one_more-proof more work =
     ap (λ n. more_proofs n work) (let e : suc more ≡ more + 1 = omega arith in e)
 
--- so many exactly are at most so many
+-- an exact number is at most that number
 pub worked-few : (files proofs : ℕ) (old new : Counts) → new ≡ worked files proofs old → WorkedAtMost files proofs old new
 worked-few files proofs old new counts =
     record { files_read = files; proofs_opened = proofs; few_files = omega arith; few_proofs = omega arith; counts = counts }
@@ -37,7 +37,7 @@ few-more files proofs more_files more old new fits_files fits_proofs few = recor
   counts = few.counts;
 }
 
--- first so much, and then at most so much more
+-- first this much, and then at most this much more
 pub few-after : (files proofs more_files more : ℕ) (old mid new : Counts) → mid ≡ worked files proofs old
     → WorkedAtMost more_files more mid new → WorkedAtMost (more_files + files) (more + proofs) old new
 few-after files proofs more_files more old mid new counts few = record {

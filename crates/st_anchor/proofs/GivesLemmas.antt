@@ -1,5 +1,4 @@
--- One operation more is given: what was given before, with the item in its place and what stands beside
--- it.
+-- One more operation is given: the earlier ones, and the item at its place with what belongs to it.
 use Rattle.std.proofs.Common.{◌≡◌, ◌∙◌, ℕ, zero, suc, ◌+◌, ◌<◌, ◌≤◌, List, [], ◌∷◌, ◌++◌, drop, get_or, length, map, take, Option, refl, sym, ap, subst, append_assoc, arith}
 use Rattle.std.specs.Prelude.{slice_get}
 use Rattle.std.proofs.lemmas.List.{map_more, map_push, take_all}
@@ -13,7 +12,7 @@ get-rest : {Other : Type 0} (others : List Other) (at : ℕ) → slice_get (drop
 get-rest [] at = refl
 get-rest (other ∷ others) at = refl
 
--- what stands in a place
+-- the pair at a place
 pub at-beside : {Item Other : Type 0} (items : List Item) (others : List Other) (at : ℕ) (item : Item) (none : Item × Option Other) → at < length items
     → get_or (beside items others) at none ≡ (get_or items at item, slice_get others at)
 at-beside [] others at item none inside = absurd (omega arith)
@@ -33,7 +32,7 @@ inside-beside items others at inside = subst (λ n. at < n) (sym (length-beside 
 pub past-beside : {Item Other : Type 0} (items : List Item) (others : List Other) (at : ℕ) → length items ≤ at → length (beside items others) ≤ at
 past-beside items others at past = subst (λ n. n ≤ at) (sym (length-beside items others)) past
 
--- ---- a list that is given item by item
+-- ---- a list built item by item
 
 map-twice : {X Y Z : Type 0} (g : Y → Z) (f : X → Y) (xs : List X) → map (λ x. g (f x)) xs ≡ map g (map f xs)
 map-twice g f [] = refl

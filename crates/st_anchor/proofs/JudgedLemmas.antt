@@ -1,4 +1,4 @@
--- What a reader answers is what the bytes make of the role; and how many signed texts there are.
+-- A reader's answer is the part from the bytes; and the number of signed texts.
 use Rattle.std.proofs.Common.{◌≡◌, ◌∙◌, ◌+◌, ℕ, List, codes, length, map, Option, Some, None, refl, sym, ap}
 use Rattle.std.proofs.lemmas.List.{length-map}
 use Rattle.st_plain.specs.Plain.{Plain}
@@ -23,7 +23,7 @@ use Rattle.st_anchor.specs.declared.part.Part.TheVariants.{Rejected, Is}
 use Rattle.st_anchor.specs.declared.rule.Rule.{Rule}
 use Rattle.st_anchor.specs.declared.rule.Rule.TheVariants as fails
 
--- a file that fails no rule, with what it says seen in another way
+-- a file that fails no rule, with another view of its content
 pub judged-says : {Failing Said Says : Type 0} (rule_of : Failing → Rule) (view : Said → Says) (failing : Option Failing) (said found : Said)
     → failing ≡ None → Some said ≡ Some found → Is (view found) ≡ judged rule_of failing (view said)
 judged-says rule_of view failing said found none is =
@@ -35,7 +35,7 @@ pub judged-fails : {Failing Says : Type 0} (rule_of : Failing → Rule) (failing
     → failing ≡ Some rule → Rejected (rule_of rule) ≡ judged rule_of failing says
 judged-fails rule_of failing rule says is = rw is refl
 
--- the same of a provisional index
+-- the same for a provisional index
 pub provisional-says : (failing : Option ProvisionalRule) (says : Option ProvisionalIndex) (index : ProvisionalIndex)
     → failing ≡ None → says ≡ Some index → Is (provisional_branch index) ≡ provisional_judged failing says
 provisional-says failing says index none is = rw (none, is) refl
@@ -44,7 +44,7 @@ pub provisional-fails : (failing : Option ProvisionalRule) (says : Option Provis
     → failing ≡ Some rule → Rejected (fails.Provisional rule) ≡ provisional_judged failing says
 provisional-fails failing says rule is = rw is refl
 
--- ---- how many signed texts there are
+-- ---- the number of signed texts
 
 pub count-rejected : {Says : Type 0} (count : Says → ℕ) (part : Part Says) (rule : Rule) → Rejected rule ≡ part → count_read count part ≡ 0
 count-rejected count part rule is = ap (count_read count) (sym is)
@@ -63,7 +63,7 @@ pub count-provisional : (part : Part (List (Option Proof))) (opened : List (Opti
 count-provisional part opened limit texts is all =
     count-is length part opened is ∙ ap length all ∙ length-map texts (proof_of limit)
 
--- ---- what the readers answer, where the numbers of entries are those of the index file
+-- ---- the answers of readers, if the numbers of entries are those of the index file
 
 module _ (context : Context) (core : CoreIndex) (bytes : List ℕ) (recovers deactivates : ℕ)
     (r : recovers ≡ length core.recovers) (d : deactivates ≡ length core.deactivates) where

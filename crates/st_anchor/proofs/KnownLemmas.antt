@@ -1,9 +1,9 @@
--- How what is known of an entry grows with the files that come.
---     known_from-with      a missing file that has come may be read: what is known over the files stays
---     known_from-rest      where no missing file has come, looking up changes nothing
+-- How more files add to what is known about an entry.
+--     known_from-with      a missing file that was received may be read: the knowledge over the files stays
+--     known_from-rest      if no missing file was received, a lookup changes nothing
 --     known_from-again     what was looked up is looked up again over more files
---     turned               what looking up does to a role
---     known_from-missing   what is still missing hasn't come
+--     turned               the effect of a lookup on a role
+--     known_from-missing   a file that is still missing wasn't received
 use Rattle.std.proofs.Common.{◌≡◌, ◌∙◌, ◌≤◌, ℕ, List, length, Option, Some, None, refl, sym, ap, subst, arith}
 use Rattle.st_plain.specs.Shapes.{json_in}
 use Rattle.st_content.specs.Files.{Files, file_at}
@@ -31,7 +31,7 @@ use Rattle.st_anchor.specs.declared.role_state.RoleState.TheVariants as role_is
 use Rattle.st_anchor.specs.declared.rule.Rule.{Rule}
 use Rattle.st_anchor.specs.declared.rule.Rule.TheVariants as fails
 
--- a part that a file's bytes made
+-- a part made from a file's bytes
 abbrev pub WasRead : {Says : Type 0} → Part Says → Type 0
 WasRead Unneeded = ⊥
 WasRead (Missing uri) = ⊥
@@ -111,7 +111,7 @@ looked_up-below_read read below after later (Missing uri) was same = absurd was
 looked_up-below_read read below after later (Rejected rule) was same = refl
 looked_up-below_read read below after later (Is says) was same = ap (λ s. Is s) (same says)
 
--- a part over more files, where it was looked up before
+-- a part over more files, if it was looked up before
 looked_up-again : {Says : Type 0} (read : List ℕ → Part Says) (below after : Says → Says) (files later : Files) (part : Part Says)
     → Extends files later → ((bytes : List ℕ) → WasRead (read bytes)) → ((says : Says) → after (below says) ≡ after says)
     → looked_up read after later (looked_up read below files part) ≡ looked_up read after later part
@@ -126,13 +126,13 @@ looked_up-again read below after files later (Missing uri) more was same =
 looked_up-again read below after files later (Rejected rule) more was same = refl
 looked_up-again read below after files later (Is says) more was same = ap (λ s. Is s) (same says)
 
--- ---- what looking up does to a role
+-- ---- the effect of a lookup on a role
 
--- the file of a missing role hasn't come
+-- the file of a missing role wasn't received
 abbrev pub Absent : Files → RoleState → Type 0
 Absent files at = (uri : HashValue) → at ≡ role_is.Missing uri → file_at uri files ≡ None
 
--- A role is turned: what is still missing hasn't come, and what was decided stays decided.
+-- The change of a role: if it is still missing, its file wasn't received; if it was decided, it stays decided.
 pub record Turned (files : Files) (before after : RoleState) : Type 0 where
   pub absent : Absent files after
   pub keeps : decided before ≤ decided after
@@ -141,7 +141,7 @@ unneeded : (files : Files) → Turned files role_is.Unneeded role_is.Unneeded
 unneeded files = record { absent = λ uri is. cc; keeps = omega arith }
 
 module _ {Says : Type 0} (files : Files) (below : Says → Says) where
-  -- a file that was read just now
+  -- a file that was just read
   turned-read : (part : Part Says) (uri : HashValue) → WasRead part → Turned files (role_is.Missing uri) (state (looked_below below part))
   turned-read Unneeded uri was = absurd was
   turned-read (Missing missed) uri was = absurd was
@@ -163,7 +163,7 @@ module _ {Says : Type 0} (files : Files) (below : Says → Says) where
   turned-up read (Is says) was = record { absent = λ uri is. cc; keeps = omega arith }
 
   module _ (stands : Says → RoleState) (turned : (says : Says) → Turned files (stands says) (stands (below says))) where
-    -- a role below a file that was read just now
+    -- a role below a file that was just read
     turned-new : (part : Part Says) → Turned files role_is.Unneeded (state_below stands (looked_below below part))
     turned-new Unneeded = unneeded files
     turned-new (Missing uri) = unneeded files
@@ -181,7 +181,7 @@ module _ {Says : Type 0} (files : Files) (below : Says → Says) where
     turned-below read (Rejected rule) = unneeded files
     turned-below read (Is says) = turned says
 
--- a part none of whose missing files has come
+-- a part none of whose missing files was received
 looked_up-rest : {Says : Type 0} (read : List ℕ → Part Says) (below : Says → Says) (files : Files) (part : Part Says)
     → Absent files (state part) → ((says : Says) → part ≡ Is says → below says ≡ says) → looked_up read below files part ≡ part
 looked_up-rest read below files Unneeded absent same = refl
@@ -191,7 +191,7 @@ looked_up-rest read below files (Is says) absent same = ap (λ s. Is s) (same sa
 
 -- ---- the whole tree
 
--- the file of a missing role that has come may be bound: what is known over the files stays
+-- the received file of a missing role may be bound: the knowledge over the files stays the same
 provisional_over-with : (role : Role) (context : Context) (core : CoreIndex) (files : Files) (branch : ProvisionalBranch) (uri : HashValue) (bytes : List ℕ)
     → provisional_state role branch ≡ role_is.Missing uri → file_at uri files ≡ Some bytes
     → provisional_over context core files (provisional_with role context core bytes branch) ≡ provisional_over context core files branch
@@ -247,7 +247,7 @@ known_from-with Provisional files bound uri bytes is there = known_from-with_bel
 known_from-with ProvisionalProof files bound uri bytes is there = known_from-with_below ProvisionalProof files bound uri bytes is there
 known_from-with Chunk files bound uri bytes is there = known_from-with_below Chunk files bound uri bytes is there
 
--- more files change nothing but by the look-up of what is missing
+-- more files change nothing except by the lookup of missing ones
 provisional_over-again : (context : Context) (core : CoreIndex) (files later : Files) → Extends files later → (branch : ProvisionalBranch)
     → provisional_over context core later (provisional_over context core files branch) ≡ provisional_over context core later branch
 provisional_over-again context core files later more branch =
@@ -273,7 +273,7 @@ known_from-again files later more bound =
     (looked_up-again (core_in bound.context) (core_over bound.context files) (core_over bound.context later) files later bound.core more
     (core_in-read bound.context) (core_over-again bound.context files later more))
 
--- nothing that is missed has come: looking up changes nothing
+-- no missing file was received: a lookup changes nothing
 provisional_over-rest : (context : Context) (core : CoreIndex) (files : Files) (branch : ProvisionalBranch)
     → Absent files (state branch.proofs) → Absent files (state branch.chunk) → provisional_over context core files branch ≡ branch
 provisional_over-rest context core files branch proofs chunk =
@@ -311,7 +311,7 @@ known_from-rest files bound none =
     core_over-rest bound.context files branch (below CoreProof (none.absent CoreProof)) (below Provisional (none.absent Provisional))
     (below ProvisionalProof (none.absent ProvisionalProof)) (below Chunk (none.absent Chunk))))
 
--- each role is turned
+-- each role changes that way
 module _ (context : Context) (files : Files) where
   turned-provisional : (role : Role) (core : CoreIndex) (branch : ProvisionalBranch)
       → Turned files (provisional_state role branch) (provisional_state role (provisional_over context core files branch))

@@ -1,7 +1,7 @@
--- What follows for an entry from the rules of its files.
---     given-once, gives-once   no suffix stands twice among what an entry gives
---     given-kept               a suffix that is given is given over more files too
---     opened_proofs-few        the signed texts in the proof files that were read are at most the declared count
+-- Consequences of the rules of files for an entry.
+--     given-once, gives-once   no suffix appears twice among the operations of an entry
+--     given-kept               a suffix with an operation has one over more files too
+--     opened_proofs-few        the proof files that were read have at most as many signed texts as the declared count
 use Rattle.std.proofs.Common.{◌≡◌, ◌∙◌, ℕ, ◌+◌, ◌≤◌, Bool, true, false, List, [], ◌∷◌, ◌++◌, length, map, Option, refl, sym, ap, subst, append-nil, arith}
 use Rattle.std.specs.Prelude.{◌||◌}
 use Rattle.std.specs.List.{list_any}
@@ -31,27 +31,27 @@ use Rattle.st_anchor.specs.declared.part.Part.TheVariants.{Unneeded, Missing, Re
 use Rattle.st_anchor.proofs.SoundLemmas.{sound-known}
 use Rattle.st_anchor.proofs.SuffixLemmas.{suffixes_below, suffixes_given-given, suffixes_known, suffixes_updated, targeted, where_read}
 
--- ---- items that stand twice
+-- ---- items that appear twice
 
 module _ {Item : Type 0} (same : Item → Item → Bool) (symm : (x y : Item) → same x y ≡ same y x) where
   any-parts : (test : Item → Bool) (xs ys : List Item) → list_any test (xs ++ ys) ≡ false → (list_any test xs ≡ false) × (list_any test ys ≡ false)
   any-parts test xs ys none = or_parts (list_any test xs) (list_any test ys) (sym (list_any-append test xs ys) ∙ none)
 
-  -- none stands twice in the front of a list in which none does
+  -- if no item of a list appears twice, none of a prefix does
   pub has_twice-front : (xs ys : List Item) → has_twice same (xs ++ ys) ≡ false → has_twice same xs ≡ false
   has_twice-front [] ys once = refl
   has_twice-front (x ∷ xs) ys once =
       let parts = or_parts (list_any (same x) (xs ++ ys)) (has_twice same (xs ++ ys)) once in
       rw (any-parts (same x) xs ys parts.0).0 (has_twice-front xs ys parts.1)
 
-  -- the items that share none with both share none with the front
+  -- items disjoint from a list are disjoint from a prefix
   pub shares_one-front : (us xs ys : List Item) → shares_one same us (xs ++ ys) ≡ false → shares_one same us xs ≡ false
   shares_one-front [] xs ys apart = refl
   shares_one-front (u ∷ us) xs ys apart =
       let parts = or_parts (list_any (same u) (xs ++ ys)) (shares_one same us (xs ++ ys)) apart in
       rw (any-parts (same u) xs ys parts.0).0 (shares_one-front us xs ys parts.1)
 
-  -- an item that none of these is, and the others that they share none with
+  -- an item that none of these is, and the others they are disjoint from
   shares_one-first : (us : List Item) (x : Item) (xs : List Item) → shares_one same us (x ∷ xs) ≡ false
       → (list_any (same x) us ≡ false) × (shares_one same us xs ≡ false)
   shares_one-first [] x xs apart = (refl, refl)
@@ -61,7 +61,7 @@ module _ {Item : Type 0} (same : Item → Item → Bool) (symm : (x y : Item) �
       let later = shares_one-first us x xs parts.1 in
       (rw (symm x u, here.0) later.0, rw here.1 later.1)
 
-  -- none stands twice in both, where none does in each and they share none
+  -- no item of both appears twice, if none of each does and they are disjoint
   pub has_twice-both : (xs us : List Item) → has_twice same xs ≡ false → has_twice same us ≡ false → shares_one same us xs ≡ false
       → has_twice same (xs ++ us) ≡ false
   has_twice-both [] us once other apart = other
@@ -103,15 +103,15 @@ unfolding opened_proofs
 opened_proofs-few files limits text =
     few-opened (known files limits text).context (known files limits text).core (sound-known files limits text)
 
--- ---- no suffix stands twice
+-- ---- no suffix appears twice
 
--- what holds of the front of a list where it holds of the list
+-- a property of a list that its prefixes inherit
 front_kept : (P : List HashValue → Type 0) → ((xs ys : List HashValue) → P (xs ++ ys) → P xs) → (creates recovers deactivates : List HashValue)
     → P (creates ++ recovers ++ deactivates) → P (creates ++ [] ++ [])
 front_kept P front creates recovers deactivates all =
     subst P (sym (append-nil (creates ++ []) ∙ append-nil creates)) (front creates recovers (front (creates ++ recovers) deactivates all))
 
--- holds of those that are given
+-- holds for the given suffixes
 kept_where : (P : List HashValue → Type 0) → ((xs ys : List HashValue) → P (xs ++ ys) → P xs)
     → (part : Part OpenedCore) (creates recovers deactivates : List HashValue)
     → P (creates ++ recovers ++ deactivates) → P (creates ++ where_read part recovers ++ where_read part deactivates)
@@ -166,9 +166,9 @@ given-once bound sound = subst once (sym (suffixes_given-given bound)) (once-par
 pub gives-once : (files : Files) (limits : Limits) (text : List ℕ) → has_twice same_hash (suffixes_given (gives files limits text)) ≡ false
 gives-once files limits text = given-once (known files limits text) (sound-known files limits text)
 
--- ---- more files withhold nothing that was given
+-- ---- more files withhold no operation that was given
 
--- each suffix of the one list is in the other too
+-- each suffix of the first list is also in the second
 abbrev pub Grows : List HashValue → List HashValue → Type 0
 Grows before after = (suffix : HashValue) → list_any (same_hash suffix) before ≡ true → list_any (same_hash suffix) after ≡ true
 

@@ -1,4 +1,4 @@
--- Reading one missing file after the other.
+-- Reading missing files one after another.
 use Rattle.std.proofs.Common.{◌≡◌, ◌∙◌, ◌+◌, ◌-◌, ◌≤◌, ◌<◌, ℕ, List, sym, ap, subst, arith}
 use Rattle.st_base.specs.Work.{Counts}
 use Rattle.st_content.specs.Files.{Files}
@@ -12,7 +12,7 @@ use Rattle.st_anchor.proofs.CountLemmas.{decided_roles-small, decided_roles-up, 
 use Rattle.st_anchor.proofs.CountingLemmas.{few-after, few-more, worked-both, worked-few}
 use Rattle.st_anchor.proofs.KnownLemmas.{known_from-rest, known_from-with}
 
--- on the way from what was known at the start to what the files make of it
+-- on the way from what was known at the start to what the files give
 pub record Settles (files : Files) (start : Known) (before : Counts) (bound : Known) (work : Counts) : Type 0 where
   pub same : known_from files bound ≡ known_from files start
   pub decided : decided_roles start ≤ decided_roles bound
@@ -64,7 +64,7 @@ settled-few files start before bound work so =
     (omega arith) (omega arith)
     (worked-few (decided_roles bound - decided_roles start) (opened_proofs bound - opened_proofs start) before work so.counts)
 
--- memory was wanting while a file was read
+-- memory ran out while a file was read
 pub settled-wanting : (files : Files) (start : Known) (before : Counts) (bound : Known) (work : Counts) (role : Role) (file : List ℕ) (after : Counts)
     → Settles files start before bound work → HasCome files bound role file → WorkedAtMost 1 (opened_by role file bound) work after
     → WorkedAtMost (newly_decided files start) (newly_opened files start) before after

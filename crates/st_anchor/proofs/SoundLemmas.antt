@@ -1,7 +1,7 @@
--- What is known keeps the rules by which its files were accepted: that no suffix stands twice, and that
--- there are no more operations than the declared count.
---     sound-known      what is known of an entry keeps them
---     sound-core_in, sound-core_with      and so does what is read on the way
+-- Everything known satisfies the rules by which its files were accepted: no suffix appears twice, and there are at
+-- most as many operations as the declared count.
+--     sound-known      what is known about an entry satisfies them
+--     sound-core_in, sound-core_with      and so does each part read on the way
 use Rattle.std.proofs.Common.{◌≡◌, ℕ, suc, ◌+◌, ◌≤◌, Bool, true, false, List, [], ◌∷◌, codes, length, map, Option, Some, None, option_map, refl, arith}
 use Rattle.std.specs.Prelude.{◌&&◌, bytes_eq, if◌then◌else◌}
 use Rattle.std.specs.List.{AllByRecursion, cons_option, filter_map}
@@ -47,7 +47,7 @@ use Rattle.st_anchor.specs.declared.rule.Rule.TheVariants as fails
 
 -- ---- a rule by its name
 
--- whether a rule fails, in a table: the first row of its name
+-- whether a rule fails in a table: the first row of its name
 abbrev pub fails_rule : {Rule : Type 0} → (Rule → List ℕ) → Rule → Table Rule → Bool
 fails_rule name rule [] = false
 fails_rule name rule (row ∷ rows) = if bytes_eq (name row.0) (name rule) then row.1 else fails_rule name rule rows
@@ -62,12 +62,12 @@ named_passes name rule [] passed = refl
 named_passes name rule (row ∷ rows) passed =
     either_passes (bytes_eq (name row.0) (name rule)) row.1 (fails_rule name rule rows) passed.0 (named_passes name rule rows passed.1)
 
--- in a table of which no rule fails, each rule passes
+-- in a table without a failing rule, each rule passes
 pub passes_rule : {Rule : Type 0} (name : Rule → List ℕ) (rules : Table Rule) → first_failing rules ≡ None → (rule : Rule)
     → fails_rule name rule rules ≡ false
 passes_rule name rules none rule = named_passes name rule rules (none_fails rules none)
 
--- ---- what holds of what a file says, where it was read
+-- ---- properties of the content of a file, if it was read
 
 module _ {Says : Type 0} (P : Says → Type 0) where
   holds-below : (below : Says → Says) (part : Part Says) → ((says : Says) → P says → P (below says)) → Holds P part → Holds P (looked_below below part)
@@ -76,7 +76,7 @@ module _ {Says : Type 0} (P : Says → Type 0) where
   holds-below below (Rejected rule) kept holds = tt
   holds-below below (Is says) kept holds = kept says holds
 
-  -- looking up keeps it, where it holds of each file that is read
+  -- a lookup keeps it, if each file that is read has it
   pub holds-up : (read : List ℕ → Part Says) (below : Says → Says) (files : Files) (part : Part Says)
       → ((bytes : List ℕ) → Holds P (read bytes)) → ((says : Says) → P says → P (below says))
       → Holds P part → Holds P (looked_up read below files part)
@@ -98,7 +98,7 @@ module _ {Says : Type 0} (P : Says → Type 0) where
   holds-named None = tt
   holds-named (Some uri) = tt
 
--- ---- what accepted files keep
+-- ---- properties of accepted files
 
 length-cons_option : {Read : Type 0} (first : Option Read) (rest : List Read) → length (cons_option first rest) ≤ suc (length rest)
 length-cons_option None rest = omega arith
@@ -218,7 +218,7 @@ sound-provisional_in context core bytes =
     sound-provisional_judged context core bytes (first_failing_provisional_rule context.params context.count core bytes)
     (chunk_in (json_in bytes)) (λ none. none)
 
--- ---- what is known keeps them
+-- ---- everything known has them
 
 sound-provisional_over : (context : Context) (core : CoreIndex) (files : Files) (branch : ProvisionalBranch)
     → IsSoundProvisional context core branch → IsSoundProvisional context core (provisional_over context core files branch)
@@ -255,7 +255,7 @@ unfolding known known_of_text
 sound-known files limits text =
     sound-from files (known_of_text limits text) (sound-judged limits (first_failing (anchor_rules limits text)) (anchor_of limits text))
 
--- ---- and so it does once a file more is read
+-- ---- also after one more file is read
 
 holds-filled : {Says : Type 0} (P : Says → Type 0) (read : List ℕ → Part Says) (bytes : List ℕ) (part : Part Says)
     → Holds P (read bytes) → Holds P part → Holds P (filled read bytes part)

@@ -1,4 +1,4 @@
--- The suffixes of what an entry gives, by what is known of it.
+-- The suffixes of an entry's operations, from what is known about it.
 use Rattle.std.proofs.Common.{◌≡◌, ◌∙◌, List, [], ◌∷◌, ◌++◌, drop, length, map, Option, option_and_then, refl, ap}
 use Rattle.std.specs.Prelude.{slice_get}
 use Rattle.std.proofs.lemmas.List.{map-append}
@@ -35,7 +35,7 @@ suffixes-signed make own (target ∷ targets) proofs deltas = λ i.
     own target (option_and_then (λ proof. proof) (slice_get proofs 0)) (slice_get deltas 0) i
     ∷ suffixes-signed make own targets (drop 1 proofs) (drop 1 deltas) i
 
--- those of a part, or none
+-- those of a part that was read, or none
 abbrev pub where_read : {Says : Type 0} → Part Says → List HashValue → List HashValue
 where_read (Is says) those = those
 where_read other those = []
@@ -71,7 +71,7 @@ abbrev pub suffixes_updated : Part ProvisionalBranch → List HashValue
 suffixes_updated (Is branch) = where_read branch.proofs (suffixes_in branch.says.updates)
 suffixes_updated other = []
 
--- those of the operations that a core index and what stands below it give
+-- those of the operations of a core index and of the files below it
 abbrev pub suffixes_below : CoreBranch → List HashValue
 suffixes_below branch =
     map suffix_of_data branch.says.creates ++ where_read branch.proofs (targeted branch.says.recovers)
@@ -87,7 +87,7 @@ suffixes-updated deltas (Missing uri) = refl
 suffixes-updated deltas (Rejected rule) = refl
 suffixes-updated deltas (Is branch) = suffixes-updates branch.says deltas branch.proofs
 
--- those of all operations, one kind after the other
+-- those of all operations, one kind after another
 suffixes-append : (creates recovers deactivates updates : List PlainOperation)
     → suffixes (creates ++ recovers ++ deactivates ++ updates) ≡ suffixes creates ++ suffixes recovers ++ suffixes deactivates ++ suffixes updates
 suffixes-append creates recovers deactivates updates =

@@ -1,4 +1,4 @@
--- Files that have come, and those that haven't.
+-- Files that were received, and those that weren't.
 use Rattle.std.specs.Prelude.{◌≡◌, ℕ, ◌-◌, List, Some, None}
 use Rattle.st_content.specs.Files.{Files, file_at}
 use Rattle.st_datafiles.specs.declared.role.Role.{Role}
@@ -15,20 +15,20 @@ IsMissing (Missing uri) = Unit {0}
 IsMissing (Rejected rule) = ⊥
 IsMissing Read = ⊥
 
--- the role misses a file that has come
+-- the role's missing file is among the files
 pub record HasCome (files : Files) (bound : Known) (role : Role) (file : List ℕ) : Type 0 where
   pub missing : role_state role bound ≡ Missing (uri_of file)
   pub there : file_at (uri_of file) files ≡ Some file
 
--- the role misses no file that has come
+-- the role's missing file, if any, is not among the files
 abbrev pub MissesNone : Files → Known → Role → Type 0
 MissesNone files bound role = (uri : HashValue) → role_state role bound ≡ Missing uri → file_at uri files ≡ None
 
--- no role misses a file that has come
+-- no role's missing file is among the files
 pub record NoneHasCome (files : Files) (bound : Known) : Type 0 where
   pub absent : (role : Role) → MissesNone files bound role
 
--- no role misses this file
+-- this file is missing for no role
 abbrev pub IsUnmissed : HashValue → Known → Type 0
 IsUnmissed uri bound = (role : Role) → role_state role bound ≡ Missing uri → ⊥
 
@@ -38,7 +38,7 @@ pub record Extends (files later : Files) : Type 0 where
 
 -- ---- counts
 
--- how many signed texts a role's file with these bytes has, where it passes as a proof file
+-- the number of signed texts in a role's file with these bytes, if it passes as a proof file
 abbrev pub opened_by : Role → List ℕ → Known → ℕ
 opened_by role file bound = opened_proofs (bound_with role file bound) - opened_proofs bound
 
@@ -46,6 +46,6 @@ opened_by role file bound = opened_proofs (bound_with role file bound) - opened_
 abbrev pub newly_decided : Files → Known → ℕ
 newly_decided files bound = decided_roles (known_from files bound) - decided_roles bound
 
--- how many signed texts stand in the proof files that are newly read
+-- the number of signed texts in newly read proof files
 abbrev pub newly_opened : Files → Known → ℕ
 newly_opened files bound = opened_proofs (known_from files bound) - opened_proofs bound

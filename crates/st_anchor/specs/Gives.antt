@@ -1,6 +1,6 @@
--- What an entry gives (DIF Sidetree v1.0.0, "Transaction & Operation Processing"): creates, recovers,
--- deactivates and updates, each with its suffix. An operation is withheld only where a file that it
--- needs itself wasn't read.
+-- The operations of an entry (DIF Sidetree v1.0.0, "Transaction & Operation Processing"): creates, recovers,
+-- deactivates and updates, each with its suffix. An operation is withheld only if a file that it needs itself wasn't
+-- read.
 use Rattle.std.specs.Prelude.{ℕ, List, [], ◌∷◌, ◌++◌, drop, length, map, slice_get, Option, option_and_then}
 use Rattle.st_plain.specs.Plain.{Plain}
 use Rattle.st_content.specs.Files.{Files}
@@ -19,18 +19,18 @@ use Rattle.st_anchor.specs.declared.given.Given.{Given}
 use Rattle.st_anchor.specs.declared.part.Part.{Part}
 use Rattle.st_anchor.specs.declared.part.Part.TheVariants.{Is}
 
--- each item beside the one in its place among the others, or beside none where there is none
+-- each item with the other one at its place, if there is one
 abbrev pub beside : {Item Other : Type 0} → List Item → List Other → List (Item × Option Other)
 beside [] others = []
 beside (item ∷ items) others = (item, slice_get others 0) ∷ beside items (drop 1 others)
 
 -- ---- operations of one kind
 
--- A create needs the core index alone.
+-- A create needs only the core index.
 abbrev pub creates_given : List SuffixData → List Plain → List PlainOperation
 creates_given creates deltas = map (λ entry. creating entry.0 entry.1) (beside creates deltas)
 
--- operations under targets, each with the proof and the delta in its place
+-- operations with targets, each with the proof and the delta at its place
 abbrev pub signed_given : (Target → Option Proof → Option Plain → PlainOperation) → List Target → List (Option Proof) → List Plain → List PlainOperation
 signed_given make targets proofs deltas =
     map (λ entry. make entry.0.0 (option_and_then (λ proof. proof) entry.0.1) entry.1) (beside (beside targets proofs) deltas)
@@ -54,25 +54,24 @@ abbrev pub updates_given : ProvisionalIndex → List Plain → Part (List (Optio
 updates_given provisional deltas (Is proofs) = signed_given updating provisional.updates proofs deltas
 updates_given provisional deltas other = []
 
--- the updates of a provisional index, where it was read
+-- the updates of a provisional index, if it was read
 abbrev pub updates_below : List Plain → Part ProvisionalBranch → List PlainOperation
 updates_below deltas (Is branch) = updates_given branch.says deltas branch.proofs
 updates_below deltas other = []
 
 -- ---- all of them
 
--- the deltas of the chunk file, or none where it wasn't read
+-- the deltas of the chunk file, or none if it wasn't read
 abbrev pub deltas_read : Part (List Plain) → List Plain
 deltas_read (Is deltas) = deltas
 deltas_read other = []
 
--- the same by what is known of the provisional index
+-- the same from what is known about the provisional index
 abbrev pub deltas_below : Part ProvisionalBranch → List Plain
 deltas_below (Is branch) = deltas_read branch.chunk
 deltas_below other = []
 
--- What a core index gives with what stands below it. The deltas stand in the order creates, recovers,
--- updates.
+-- The operations of a core index and of the files below it. The deltas are in the order creates, recovers, updates.
 abbrev pub operations_below : CoreBranch → List PlainOperation
 operations_below branch =
     let deltas = deltas_below branch.provisional in
@@ -81,27 +80,27 @@ operations_below branch =
     creates_given branch.says.creates deltas ++ recovers_given branch.says of_recovers branch.proofs
     ++ deactivates_given branch.says branch.proofs ++ updates_below of_updates branch.provisional
 
--- what an entry gives by what is known of its core index: nothing where that wasn't read
+-- the operations of an entry from what is known about its core index: none if that wasn't read
 abbrev pub operations_of : Part CoreBranch → List PlainOperation
 operations_of (Is branch) = operations_below branch
 operations_of other = []
 
--- an operation beside its suffix
+-- an operation with its suffix
 abbrev pub with_suffix : PlainOperation → HashValue × PlainOperation
 with_suffix operation = (suffix_of operation, operation)
 
--- what an entry gives by what is known of it
+-- the operations of an entry from what is known about it
 unfoldable pub given : Known → List (HashValue × PlainOperation)
 given bound = map with_suffix (operations_of bound.core)
 
--- What an entry with this text gives, over the files that have come and at the limits of its height.
+-- The operations of an entry with this text, over the files received and at the limits of its height.
 abbrev pub gives : Files → Limits → List ℕ → List (HashValue × PlainOperation)
 gives files limits text = given (known files limits text)
 
--- the suffixes of what is given
+-- the suffixes of given operations
 abbrev pub suffixes_given : List (HashValue × PlainOperation) → List HashValue
 suffixes_given entries = map (λ entry. entry.0) entries
 
--- what a `Given` stands for
+-- the plain value of a `Given`
 abbrev pub plain_given : Given → HashValue × PlainOperation
 plain_given given = (given.suffix, plain_operation given.operation)

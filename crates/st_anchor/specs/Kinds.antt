@@ -7,7 +7,7 @@ use Rattle.st_anchor.specs.Gives.{deactivating_only}
 use Rattle.st_anchor.specs.declared.giving.Kind.{Kind}
 use Rattle.st_anchor.specs.declared.giving.Kind.TheVariants.{Update, Recover, Deactivate}
 
--- the operation of a kind, by its target and what stands beside it
+-- the operation of a kind, by its target, its proof and its delta
 abbrev pub made : Kind → Target → Option Proof → Option Plain → PlainOperation
 made Update target proof delta = updating target proof delta
 made Recover target proof delta = recovering target proof delta

@@ -1,4 +1,4 @@
--- The names of rules. Those of a kind stand beside its rules.
+-- The names of rules. The names within one kind are next to its rules.
 use Rattle.std.specs.Prelude.{ℕ, List}
 use Rattle.st_datafiles.specs.Chunk.{chunk_rule_name}
 use Rattle.st_datafiles.specs.ProofRules.{proof_rule_name}
@@ -8,7 +8,7 @@ use Rattle.st_ledger.specs.Anchor.{anchor_rule_name}
 use Rattle.st_anchor.specs.declared.rule.Rule.{Rule}
 use Rattle.st_anchor.specs.declared.rule.Rule.TheVariants.{Anchor, Core, Provisional, Proofs, Chunk}
 
--- the name of a rule: a letter for what it judges, and its number among the rules of that
+-- the name of a rule: a letter for the kind of file, and its number among the rules of that kind
 unfoldable pub rule_name : Rule → List ℕ
 rule_name (Anchor rule) = anchor_rule_name rule
 rule_name (Core rule) = core_rule_name rule

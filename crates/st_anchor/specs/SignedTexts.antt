@@ -1,4 +1,4 @@
--- The proofs that signed texts of at most so many bytes are.
+-- The proofs of signed texts of at most this many bytes.
 use Rattle.std.specs.Prelude.{ℕ, map}
 use Rattle.st_datafiles.specs.declared.core_proofs.CoreProofs.{CoreProofs}
 pub use Rattle.st_ops.specs.SignedPart.{proof_of}

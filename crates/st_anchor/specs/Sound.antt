@@ -1,4 +1,4 @@
--- What is known keeps the rules by which its files were accepted.
+-- Everything known satisfies the rules by which its files were accepted.
 use Rattle.std.specs.Prelude.{◌≡◌, ◌≤◌, ℕ, ◌+◌, false, List, length, Option}
 use Rattle.st_base.specs.Twice.{has_twice}
 use Rattle.st_hash.specs.Hash.{same_hash}
@@ -16,7 +16,7 @@ use Rattle.st_anchor.specs.declared.branches.ProvisionalBranch.{ProvisionalBranc
 use Rattle.st_anchor.specs.declared.part.Part.{Part}
 use Rattle.st_anchor.specs.declared.part.Part.TheVariants.{Unneeded, Missing, Rejected, Is}
 
--- it holds of what a file says, where it was read
+-- the content of a file, if it was read, has this property
 abbrev pub Holds : {Says : Type 0} → (Says → Type 0) → Part Says → Type 0
 Holds P Unneeded = Unit {0}
 Holds P (Missing uri) = Unit {0}
@@ -31,20 +31,20 @@ AreCoreProofs core opened = core_proof_count opened ≤ length core.recovers + l
 abbrev pub AreProofs : ℕ → List (Option Proof) → Type 0
 AreProofs updates proofs = length proofs ≤ updates
 
--- No suffix of an update stands twice or in the core index, and both indexes have no more operations
--- than the declared count.
+-- No suffix of an update appears twice or also in the core index, and both indexes have at most as many operations as
+-- the declared count.
 pub record IsSoundProvisional (context : Context) (core : CoreIndex) (branch : ProvisionalBranch) : Type 0 where
   pub apart : repeats_suffix (suffixes_in branch.says.updates) core ≡ false
   pub few : core_count core + length branch.says.updates ≤ context.count
   pub proofs : Holds (AreProofs (length branch.says.updates)) branch.proofs
 
--- The same of a core index, and of what stands below it.
+-- The same for a core index and the files below it.
 pub record IsSoundCore (context : Context) (branch : CoreBranch) : Type 0 where
   pub once : has_twice same_hash (suffixes_of branch.says) ≡ false
   pub few : core_count branch.says ≤ context.count
   pub proofs : Holds (AreCoreProofs branch.says) branch.proofs
   pub provisional : Holds (IsSoundProvisional context branch.says) branch.provisional
 
--- What was read of an entry's files has passed the rules that its laws need.
+-- The files read for an entry satisfy the rules that its laws need.
 abbrev pub IsSound : Known → Type 0
 IsSound bound = Holds (IsSoundCore bound.context) bound.core

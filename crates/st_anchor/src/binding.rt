@@ -15,7 +15,7 @@ use st_indexfiles::CoreIndex;
 use std::alloc::Global;
 
 impl CoreBranch {
-    /// How it stands with a role below the core index file.
+    /// The state of a role below the core index file.
     pub fn state(&self, role: Role) -> RoleState
         ensures { result ≡ core_state role self.now }
     {
@@ -30,7 +30,7 @@ impl CoreBranch {
         }
     }
 
-    /// Reads the file that a role below the core index file misses.
+    /// Reads the missing file of a role below the core index file.
     pub fn bind(
         self,
         alloc: Global,
@@ -114,7 +114,7 @@ fn bind_provisional(
 }
 
 impl ProvisionalBranch {
-    /// How it stands with a role below the provisional index file.
+    /// The state of a role below the provisional index file.
     pub fn state(&self, role: Role) -> RoleState
         ensures { result ≡ provisional_state role self.now }
     {
@@ -125,7 +125,7 @@ impl ProvisionalBranch {
         }
     }
 
-    /// Reads the file that a role below the provisional index file misses.
+    /// Reads the missing file of a role below the provisional index file.
     pub fn bind(
         self,
         alloc: Global,

@@ -21,8 +21,8 @@ use st_params::Params;
 use std::alloc::Global;
 use std::marker::Model;
 
-/// What is known of one entry: what its text and its files say, and not their bytes. Contracts see the
-/// tree of it.
+/// What is known about one entry: the content of its text and of its files, without their bytes.
+/// Contracts see it as a tree.
 #[derive(Drop)]
 pub struct Bound {
     context: Context,
@@ -44,8 +44,8 @@ impl Model for Bound {
 }
 
 impl Bound {
-    /// What an entry's text says at these limits, which are those at its height, before any file is
-    /// looked for.
+    /// The content of an entry's text at these limits, which are those at its height, before any
+    /// file is looked up.
     #[tactic(auto, unfolding(crate::specs::Known::known_of_text))]
     pub fn new(_alloc: Global, text: &[u8], params: &Params) -> Result<Bound, WantOfMemory>
         ensures { IfOk result (λ bound. bound ≡ known_of_text params.now text.now) }
@@ -68,7 +68,7 @@ impl Bound {
         }
     }
 
-    /// How it stands with a role.
+    /// The state of a role.
     #[tactic(auto, unfolding(crate::specs::States::role_state))]
     pub fn state(&self, role: Role) -> RoleState
         ensures { result ≡ role_state role self.now }
@@ -82,8 +82,8 @@ impl Bound {
         }
     }
 
-    /// Reads the file that a role misses. It counts as one file, and where it passes as a proof file,
-    /// each of its signed texts as one proof.
+    /// Reads the missing file of a role. It counts as one file; if it passes as a proof file, each
+    /// of its signed texts counts as one proof.
     #[tactic(auto, unfolding(crate::specs::States::role_state, crate::specs::Known::bound_with, crate::specs::States::opened_proofs))]
     pub fn bind(
         self,
@@ -114,15 +114,15 @@ impl Bound {
         }
     }
 
-    /// What the entry gives: creates, recovers, deactivates, updates, each kind in the order of its
-    /// file. A create needs the core index file alone, a recover and a deactivate the core proof file
-    /// too, an update the provisional index file and its proof file. A delta stands there where the
-    /// chunk file was read, and a proof where its signed text could be opened; both are shared with
-    /// what is kept here.
+    /// The operations of the entry: creates, recovers, deactivates, updates, each kind in the order
+    /// of its file. A create needs only the core index file, a recover and a deactivate the core
+    /// proof file too, an update the provisional index file and its proof file. An operation has a
+    /// delta if the chunk file was read, and a proof if its signed text could be opened; both are
+    /// shared with this value.
     #[tactic(auto, unfolding(crate::specs::Gives::given))]
     pub fn give(&self, alloc: Global) -> Result<List<Given>, WantOfMemory>
         ensures value { IfOk result (λ list. map plain_given list ≡ given self.now) }
-        // No suffix stands twice among what an entry gives.
+        // No two operations of an entry have the same suffix.
         ensures once { has_twice same_hash (suffixes_given (given self.now)) ≡ false }
     {
         match &self.core {

@@ -7,22 +7,22 @@ use crate::part::Part;
 use st_indexfiles::{CoreIndex, ProvisionalIndex};
 use st_params::Params;
 
-/// What the files of an entry are read by: the count of operations that the entry declares, and the
-/// limits at its height.
+/// The context of an entry's files: the count of operations that the entry declares, and the limits
+/// at its height.
 #[derive(Clone, Copy, Debug)]
 pub struct Context {
     pub count: u32,
     pub params: Params,
 }
 
-/// The signed texts of a core proof file, opened.
+/// The opened signed texts of a core proof file.
 #[derive(Drop)]
 pub struct OpenedCore {
     pub recovers: Proofs,
     pub deactivates: Proofs,
 }
 
-/// A core index file, and what is known of the files that it names.
+/// A core index file, and what is known about the files that it names.
 #[derive(Drop)]
 pub struct CoreBranch {
     pub says: CoreIndex,
@@ -30,7 +30,7 @@ pub struct CoreBranch {
     pub provisional: Part<ProvisionalBranch>,
 }
 
-/// A provisional index file, and what is known of the files that it names.
+/// A provisional index file, and what is known about the files that it names.
 #[derive(Drop)]
 pub struct ProvisionalBranch {
     pub says: ProvisionalIndex,
@@ -39,7 +39,7 @@ pub struct ProvisionalBranch {
 }
 
 impl CoreBranch {
-    /// A core index, before the files that it names are looked for.
+    /// A core index, before the files that it names are looked up.
     pub fn new(says: CoreIndex) -> CoreBranch
         ensures { result ≡ core_branch says }
     {
@@ -54,7 +54,7 @@ impl CoreBranch {
 }
 
 impl ProvisionalBranch {
-    /// A provisional index, before the files that it names are looked for.
+    /// A provisional index, before the files that it names are looked up.
     pub fn new(says: ProvisionalIndex) -> ProvisionalBranch
         ensures { result ≡ provisional_branch says }
     {

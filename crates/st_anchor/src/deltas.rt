@@ -4,11 +4,11 @@ use st_base::{Copied, List, WantOfMemory};
 use st_canon::PackedJson;
 use std::alloc::Global;
 
-/// The deltas of a chunk file. They are kept once, in little memory, and shared with the operations that
-/// are given.
+/// The deltas of a chunk file. They are stored once, in compact form, and shared with the
+/// operations that are given.
 pub type Deltas = List<PackedJson>;
 
-/// The delta in this place, where there is one.
+/// The delta at this place, if there is one.
 pub fn delta_at(
     alloc: Global,
     deltas: &[PackedJson],

@@ -3,7 +3,7 @@ use st_hash::Hash;
 use st_ops::Operation;
 use std::alloc::Global;
 
-/// An operation that an entry gives, and the suffix of the identifier that it is for.
+/// An operation of an entry, and the suffix of its identifier.
 #[derive(Drop)]
 pub struct Given {
     pub suffix: Hash,

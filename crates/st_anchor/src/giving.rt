@@ -16,7 +16,7 @@ use st_jws::Signed;
 use st_ops::Operation;
 use std::alloc::Global;
 
-// The kinds of operations that are signed.
+// The kinds of signed operations.
 #[derive(Clone, Copy)]
 enum Kind {
     Update,
@@ -24,7 +24,7 @@ enum Kind {
     Deactivate,
 }
 
-/// What a core index gives, with the files below it.
+/// The operations of a core index, with the files below it.
 pub fn give_below(alloc: Global, branch: &CoreBranch) -> Result<List<Given>, WantOfMemory>
     ensures { IfOk result (λ list. map plain_given list ≡ map with_suffix (operations_below branch.now)) }
 {
@@ -38,7 +38,7 @@ pub fn give_below(alloc: Global, branch: &CoreBranch) -> Result<List<Given>, Wan
     Ok(list)
 }
 
-// The deltas of the chunk file, or none where it wasn't read.
+// The deltas of the chunk file, or none if it wasn't read.
 fn deltas_below(provisional: &Part<ProvisionalBranch>) -> &[PackedJson]
     ensures { result.now ≡ deltas_below provisional.now }
 {
@@ -84,7 +84,7 @@ fn create_of(
     })
 }
 
-// The recovers and the deactivates, where the core proof file was read.
+// The recovers and the deactivates, if the core proof file was read.
 fn give_proved(
     alloc: Global,
     core: &CoreIndex,
@@ -119,7 +119,7 @@ fn give_proved(
     Ok(())
 }
 
-// The updates, where the provisional index file and its proof file were read.
+// The updates, if the provisional index file and its proof file were read.
 fn give_updates(
     alloc: Global,
     provisional: &Part<ProvisionalBranch>,
@@ -141,7 +141,7 @@ fn give_updates(
     }
 }
 
-// Operations of one kind, each with the proof and the delta in its place.
+// Operations of one kind, each with the proof and the delta at its place.
 fn give_signed(
     alloc: Global,
     kind: Kind,

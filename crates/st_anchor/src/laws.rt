@@ -1,8 +1,8 @@
 ghost use Rattle.st_anchor.specs.EntryLaws.{AllIsKnown, DecidesOne, GivesOnce, LeavesKnown, MayBeRead, OpensFew};
 
-/// What holds of entries, whatever files have come and in whatever order. So a `Bound` that was made
-/// from an entry's text, and for which no missing file is in the content, is what the content makes of
-/// the entry: it has its verdicts, and gives what it gives.
+/// Laws of entries, for any files received in any order: a `Bound` made from an entry's text, with
+/// no missing file in the content, has the verdicts and the operations that the content gives the
+/// entry.
 pub fn entry_laws()
     ensures may_be_read { MayBeRead }
     ensures all_is_known { AllIsKnown }

@@ -1,6 +1,5 @@
-//! What is known of an entry of the ledger, by its text and by the files that have come (DIF Sidetree
-//! v1.0.0, "File Structures"), how it stands with the roles of its files, and which operations it
-//! gives.
+//! What is known about an entry of the ledger, from its text and the files received (DIF Sidetree
+//! v1.0.0, "File Structures"), the states of its files' roles, and the operations it gives.
 #![tactic(auto)]
 
 mod binding;

@@ -9,8 +9,8 @@ use st_jws::{Signed, SignedRefused, open_signed};
 use std::alloc::Global;
 use std::marker::Model;
 
-/// The signed texts of one kind in a proof file, each opened where that could be. They are kept once,
-/// and shared with the operations that are given. Contracts see the list of proofs.
+/// The signed texts of one kind in a proof file, each opened if possible. They are stored once, and
+/// shared with the operations that are given. Contracts see the list of proofs.
 #[derive(Drop)]
 pub struct Proofs {
     items: List<Option<Shared<Signed>>>,
@@ -29,7 +29,7 @@ impl Model for Proofs {
 }
 
 impl Proofs {
-    /// The proofs that signed texts of at most `limit` bytes are. Each text counts as one proof.
+    /// The proofs of signed texts of at most `limit` bytes. Each text counts as one proof.
     pub fn open(
         alloc: Global,
         texts: &[KeptText],
@@ -44,7 +44,7 @@ impl Proofs {
         Ok(Proofs { items })
     }
 
-    /// The proof in this place, where there is one and its text could be opened.
+    /// The proof at this place, if there is one and its text could be opened.
     pub fn at(&self, alloc: Global, at: usize) -> Result<Option<Shared<Signed>>, WantOfMemory>
         ensures { IfOk result (λ proof. option_map plain_proof proof ≡ option_and_then (λ proof. proof) (slice_get self.now at)) }
     {

@@ -6,21 +6,22 @@ use crate::role_state::RoleState;
 use crate::rule::Rule;
 use st_hash::Hash;
 
-/// What is known of one role of an entry. `Is` has what the file says, and what is known below it.
+/// What is known about one role of an entry. `Is` has the content of the file, and what is known
+/// below it.
 #[derive(Drop)]
 pub enum Part<T> {
-    /// No file is asked for.
+    /// No file is needed.
     Unneeded,
-    /// The file of this URI hasn't come.
+    /// The file of this URI hasn't been received.
     Missing(Hash),
-    /// The file, or for the core the entry's text, fails this rule first.
+    /// The first rule that the file fails; for the core role also one that the entry's text fails.
     Rejected(Rule),
     /// The file was read.
     Is(T),
 }
 
 impl<T> Part<T> {
-    /// The part of a file that may be named, and wasn't looked for yet.
+    /// The part of a file that may be named, before it is looked up.
     pub fn named(uri: Option<Hash>) -> Part<T>
         ensures { result ≡ named uri }
     {
@@ -30,7 +31,7 @@ impl<T> Part<T> {
         }
     }
 
-    /// How it stands with the role.
+    /// The state of the role.
     pub fn state(&self) -> RoleState
         ensures { result ≡ state self.now }
     {

@@ -16,7 +16,7 @@ use st_datafiles::{CoreProofs, read_chunk, read_core_proof, read_provisional_pro
 use st_indexfiles::{CoreIndex, ProvisionalIndex, read_core, read_provisional};
 use std::alloc::Global;
 
-/// What the bytes of a core index file make of their role.
+/// The core role's part from the bytes of its file.
 pub fn core_part(
     alloc: Global,
     bytes: &[u8],
@@ -33,7 +33,7 @@ pub fn core_part(
     }
 }
 
-/// What a core proof file makes of its role, under a core index.
+/// The core proof role's part from its file, given a core index.
 pub fn core_proof_part(
     alloc: Global,
     file: &Shared<Bytes>,
@@ -75,7 +75,7 @@ fn open_core(
     })
 }
 
-/// What the bytes of a provisional index file make of their role, under a core index.
+/// The provisional role's part from the bytes of its file, given a core index.
 pub fn provisional_part(
     alloc: Global,
     bytes: &[u8],
@@ -93,7 +93,7 @@ pub fn provisional_part(
     }
 }
 
-/// What a provisional proof file makes of its role, under a provisional index.
+/// The provisional proof role's part from its file, given a provisional index.
 pub fn provisional_proof_part(
     alloc: Global,
     file: &Shared<Bytes>,
@@ -121,7 +121,7 @@ pub fn provisional_proof_part(
     }
 }
 
-/// What a chunk file makes of its role, under both index files.
+/// The chunk role's part from its file, given both index files.
 pub fn chunk_part(
     alloc: Global,
     file: &Shared<Bytes>,
@@ -134,7 +134,7 @@ pub fn chunk_part(
     ensures value { IfOk result (λ part. part ≡ chunk_in context.now core.now provisional.now file.now) }
     ensures counted { work.new ≡ one_file work.old }
 {
-    // Their sum is at most the declared count: the prover sees here that it fits.
+    // Their sum is at most the declared count, so it fits; the prover sees that here.
     let _count = context.count;
     let wanted = core.creates.len() + core.recovers.len() + provisional.updates.len();
     match read_chunk(alloc, file, wanted, &context.params, work) {

@@ -3,14 +3,14 @@ use st_base::{Copied, WantOfMemory};
 use st_hash::Hash;
 use std::alloc::Global;
 
-/// How it stands with one role of an entry.
+/// The state of one role of an entry.
 #[derive(Clone, Copy, Debug, PartialEq, Eq)]
 pub enum RoleState {
-    /// No file is asked for.
+    /// No file is needed.
     Unneeded,
-    /// The file of this URI hasn't come.
+    /// The file of this URI hasn't been received.
     Missing(Hash),
-    /// The file, or for the core the entry's text, fails this rule first.
+    /// The first rule that the file fails; for the core role also one that the entry's text fails.
     Rejected(Rule),
     /// The file was read.
     Read,

@@ -30,7 +30,7 @@ impl Copied for Rule {
 impl Rule {
     ghost use Rattle.st_anchor.specs.RuleNames.{rule_name};
 
-    /// The name of the rule: a letter for what it judges, and its number, as `C3`.
+    /// The name of the rule: a letter for the kind of file, and its number, as `C3`.
     #[tactic(auto, unfolding(crate::specs::RuleNames::rule_name))]
     pub fn name(&self) -> &'static str
         ensures { result.now ≡ rule_name self.now }

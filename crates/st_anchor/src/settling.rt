@@ -20,9 +20,9 @@ const ROLES: [Role; 5] = [
 ];
 
 impl Bound {
-    /// Reads what the content has of the files that are missing, role after role, until none of those
-    /// that are missing is there. Each role that is newly decided counts as one file, and each signed
-    /// text of a proof file that is newly read as one proof.
+    /// Reads the missing files that the content has, role after role, until it has none of them.
+    /// Each newly decided role counts as one file, and each signed text of a newly read proof file
+    /// as one proof.
     pub fn settle(
         self,
         alloc: Global,
@@ -41,7 +41,7 @@ impl Bound {
     }
 }
 
-// The first role whose missing file has come, and the file.
+// The first role whose missing file is in the content, and the file.
 fn next_there<'a>(bound: &Bound, content: &'a Content) -> Option<(Role, &'a Shared<Bytes>)>
     ensures found { IfSome result (λ next. HasCome content.now bound.now next.0 next.1.now) }
     ensures not_found { IfNone result (NoneHasCome content.now bound.now) }
@@ -54,7 +54,7 @@ fn next_there<'a>(bound: &Bound, content: &'a Content) -> Option<(Role, &'a Shar
     None
 }
 
-// The missing file of a role, where it has come.
+// The missing file of a role, if the content has it.
 fn file_for<'a>(bound: &Bound, content: &'a Content, role: Role) -> Option<&'a Shared<Bytes>>
     ensures found { IfSome result (λ file. HasCome content.now bound.now role file.now) }
     ensures not_found { IfNone result (MissesNone content.now bound.now role) }

@@ -1,5 +1,5 @@
--- Chases: walks that go on, as long as something is wanted, to the first item behind the place that was
--- reached that passes a test for it. Both walks of resolution are chases.
+-- Chases: walks that continue, as long as something is wanted, to the first item after the current place that passes
+-- a test for it. Both walks of resolution are chases.
 use Rattle.std.proofs.Common.{◌≡◌, ◌∙◌, sym, ap, ℕ, ◌<◌, ◌≤◌, refl, arith, List, [], ◌∷◌, ◌++◌, length, Bool, true, false, cond, add-one}
 use Rattle.std.specs.Prelude.{Option, Some, None, find, nat_lt, ◌&&◌, unwrap_or, option_and_then}
 use Rattle.std.specs.List.{AllByRecursion}
@@ -33,7 +33,7 @@ module _ {Here Wanted Item : Type 0} (place : Item → ℕ) (at : Here → ℕ)
     item ← find (later here wanted) items
     gives here item
 
-  -- and its parts
+  -- its parts
   next_some : (items : List Item) (here there : Here) {P : Type 0} → next items here ≡ Some there
       → ((wanted : Wanted) (item : Item) → wants here ≡ Some wanted → find (later here wanted) items ≡ Some item → gives here item ≡ Some there → P) → P
   next_some items here there is then =
@@ -43,7 +43,7 @@ module _ {Here Wanted Item : Type 0} (place : Item → ℕ) (at : Here → ℕ)
 
   -- an item is reached at its place
   module _ (at_is : (here : Here) (item : Item) (there : Here) → gives here item ≡ Some there → at there ≡ place item) where
-    -- each step leaves fewer items behind
+    -- each step leaves fewer items ahead
     pub nearer : (items : List Item) (here there : Here) → next items here ≡ Some there → behind place items (at there) < behind place items (at here)
     nearer items here there is = next_some items here there is
         (λ wanted item want first given.
@@ -54,7 +54,7 @@ module _ {Here Wanted Item : Type 0} (place : Item → ℕ) (at : Here → ℕ)
     ends : (items : List Item) (here : Here) → next items (walk (next items) (length items) here) ≡ None
     ends items here = walk_ends (next items) (λ here. behind place items (at here)) (nearer items) (length items) here (behind_within place items (at here))
 
-    -- one more item, at a place behind all others
+    -- one more item, at a place after all others
     module _ (given : (here : Here) (wanted : Wanted) (item : Item) → passes wanted item ≡ true → gives here item ≡ None → ⊥)
         (items : List Item) (item : Item) (last : AllByRecursion (λ earlier. place earlier < place item) items) where
       stops : (here : Here) → at here ≡ place item → next (items ++ item ∷ []) here ≡ None
@@ -66,7 +66,7 @@ module _ {Here Wanted Item : Type 0} (place : Item → ℕ) (at : Here → ℕ)
                 (each-weaker (λ earlier. place earlier < place item) (λ other. place other ≤ place item) (λ earlier before. omega arith) items last) (omega arith, tt))))
           ]
 
-      -- from the item itself a walk goes nowhere
+      -- a walk from the item itself stays there
       pub stays_there : (turns : ℕ) (here : Here) → at here ≡ place item → walk (next (items ++ item ∷ [])) turns here ≡ here
       stays_there turns here is = walk_stays (next (items ++ item ∷ [])) turns here (stops here is)
 
@@ -91,7 +91,7 @@ module _ {Here Wanted Item : Type 0} (place : Item → ℕ) (at : Here → ℕ)
           let is_new = only_new _ item found (sym (find_new (later here wanted) items item (none_first here wanted want none)) ∙ first) in
           stops there (at_is here found there given ∙ ap place is_new))
 
-      -- among the others a walk stays before the item
+      -- a walk among the others stays before the item
       pub before : (here : Here) → at here < place item → at (walk (next items) (length items) here) < place item
       before here less = walk_keeps (next items) (λ here. at here < place item)
           (λ here there is _. next_some items here there is
@@ -110,7 +110,7 @@ module _ {Here Wanted Item : Type 0} (place : Item → ℕ) (at : Here → ℕ)
                 ∙ and_then_cond (gives here) (passes wanted item) item
           ]) refl
 
-      -- a walk goes as far as among the others, and from there to the item where that passes
+      -- a walk goes as far as among the others, and from there to the item if that passes
       pub goes_on : (here : Here) → at here < place item
           → walk (next (items ++ item ∷ [])) (length (items ++ item ∷ [])) here
           ≡ (let there = walk (next items) (length items) here in

@@ -13,12 +13,12 @@ use Rattle.st_apply.proofs.OneMoreLemmas.{full_nearer, update_nearer, one_more}
 use Rattle.st_apply.proofs.PlaceLemmas.{behind, behind_within}
 use Rattle.st_apply.proofs.WalkLemmas.{walk_leads}
 
--- what holds of each item of a list holds of one in its middle
+-- a property of each item of a list is one of an item in its middle
 each_at : {X : Type 0} (P : X → Type 0) (done : List X) (x : X) (more : List X) → AllByRecursion P (done ++ x ∷ more) → P x
 each_at P [] x more each = each.0
 each_at P (y ∷ done) x more each = each_at P done x more each.1
 
--- what stands before an item of a list in ascending places stands at an earlier place
+-- items before another in a list with ascending places have earlier places
 pub places_before : {X : Type 0} (place : X → ℕ) (done : List X) (item : X) (more : List X) → PlacesAscend place (done ++ item ∷ more)
     → AllByRecursion (λ earlier. place earlier < place item) done
 places_before place [] item more ascend = tt
@@ -26,7 +26,7 @@ places_before place (x ∷ done) item more ascend =
     (each_at (λ later. place x < place later) done item more ascend.0, places_before place done item more ascend.1)
 
 module _ {Hash Document Item : Type 0} (rules : Rules Hash Document) (place : Item → ℕ) (seen : Item → Seen Hash Document) where
-  -- the steps go on from what the items before resolve to
+  -- the steps continue from the resolution of the earlier items
   pub goes_on : (done more : List Item) → PlacesAscend place (done ++ more)
       → folded_steps rules seen (resolve rules place seen done) more ≡ resolve rules place seen (done ++ more)
   goes_on done [] ascend = ap (resolve rules place seen) (sym (append-nil done))
@@ -41,7 +41,7 @@ module _ {Hash Document Item : Type 0} (rules : Rules Hash Document) (place : It
       → folded_steps rules seen absent items ≡ resolve rules place seen items
   fold_is_walk items ascend = goes_on [] items ascend
 
-  -- what is deactivated stays so
+  -- a deactivated state stays so
   pub stays_deactivated : (done more : List Item) → PlacesAscend place (done ++ more)
       → resolve rules place seen done ≡ deactivated → resolve rules place seen (done ++ more) ≡ deactivated
   stays_deactivated done more ascend is =
@@ -49,7 +49,7 @@ module _ {Hash Document Item : Type 0} (rules : Rules Hash Document) (place : It
       ∙ ap (λ state. folded_steps rules seen state more) is
       ∙ fold_stays (λ state item. step rules state (seen item)) deactivated (λ item. refl) more
 
-  -- the walks end where there is no next
+  -- the walks end because there is no next
   pub walks_lead : (items : List Item) → WalksLead rules place seen items
   walks_lead items = record {
     full = λ create.
@@ -72,11 +72,11 @@ seen_alike rules place seen place' seen' items others ascend ascend' alike =
     ∙ fold-map (step rules) seen' absent others
     ∙ fold_is_walk rules place' seen' others ascend'
 
--- ---- what entries give
+-- ---- items given by entries
 
 module _ {Entry Item : Type 0} (give : ℕ → Entry → Option Item) (place : Item → ℕ)
     (at : (number : ℕ) (entry : Entry) (item : Item) → give number entry ≡ Some item → place item ≡ number) where
-  -- stands at the numbers of the entries or later,
+  -- are at the numbers of the entries or later,
   not_before : (number : ℕ) (entries : List Entry) → AllByRecursion (λ item. number ≤ place item) (given_from give number entries)
   not_before number [] = tt
   not_before number (entry ∷ entries) =

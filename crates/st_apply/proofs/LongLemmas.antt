@@ -13,12 +13,12 @@ use Rattle.st_hash.specs.Hash.{HashValue, hash_of_with, same_hash}
 use Rattle.st_params.specs.Limits.{Limits}
 use Rattle.st_apply.specs.Counting.{counted}
 
--- what is refused gives nothing, whatever else is asked of it
+-- a refusal gives nothing, with any other test
 refused : (same : Bool) (said : Result PlainDelta DeltaRefused) → said ≡ Err TooLong → (if same then result_ok said else None) ≡ None
 refused true said is = ap result_ok is
 refused false said is = refl
 
--- whose size, as far as it is counted, is past the bound
+-- its size, as far as it is counted, is above the bound
 pub long_counts_not : (limits : Limits) (delta_hash : HashValue) (delta : Plain) (size : ℕ)
     → size ≡ min (size_of delta) (2 ^ 64 - 1) → limits.max_delta < size → counted limits delta_hash (Some delta) ≡ None
 long_counts_not limits delta_hash delta size is more =

@@ -1,4 +1,4 @@
--- Resolution of one more item, at a place behind all others, is one more step.
+-- Resolution of one more item, at a place after all others, is one more step.
 use Rattle.std.proofs.Common.{◌≡◌, ◌∙◌, sym, ap, subst, ℕ, ◌<◌, refl, List, [], ◌∷◌, ◌++◌, length, Bool, true, false, cond}
 use Rattle.std.specs.Prelude.{Option, Some, None, unwrap_or, option_and_then, option_map}
 use Rattle.std.specs.Option.{option_map_or}
@@ -67,7 +67,7 @@ module _ {Hash Document Item : Type 0} (rules : Rules Hash Document) (place : It
   abbrev update : Reached Hash Document → Item → Option (Reached Hash Document)
   update = updated_by rules place seen
 
-  -- what an update at this item leaves, where it changes this
+  -- the result of an update at this item, if it has this change
   abbrev updated : Reached Hash Document → Item → Option (Change Hash Document) → Option (Reached Hash Document)
   updated here item change =
       option_map (λ change. record { place = place item; update = Some change.update; document = changed here.document change }) change
@@ -88,7 +88,7 @@ module _ {Hash Document Item : Type 0} (rules : Rules Hash Document) (place : It
       → behind place items there.place < behind place items here.place
   update_nearer items = chase.nearer place at commits is_update update update_at items
 
-  -- ---- the state behind an operation is that behind what it begins
+  -- ---- the state after an operation is that after its start
 
   abbrev behind_beginning : List Item → ℕ → Option (Beginning Hash Document) → State Hash Document
   behind_beginning items from beginning = option_map_or (begun_behind rules place seen items from) beginning deactivated
@@ -101,7 +101,7 @@ module _ {Hash Document Item : Type 0} (rules : Rules Hash Document) (place : It
   by_beginning items from (updates reveal change) = refl
   by_beginning items from unclaimed = refl
 
-  -- ---- one more item, at a place behind all others
+  -- ---- one more item, at a place after all others
 
   module _ (items : List Item) (item : Item) where
     abbrev longer : List Item
@@ -132,7 +132,7 @@ module _ {Hash Document Item : Type 0} (rules : Rules Hash Document) (place : It
           unwrap_or (option_and_then (λ commitment. cond (is_update commitment item) (update there item) None) there.update) there)
       update_goes from change before = chase.goes_on place at commits is_update update update_at update_given items item last (before_updates rules from change) before
 
-      -- what it leaves behind the last recover or deactivate, where it is not for that,
+      -- its result after the last recover or deactivate, if it is not for that,
       update_more : (recovery : Hash) (here : Reached Hash Document) → is_full_for rules recovery (seen item) ≡ false
           → ending recovery (unwrap_or (option_and_then (λ commitment. cond (is_update commitment item) (update here item) None) here.update) here)
           ≡ step rules (ending recovery here) (seen item)
@@ -149,7 +149,7 @@ module _ {Hash Document Item : Type 0} (rules : Rules Hash Document) (place : It
                 ]) refl
           ]) refl
 
-      -- what it begins itself,
+      -- its result if it starts a new state,
       begun_there : resolved_by rules place seen longer item ≡ option_map_or (begun rules) (begins item) deactivated
       begun_there =
           by_beginning longer (place item) (seen item)

@@ -1,4 +1,4 @@
--- What anchored operations resolve to, for the crates that keep their state.
+-- The resolution of anchored operations, for the crates that store their state.
 use Rattle.std.proofs.Common.{◌≡◌, ℕ, ◌<◌, false, List, [], ◌∷◌, ◌++◌}
 use Rattle.std.specs.Prelude.{Option}
 use Rattle.std.specs.List.{AllByRecursion}
@@ -23,13 +23,13 @@ unfolding applied
 idle_leaves limits state operation idle = leaves_it sidetree state (seen_at limits operation) idle
 
 module _ (schedule : Option ℕ) where
-  -- one more operation, at a place behind all others, is one more step
+  -- one more operation, at a place after all others, is one more step
   pub resolved_push : (operations : List Anchored) (last : Anchored) → AllByRecursion (λ earlier. earlier.place < last.place) operations
       → resolved schedule (operations ++ last ∷ []) ≡ applied (params_at schedule last.height) (resolved schedule operations) last.operation
   unfolding resolved applied
   resolved_push operations last behind = one_more sidetree place_of (seen_in schedule) operations last behind
 
-  -- one step for each operation, from an absent state on, leads to what they resolve to
+  -- one step for each operation, from an absent state on, equals their resolution
   pub resolved_fold : (operations : List Anchored) → PlacesAscend place_of operations
       → all_applied schedule absent operations ≡ resolved schedule operations
   unfolding resolved applied

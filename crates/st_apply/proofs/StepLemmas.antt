@@ -1,4 +1,4 @@
--- What a step does, by the tests that the walks of resolution make.
+-- The effect of a step, by the tests of the walks of resolution.
 use Rattle.std.proofs.Common.{◌≡◌, refl, arith, true, false}
 use Rattle.std.specs.Prelude.{Option, Some, None}
 use Rattle.std.specs.Option.{option_map_or}
@@ -22,7 +22,7 @@ module _ {Hash Document : Type 0} (rules : Rules Hash Document) where
   create_acts (updates reveal change) is = absurd (cc)
   create_acts unclaimed is = absurd (cc)
 
-  -- what is for the recovery commitment leaves what it begins, or is a deactivate
+  -- an operation for the recovery commitment starts a new state, or is a deactivate
   pub full_acts : (recovery : Hash) (update : Option Hash) (document : Document) (operation : Seen Hash Document)
       → is_full_for rules recovery operation ≡ true
       → option_map_or (begun rules) (beginning_of operation) deactivated ≡ step rules (active recovery update document) operation
@@ -32,7 +32,7 @@ module _ {Hash Document : Type 0} (rules : Rules Hash Document) where
   full_acts recovery update document (updates reveal change) is = absurd (cc)
   full_acts recovery update document unclaimed is = absurd (cc)
 
-  -- what is not leaves the state, where there is no update commitment,
+  -- another leaves the state unchanged, if there is no update commitment,
   pub none_acts : (recovery : Hash) (document : Document) (operation : Seen Hash Document)
       → is_full_for rules recovery operation ≡ false
       → active recovery None document ≡ step rules (active recovery None document) operation
@@ -42,13 +42,13 @@ module _ {Hash Document : Type 0} (rules : Rules Hash Document) where
   none_acts recovery document (updates reveal change) is = refl
   none_acts recovery document unclaimed is = refl
 
-  -- or where it is no update for the one that is there
+  -- or if it is not an update for that commitment
   pub other_leaves : (recovery commitment : Hash) (document : Document) (operation : Seen Hash Document)
       → is_full_for rules recovery operation ≡ false → is_update_for rules commitment operation ≡ false
       → active recovery (Some commitment) document ≡ step rules (active recovery (Some commitment) document) operation
   other_leaves recovery commitment document operation is fails = rw (is, fails) refl
 
-  -- an update for it has a delta that counts, and leaves what that says
+  -- an update for it has a delta that counts, and its result is that change
   pub record Updates (recovery commitment : Hash) (document : Document) (operation : Seen Hash Document) : Type 0 where
     pub change : Change Hash Document
     pub is : change_of operation ≡ Some change

@@ -1,4 +1,4 @@
--- Walks: what stays along them, where they end, and how a walk with one step more goes on.
+-- Walks: what they preserve, where they end, and a walk with one more step.
 use Rattle.std.proofs.Common.{◌≡◌, ◌∙◌, ap, ℕ, zero, suc, ◌<◌, ◌≤◌, refl, arith}
 use Rattle.std.specs.Prelude.{Option, Some, None, unwrap_or}
 use Rattle.std.specs.Option.{option_map_or}
@@ -6,12 +6,12 @@ use Rattle.st_apply.specs.Laws.{Leads, stays, goes}
 use Rattle.st_apply.specs.Resolution.{walk}
 
 module _ {Here : Type 0} (next : Here → Option Here) where
-  -- where there is no next, a walk stays
+  -- if there is no next, a walk stays
   pub walk_stays : (turns : ℕ) (here : Here) → next here ≡ None → walk next turns here ≡ here
   walk_stays zero here is = refl
   walk_stays (suc turns) here is = ap (λ o. option_map_or (walk next turns) o here) is
 
-  -- what each step keeps holds where a walk ends
+  -- a property that each step preserves holds at the end of a walk
   pub walk_keeps : (P : Here → Type 0) → ((here there : Here) → next here ≡ Some there → P here → P there)
       → (turns : ℕ) (here : Here) → P here → P (walk next turns here)
   walk_keeps P keeps zero here holds = holds
@@ -21,9 +21,9 @@ module _ {Here : Type 0} (next : Here → Option Here) where
         | Some there ↦ λ is. walk_keeps P keeps turns there (keeps here there is holds)
       ]) refl
 
-  -- a walk of which each step gets nearer to something
+  -- a walk each step of which gets nearer to something
   module _ (left : Here → ℕ) (nearer : (here there : Here) → next here ≡ Some there → left there < left here) where
-    -- ends within so many turns
+    -- ends within this many turns
     pub walk_ends : (turns : ℕ) (here : Here) → left here ≤ turns → next (walk next turns here) ≡ None
     walk_ends zero here few =
         (elim (next here) as (λ o. next here ≡ o → o ≡ None) [
@@ -37,7 +37,7 @@ module _ {Here : Type 0} (next : Here → Option Here) where
               walk_ends turns there (let less : left there < left here = nearer here there is in omega arith)
         ]) refl
 
-    -- and leads to where there is no next
+    -- and leads to an end without a next
     pub walk_leads : (turns : ℕ) (here : Here) → left here ≤ turns → Leads next here (walk next turns here)
     walk_leads zero here few = stays (walk_ends zero here few)
     walk_leads (suc turns) here few =
@@ -47,8 +47,8 @@ module _ {Here : Type 0} (next : Here → Option Here) where
               goes is (walk_leads turns there (let less : left there < left here = nearer here there is in omega arith))
         ]) refl
 
--- where a walk has all steps of another, and each step beyond those is its last, it goes as far as the
--- other, and then may go one step
+-- if a walk has all steps of another, and each further step is its last, it goes as far as the other, and then
+-- possibly one step
 pub walk_more : {Here : Type 0} (next next' : Here → Option Here)
     → ((here there : Here) → next here ≡ Some there → next' here ≡ Some there)
     → ((here there : Here) → next here ≡ None → next' here ≡ Some there → next' there ≡ None)

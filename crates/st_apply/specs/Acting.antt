@@ -1,5 +1,5 @@
 -- Which operations act on which state, after DIF Sidetree v1.0.0, "Operation Compilation"; the rules are this
--- project's own. Steps and searches ask by the same words.
+-- project's own. Steps and searches use the same tests.
 use Rattle.std.specs.Prelude.{Bool, true, false, not, ◌&&◌, ◌||◌, Option, Some, None}
 use Rattle.st_apply.specs.Seen.{Rules, Seen, creates, recovers, deactivates, updates, State, absent, active}
 
@@ -21,12 +21,12 @@ module _ {Hash Document : Type 0} (rules : Rules Hash Document) where
   is_full_for commitment (deactivates reveal) = rules.meets reveal commitment
   is_full_for commitment other = false
 
-  -- the reveal value meets the commitment, where there is one
+  -- the reveal value meets the commitment, if there is one
   abbrev pub meets_any : Option Hash → Hash → Bool
   meets_any (Some commitment) reveal = rules.meets reveal commitment
   meets_any None reveal = false
 
-  -- it is an update that has a claim, and whose reveal value meets the commitment, where there is one
+  -- it is an update that has a claim, and whose reveal value meets the commitment, if there is one
   abbrev pub reveals_update : Option Hash → Seen Hash Document → Bool
   reveals_update commitment (updates reveal change) = meets_any commitment reveal
   reveals_update commitment other = false
@@ -40,8 +40,8 @@ module _ {Hash Document : Type 0} (rules : Rules Hash Document) where
   reveals (active recovery update document) operation = is_full_for recovery operation || reveals_update update operation
   reveals state operation = false
 
-  -- It acts: where no create has acted, a create alone; afterwards what reveals its commitment, an update only
-  -- where its delta counts; and after a deactivate nothing.
+  -- It acts: before a create has acted, only a create; afterwards an operation that reveals its commitment, an update
+  -- only if its delta counts; and after a deactivate nothing.
   abbrev pub acts : State Hash Document → Seen Hash Document → Bool
   acts absent operation = is_create operation
   acts state operation = reveals state operation && not (has_bad_delta operation)

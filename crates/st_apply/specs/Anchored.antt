@@ -1,4 +1,4 @@
--- Operations at their places in the ledger, and what they resolve to.
+-- Operations at their places in the ledger, and their resolution.
 use Rattle.std.specs.Prelude.{◌≡◌, ℕ, ◌<◌, false, List, [], ◌∷◌, ◌++◌, fold, Option}
 use Rattle.std.specs.List.{AllByRecursion}
 use Rattle.st_doc.specs.Document.{PlainDocument}
@@ -12,7 +12,7 @@ use Rattle.st_apply.specs.Laws.{PlacesAscend}
 use Rattle.st_apply.specs.Resolution.{resolve}
 use Rattle.st_apply.specs.Seen.{Seen, State, absent}
 
--- an operation that is anchored: the number of its entry in the ledger, and the height of that
+-- an anchored operation: the number of its entry in the ledger, and the height of that
 pub record Anchored : Type 0 where
   pub place : ℕ
   pub height : ℕ
@@ -22,7 +22,7 @@ pub record Anchored : Type 0 where
 abbrev pub place_of : Anchored → ℕ
 place_of anchored = anchored.place
 
--- as it is seen at the limits of its height, by the schedule of limits
+-- the view of it at the limits of its height, by the schedule of limits
 abbrev pub seen_in : Option ℕ → Anchored → Seen HashValue PlainDocument
 seen_in schedule anchored = seen_at (params_at schedule anchored.height) anchored.operation
 
@@ -35,12 +35,12 @@ abbrev pub all_applied : Option ℕ → State HashValue PlainDocument → List A
 all_applied schedule state operations =
     fold (λ state anchored. applied (params_at schedule anchored.height) state anchored.operation) state operations
 
--- One step for each operation, in ascending places, leads to what they resolve to.
+-- One step for each operation, in ascending places, equals their resolution.
 abbrev pub StepsResolve : Type 0
 StepsResolve = (schedule : Option ℕ) (operations : List Anchored) → PlacesAscend place_of operations
     → all_applied schedule absent operations ≡ resolved schedule operations
 
--- One more operation, at a place behind all others, is one more step.
+-- One more operation, at a place after all others, is one more step.
 abbrev pub OneMoreStep : Type 0
 OneMoreStep = (schedule : Option ℕ) (operations : List Anchored) (last : Anchored)
     → AllByRecursion (λ earlier. earlier.place < last.place) operations

@@ -1,5 +1,4 @@
--- Which operations an active state awaits: a test of two hashes, before anything else of an operation is
--- looked at.
+-- Which operations an active state awaits: a test of two hashes, before any other part of an operation is read.
 use Rattle.std.specs.Prelude.{Bool, false, Option}
 use Rattle.st_hash.specs.Hash.{HashValue}
 use Rattle.st_ops.specs.Operation.{PlainOperation, creating, updating, recovering, deactivating}

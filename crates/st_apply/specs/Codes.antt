@@ -1,4 +1,4 @@
--- How the logic stores a state. Nothing that is said of states turns on it.
+-- How the logic stores a state. No statement about states depends on it.
 use Rattle.std.specs.Prelude.{◌≡◌, ℕ, List, Option, Some, None, refl}
 use Rattle.std.specs.Coded.{Coded, code_by, coded×, coded_list, coded_option, coded_ℕ}
 use Rattle.st_plain.specs.Plain.{Plain}
@@ -37,7 +37,7 @@ state_back absent = refl
 state_back (active recovery update document) = refl
 state_back deactivated = refl
 
--- how a state is stored: by its parts, where there are any
+-- how a state is stored: by its parts, if any
 abbrev pub state_code : Coded (State HashValue PlainDocument)
 state_code =
     code_by Parts

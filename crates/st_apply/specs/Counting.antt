@@ -1,5 +1,5 @@
--- Deltas that count, and what they change, after DIF Sidetree v1.0.0, "Operation Compilation"; the rules are
--- this project's own.
+-- Deltas that count, and their changes, after DIF Sidetree v1.0.0, "Operation Compilation"; the rules are this
+-- project's own.
 use Rattle.std.specs.Prelude.{IsTrue, Option, is_some, option_map}
 use Rattle.std.specs.Result.{result_ok}
 use Rattle.st_base.specs.Options.{◌>>=◌, ◌>>◌}
@@ -12,8 +12,8 @@ use Rattle.st_hash.specs.Hash.{HashValue, hash_of_with, same_hash}
 use Rattle.st_params.specs.Limits.{Limits}
 use Rattle.st_apply.specs.Seen.{Change}
 
--- The delta that counts for a delta hash at these limits: one is there, the hash of its canonical text,
--- by the algorithm of the delta hash, is that delta hash, and it is a delta.
+-- The delta that counts for a delta hash at these limits: it is present, the hash of its canonical text, by the
+-- algorithm of the delta hash, is that delta hash, and it is a delta.
 abbrev pub counted : Limits → HashValue → Option Plain → Option PlainDelta
 counted limits delta_hash there = do
   delta ← there
@@ -24,11 +24,11 @@ counted limits delta_hash there = do
 abbrev pub Counts : Limits → HashValue → Option Plain → Type 0
 Counts limits delta_hash there = IsTrue (is_some (counted limits delta_hash there))
 
--- what it changes: its update commitment, and the document after all its patches
+-- its change: its update commitment, and the document after all its patches
 abbrev pub change_by : Limits → PlainDelta → Change HashValue PlainDocument
 change_by limits delta =
     record { update = delta.update; patched = λ document. result_ok (patched limits 0 delta.patches document) }
 
--- what a delta changes, where it counts
+-- the change of a delta, if it counts
 abbrev pub counted_change : Limits → HashValue → Option Plain → Option (Change HashValue PlainDocument)
 counted_change limits delta_hash there = option_map (change_by limits) (counted limits delta_hash there)

@@ -1,4 +1,4 @@
--- What holds of resolution from nothing and of the steps, whatever the operations are.
+-- Laws of resolution from nothing and of the steps, for any operations.
 use Rattle.std.specs.Prelude.{◌≡◌, ℕ, ◌<◌, false, List, [], ◌∷◌, ◌++◌, map, Option, Some, None}
 use Rattle.std.specs.List.{AllByRecursion}
 use Rattle.st_apply.specs.Acting.{acts}
@@ -11,7 +11,7 @@ abbrev pub PlacesAscend : {Item : Type 0} → (Item → ℕ) → List Item → T
 PlacesAscend place [] = Unit {0}
 PlacesAscend place (item ∷ items) = AllByRecursion (λ later. place item < place later) items × PlacesAscend place items
 
--- From here one gets to the end by `next`, and there is no next behind it.
+-- `next` leads from the first to the second, and there is no next after it.
 pub data Leads {Here : Type 0} (next : Here → Option Here) : Here → Here → Type 0 where
   stays : {here : Here} → next here ≡ None → Leads next here here
   goes : {here there end : Here} → next here ≡ Some there → Leads next there end → Leads next here end
@@ -22,34 +22,33 @@ module _ {Hash Document Item : Type 0} (rules : Rules Hash Document) (place : It
   FoldIsWalk = (items : List Item) → PlacesAscend place items
       → folded_steps rules seen absent items ≡ resolve rules place seen items
 
-  -- The steps may go on from what the items before resolve to.
+  -- The steps may continue from the resolution of the earlier items.
   abbrev pub GoesOn : Type 0
   GoesOn = (done more : List Item) → PlacesAscend place (done ++ more)
       → folded_steps rules seen (resolve rules place seen done) more ≡ resolve rules place seen (done ++ more)
 
-  -- One more item, at a place behind all others, is one more step.
+  -- One more item, at a place after all others, is one more step.
   abbrev pub OneMore : Type 0
   OneMore = (items : List Item) (item : Item) → AllByRecursion (λ earlier. place earlier < place item) items
       → resolve rules place seen (items ++ item ∷ []) ≡ step rules (resolve rules place seen items) (seen item)
 
-  -- The walks end where there is no next, and not because their turns are over.
+  -- The walks end because there is no next, not because their turns are used up.
   pub record WalksLead (items : List Item) : Type 0 where
     pub full : (create : Item) → Leads (full_after rules place seen items) create (last_full rules place seen items create)
     pub update : (from : ℕ) (change : Option (Change Hash Document))
         → Leads (update_after rules place seen items) (before_updates rules from change) (last_update rules place seen items from change)
 
-  -- What resolves to deactivated does so with any items behind.
+  -- Items that resolve to deactivated do so with any items after them.
   abbrev pub StaysDeactivated : Type 0
   StaysDeactivated = (done more : List Item) → PlacesAscend place (done ++ more)
       → resolve rules place seen done ≡ deactivated → resolve rules place seen (done ++ more) ≡ deactivated
 
--- An operation that does not act leaves the state as it was.
+-- An operation that does not act leaves the state unchanged.
 abbrev pub LeavesIt : {Hash Document : Type 0} → Rules Hash Document → Type 0
 LeavesIt {Hash} {Document} rules = (state : State Hash Document) (operation : Seen Hash Document)
     → acts rules state operation ≡ false → step rules state operation ≡ state
 
--- Items in ascending places that are seen alike resolve alike, whatever else they are and wherever they
--- stand.
+-- Items in ascending places that are seen alike resolve alike, whatever else differs, their places included.
 abbrev pub SeenAlike : {Hash Document Item Other : Type 0} → Rules Hash Document
     → (Item → ℕ) → (Item → Seen Hash Document) → (Other → ℕ) → (Other → Seen Hash Document) → Type 0
 SeenAlike {Hash} {Document} {Item} {Other} rules place seen place' seen' = (items : List Item) (others : List Other)

@@ -1,4 +1,4 @@
--- What a `DidState` holds, and what it is opened to, as states.
+-- The state that a `DidState` represents, and its parts, as states.
 use Rattle.std.specs.Prelude.{Some}
 use Rattle.st_doc.specs.Document.{PlainDocument, plain_document}
 use Rattle.st_hash.specs.Hash.{HashValue}
@@ -12,7 +12,7 @@ use Rattle.st_apply.specs.declared.state.Active.{Active as ActiveParts}
 use Rattle.st_apply.specs.declared.state.Kept.{Kept}
 use Rattle.st_apply.specs.declared.state.Kept.TheVariants.{Absent, Begun, Active, Deactivated}
 
--- what a create or a recover begins, whether its delta was looked at or not
+-- the result of a create or a recover, whether its delta was read or not
 abbrev pub shown_begun : BegunParts → State HashValue PlainDocument
 shown_begun parts = begun sidetree (beginning_at parts.params parts.recovery parts.delta_hash parts.delta)
 
@@ -24,14 +24,14 @@ shown_active parts = active parts.recovery parts.update parts.document
 abbrev pub shown_updated : Change HashValue PlainDocument → ActiveParts → State HashValue PlainDocument
 shown_updated change parts = active parts.recovery (Some change.update) (changed parts.document change)
 
--- what is kept, as a state
+-- the stored form, as a state
 abbrev pub shown : Kept → State HashValue PlainDocument
 shown Absent = absent
 shown (Begun parts) = shown_begun parts
 shown (Active parts) = shown_active parts
 shown Deactivated = deactivated
 
--- what a state is opened to, as a state
+-- opened parts, as a state
 abbrev pub opened : StateParts → State HashValue PlainDocument
 opened parts.Absent = absent
 opened (parts.Active recovery update document) = active recovery update (plain_document document)

@@ -21,15 +21,15 @@ use st_ops::{Claim, Operation, claim_of};
 use st_params::Params;
 use std::alloc::Global;
 
-/// The state that an operation leaves at these limits, by one step of resolution, after DIF Sidetree
-/// v1.0.0, "Operation Compilation"; the rules are this project's own. It counts as one operation applied,
-/// also where memory is wanting. Where no step has looked at the delta of the create or the recover before
-/// it, that is looked at under the same count.
+/// The state after an operation at these limits, by one step of resolution, after DIF Sidetree
+/// v1.0.0, "Operation Compilation"; the rules are this project's own. It counts as one operation
+/// applied, also if it runs out of memory. If no step has read the delta of the previous create or
+/// recover, this call reads it under the same count.
 ///
-/// Where no create has acted, a create alone acts. After it a recover or a deactivate acts whose reveal
-/// value meets the recovery commitment, and an update whose reveal value meets the update commitment
-/// and whose delta counts; each of the three only where it has a claim at these limits. After a
-/// deactivate nothing acts. An operation that does not act leaves the state as it was.
+/// Before a create has acted, only a create acts. After it, a recover or a deactivate acts if its
+/// reveal value meets the recovery commitment, and an update if its reveal value meets the update
+/// commitment and its delta counts; each of the three only if it has a claim at these limits. After
+/// a deactivate nothing acts. An operation that does not act leaves the state unchanged.
 #[tactic(auto, unfolding(crate::specs::Applied::applied))]
 pub fn apply(
     alloc: Global,
@@ -56,7 +56,7 @@ pub fn apply(
     }
 }
 
-// What an operation leaves where no create has acted.
+// The state after an operation, if no create has acted.
 fn on_absent(
     alloc: Global,
     operation: &Operation,
@@ -76,8 +76,8 @@ fn on_absent(
     }
 }
 
-// What an operation leaves of what a create or a recover began. None is one that does not act, where that
-// is known without a look at the delta.
+// The state after an operation on the result of a create or a recover. `None` if the operation does
+// not act and this is known without reading the delta.
 fn on_begun(
     alloc: Global,
     begun: &Begun,
@@ -97,7 +97,7 @@ fn on_begun(
     }
 }
 
-// What an operation leaves of an active state. None is one that does not act.
+// The state after an operation on an active state; `None` if it does not act.
 #[tactic(auto, using(crate::proofs::AwaitingLemmas::unawaited_leaves))]
 fn on_active(
     alloc: Global,
@@ -131,7 +131,7 @@ fn is_awaited(active: &Active, operation: &Operation) -> bool
     }
 }
 
-// What an operation that an active state awaits leaves of it, with this claim. None is one that does not
+// The state after an operation that an active state awaits, with this claim; `None` if it does not
 // act.
 fn act(
     alloc: Global,
@@ -170,7 +170,7 @@ fn act(
     }
 }
 
-// What an update leaves whose delta counts.
+// The state after an update whose delta counts.
 fn updated(
     alloc: Global,
     active: &Active,
@@ -188,7 +188,7 @@ fn updated(
     }))
 }
 
-// What a create or a recover leaves, by its recovery commitment, its delta hash and its delta.
+// The state after a create or a recover, by its recovery commitment, its delta hash and its delta.
 fn begin(
     alloc: Global,
     params: &Params,

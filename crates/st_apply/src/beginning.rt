@@ -9,7 +9,7 @@ use st_hash::Hash;
 use st_params::Params;
 use std::alloc::Global;
 
-/// What a create or a recover begins, at the limits of its height. Its delta has not been looked at.
+/// The result of a create or a recover, at the limits of its height, before its delta is read.
 #[derive(Drop)]
 pub(crate) struct Begun {
     pub(crate) params: Params,
@@ -22,7 +22,7 @@ impl Begun {
     ghost use Rattle.std.specs.Prelude.{◌≡◌, IfOk};
     ghost use Rattle.st_apply.specs.Shown.{shown_active, shown_begun};
 
-    /// The same with its delta looked at.
+    /// The same after its delta is read.
     pub(crate) fn settled(&self, alloc: Global) -> Result<Active, WantOfMemory>
         ensures { IfOk result (λ active. shown_active active ≡ shown_begun self.now) }
     {
@@ -42,7 +42,7 @@ impl Begun {
 }
 
 impl Copied for Begun {
-    /// One owner more of the same delta.
+    /// Another reference to the same delta.
     fn copy(&self, alloc: Global) -> Result<Begun, WantOfMemory> {
         Ok(Begun {
             params: self.params,
@@ -53,7 +53,7 @@ impl Copied for Begun {
     }
 }
 
-/// One owner more of a delta, where there is one.
+/// Another reference to the delta, if any.
 pub(crate) fn copy_delta(
     alloc: Global,
     delta: &Option<PackedJson>,

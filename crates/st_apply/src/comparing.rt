@@ -15,8 +15,8 @@ impl DidState {
     ghost use Rattle.std.specs.Prelude.{◌≡◌, ◌↔◌, IfOk, IsTrue};
     ghost use Rattle.st_apply.specs.Shown.{opened};
 
-    /// Whether this is what it holds. A delta that no step has looked at yet is looked at for this. That was
-    /// counted when the create or the recover was applied, and is not counted again.
+    /// Whether the state has these parts. A delta that no step has read yet is read for this. That
+    /// was counted when the create or the recover was applied, and is not counted again.
     pub fn holds(&self, alloc: Global, parts: &StateParts) -> Result<bool, WantOfMemory>
         ensures { IfOk result (λ same. IsTrue same ↔ (self.now ≡ opened parts.now)) }
     {
@@ -25,7 +25,7 @@ impl DidState {
     }
 }
 
-// Whether two states are the same, by what they hold.
+// Whether two states have the same parts.
 fn same_parts(first: &StateParts, second: &StateParts) -> bool
     ensures { IsTrue result ↔ (opened first.now ≡ opened second.now) }
 {

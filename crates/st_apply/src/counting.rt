@@ -20,7 +20,7 @@ use st_params::Params;
 use st_scan::Scanned;
 use std::alloc::Global;
 
-// The delta, where it counts for the delta hash.
+// The delta, if it counts for the delta hash.
 pub(crate) fn counted_delta(
     alloc: Global,
     params: &Params,
@@ -40,8 +40,9 @@ pub(crate) fn counted_delta(
     read(alloc, params, delta)
 }
 
-/// Whether the delta counts for the delta hash: one is there, its hash is the delta hash, and it is a delta at
-/// these limits. That is after DIF Sidetree v1.0.0, "Operation Compilation"; the rules are this project's own.
+/// Whether the delta counts for the delta hash: it is present, its hash is the delta hash, and it
+/// is a delta at these limits. This is after DIF Sidetree v1.0.0, "Operation Compilation"; the
+/// rules are this project's own.
 pub fn counts_for(
     alloc: Global,
     params: &Params,
@@ -60,7 +61,7 @@ pub fn counts_for(
     is_one(alloc, params, delta)
 }
 
-// Whether the delta is no longer than one may be and has this delta hash, so that it counts where it is one.
+// Whether the delta is short enough and has this delta hash, so that it counts if it is a delta.
 fn may_count(
     alloc: Global,
     params: &Params,
@@ -71,7 +72,7 @@ fn may_count(
     ensures yes { IfOk result (λ may. may ≡ true → counted params.now delta_hash.now (Some delta.now) ≡ result_ok (delta_of params.now delta.now)) }
     ensures proper { IfOk result (λ may. may ≡ true → IsProper delta.now) }
 {
-    // Its text is there, so one that is too long is neither hashed nor read.
+    // The text is available, so one that is too long is neither hashed nor read.
     if delta.size() > params.max_delta() {
         return Ok(false);
     }
@@ -92,7 +93,7 @@ fn is_one(alloc: Global, params: &Params, delta: &PackedJson) -> Result<bool, Wa
     Ok(read.is_some())
 }
 
-// The delta that it is.
+// The value as a delta, if it is one.
 fn read(alloc: Global, params: &Params, delta: &PackedJson) -> Result<Option<Delta>, WantOfMemory>
     ensures { IfOk result (λ found. option_map plain_delta found ≡ result_ok (delta_of params.now delta.now)) }
 {
@@ -131,7 +132,7 @@ fn hash_of_delta(alloc: Global, delta: &PackedJson, code: u8) -> Result<Hash, Wa
     Ok(hash_with(text.as_slice(), code))
 }
 
-// The document after all patches of the delta, or as it was where one of them fails.
+// The document after all patches of the delta, or unchanged if one of them fails.
 pub(crate) fn changed_document(
     alloc: Global,
     params: &Params,
@@ -147,7 +148,7 @@ pub(crate) fn changed_document(
     }
 }
 
-// The same of the document without entries.
+// The same for the empty document.
 pub(crate) fn begun_document(
     alloc: Global,
     params: &Params,

@@ -7,14 +7,14 @@ use st_doc::Document;
 use std::alloc::Global;
 use std::marker::Model;
 
-/// The document of a state, which states share: a copy costs nothing but a count. It is kept in its parts,
-/// since it may well be updated again, until the state is packed. Contracts see the document.
+/// The document of a state, shared between states: a copy only adds to a count. It stays a tree
+/// until the state is packed, since it may be updated again soon. Contracts see the document.
 #[derive(Drop)]
 pub(crate) struct KeptDocument {
     form: DocumentForm,
 }
 
-// What is kept of a document: its JSON, packed, or its parts.
+// The stored form of a document: its packed JSON, or its parts.
 #[derive(Drop)]
 pub(crate) enum DocumentForm {
     Packed(PackedJson),
@@ -41,7 +41,7 @@ impl KeptDocument {
         KeptDocument::share(alloc, Document::empty(alloc))
     }
 
-    /// The document in little memory.
+    /// The document in compact form.
     pub fn pack(alloc: Global, document: Document) -> Result<KeptDocument, WantOfMemory>
         ensures { IfOk result (λ kept. kept ≡ plain_document document) }
     {
@@ -52,7 +52,7 @@ impl KeptDocument {
         })
     }
 
-    /// The document in its parts.
+    /// The document as a tree.
     pub(crate) fn share(alloc: Global, document: Document) -> Result<KeptDocument, WantOfMemory>
         ensures { IfOk result (λ kept. kept ≡ plain_document document) }
     {
@@ -73,7 +73,7 @@ impl KeptDocument {
         }
     }
 
-    /// The document, to be looked at. One that is packed is read, one in its parts is shared.
+    /// The document, for reading. A packed one is read, a tree is shared.
     pub fn open(&self, alloc: Global) -> Result<Shared<Document>, WantOfMemory>
         ensures { IfOk result (λ document. plain_document document ≡ self.now) }
     {
@@ -83,7 +83,7 @@ impl KeptDocument {
         }
     }
 
-    /// The document, to be changed: it shares nothing.
+    /// The document, for changing: it shares nothing.
     pub(crate) fn unpack(&self, alloc: Global) -> Result<Document, WantOfMemory>
         ensures { IfOk result (λ document. plain_document document ≡ self.now) }
     {
@@ -95,7 +95,7 @@ impl KeptDocument {
 }
 
 impl Copied for KeptDocument {
-    /// One owner more of the same document.
+    /// Another reference to the same document.
     fn copy(&self, alloc: Global) -> Result<KeptDocument, WantOfMemory> {
         match &self.form {
             DocumentForm::Packed(json) => Ok(KeptDocument {

@@ -4,9 +4,9 @@ ghost use Rattle.st_apply.specs.Laws.{FoldIsWalk, GoesOn, LeavesIt, OneMore, See
 ghost use Rattle.st_apply.specs.Numbered.{GivenAscend};
 ghost use Rattle.st_apply.specs.Seen.{Rules, Seen};
 
-/// One step for each operation, in the order of their places, is resolution from nothing, which follows
-/// the commitments; and what goes with that. `H`, `D` and `I` are hashes, documents and operations of
-/// any type.
+/// Resolution from nothing, which follows the commitments, equals one step for each operation in
+/// the order of their places; with related laws. `H`, `D` and `I` are hashes, documents and
+/// operations of any type.
 pub fn resolution_laws<H, D, I>()
     ensures fold_is_walk { (rules : Rules H D) (place : I → ℕ) (seen : I → Seen H D)
         → FoldIsWalk rules place seen }
@@ -21,19 +21,20 @@ pub fn resolution_laws<H, D, I>()
     ensures leaves_it { (rules : Rules H D) → LeavesIt rules }
 {}
 
-/// Operations that are seen alike resolve alike, also operations of two types and at other places.
+/// Operations that are seen alike resolve alike, also for two types and at different places.
 pub fn alike_law<H, D, I, J>()
     ensures { (rules : Rules H D) (place : I → ℕ) (seen : I → Seen H D) (place' : J → ℕ) (seen' : J → Seen H D)
         → SeenAlike rules place seen place' seen' }
 {}
 
-/// What entries give stands in ascending places: at most one item an entry, at the entry's number.
+/// The items given by entries have ascending places: at most one item per entry, at the entry's
+/// number.
 pub fn given_law<E, I>()
     ensures { GivenAscend E I }
 {}
 
-/// Of anchored operations in ascending places, one `apply` for each, from `DidState::absent` on and at
-/// the limits of their heights, leads to what they resolve to. So one more operation behind all others
+/// Resolving anchored operations in ascending places equals one `apply` for each, from
+/// `DidState::absent` on and at the limits of their heights. So one more operation after all others
 /// is one more `apply`, and one that does not act changes nothing.
 pub fn anchored_law()
     ensures steps { StepsResolve }

@@ -1,5 +1,5 @@
-//! The state of an identifier, the step by which an operation changes it, and the law that one step for
-//! each operation, in the order of the ledger, is resolution from nothing.
+//! The state of an identifier, the step by which an operation changes it, and the law that one step
+//! for each operation, in the order of the ledger, equals resolution from nothing.
 #![tactic(auto)]
 
 mod applying;

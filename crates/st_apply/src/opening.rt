@@ -17,7 +17,7 @@ use st_ops::Operation;
 use st_params::Params;
 use std::alloc::Global;
 
-/// What a state holds.
+/// The parts of a state.
 #[derive(Drop)]
 pub enum StateParts {
     /// No create has acted.
@@ -26,7 +26,7 @@ pub enum StateParts {
     Active {
         /// The commitment to the key of the next recover or deactivate.
         recovery: Hash,
-        /// The commitment to the key of the next update, where there is one.
+        /// The commitment to the key of the next update, if there is one.
         update: Option<Hash>,
         /// The document.
         document: Shared<Document>,
@@ -36,7 +36,7 @@ pub enum StateParts {
 }
 
 impl Copied for StateParts {
-    /// The same parts, with one owner more of the document.
+    /// The same parts, with another reference to the document.
     fn copy(&self, alloc: Global) -> Result<StateParts, WantOfMemory> {
         match self {
             StateParts::Absent => Ok(StateParts::Absent),
@@ -60,19 +60,20 @@ impl DidState {
     ghost use Rattle.st_apply.specs.Shown.{opened};
     ghost use Rattle.st_base.specs.Work.{AppliesAtMost};
 
-    /// What it holds. A document that is packed is read for this. Where the last operation that acted is a
-    /// create or a recover, no step may have looked at its delta yet. It is looked at then, each time, and
-    /// that counts as one operation applied, also where memory is wanting. Else nothing is counted.
+    /// The parts of the state. A packed document is read for this. If the last operation that acted
+    /// is a create or a recover, its delta may not have been read yet. Then each call reads it,
+    /// which counts as one operation applied, also if memory runs out. Otherwise nothing is
+    /// counted.
     pub fn open(&self, alloc: Global, work: &mut Work) -> Result<StateParts, WantOfMemory>
         ensures parts { IfOk result (λ parts. opened parts ≡ self.now) }
         ensures work { AppliesAtMost 1 work.old work.new }
 
-        // Nothing is counted of a state that has no document.
+        // Nothing is counted for a state that has no document.
         ensures idle { is_active self.now ≡ false → work.new ≡ work.old }
     {
         match &self.kept {
             Kept::Absent => Ok(StateParts::Absent),
-            // Without a delta there is nothing to look at.
+            // Without a delta nothing must be read.
             Kept::Begun(begun) if begun.delta.is_none() => self.look(alloc),
             Kept::Begun(begun) => open_begun(alloc, begun, work),
             Kept::Active(active) => open_active(alloc, active),
@@ -80,7 +81,7 @@ impl DidState {
         }
     }
 
-    // The same where nothing is to be counted for it.
+    // The same, if nothing is to be counted for it.
     pub(crate) fn look(&self, alloc: Global) -> Result<StateParts, WantOfMemory>
         ensures { IfOk result (λ parts. opened parts ≡ self.now) }
     {
@@ -93,8 +94,8 @@ impl DidState {
     }
 }
 
-/// What the state holds that a create makes of none: what `apply` makes of `DidState::absent`, opened.
-/// Together that counts as one operation applied, also where memory is wanting.
+/// The parts of the state after a create from nothing: the result of `apply` on `DidState::absent`,
+/// opened. Together that counts as one operation applied, also if memory runs out.
 #[tactic(auto, unfolding(crate::specs::Applied::applied))]
 pub fn open_created(
     alloc: Global,
@@ -115,8 +116,8 @@ pub fn open_created(
     open_begun(alloc, &begun, work)
 }
 
-/// What `apply` leaves of a state, and what that holds. Together that counts as one operation applied, also
-/// where memory is wanting. The delta of a create or a recover is looked at once for both.
+/// The result of `apply` on a state, and its parts. Together that counts as one operation applied,
+/// also if memory runs out. The delta of a create or a recover is read once for both.
 pub fn open_applied(
     alloc: Global,
     state: &DidState,
@@ -132,7 +133,7 @@ pub fn open_applied(
     settled(alloc, next)
 }
 
-// The state with its delta looked at, and what it holds.
+// The state after its delta is read, and its parts.
 fn settled(alloc: Global, state: DidState) -> Result<(DidState, StateParts), WantOfMemory>
     ensures state { IfOk result (λ made. made.0 ≡ state) }
     ensures parts { IfOk result (λ made. opened made.1 ≡ made.0) }
@@ -154,7 +155,7 @@ fn open_settled(alloc: Global, active: Active) -> Result<(DidState, StateParts),
     Ok((DidState::active(active), parts))
 }
 
-// What a create or a recover began. Its delta is looked at, which counts.
+// The parts after a create or a recover. Its delta is read, which counts.
 fn open_begun(alloc: Global, begun: &Begun, work: &mut Work) -> Result<StateParts, WantOfMemory>
     ensures parts { IfOk result (λ parts. opened parts ≡ shown_begun begun.now) }
     ensures work { work.new ≡ one_apply work.old }

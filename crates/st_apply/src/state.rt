@@ -5,10 +5,11 @@ use st_hash::Hash;
 use std::alloc::Global;
 use std::marker::Model;
 
-/// The state of an identifier. It comes from `absent`, `apply`, `pack` and `copy` alone. The delta of a
-/// create or a recover is not looked at before the state is opened or the next operation comes, since most
-/// identifiers are created and never asked for. Contracts see the state as `absent`, as `active` with a
-/// recovery commitment, an update commitment where there is one, and a document, or as `deactivated`.
+/// The state of an identifier. It is made only by `absent`, `apply`, `pack` and `copy`. The delta
+/// of a create or a recover is not read before the state is opened or the next operation is
+/// applied, since most identifiers are created and never requested. Contracts see the state as
+/// `absent`, as `active` with a recovery commitment, an update commitment, if there is one, and a
+/// document, or as `deactivated`.
 #[derive(Drop)]
 pub struct DidState {
     pub(crate) kept: Kept,
@@ -22,8 +23,7 @@ pub(crate) enum Kept {
     Deactivated,
 }
 
-// What is known once a delta was looked at. States that share the document are copied at the cost of a
-// count.
+// What is known after a delta was read. States share the document, so a copy only adds to a count.
 #[derive(Drop)]
 pub(crate) struct Active {
     pub(crate) recovery: Hash,
@@ -82,8 +82,8 @@ impl DidState {
         }
     }
 
-    /// The same state with its document packed: it takes less memory, and to open the document is to read
-    /// it.
+    /// The same state with its document packed: it takes less memory, and opening the document
+    /// means reading it.
     pub fn pack(&self, alloc: Global) -> Result<DidState, WantOfMemory>
         ensures { IfOk result (λ state. state ≡ self.now) }
     {
@@ -101,7 +101,7 @@ impl DidState {
 }
 
 impl Copied for DidState {
-    /// One owner more of the same document. It takes little memory, if any.
+    /// Another reference to the same document. It takes little memory, if any.
     fn copy(&self, alloc: Global) -> Result<DidState, WantOfMemory> {
         match &self.kept {
             Kept::Absent => Ok(DidState::absent()),

@@ -22,13 +22,13 @@ is_zero true is = absurd (false≢true (sym is))
 is_zero false is = omega arith
 
 module _ {X : Type 0} (p q : X → Bool) (along : (x : X) → q x ≡ true → p x ≡ true) where
-  -- where all that passes q passes p, at most as many pass q
+  -- if every x that passes q passes p, at most as many pass q
   pub count_by-le : (xs : List X) → count_by q xs ≤ count_by p xs
   count_by-le [] = omega arith
   count_by-le (x ∷ xs) =
       omega (arith, sum_by-cons (λ x. cond (q x) 1 0) x xs, sum_by-cons (λ x. cond (p x) 1 0) x xs, one_le (p x) (q x) (along x), count_by-le xs)
 
-  -- and fewer, where some item passes p and not q
+  -- and fewer, if some item passes p and not q
   pub count_by-lt : (some : X → Bool) → ((x : X) → some x ≡ true → (p x ≡ true) × (q x ≡ false)) → (xs : List X) → list_any some xs ≡ true
       → count_by q xs + 1 ≤ count_by p xs
   count_by-lt some apart [] any = absurd (false≢true any)
@@ -37,7 +37,7 @@ module _ {X : Type 0} (p q : X → Bool) (along : (x : X) → q x ≡ true → p
     | inr later ↦ omega (arith, sum_by-cons (λ x. cond (q x) 1 0) x xs, sum_by-cons (λ x. cond (p x) 1 0) x xs, one_le (p x) (q x) (along x), count_by-lt some apart xs later)
   ]
 
--- a place up to which all pass a test and from which on none does is how many pass
+-- if all before a place pass a test and none from it on, the place is how many pass
 pub count_passing : {X : Type 0} (test : X → Bool) (xs : List X) (at : ℕ) → at ≤ length xs
     → AllWithin (λ x. test x ≡ true) xs 0 at → AllWithin (λ x. test x ≡ false) xs at (length xs) → at ≡ length (filter test xs)
 count_passing test [] at within front back = omega arith
@@ -49,6 +49,6 @@ count_passing test (x ∷ xs) (suc at) within front back =
     let rest = count_passing test xs at (omega arith) (λ k d low high. front (suc k) d (omega arith) (omega arith)) (λ k d low high. back (suc k) d (omega arith) (omega arith)) in
     rw here (ap suc rest)
 
--- what few operations bound, many do
+-- a bound of few operations is a bound of many
 pub applies-few : (few many : ℕ) {old new : Counts} → few ≤ many → AppliesAtMost few old new → AppliesAtMost many old new
 applies-few few many le bound = record { files = bound.files; proofs = bound.proofs; least = bound.least; applies = omega (arith, bound.applies) }

@@ -1,4 +1,4 @@
--- Texts that are cut at a separator, and lists that are cut at a place.
+-- Texts that are split at a separator, and lists that are split at a place.
 use Rattle.std.proofs.Common.{◌≡◌, ◌∙◌, ℕ, suc, ◌+◌, ◌==◌, nat_lt, ◌<◌, ◌≤◌, cond, not, Bool, true, false, Option, List, [], ◌∷◌, ◌++◌, length, take, drop, get_or, position, Some, None, option_map, sym, ap, subst, refl, add-one, drop-cons, length-append, arith}
 use Rattle.std.proofs.Math.Seq.{take-append_seam, drop-append-add}
 use Rattle.memchr.specs.Find.{IsFirstByte, Nowhere, Passes, is_byte}
@@ -17,7 +17,7 @@ first_place : (separator : ℕ) (text : List ℕ) (at : ℕ) → at ≤ length t
 first_place separator text at within before here =
     position_or_len_is (λ byte. byte == separator) text at 0 within (λ k below. false_from_ne_true _ (before k (omega arith) below)) here
 
--- what a search for the separator finds is its first place
+-- a search for the separator finds its first place
 pub found-position : (separator : ℕ) (text : List ℕ) (found : Option ℕ) → IsFirstByte (is_byte separator) text found
     → found ≡ position (λ byte. byte == separator) text
 found-position separator text None none =
@@ -29,7 +29,7 @@ found-position separator text (Some at) first =
     let within : nat_lt at (length text) ≡ true = grind (arith, nat_tests, first.0.high) in
     rw (place, within) refl
 
--- a text is what stands before its first separator, the separator, and what stands behind it
+-- a text is the bytes before its first separator, the separator, and the bytes after it
 pub around : (separator : ℕ) (text : List ℕ) (at : ℕ) → position (λ byte. byte == separator) text ≡ Some at
     → text ≡ take at text ++ separator ∷ drop (at + 1) text
 around separator text at found =
@@ -38,7 +38,7 @@ around separator text at found =
     let split : drop at text ≡ separator ∷ drop (suc at) text = drop-cons text at 0 facts.0 ∙ ap (λ byte. byte ∷ drop (suc at) text) is_separator in
     sym (take-append-drop at text) ∙ ap (λ behind. take at text ++ behind) split ∙ rw add-one refl
 
--- what stands before the first separator, or all where there is none, has none
+-- the bytes before the first separator, or all if there is none, have none
 has_none_before : (separator : ℕ) (text : List ℕ) → HasNo separator (take (position_or_len (λ byte. byte == separator) text) text)
 has_none_before separator [] = tt
 has_none_before separator (x ∷ xs) =
@@ -49,13 +49,13 @@ has_none_before separator (x ∷ xs) =
       | false ↦ λ is. rw one (is, has_none_before separator xs)
     ] refl
 
--- what is cut off has no separator
+-- the part before the first separator has none
 pub has_none-first : (separator : ℕ) (text : List ℕ) (at : ℕ) → position (λ byte. byte == separator) text ≡ Some at
     → HasNo separator (take at text)
 has_none-first separator text at found =
     subst (λ n. HasNo separator (take n text)) (cond_some _ _ at found).1 (has_none_before separator text)
 
--- a text that is not cut has none
+-- a text without a first separator has none
 pub has_none-whole : (separator : ℕ) (text : List ℕ) → position (λ byte. byte == separator) text ≡ None → HasNo separator text
 has_none-whole separator text none =
     let at = position_or_len (λ byte. byte == separator) text in
@@ -71,7 +71,7 @@ first_separator : (separator : ℕ) (before behind : List ℕ) → HasNo separat
 first_separator separator [] behind none = rw (eq-eqb separator separator refl) refl
 first_separator separator (x ∷ xs) behind none = rw (none.0, first_separator separator xs behind none.1) (omega arith)
 
--- a text is cut where its parts were joined
+-- a joined text is split at the joint
 pub cut_at-append : (separator : ℕ) (before behind : List ℕ) → HasNo separator before
     → cut_at separator (before ++ separator ∷ behind) ≡ Some (before, behind)
 cut_at-append separator before behind none =
@@ -83,12 +83,12 @@ cut_at-append separator before behind none =
     let cut : cut_at separator whole ≡ Some (take (length before) whole, drop (length before + 1) whole) = ap (option_map (λ at. (take at whole, drop (at + 1) whole))) found in
     cut ∙ rw (take-append_seam before (separator ∷ behind), drop-append-add before (separator ∷ behind) 1) refl
 
--- two ways to cut a list at one place are one
+-- two ways to split a list at one place are the same
 pub record SameCut {X : Type 0} (front back front' back' : List X) : Type 0 where
   pub front_is : front ≡ front'
   pub back_is : back ≡ back'
 
--- two cuts of one list whose second parts are equally long are one cut
+-- two splits of one list whose second parts have the same length are the same
 pub same_cut : {X : Type 0} (front back front' back' : List X) → front ++ back ≡ front' ++ back'
     → length back ≡ length back' → SameCut front back front' back'
 same_cut front back front' back' whole long =

@@ -2,6 +2,6 @@
 use Rattle.std.proofs.Common.{List, ◌++◌, Option, option_map}
 use Rattle.st_base.specs.Each.{each_of}
 
--- what was read, and behind it what the other items are read as, where each is
+-- the results so far, followed by those of the other items, if each is read
 abbrev pub after : {Item Read : Type 0} → (Item → Option Read) → List Read → List Item → Option (List Read)
 after read done others = option_map (λ more. done ++ more) (each_of read others)

@@ -2,7 +2,7 @@
 use Rattle.std.proofs.Common.{◌≡◌, ◌∙◌, ℕ, ◌+◌, ◌<◌, List, ◌∷◌, length, drop, get_or, ap, sym}
 use Rattle.std.proofs.lemmas.List.{drop_more}
 
--- what is left from a place on begins with what stands there
+-- the rest of a list from a place on starts with the item there
 pub next_item : {X : Type 0} (items : List X) (at : ℕ) (item : X) → at < length items → item ≡ get_or items at item
     → drop at items ≡ item ∷ drop (at + 1) items
 next_item items at item inside is =

@@ -6,6 +6,6 @@ use Rattle.std.specs.List.{filter_map, list_all}
 abbrev pub each_is : {Item Read : Type 0} → (Item → Option Read) → List Item → Bool
 each_is read items = list_all (λ item. is_some (read item)) items
 
--- what the items are read as, where each is read
+-- the results of reading the items, if each is read
 abbrev pub each_of : {Item Read : Type 0} → (Item → Option Read) → List Item → Option (List Read)
 each_of read items = if each_is read items then Some (filter_map read items) else None

@@ -1,4 +1,4 @@
--- The replies to lines: a word, what is told, and the line end.
+-- Replies to lines: a word, the content, and the line end.
 use Rattle.std.specs.Prelude.{ℕ, List, [], ◌∷◌, ◌++◌, codes}
 
 -- a reply: a word, the rest, and the line end

@@ -1,4 +1,4 @@
--- The words that a text is cut into, and the number that a word is.
+-- A text split into words, and the number in a word.
 use Rattle.std.specs.Prelude.{◌≡◌, ℕ, false, List, ◌==◌, ◌&&◌, ◌+◌, nat_le, take, drop, position, bytes_eq, if◌then◌else◌, Option, Some, None, option_map, unwrap_or}
 use Rattle.std.specs.Fmt.{decimal}
 use Rattle.std.specs.List.{AllByRecursion}
@@ -8,20 +8,20 @@ use Rattle.std.specs.Str.Parse.{digits_value}
 abbrev pub HasNo : ℕ → List ℕ → Type 0
 HasNo separator text = AllByRecursion (λ byte. (byte == separator) ≡ false) text
 
--- what stands before the first separator, and all that stands behind it
+-- the bytes before the first separator, and all bytes after it
 abbrev pub cut_at : ℕ → List ℕ → Option (List ℕ × List ℕ)
 cut_at separator text =
     option_map (λ at. (take at text, drop (at + 1) text)) (position (λ byte. byte == separator) text)
 
--- what stands before the first separator, or all of it where there is none
+-- the bytes before the first separator, or all if there is none
 abbrev pub first_word : ℕ → List ℕ → List ℕ
 first_word separator text = unwrap_or (option_map (λ words. words.0) (cut_at separator text)) text
 
--- what stands behind the first separator
+-- the bytes after the first separator
 abbrev pub other_words : ℕ → List ℕ → Option (List ℕ)
 other_words separator text = option_map (λ words. words.1) (cut_at separator text)
 
--- the number that has this decimal spelling, where it is at most `most`
+-- the number that has this decimal spelling, if it is at most `most`
 abbrev pub number_of : ℕ → List ℕ → Option ℕ
 number_of most text =
     let number = digits_value 10 text in

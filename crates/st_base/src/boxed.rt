@@ -3,7 +3,7 @@ use crate::want::WantOfMemory;
 use std::alloc::Global;
 use std::marker::Model;
 
-/// A value behind a pointer, so that moving it moves the pointer alone. Contracts see the value.
+/// A value on the heap, so that moving it moves only a pointer. Contracts see the value.
 #[derive(Drop)]
 pub struct Boxed<T> {
     inner: Box<T>,
@@ -20,7 +20,7 @@ impl<T> Model for Boxed<T> {
 impl<T: Drop> Boxed<T> {
     ghost use Rattle.std.specs.Prelude.{◌≡◌, IfOk};
 
-    /// Takes memory for the value, which is dropped where none can be had.
+    /// Allocates memory for the value, which is dropped if that fails.
     pub fn new(alloc: Global, value: T) -> Result<Boxed<T>, WantOfMemory>
         ensures { IfOk result (λ boxed. boxed ≡ value) }
     {
@@ -40,7 +40,7 @@ impl<T: Drop> Boxed<T> {
     ghost use Rattle.std.specs.Borrow.{sem};
     ghost use Rattle.st_base.specs.Lends.{lends_value};
 
-    /// The value, to be changed where it stands.
+    /// A mutable reference to the value in place.
     pub fn get_mut(&mut self) -> &mut T
         ensures* writes_back { sem 𝓛 (lends_value T.row self.entry result) }
         ensures value { result.now ≡ self.old }
@@ -58,7 +58,7 @@ impl<T: Drop> Boxed<T> {
 }
 
 impl<T: Copied + Drop> Copied for Boxed<T> {
-    /// A box of its own round a copy of the value.
+    /// A new box with a copy of the value.
     fn copy(&self, alloc: Global) -> Result<Boxed<T>, WantOfMemory> {
         let value = self.get().copy(alloc)?;
         Boxed::new(alloc, value)

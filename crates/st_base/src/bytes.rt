@@ -4,7 +4,7 @@ use crate::want::WantOfMemory;
 use std::alloc::Global;
 use std::marker::Model;
 
-/// Bytes in memory of their own. Contracts see them as their list.
+/// Bytes on the heap. Contracts see them as their list.
 #[derive(Debug, Drop)]
 pub struct Bytes {
     items: Vec<u8>,
@@ -19,7 +19,7 @@ impl Model for Bytes {
 }
 
 impl Bytes {
-    /// No bytes. It takes no memory yet.
+    /// No bytes. It allocates nothing.
     pub fn new(alloc: Global) -> Bytes
         ensures { result ≡ [] }
     {
@@ -28,7 +28,7 @@ impl Bytes {
         }
     }
 
-    /// No bytes yet, with memory for so many.
+    /// No bytes yet, with room for this many.
     pub fn with_room(alloc: Global, places: usize) -> Result<Bytes, WantOfMemory>
         ensures { IfOk result (λ bytes. bytes ≡ []) }
     {
@@ -44,14 +44,14 @@ impl Bytes {
         Ok(Bytes { items })
     }
 
-    /// Takes a vector over, without a copy.
+    /// Takes over a vector, without a copy.
     pub fn from_vec(items: Vec<u8>) -> Bytes
         ensures { result ≡ items.items }
     {
         Bytes { items }
     }
 
-    /// Gives the vector back, without a copy.
+    /// Returns the vector, without a copy.
     pub fn into_vec(self) -> Vec<u8>
         ensures { result.items ≡ self }
     {

@@ -6,7 +6,7 @@ use crate::text::Text;
 use crate::want::WantOfMemory;
 use std::alloc::Global;
 
-/// A value that can be copied; a copy may share what neither can change.
+/// A value that can be copied; a copy may share immutable parts.
 pub trait Copied: Drop {
     /// An equal value.
     fn copy(&self, alloc: Global) -> Result<Self, WantOfMemory>

@@ -3,8 +3,8 @@ ghost use Rattle.st_base.specs.Words.{HasNo, cut_at};
 
 use memchr::memchr;
 
-/// What stands before the first separator, and all that stands behind it. `None` comes exactly
-/// where there is no separator.
+/// The bytes before the first separator, and all bytes after it; `None` if and only if there is no
+/// separator.
 pub fn cut_at(text: &[u8], separator: u8) -> Option<(&[u8], &[u8])>
     ensures value { option_map (λ cut. (cut.0.now, cut.1.now)) result ≡ cut_at separator text.now }
     ensures whole { IfSome result (λ cut. text.now ≡ cut.0.now ++ separator ∷ cut.1.now) }

@@ -11,14 +11,14 @@ use crate::want::WantOfMemory;
 use std::alloc::Global;
 use std::marker::Model;
 
-/// A text in little memory: where it stands in a file that is kept, it shares that; else it is kept by
-/// itself. Contracts see its bytes, which are UTF-8.
+/// A text in compact form: part of a file in memory if the file has it, else by itself. Contracts
+/// see its bytes, which are UTF-8.
 #[derive(Drop)]
 pub struct KeptText {
     form: KeptForm,
 }
 
-// What is kept of a text: the text itself, or where it stands in a file.
+// The stored form: the text itself, or its place in a file.
 #[derive(Drop)]
 pub(crate) enum KeptForm {
     Own(Text),
@@ -37,7 +37,7 @@ impl Model for KeptText {
 }
 
 impl KeptText {
-    /// This text, kept by itself.
+    /// This text, stored by itself.
     pub fn new(text: Text) -> KeptText
         ensures { result ≡ text }
     {
@@ -46,8 +46,8 @@ impl KeptText {
         }
     }
 
-    /// This text. Where it stands in the file at this offset, in bytes, it is shared with the file;
-    /// elsewhere, an offset beyond the file's end included, a copy is kept by itself.
+    /// This text. If the file has it at this offset, in bytes, it is shared with the file;
+    /// otherwise, also for an offset beyond the file's end, a copy is stored by itself.
     pub fn within(
         alloc: Global,
         text: &str,
@@ -68,7 +68,7 @@ impl KeptText {
         bytes_of(&self.form)
     }
 
-    /// The text. Where it is shared, this looks at all of its bytes.
+    /// The text. If it is shared, this checks all of its bytes.
     pub fn as_str(&self) -> &str
         ensures { result.now ≡ self.now }
     {
@@ -77,7 +77,7 @@ impl KeptText {
 }
 
 impl Copied for KeptText {
-    /// An equal text. What is shared with a file goes on being shared.
+    /// An equal text, which shares the same file, if any.
     fn copy(&self, alloc: Global) -> Result<KeptText, WantOfMemory> {
         let form = copy_form(alloc, &self.form)?;
         Ok(KeptText { form })

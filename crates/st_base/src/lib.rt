@@ -1,7 +1,6 @@
-//! The plain values that every layer shares: lists, texts and bytes that contracts see as lists,
-//! values that several owners share or that stand in a box, texts and parts of files that are kept
-//! with them, the words and numbers that lines are cut into and the replies that are put together of
-//! them, want of memory and the refusals of files, copies, and counters of work.
+//! The values that every layer uses: lists, texts and bytes that contracts see as lists, shared and
+//! boxed values, texts and parts of shared files, the words and numbers of lines and the replies to
+//! them, out-of-memory errors, the refusals of files, copies, and counters of work.
 #![tactic(auto)]
 
 mod boxed;

@@ -4,7 +4,7 @@ use crate::want::WantOfMemory;
 use std::alloc::Global;
 use std::marker::Model;
 
-/// Items in memory of their own. Contracts see them as their list.
+/// Items on the heap. Contracts see them as their list.
 #[derive(Debug, Drop)]
 pub struct List<T> {
     items: Vec<T>,
@@ -22,7 +22,7 @@ impl<T> Model for List<T> {
 }
 
 impl<T> List<T> {
-    /// No items. It takes no memory yet.
+    /// No items. It allocates nothing.
     pub fn new(alloc: Global) -> List<T>
         ensures { result ≡ [] }
     {
@@ -31,14 +31,14 @@ impl<T> List<T> {
         }
     }
 
-    /// Takes a vector over, without a copy.
+    /// Takes over a vector, without a copy.
     pub fn from_vec(items: Vec<T>) -> List<T>
         ensures { result ≡ items.items }
     {
         List { items }
     }
 
-    /// Gives the vector back, without a copy.
+    /// Returns the vector, without a copy.
     pub fn into_vec(self) -> Vec<T>
         ensures { result.items ≡ self }
     {
@@ -56,7 +56,7 @@ impl<T> List<T> {
     ghost use Rattle.std.specs.Option.{option_copied, option_copied_mut};
     ghost use Rattle.st_base.specs.Lends.{lends_item};
 
-    /// The item at this place, to be changed. `None` comes exactly where there is none.
+    /// A mutable reference to the item at this place; `None` if and only if there is none.
     pub fn get_mut(&mut self, at: usize) -> Option<&mut T>
         ensures* writes_back { sem 𝓛 (lends_item T.row self.entry at result) }
         ensures item { option_copied_mut result ≡ slice_get self.old at }
@@ -64,7 +64,7 @@ impl<T> List<T> {
         self.items.get_mut(at)
     }
 
-    /// The item at this place. `None` comes exactly where there is none.
+    /// The item at this place; `None` if and only if there is none.
     pub fn get(&self, at: usize) -> Option<&T>
         ensures { option_copied result ≡ slice_get self.now at }
     {
@@ -78,7 +78,7 @@ impl<T> List<T> {
         self.items.len()
     }
 
-    /// Takes the item at this place out, and closes the list up.
+    /// Removes and returns the item at this place; later items move down by one.
     pub fn remove(&mut self, at: usize) -> T
         requires { at < length self.old }
         ensures item { slice_get self.old at ≡ Some result }
@@ -98,7 +98,7 @@ impl<T: Drop> List<T> {
         Ok(())
     }
 
-    /// Puts the item before the one at this place, or last where the place is the length.
+    /// Inserts the item before the one at this place, or last if the place is the length.
     pub fn insert(&mut self, _alloc: Global, at: usize, item: T) -> Result<(), WantOfMemory>
         requires { at ≤ length self.old }
         ensures ok { OnOk result (self.new ≡ insert self.old at item) }

@@ -4,10 +4,10 @@ ghost use Rattle.st_base.specs.Words.{number_of};
 
 use itoa::Buffer;
 
-/// The number whose decimal text this is, where it is at most `most`.
+/// The number with this decimal text, if it is at most `most`.
 ///
-/// `None` comes exactly where the text is that of no such number: a sign, a leading zero but for
-/// `0` itself, and any byte that is no digit make it that of none.
+/// `None` if and only if there is no such number: a sign, a leading zero except in `0` itself, and
+/// any byte that is no digit are refused.
 pub fn read_number(text: &[u8], most: u32) -> Option<u32>
     ensures value { result ≡ number_of most text.now }
     ensures spelled { IfSome result (λ number. (number ≤ most) × (text.now ≡ decimal number)) }
@@ -26,7 +26,7 @@ pub fn read_number(text: &[u8], most: u32) -> Option<u32>
     }
 }
 
-// The number in some decimal spelling.
+// The number, by a parser that also accepts other decimal spellings.
 fn parse(text: &[u8]) -> Option<u32>
     ensures { (number : ℕ) → number < 2 ^ 32 → text.now ≡ decimal number → result ≡ Some number }
 {

@@ -26,7 +26,7 @@ impl Model for Part {
 }
 
 impl Part {
-    /// The part of the file at this offset, in bytes, where that is this text.
+    /// The part of the file at this offset, in bytes, if that is this text.
     pub fn find(
         alloc: Global,
         file: &Shared<Bytes>,
@@ -59,7 +59,7 @@ impl Part {
 }
 
 impl Copied for Part {
-    /// One owner more of the same file.
+    /// Another reference to the same file.
     fn copy(&self, alloc: Global) -> Result<Part, WantOfMemory> {
         Ok(Part {
             file: self.file.copy(alloc)?,

@@ -7,7 +7,7 @@ use std::fmt;
 pub enum FileRefused<Rule> {
     /// The first rule that the file fails.
     Rejected(Rule),
-    /// Memory could not be had.
+    /// Out of memory.
     WantOfMemory,
 }
 

@@ -5,7 +5,7 @@ use crate::bytes::Bytes;
 use crate::want::WantOfMemory;
 use std::alloc::Global;
 
-/// A reply: a word, the rest, and the line end. Its memory is had at once.
+/// A reply: a word, the rest, and the line end. It is allocated once.
 pub fn reply(alloc: Global, word: &str, rest: &[u8]) -> Result<Bytes, WantOfMemory>
     ensures { IfOk result (λ text. text ≡ reply word.now rest.now) }
 {
@@ -17,7 +17,8 @@ pub fn reply(alloc: Global, word: &str, rest: &[u8]) -> Result<Bytes, WantOfMemo
     Ok(Bytes::from_vec(text))
 }
 
-/// Puts a space and the word behind the text. On want of memory the text may end with the space.
+/// Appends a space and the word to the text. If it runs out of memory, the text may end with the
+/// space.
 pub fn push_word(text: &mut Vec<u8>, word: &[u8]) -> Result<(), WantOfMemory>
     ensures { OnOk result (text.new.items ≡ text.old.items ++ (codes " " ++ word.now)) }
 {

@@ -4,7 +4,7 @@ use std::alloc::Global;
 use std::marker::Model;
 use std::rc::Rc;
 
-/// A value that several owners share: a copy costs nothing but a count. Contracts see it as the value.
+/// A value shared by several owners: a copy only adds to a count. Contracts see the value.
 #[derive(Drop)]
 pub struct Shared<T> {
     inner: Rc<T, Global>,
@@ -21,7 +21,7 @@ impl<T> Model for Shared<T> {
 impl<T: Drop> Shared<T> {
     ghost use Rattle.std.specs.Prelude.{◌≡◌, IfOk};
 
-    /// The first owner of the value.
+    /// The first reference to the value.
     pub fn new(alloc: Global, value: T) -> Result<Shared<T>, WantOfMemory>
         ensures { IfOk result (λ shared. shared ≡ value) }
     {
@@ -40,7 +40,7 @@ impl<T: Drop> Shared<T> {
 }
 
 impl<T: Drop> Copied for Shared<T> {
-    /// One owner more of the same value.
+    /// Another reference to the same value.
     fn copy(&self, _alloc: Global) -> Result<Shared<T>, WantOfMemory> {
         match self.inner.clone() {
             Ok(inner) => Ok(Shared { inner }),

@@ -4,7 +4,7 @@ use crate::want::WantOfMemory;
 use std::alloc::Global;
 use std::marker::Model;
 
-/// A text in memory of its own. Contracts see it as the list of its bytes in UTF-8.
+/// A text on the heap. Contracts see it as the list of its bytes in UTF-8.
 #[derive(Debug, Drop)]
 pub struct Text {
     text: String,
@@ -27,14 +27,14 @@ impl Text {
         Ok(Text { text })
     }
 
-    /// Takes a string over, without a copy.
+    /// Takes over a string, without a copy.
     pub fn from_string(text: String) -> Text
         ensures { result ≡ string_bytes text }
     {
         Text { text }
     }
 
-    /// Gives the string back, without a copy.
+    /// Returns the string, without a copy.
     pub fn into_string(self) -> String
         ensures { string_bytes result ≡ self }
     {

@@ -2,7 +2,7 @@ use std::alloc::{AllocError, AllocFailed};
 use std::error::Error;
 use std::fmt;
 
-/// Memory could not be had. What was to be changed is as it was before the call.
+/// Out of memory. The value to be changed is as it was before the call.
 #[derive(Clone, Copy, Debug, PartialEq, Eq)]
 pub struct WantOfMemory;
 

@@ -4,7 +4,8 @@ ghost use Rattle.st_base.specs.Words.{first_word, other_words};
 
 use crate::cut::cut_at;
 
-/// What stands before the first separator, or all of the text, and what stands behind the separator.
+/// The bytes before the first separator, or all of the text, and the bytes after the separator, if
+/// any.
 pub fn cut_word(text: &[u8], separator: u8) -> (&[u8], Option<&[u8]>)
     ensures first { result.0.now ≡ first_word separator text.now }
     ensures others { option_copied result.1 ≡ other_words separator text.now }

@@ -5,8 +5,8 @@ use std::marker::Model;
 
 /// How much work was done: files read, signed texts opened, operations applied.
 ///
-/// A count stays at `u64::MAX` once it is there. Only `main` and tests are handed the runtime that
-/// `new` asks for, so no library makes a counter of its own, and none can be copied.
+/// A count stays at `u64::MAX` after it gets there. `new` requires the runtime, which only `main`
+/// and tests have, so no library makes its own counter, and a counter can't be copied.
 #[derive(Debug, Drop)]
 pub struct Work {
     files: u64,

@@ -1,5 +1,5 @@
--- Entries of files are read as what they were written of, and are readable: creates, targets and signed
--- texts; and lists of them.
+-- Entries of files are read as their originals, and are readable: creates, targets and signed texts; and lists of
+-- them.
 use Rattle.std.proofs.Common.{◌≡◌, ℕ, true, List, [], ◌∷◌, codes, map, Option, Some, refl, ap, arith}
 use Rattle.std.specs.List.{AllByRecursion, filter_map}
 use Rattle.std.specs.Str.{IsUtf8}
@@ -17,7 +17,7 @@ use lib.Utf8.{encode}
 
 -- ---- lists of entries
 
--- this is read from what is written of it
+-- this is read from its written form
 abbrev pub IsAgain : {Item Said : Type 0} → (Item → Option Said) → (Said → Item) → Said → Type 0
 IsAgain read write said = read (write said) ≡ Some said
 
@@ -27,7 +27,7 @@ module _ {Item Said : Type 0} (read : Item → Option Said) (write : Said → It
   each_again [] all = refl
   each_again (one ∷ more) all = rw all.0 (each_again more all.1)
 
-  -- and they are read as what they were written of
+  -- and they are read as their originals
   pub all_again : (said : List Said) → AllByRecursion (IsAgain read write) said → filter_map read (map write said) ≡ said
   all_again [] all = refl
   all_again (one ∷ more) all = rw all.0 (ap (λ others. one ∷ others) (all_again more all.1))

@@ -1,4 +1,4 @@
--- The anchor string of a batch says its count and the URI of its core index file.
+-- The anchor string of a batch has its count and the URI of its core index file.
 use Rattle.std.proofs.Common.{◌≡◌, ◌∙◌, ℕ, ◌<◌, ◌≤◌, ◌^◌, true, nat_le, List, [], ◌∷◌, Some, None, option_and_then, option_map, refl, ap, arith}
 use Rattle.std.specs.Prelude.{is_none, if◌then◌else◌}
 use Rattle.std.specs.Fmt.{decimal}
@@ -21,7 +21,7 @@ use Rattle.st_params.specs.Limits.{Limits}
 use Rattle.st_batch.specs.BatchFiles.{anchor_text}
 use Rattle.st_batch.proofs.KnownRuleLemmas.{none_failing}
 
--- digits are no dot
+-- digits are not dots
 digits_no_dot : (digits : List ℕ) → AllDigits 10 digits → HasNo dot digits
 digits_no_dot [] all = tt
 digits_no_dot (digit ∷ digits) all =
@@ -56,7 +56,7 @@ module _ (limits : Limits) (count : ℕ) (core : HashValue) where
       λ i. option_and_then (λ found. option_map (λ uri. record { count = found; core = uri }) (named i)) (counted i) in
       λ i. anchor_judged limits (none i) (says i)
 
--- The text of a batch without operations is that of no entry.
+-- The text of a batch without operations is not that of an entry.
 pub none_known : (limits : Limits) (core : HashValue)
     → known_of_text limits (anchor_text 0 core) ≡ record { context = record { count = 0; params = limits }; core = Rejected (fails.Anchor A2) }
 unfolding known_of_text

@@ -1,4 +1,4 @@
--- What reading a request counts is what submitting it counts.
+-- The counts of reading a request are those of submitting it.
 use Rattle.std.proofs.Common.{◌≡◌, ◌⊎◌, inl, inr, Result, Ok, Err, sym, subst}
 use Rattle.st_base.specs.Answers.{GivesAs}
 use Rattle.st_base.specs.Work.{Counts, one_proof}
@@ -28,7 +28,7 @@ module _ (old new : Counts) where
   one_or_none (Err request.BadProof) h = inr h
   one_or_none (Err request.WantOfMemory) h = inl h
 
-  -- whatever comes of an operation that was read
+  -- for any outcome of an operation that was read
   pub counts_asking : {Found : Type 0} (asked : Result PlainOperation RequestRefused) (result : Result Found SubmitRefused) → CountsOpened asked old new
       → CountsAsking asked result old new
   counts_asking asked (Ok found) h = h

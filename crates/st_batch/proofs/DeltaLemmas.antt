@@ -1,5 +1,4 @@
--- What is known of a delta that counts: how deep it nests, and how long it is; and so of the right delta
--- of an operation.
+-- Properties of a delta that counts: its depth and its length; and so of the right delta of an operation.
 use Rattle.std.proofs.Common.{◌≡◌, ◌≤◌, Bool, true, false, if◌then◌else◌, Option, Some, None, arith}
 use Rattle.std.specs.Prelude.{is_some, IfSome}
 use Rattle.std.specs.Result.{result_ok}
@@ -31,7 +30,7 @@ counted_depth limits delta_hash None some = tt
 counted_depth limits delta_hash (Some delta) some = delta_depth limits delta
     (tested (same_hash (hash_of_with delta_hash.code (canonical delta)) delta_hash) (result_ok (delta_of limits delta)) some)
 
--- ---- and is no longer than a delta may be
+-- ---- and is at most as long as a delta may be
 
 pub counted_size : (limits : Limits) (delta_hash : HashValue) (there : Option Plain) → is_some (counted limits delta_hash there) ≡ true
     → IfSome there (λ delta. size_of delta ≤ limits.max_delta)
@@ -41,7 +40,7 @@ counted_size limits delta_hash (Some delta) some = delta_size limits delta
 
 -- ---- the right delta of an operation
 
--- what holds of each delta that counts holds of the delta of an operation that has its right one
+-- a property of each delta that counts is one of the right delta of an operation
 module _ (limits : Limits) (P : Plain → Type 0)
     (holds : (delta_hash : HashValue) (there : Option Plain) → is_some (counted limits delta_hash there) ≡ true → IfSome there P) where
   counts_holds : (operation : PlainOperation) (claim : Option Claim) → delta_counts limits operation claim ≡ true → IfSome (delta_there operation) P

@@ -1,4 +1,4 @@
--- How long the files of operations are, by the sums of their entries.
+-- The length of the files of operations, by the sums of their entries.
 use Rattle.std.proofs.Common.{◌≡◌, ◌≢◌, ◌∙◌, ℕ, ◌+◌, ◌≤◌, List, [], ◌∷◌, codes, length, map, Option, option_map, refl, ap, sym, arith}
 use Rattle.std.specs.List.{filter_map}
 use Rattle.std.proofs.lemmas.Bool.{ne_eqb}
@@ -30,14 +30,14 @@ use Rattle.st_batch.proofs.OperationSizeLemmas.{IsAnyBy, any_kind, any_with_core
 
 -- ---- parts of files
 
--- a URI under a bare name
+-- a URI with a name without escapes
 uri_weight : (name bytes : List ℕ) → IsBare name → member_weight name (hash_json (uri_of bytes)) ≡ length name + 52
 uri_weight name bytes bare = omega (arith, bare, hash_size (uri_of bytes) (uri_is_hash bytes))
 
 any_some : (entries size : ℕ) → 1 ≤ entries → where_any entries size ≡ size
 any_some entries size some = let other : entries ≢ 0 = omega (arith, some) in rw (ne_eqb entries 0 other) refl
 
--- the URI of a file that is there where there are operations
+-- the URI of a file that is there if there are operations
 uri_there : (operations : List PlainOperation) (entries : ℕ) (name said : List ℕ) → IsAnyBy operations entries → IsBare name
     → weight_there name (option_map hash_json (option_map uri_of (if_any operations said))) ≡ uri_size name entries
 uri_there [] entries name said any bare = rw any refl
@@ -47,7 +47,7 @@ list_of : (name : List ℕ) (entries : List Plain) (size : ℕ) → IsBare name 
     → weight_there name (some_list entries) ≡ member_size name size
 list_of name entries size bare is = list_there name entries bare ∙ ap (member_size name) is
 
--- how long a file is that is there where there are operations
+-- the length of a file that is there if there are operations
 there_long : (operations : List PlainOperation) (entries size : ℕ) (said : List ℕ) → IsAnyBy operations entries → length said ≡ size
     → bytes_there (if_any operations said) ≡ where_any entries size
 there_long [] entries size said any long = rw any refl
@@ -55,7 +55,7 @@ there_long (operation ∷ operations) entries size said any long = long ∙ sym 
 
 -- ---- files
 
--- what a core proof file says
+-- the content of a core proof file
 abbrev core_proof_text : Grouped → List ℕ
 core_proof_text groups = canonical (core_proof_json (record {
   recovers = filter_map signed_text_in groups.recovers;
@@ -69,7 +69,7 @@ index_members index = some_listed
     ∷ (codes "provisionalIndexFileUri", option_map hash_json index.provisional)
     ∷ (codes "operations", some_object (core_operations index)) ∷ [])
 
--- a proof file, by what stands in `operations`
+-- a proof file, by the members of `operations`
 proofs_long : (kinds : Members) → size_of (proof_json kinds) ≡ in_brackets (member_size (codes "operations") (weight kinds))
 unfolding escape
 proofs_long kinds =
@@ -167,7 +167,7 @@ module _ (operations : List PlainOperation) where
       ∷ (codes "operations", some_object (provisional_operations index)) ∷ [] in
       object_size (some_listed pairs) ∙ ap in_brackets (omega (arith, members, first, second, third))
 
-  -- how long the file of a role is, 0 where it is not there
+  -- the length of the file of a role, or 0 if there is none
   pub file_long : (role : Role) → bytes_there (file_in role groups) ≡ file_size role sizes
   unfolding core_proof_file provisional_file provisional_proof_file core_proof_size provisional_size provisional_proof_size chunk_size grouped
   file_long Core = core_long

@@ -1,4 +1,4 @@
--- What is flushed of a queue that is kept, and that what stays is kept.
+-- Flushing a stored queue, and that the remaining queue is stored correctly.
 use Rattle.std.proofs.Common.{◌≡◌, ◌∙◌, ℕ, zero, suc, ◌<◌, ◌≤◌, ◌^◌, List, [], ◌∷◌, length, map, drop, sym, ap, subst, arith}
 use Rattle.std.specs.Prelude.{min}
 use Rattle.std.specs.List.{IsDistinct}
@@ -24,7 +24,7 @@ use Rattle.st_batch.proofs.ThousandLemmas.{takes_a_thousand, takes_the_first}
 left_operations : (count : ℕ) (entries : List Entry) → operations_of (drop count entries) ≡ drop count (operations_of entries)
 left_operations count entries = sym (drop-map (λ entry. plain_operation entry.1) count entries)
 
--- what is left of entries that are kept is kept
+-- the rest of valid entries is valid
 pub kept_left : (count : ℕ) (entries : List Entry) → IsKept entries → IsKept (drop count entries)
 kept_left zero entries kept = kept
 kept_left (suc count) [] kept = kept
@@ -34,9 +34,9 @@ kept_left (suc count) (entry ∷ entries) kept = kept_left count entries (record
   queued = kept.queued.1;
 })
 
--- ---- what is flushed
+-- ---- flushing
 
--- what is known of entries at limits, of which at least one is there
+-- properties of entries at limits, at least one of which is there
 pub record MayFlush (limits : Limits) (entries : List Entry) : Type 0 where
   pub kept : IsKept entries
   pub some : 1 ≤ length entries
@@ -46,7 +46,7 @@ pub record MayFlush (limits : Limits) (entries : List Entry) : Type 0 where
 few_operations : (entries : List Entry) → IsKept entries → length (operations_of entries) < 2 ^ 64
 few_operations entries kept = omega (arith, kept.few, length_operations entries)
 
--- no more are taken than there are
+-- at most all are taken
 pub count_within : (limits : Limits) (entries : List Entry) → batch_count limits (operations_of entries) ≤ length entries
 count_within limits entries =
     let within = (batch_longest limits (operations_of entries)).within in
@@ -72,7 +72,7 @@ these_batched limits entries may =
     prefix_batched limits (operations_of entries) (different entries may.kept may.apart)
     (each-weaker IsQueued IsFormed (λ operation is. is.formed) (operations_of entries) may.kept.queued) (few_operations entries may.kept)
 
--- the batch of the queue is made, and the entries behind those that it takes are left
+-- the batch of the queue is made, and the entries after those that it takes remain
 pub flushed : (limits : Limits) (entries : List Entry) → MayFlush limits entries
     → {count : ℕ} {left : List Entry} {made : Batch} → count ≡ batch_count limits (operations_of entries) → left ≡ drop count entries
     → made ≡ batch_of limits (operations_of entries) → IsFlushed limits (operations_of entries) (operations_of left) made

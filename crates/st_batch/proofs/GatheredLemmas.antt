@@ -5,7 +5,7 @@ use Rattle.std.proofs.lemmas.List.{append-nil, map-append, take_more}
 use Rattle.std.proofs.lemmas.List.Elements.{filter_map-append}
 
 module _ {Item View Part : Type 0} (view : Item → View) (part : View → Option Part) where
-  -- the parts of the first items, so many
+  -- the parts of the first items
   abbrev pub parts_of_first : ℕ → List Item → List Part
   parts_of_first at items = filter_map part (map view (take at items))
 
@@ -28,20 +28,20 @@ module _ {Item View Part : Type 0} (view : Item → View) (part : View → Optio
   more_parts items at item found inside is e =
       one_more items at item inside is ∙ ap (λ more. parts_of_first at items ++ more) (of_one_some (view item) found e)
 
-  -- and one that has not gives none
+  -- and one without it gives none
   pub same_parts : (items : List Item) (at : ℕ) (item : Item) → at < length items → item ≡ get_or items at item
       → part (view item) ≡ None → parts_of_first (at + 1) items ≡ parts_of_first at items
   same_parts items at item inside is e =
       one_more items at item inside is
       ∙ (ap (λ more. parts_of_first at items ++ more) (of_one_none (view item) e) ∙ append-nil (parts_of_first at items))
 
--- the parts of three lists, one behind the other
+-- the parts of three lists, one after another
 pub parts_of_three : {Item Part : Type 0} (part : Item → Option Part) (first second third : List Item)
     → filter_map part first ++ filter_map part second ++ filter_map part third ≡ filter_map part (first ++ second ++ third)
 parts_of_three part first second third =
     sym (filter_map-append part (first ++ second) third ∙ ap (λ front. front ++ filter_map part third) (filter_map-append part first second))
 
--- what is put behind what stood there already
+-- new parts after earlier ones
 pub behind : {Item Part : Type 0} (parts : List Item → List Part) {before after sofar : List Part} {seen items : List Item}
     → after ≡ before ++ parts seen → seen ≡ items → before ≡ sofar → after ≡ sofar ++ parts items
 behind parts {before} {after} {sofar} {seen} {items} e are front =

@@ -93,7 +93,7 @@ module _ (limits : Limits) (count : ℕ) (groups : Grouped) (are : AreReadyGroup
   abbrev update_deltas : List Plain
   update_deltas = filter_map delta_there groups.updates
 
-  -- the deltas of each kind stand behind one another
+  -- the deltas of each kind are one after another
   deltas_split : filter_map delta_there (with_delta groups) ≡ create_deltas ++ (recover_deltas ++ update_deltas)
   deltas_split =
       filter_map-append delta_there (groups.creates ++ groups.recovers) groups.updates
@@ -104,7 +104,7 @@ module _ (limits : Limits) (count : ℕ) (groups : Grouped) (are : AreReadyGroup
     abbrev branch : CoreBranch
     branch = core_over context content (core_branch (core_index groups))
 
-    -- ---- what stands below the core index
+    -- ---- below the core index
 
     abbrev proofs_part : Part OpenedCore
     proofs_part = part_of (core_proof_in context (core_index groups)) as_it_is (core_proof_file groups)
@@ -153,7 +153,7 @@ module _ (limits : Limits) (count : ℕ) (groups : Grouped) (are : AreReadyGroup
         (canonical (core_proof_json (core_proofs groups))) groups.recovers groups.deactivates proof_known
         (deactivates_back limits groups.deactivates are.deactivates)
 
-    -- ---- what stands below the provisional index
+    -- ---- below the provisional index
 
     abbrev provisional_text : List ℕ
     provisional_text = canonical (provisional_json (provisional_index groups))

@@ -1,5 +1,4 @@
--- Suffixes that are all different stay different where operations are put into groups: by how often a
--- hash stands among them.
+-- Suffixes that all differ still do after operations are put into groups: by how often a hash is among them.
 use Rattle.std.proofs.Common.{◌≡◌, ◌∙◌, ℕ, ◌+◌, ◌≤◌, Bool, true, false, cond, List, [], ◌∷◌, ◌++◌, refl, ap, arith}
 use Rattle.std.specs.Prelude.{◌||◌}
 use Rattle.std.specs.List.{list_any}
@@ -11,12 +10,12 @@ use Rattle.st_ops.specs.Operation.{PlainOperation, creating, updating, recoverin
 use Rattle.st_batch.specs.Groups.{Grouped, grouped}
 use Rattle.st_batch.specs.Kept.{suffixes_of}
 
--- how often a hash stands among hashes
+-- how often a hash is among hashes
 abbrev pub times : HashValue → List HashValue → ℕ
 times hash [] = 0
 times hash (other ∷ others) = cond (same_hash hash other) 1 0 + times hash others
 
--- each hash stands among them once at most
+-- each hash is among them at most once
 abbrev pub AreOnce : List HashValue → Type 0
 AreOnce hashes = (hash : HashValue) → times hash hashes ≤ 1
 
@@ -46,7 +45,7 @@ not_any : (hash : HashValue) (hashes : List HashValue) (any : Bool) → list_any
 not_any hash hashes true is none = absurd (omega (arith, none, some_there hash hashes is))
 not_any hash hashes false is none = refl
 
--- where none stands twice, each stands once at most
+-- if none appears twice, each appears at most once
 pub once : (hashes : List HashValue) → has_twice same_hash hashes ≡ false → AreOnce hashes
 once [] different hash = omega arith
 once (one ∷ more) different hash =
@@ -61,7 +60,7 @@ once (one ∷ more) different hash =
 first_times : (one : HashValue) (more : List HashValue) → times one (one ∷ more) ≡ 1 + times one more
 first_times one more = rw (same_hash-itself one) refl
 
--- and the other way round
+-- and conversely
 pub different : (hashes : List HashValue) → AreOnce hashes → has_twice same_hash hashes ≡ false
 different [] are = refl
 different (one ∷ more) are =
@@ -69,7 +68,7 @@ different (one ∷ more) are =
     let here = not_any one more (list_any (same_hash one) more) refl none in
     rw here (different more (λ hash. omega (arith, are hash)))
 
--- none of the first stands among the second, where no hash stands twice among all
+-- none of the first is among the second, if no hash appears twice among all
 pub apart : (xs ys : List HashValue) → ((hash : HashValue) → times hash xs + times hash ys ≤ 1) → shares_one same_hash xs ys ≡ false
 apart [] ys are = refl
 apart (x ∷ xs) ys are =

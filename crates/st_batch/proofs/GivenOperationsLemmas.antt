@@ -34,7 +34,7 @@ HasDelta is_kind = (target : Target) (proof : Option Proof) → is_kind (deactiv
 
 -- ---- parts that are taken out
 
--- what holds of each part that is there holds of each that is taken out
+-- a property of each part that is there is one of each that is taken out
 module _ {Item Part : Type 0} (part : Item → Option Part) (P : Item → Type 0) (Q : Part → Type 0) where
   one_taken : (there : Option Part) (others : List Part) → IfSome there Q → AllByRecursion Q others → AllByRecursion Q (cons_option there others)
   one_taken None others here all = all
@@ -44,7 +44,7 @@ module _ {Item Part : Type 0} (part : Item → Option Part) (P : Item → Type 0
   each_taken holds [] all = tt
   each_taken holds (item ∷ items) all = one_taken (part item) (filter_map part items) (holds item all.0) (each_taken holds items all.1)
 
--- where each has the part, there are as many parts as items
+-- if each has the part, there are as many parts as items
 module _ {Item Part : Type 0} (part : Item → Option Part) (P : Item → Type 0) where
   one_more : (there : Option Part) (others : List Part) (n : ℕ) → is_some there ≡ true → length others ≡ n → length (cons_option there others) ≡ suc n
   one_more None others n some long = absurd cc
@@ -56,7 +56,7 @@ module _ {Item Part : Type 0} (part : Item → Option Part) (P : Item → Type 0
   as_many has (item ∷ items) all = one_more (part item) (filter_map part items) (length items) (has item all.0) (as_many has items all.1)
 
 module _ (limits : Limits) where
-  -- ---- what each kind has
+  -- ---- the parts of each kind
 
   pub create_data : (operation : PlainOperation) → IsOfKind limits is_create operation → is_some (suffix_data_in operation) ≡ true
   create_data (creating suffix_data delta) right = refl
@@ -90,7 +90,7 @@ module _ (limits : Limits) where
   delta_kept is_kind has (recovering target proof (Some delta)) right = refl
   delta_kept is_kind has (deactivating target proof) right = absurd (let no = has target proof in let is = right.1 in cc)
 
-  -- ---- what each part is
+  -- ---- each part
 
   pub data_again : (operation : PlainOperation) → IsReady limits operation → IfSome (suffix_data_in operation) (IsAgain (create_of limits.version) create_json)
   data_again (creating suffix_data delta) right = create_again limits.version suffix_data right.accepted.0 right.accepted.1

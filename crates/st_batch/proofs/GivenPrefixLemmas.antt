@@ -1,5 +1,5 @@
--- The batch of a queue: its files stand under their own URIs, each role once; it takes the longest prefix
--- that goes into one batch; and that prefix is such that its batch is read back.
+-- The batch of a queue: its files have their own URIs, each role once; it takes the longest prefix that goes into one
+-- batch; and the batch of that prefix is read back.
 use Rattle.std.proofs.Common.{◌≡◌, ◌∙◌, ℕ, zero, suc, ◌<◌, ◌≤◌, ◌^◌, ◌++◌, Bool, true, false, if◌then◌else◌, List, [], ◌∷◌, length, take, Option, Some, None, refl, sym, ap, ◌==◌, ◌⊎◌, inl, inr, arith}
 use Rattle.std.specs.List.{AllByRecursion, list_any}
 use Rattle.std.proofs.lemmas.Bool.{eqb-false, eqb-true, or_parts}
@@ -119,7 +119,7 @@ batch_longest limits queue =
     let found = greatest_is (λ n. is_batch limits (take n queue)) (length queue) in
     record { within = found.within; goes = found.does; longest = found.others }
 
--- ---- what it takes
+-- ---- the operations taken
 
 any_take : {Item : Type 0} (test : Item → Bool) (n : ℕ) (items : List Item) → list_any test items ≡ false → list_any test (take n items) ≡ false
 any_take test zero items none = refl
@@ -135,7 +135,7 @@ twice_take same (suc n) (item ∷ items) none =
     let parts = or_parts (list_any (same item) items) (has_twice same items) none in
     rw (any_take (same item) n items parts.0) (twice_take same n items parts.1)
 
--- what a batch takes of a queue is read back
+-- the operations that a batch takes from a queue are read back
 pub prefix_batched : (limits : Limits) (queue : List PlainOperation) → AreDifferent queue → AllByRecursion IsFormed queue → length queue < 2 ^ 64
     → AreBatched limits (batched limits queue)
 prefix_batched limits queue different formed few =

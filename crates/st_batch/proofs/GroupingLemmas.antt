@@ -1,4 +1,4 @@
--- Operations that are put into groups one after the other are in groups by their kinds.
+-- Operations that are put into groups one after another are grouped by their kinds.
 use Rattle.std.proofs.Common.{◌≡◌, ◌∙◌, ℕ, ◌+◌, List, [], ◌∷◌, ◌++◌, take, Some, option_map, sym, ap}
 use Rattle.std.specs.List.{slice_get}
 use Rattle.std.proofs.lemmas.List.{append-nil, take_more}
@@ -12,7 +12,7 @@ use Rattle.st_batch.specs.Groups.{Grouped, grouped}
 use Rattle.st_batch.specs.Kept.{operations_of}
 use Rattle.st_batch.proofs.QueueLemmas.{Entry}
 
--- one operation more is the last of its kind
+-- one more operation is the last of its kind
 put_last : (operations : List PlainOperation) (operation : PlainOperation)
     → with_operation (grouped operations) operation ≡ grouped (operations ++ operation ∷ [])
 unfolding grouped
@@ -22,7 +22,7 @@ put_last operations (recovering target proof delta) = simp (filter-append, appen
 put_last operations (deactivating target proof) = simp (filter-append, append-nil)
 
 module _ (entries : List Entry) (n : ℕ) where
-  -- the operation of an entry that stands next
+  -- the operation of the next entry
   pub next_put : {suffix : HashValue} {operation : Operation} {groups : Grouped} → Some (suffix, operation) ≡ slice_get entries n
       → groups ≡ with_operation (grouped (take n (operations_of entries))) (plain_operation operation)
       → groups ≡ grouped (take (n + 1) (operations_of entries))

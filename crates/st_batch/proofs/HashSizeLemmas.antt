@@ -1,4 +1,4 @@
--- How long hashes are as JSON: nothing in a hash text is escaped.
+-- The length of hashes as JSON: nothing in a hash text is escaped.
 use Rattle.std.proofs.Common.{◌≡◌, ◌+◌, [], ◌∷◌, length, ap, length-append, arith}
 use Rattle.std.specs.List.{flat_map}
 use Rattle.st_plain.specs.Canonical.{escape}

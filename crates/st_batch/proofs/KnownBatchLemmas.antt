@@ -1,5 +1,5 @@
--- The files of ready operations by kind: what is known of an entry that names them, over every content
--- that has them.
+-- The files of ready operations by kind: what is known about an entry that names them, over any content that has
+-- them.
 use Rattle.std.proofs.Common.{◌≡◌, ◌∙◌, ℕ, suc, ◌+◌, ◌≤◌, ◌++◌, Bool, true, false, nat_lt, List, [], ◌∷◌, length, map, Option, Some, None, option_map, ◌⊎◌, inl, inr, refl, ap, arith}
 use Rattle.std.specs.Prelude.{◌||◌, is_some, IfSome}
 use Rattle.std.specs.List.{AllByRecursion, filter_map, list_all}
@@ -47,7 +47,7 @@ use Rattle.st_batch.proofs.KnownProvisionalLemmas.{IsProvisionalSound, provision
 use Rattle.st_batch.proofs.KnownRuleLemmas.{IsUriAgain, below}
 use Rattle.st_batch.proofs.ReadBackFitLemmas.{IsReady}
 
--- ready operations by kind, so many, each suffix once
+-- `count` ready operations by kind, each suffix once
 pub record AreReadyGroups (limits : Limits) (count : ℕ) (groups : Grouped) : Type 0 where
   pub creates : AreOfKind limits is_create groups.creates
   pub recovers : AreOfKind limits is_recover groups.recovers
@@ -63,11 +63,11 @@ file_uri_again : (file : Option (List ℕ)) → IsUriAgain (option_map uri_of fi
 file_uri_again None = tt
 file_uri_again (Some bytes) = uri_again bytes
 
--- the content has the file under its URI, and it has no more bytes than so many
+-- the content has the file by its URI, and it has at most this many bytes
 abbrev pub IsThere : Files → ℕ → List ℕ → Type 0
 IsThere content most bytes = (file_at (uri_of bytes) content ≡ Some bytes) × (length bytes ≤ most)
 
--- what its bytes make of the role of a file that may be there
+-- the part of a role from the bytes of its file, which may be missing
 abbrev pub part_of : {Says : Type 0} → (List ℕ → Part Says) → (Says → Says) → Option (List ℕ) → Part Says
 part_of read below None = Unneeded
 part_of read below (Some bytes) = looked_below below (read bytes)
@@ -78,7 +78,7 @@ pub looked_named : {Says : Type 0} (read : List ℕ → Part Says) (below : Says
 looked_named read below content most None there = refl
 looked_named read below content most (Some bytes) there = ap (looked_at read below (uri_of bytes)) there.0
 
--- what holds of a text where there is an operation for it
+-- a property of a text, if there is an operation for it
 pub there_for : (operations : List PlainOperation) (said : List ℕ) (P : List ℕ → Type 0) → 1 ≤ length operations → IfSome (if_any operations said) P → P said
 there_for [] said P some there = absurd (omega arith)
 there_for (operation ∷ operations) said P some there = there
@@ -132,7 +132,7 @@ module _ (limits : Limits) (content : Files) where
         chunk = filed_there Chunk (chunk_file groups) fourth.1;
       }
 
--- ---- a file is named exactly where there is an operation for it
+-- ---- a file is named if and only if there is an operation for it
 
 above_none : (n k : ℕ) → n ≡ suc k → nat_lt 0 n ≡ true
 above_none n k e = grind (arith, nat_tests)
@@ -153,7 +153,7 @@ neither first second e f = rw (e, f) refl
 
 -- ---- the indexes
 
--- what a core proof file says of operations by kind
+-- the content of a core proof file of operations by kind
 abbrev pub core_proofs : Grouped → CoreProofs
 core_proofs groups = record {
   recovers = filter_map signed_text_in groups.recovers;
@@ -282,7 +282,7 @@ module _ (limits : Limits) (count : ℕ) (groups : Grouped) (are : AreReadyGroup
   update_texts_long : length (filter_map signed_text_in groups.updates) ≡ length groups.updates
   update_texts_long = as_many signed_text_in (IsOfKind limits is_update) (text_there limits is_update (λ suffix_data delta. refl)) groups.updates are.updates
 
-  -- ---- what is known of each file
+  -- ---- what is known about each file
 
   abbrev context : Context
   context = record { count = count; params = limits }

@@ -1,4 +1,4 @@
--- A core index that was written fails no rule, and says what it was written of.
+-- A written core index fails no rule, and its content is the original.
 use Rattle.std.proofs.Common.{◌≡◌, ◌∙◌, ℕ, ◌+◌, ◌≤◌, true, false, nat_lt, List, ◌∷◌, codes, length, map, Option, Some, None, refl, ap, arith}
 use Rattle.std.specs.Prelude.{◌||◌, is_some, is_none, option_map}
 use Rattle.std.specs.List.{AllByRecursion, filter_map}
@@ -30,7 +30,7 @@ use Rattle.st_batch.proofs.AgainEntryLemmas.{IsAgain, all_again, each_again}
 use Rattle.st_plain.proofs.ReadableLemmas.{json_again}
 use Rattle.st_batch.proofs.KnownRuleLemmas.{IsUriAgain, both, list_passes, lists_pass, mapped_some, none_failing, not_above, not_failing, uri_passes, uri_read}
 
--- what is known of a core index that is written at these limits under this count
+-- properties of a core index that is written at these limits under this count
 pub record IsCoreSound (limits : Limits) (count : ℕ) (index : CoreIndex) : Type 0 where
   pub core_proof : IsUriAgain index.core_proof
   pub provisional : IsUriAgain index.provisional
@@ -42,7 +42,7 @@ pub record IsCoreSound (limits : Limits) (count : ℕ) (index : CoreIndex) : Typ
   pub proved : one_alone (is_some index.core_proof) (nat_lt 0 (length index.recovers) || nat_lt 0 (length index.deactivates)) ≡ false
 
 module _ (index : CoreIndex) where
-  -- ---- what stands in it
+  -- ---- its members
 
   abbrev json : Option Plain
   json = Some (core_json index)
@@ -121,7 +121,7 @@ module _ (limits : Limits) (count : ℕ) (index : CoreIndex) (sound : IsCoreSoun
       let there = ap is_some (core_proof_at index) ∙ mapped_some hash_json index.core_proof in
       (λ i. one_alone (there i) (signed_is i)) ∙ sound.proved
 
-  -- its JSON says this index
+  -- the content of its JSON is this index
   pub core_says : core_index_of limits.version (json index) ≡ index
   unfolding core_index_of
   core_says =

@@ -1,4 +1,4 @@
--- Proof files and chunk files that were written fail no rule, and say what they were written of.
+-- Written proof files and chunk files fail no rule, and their content is the original.
 use Rattle.std.proofs.Common.{◌≡◌, ◌∙◌, ℕ, ◌≤◌, true, false, nat_lt, List, [], ◌∷◌, codes, length, map, Option, Some, None, ◌⊎◌, inl, inr, refl, ap, arith}
 use Rattle.std.specs.Prelude.{is_some, is_none, option_and_then}
 use Rattle.std.specs.List.{AllByRecursion}
@@ -48,7 +48,7 @@ proof_readable operations readable =
     ((utf8 (codes "operations") (refl, refl), object_there 3 operations readable), tt) in
     deeper 5 127 (proof_json operations) (omega arith) (object_readable 4 _ all)
 
--- `operations` is the one member, where it is there
+-- `operations` is the only member, if it is there
 only_operations : (operations : Members) → some_object operations ≡ Some (object operations)
     → only_member (codes "operations") (Some (proof_json operations)) ≡ Some (object operations)
 only_operations operations there =
@@ -125,7 +125,7 @@ module _ (proofs : CoreProofs) where
       (both _ _ (kind_passes (codes "recover") operations proofs.recovers recovers_at)
       (both _ _ (kind_passes (codes "deactivate") operations proofs.deactivates deactivates_at) refl))
 
--- what is known of a core proof file that is written
+-- properties of a core proof file that is written
 pub record IsCoreProofSound (recovers deactivates : ℕ) (proofs : CoreProofs) : Type 0 where
   pub some : HasSome proofs.recovers ⊎ HasSome proofs.deactivates
   pub recovers_utf8 : AllByRecursion IsUtf8 proofs.recovers
@@ -253,7 +253,7 @@ module _ (first : Plain) (others : List Plain) where
         (refl, (not_failing _ chunk_form_passes, (not_failing _ (eq-eqb _ wanted (ap length deltas_say ∙ long)), tt))),
       )
 
--- what is known of a chunk file by the deltas that it was written of
+-- what is known about a chunk file from the deltas it was written from
 pub chunk_known : (context : Context) (core : CoreIndex) (provisional : ProvisionalIndex) (deltas : List Plain) → 1 ≤ length deltas
     → AllByRecursion (IsReadable 64) deltas → length deltas ≡ delta_count core provisional → length (canonical (chunk_json deltas)) ≤ context.params.max_chunk
     → chunk_in context core provisional (canonical (chunk_json deltas)) ≡ Is deltas

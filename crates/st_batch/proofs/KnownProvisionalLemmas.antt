@@ -1,5 +1,4 @@
--- A provisional index that was written fails no rule beside its core index, and says what it was written
--- of.
+-- A written provisional index fails no rule given its core index, and its content is the original.
 use Rattle.std.proofs.Common.{◌≡◌, ◌∙◌, ℕ, ◌+◌, ◌≤◌, ◌==◌, true, false, nat_lt, [], ◌∷◌, codes, length, map, Option, Some, None, refl, ap, arith}
 use Rattle.std.specs.Prelude.{is_some, is_none, option_map}
 use Rattle.std.specs.List.{AllByRecursion, filter_map}
@@ -31,8 +30,7 @@ use Rattle.st_batch.proofs.AgainEntryLemmas.{IsAgain, all_again, each_again}
 use Rattle.st_plain.proofs.ReadableLemmas.{json_again}
 use Rattle.st_batch.proofs.KnownRuleLemmas.{IsUriAgain, both, list_passes, lists_pass, mapped_some, none_failing, not_above, not_failing, uri_passes, uri_read}
 
--- what is known of a provisional index that is written at these limits under this count, beside a core
--- index
+-- properties of a provisional index that is written at these limits under this count, given a core index
 pub record IsProvisionalSound (limits : Limits) (count : ℕ) (core : CoreIndex) (index : ProvisionalIndex) : Type 0 where
   pub proof : IsUriAgain index.proof
   pub chunk : hash_of_text (hash_text index.chunk) ≡ Some index.chunk
@@ -43,7 +41,7 @@ pub record IsProvisionalSound (limits : Limits) (count : ℕ) (core : CoreIndex)
   pub some : 1 ≤ length core.creates + length core.recovers + length index.updates
 
 module _ (index : ProvisionalIndex) where
-  -- ---- what stands in it
+  -- ---- its members
 
   abbrev json : Option Plain
   json = Some (provisional_json index)
@@ -108,7 +106,7 @@ module _ (limits : Limits) (count : ℕ) (core : CoreIndex) (index : Provisional
   some_passes : (length core.creates + length core.recovers + update_count (json index) == 0) ≡ false
   some_passes = not_zero _ (omega (arith, sound.some, count_is))
 
-  -- its JSON says this index
+  -- the content of its JSON is this index
   pub provisional_says : provisional_index_of limits.version (json index) ≡ Some index
   unfolding provisional_with
   provisional_says =

@@ -1,4 +1,4 @@
--- Files that fail no rule: what the tests of several tables have in common.
+-- Files that fail no rule: lemmas shared by several tables.
 use Rattle.std.proofs.Common.{◌≡◌, ℕ, ◌≤◌, Bool, true, false, not, nat_le, nat_lt, List, [], ◌∷◌, Option, Some, None, refl, arith}
 use Rattle.std.specs.Prelude.{◌&&◌, is_some, option_map, IfSome}
 use Rattle.std.specs.List.{AllByRecursion, list_all}
@@ -12,7 +12,7 @@ use Rattle.st_plain.specs.Shapes.{is_list_if_there}
 use Rattle.st_hash.specs.Hash.{HashValue, hash_of_text, hash_text}
 use Rattle.st_indexfiles.specs.Hashes.{hash_json, is_uri_if_there, uri_in}
 
--- where each test passes, no rule fails
+-- if each test passes, no rule fails
 pub none_failing : {Rule : Type 0} (rules : Table Rule) → AllByRecursion (λ row. row.1 ≡ false) rules → first_failing rules ≡ None
 none_failing [] all = refl
 none_failing (row ∷ rows) all = rw all.0 (none_failing rows all.1)
@@ -23,22 +23,22 @@ both first second e f = rw (e, f) refl
 pub not_failing : (test : Bool) → test ≡ true → not test ≡ false
 not_failing test e = rw e refl
 
--- no more than there may be
+-- at most the bound
 pub not_above : (most n : ℕ) → n ≤ most → nat_lt most n ≡ false
 not_above most n within = grind (arith, nat_tests)
 
--- what passes the test of a bound is within it
+-- a number that passes the test of a bound is at most that
 pub below : (n most : ℕ) → nat_le n most ≡ true → n ≤ most
 below n most passes = grind (arith, nat_tests)
 
--- what was written of the same
+-- written from the same
 pub mapped_some : {Item Other : Type 0} (f : Item → Other) (there : Option Item) → is_some (option_map f there) ≡ is_some there
 mapped_some f None = refl
 mapped_some f (Some item) = refl
 
 -- ---- URIs
 
--- a URI that may be there is read from its text
+-- an optional URI is read from its text
 abbrev pub IsUriAgain : Option HashValue → Type 0
 IsUriAgain uri = IfSome uri (λ found. hash_of_text (hash_text found) ≡ Some found)
 
@@ -57,20 +57,20 @@ unfolding some_list
 list_passes [] = refl
 list_passes (entry ∷ entries) = refl
 
--- an object of lists that may be left out
+-- an object of optional lists
 pub lists_pass : (names : List (List ℕ)) (ms : Members) → has_only names ms ≡ true
     → list_all (λ name. is_list_if_there (member_at name ms)) names ≡ true → is_object_of_lists_if_there names (some_object ms) ≡ true
 unfolding some_object
 lists_pass names no_members only lists = refl
 lists_pass names (member n p ms) only lists = both (has_only names (member n p ms)) _ only lists
 
--- an object that has a member is there
+-- an object with a member is written
 pub object_is_there : (name : List ℕ) (ms : Members) (p : Plain) → member_at name ms ≡ Some p → some_object ms ≡ Some (object ms)
 unfolding some_object
 object_is_there name no_members p there = absurd cc
 object_is_there name (member n q ms) p there = refl
 
--- and a list that has an entry
+-- and a list with an entry is
 pub list_is_there : (entry : Plain) (entries : List Plain) → is_some (some_list (entry ∷ entries)) ≡ true
 unfolding some_list
 list_is_there entry entries = refl

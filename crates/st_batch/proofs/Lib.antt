@@ -1,30 +1,30 @@
--- What a queue keeps, a delta that counts, and what submitting a request counts.
+-- A stored queue, a delta that counts, and the counts of submitting a request.
 mod DeltaLemmas
 mod QueueLemmas
 mod CountedLemmas
--- What is written is read again: values, hashes, entries of files.
+-- A written text is read again: values, hashes, entries of files.
 mod AgainEntryLemmas
 mod AgainHashLemmas
--- The anchor string of a batch, and what is known by its files.
+-- The anchor string of a batch, and what is known from its files.
 mod AnchorTextLemmas
 mod KnownBatchLemmas
 mod KnownCoreLemmas
 mod KnownDataLemmas
 mod KnownProvisionalLemmas
 mod KnownRuleLemmas
--- What an entry with that string gives: the operations of the batch.
+-- An entry with that string gives the operations of the batch.
 mod GivenBatchLemmas
 mod GivenDifferentLemmas
 mod GivenOperationsLemmas
 mod GivenPrefixLemmas
 mod ReadBackFitLemmas
 mod ReadBackLemmas
--- What a flush takes of a queue, by kind, and what it leaves.
+-- The operations that a flush takes from a queue, by kind, and the rest.
 mod FlushLemmas
 mod GatheredLemmas
 mod GroupingLemmas
 mod WrittenLemmas
--- How long files are, by what stands in them, and how many operations go into a batch.
+-- The length of files, by their contents, and how many operations go into a batch.
 mod FirstSizeLemmas
 mod ExactSizeLemmas
 mod HashSizeLemmas

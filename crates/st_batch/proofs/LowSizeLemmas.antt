@@ -1,5 +1,5 @@
--- How long the entries are that one operation puts into lists, where it fits the limits of some version;
--- and the sums over many of them.
+-- The length of the entries that one operation adds to lists, if it fits the limits of some version; and the sums
+-- over many of them.
 use Rattle.std.proofs.Common.{◌≡◌, ℕ, ◌+◌, ◌*◌, ◌≤◌, Bool, true, false, if◌then◌else◌, Option, Some, None, option_map, List, [], ◌∷◌, length, subst, arith}
 use Rattle.std.specs.Prelude.{◌==◌, is_some, IfSome}
 use Rattle.std.specs.List.{AllByRecursion, sum_by}
@@ -27,7 +27,7 @@ use Rattle.st_batch.proofs.SignedSizeLemmas.{Opens, opened_within}
 
 -- ---- one operation
 
--- no version lets a delta be longer than this
+-- every version limits a delta to this length
 longest_delta : (version : ℕ) → (limits_of version).max_delta ≤ 2000
 longest_delta version = most (version == 1)
   where
@@ -54,7 +54,7 @@ index_low (deactivating target proof) are = target_low target are
 
 -- ---- signed texts
 
--- the signed text of an operation that a request asks for can be opened
+-- the signed text of an accepted operation can be opened
 signed_opens : (limits : Limits) (operation : PlainOperation) → IsAccepted limits operation
     → IfSome (signed_text_in operation) (Opens limits.max_signed)
 signed_opens limits (creating create delta) right = tt
@@ -69,7 +69,7 @@ signed_low : (there : Option (List ℕ)) → IfSome there (Opens 13000) → entr
 signed_low None opens = omega arith
 signed_low (Some signed) opens = omega (arith, opened_within 13000 signed opens)
 
--- ---- of an operation that fits
+-- ---- for an operation that fits
 
 module _ (version : ℕ) where
   counted_low : (delta_hash : HashValue) (there : Option Plain) → is_some (counted (limits_of version) delta_hash there) ≡ true
@@ -100,7 +100,7 @@ module _ (version : ℕ) where
     delta = delta_low operation fits;
   }
 
--- of one that is queued
+-- for one that is queued
 module _ (operation : PlainOperation) (is : IsQueued operation) where
   fitted : Fits (limits_of is.limits.version) operation
   fitted = subst (λ limits. Fits limits operation) is.versioned is.fitted
@@ -110,7 +110,7 @@ module _ (operation : PlainOperation) (is : IsQueued operation) where
 
 -- ---- sums
 
--- what operations put into files, by how many they are
+-- the bytes that operations add to files, by how many they are
 sums_by : (operations : List PlainOperation) → AllByRecursion IsLow operations
     → (sum_by index_size operations ≤ length operations * 300) × (sum_by proof_size operations ≤ length operations * 15000)
     × (sum_by delta_size operations ≤ length operations * 5000)
@@ -122,7 +122,7 @@ sums_by (operation ∷ operations) all =
       omega (arith, all.0.delta, later.2, sum_by-cons delta_size operation operations),
     )
 
--- so few bytes that no file of the operations is too long, whatever the version
+-- few enough bytes that no file of the operations is too long in any version
 pub record AreLow (operations : List PlainOperation) : Type 0 where
   pub index : sum_by index_size operations ≤ 300000
   pub proofs : sum_by proof_size operations ≤ 15000000
@@ -134,7 +134,7 @@ sums_low operations all few =
     let sums = sums_by operations all in
     record { index = omega (arith, few, sums.0); proofs = omega (arith, few, sums.1); deltas = omega (arith, few, sums.2) }
 
--- operations of one kind put no more into a list than all would
+-- operations of one kind add at most as much to a list as all would
 pub kind_within : (is_kind : PlainOperation → Bool) (size : PlainOperation → ℕ) (operations : List PlainOperation)
     → sum_by (of_kind is_kind size) operations ≤ sum_by size operations
 kind_within is_kind size [] = omega arith

@@ -1,4 +1,4 @@
--- How long the members of each object in a file are together.
+-- The total length of the members of each object in a file.
 use Rattle.std.proofs.Common.{◌≡◌, ℕ, ◌+◌, List, [], ◌∷◌, codes, Option, Some, None, arith}
 use Rattle.st_plain.specs.Objects.{put_some, some_listed}
 use Rattle.st_plain.specs.Plain.{Plain}

@@ -20,7 +20,7 @@ uri_more name a b more = any_more a b (length name + 52) (length name + 52) more
 
 -- ---- each file is no longer with fewer entries
 
--- sums of which each is at most the other
+-- two sums, each of the first at most the second
 module _ (fewer more : (PlainOperation → ℕ) → ℕ) (within : (size : PlainOperation → ℕ) → fewer size ≤ more size) where
   abbrev few : Sizes
   few = sizes_by fewer

@@ -1,5 +1,4 @@
--- The entries of operations in the lists of their files, as sums over the operations; and which files
--- are there.
+-- The entries of operations in the lists of their files, as sums over the operations; and which files are written.
 use Rattle.std.proofs.Common.{◌≡◌, ◌∙◌, ℕ, ◌+◌, ◌≤◌, Bool, true, false, if◌then◌else◌, List, [], ◌∷◌, ◌++◌, filter, map, Option, Some, None, option_map, refl, ap, arith}
 use Rattle.std.specs.List.{cons_option, filter_map, sum_by}
 use Rattle.std.proofs.lemmas.List.Elements.{filter_map-append}
@@ -17,7 +16,7 @@ use Rattle.st_batch.proofs.ExactSizeLemmas.{entries_weight}
 
 -- ---- entries of one kind
 
--- the entries that are written of the parts of operations of a kind have the size that those put into the list
+-- the entries written from the parts of operations of a kind have the size that those add to the list
 module _ {Part : Type 0} (write : Part → Plain) (part : PlainOperation → Option Part) (is_kind : PlainOperation → Bool) (size : PlainOperation → ℕ)
     (says : (operation : PlainOperation) → is_kind operation ≡ true → entry_size (option_map write (part operation)) ≡ size operation) where
   one_entry : (there : Option Part) (others : List Part)
@@ -51,7 +50,7 @@ creates_sum = kind_sum create_json suffix_data_in is_create index_size says
     says (recovering target proof delta) is = absurd cc
     says (deactivating target proof) is = absurd cc
 
--- of a kind that is not that of creates
+-- for a kind other than create
 pub targets_sum : (is_kind : PlainOperation → Bool) → ((suffix_data : SuffixData) (delta : Option Plain) → is_kind (creating suffix_data delta) ≡ false)
     → (operations : List PlainOperation)
     → entries_weight (map target_json (filter_map target_in (filter is_kind operations))) ≡ sum_by (of_kind is_kind index_size) operations
@@ -67,7 +66,7 @@ pub proofs_sum : (is_kind : PlainOperation → Bool) (operations : List PlainOpe
     → entries_weight (map signed_json (filter_map signed_text_in (filter is_kind operations))) ≡ sum_by (of_kind is_kind proof_size) operations
 proofs_sum is_kind = kind_sum signed_json signed_text_in is_kind proof_size (λ operation is. refl)
 
--- ---- deltas, which stand by kind and are summed in the order of the operations
+-- ---- deltas, which are by kind and are summed in the order of the operations
 
 weight_both : (ps qs : List Plain) → entries_weight (ps ++ qs) ≡ entries_weight ps + entries_weight qs
 weight_both [] qs = omega arith
@@ -88,7 +87,7 @@ delta_weight_one operation operations = elim (delta_there operation) as
       | Some delta ↦ omega arith
     ]
 
--- the deltas of creates, recovers and updates, one kind after the other
+-- the deltas of creates, recovers and updates, one kind after another
 abbrev all_delta_weight : List PlainOperation → ℕ
 all_delta_weight operations =
     delta_weight (filter is_create operations) + delta_weight (filter is_recover operations) + delta_weight (filter is_update operations)
@@ -114,7 +113,7 @@ deltas_sum operations =
     let updates = filter is_update operations in
     omega (arith, delta_kinds operations, delta_weight_both (creates ++ recovers) updates, delta_weight_both creates recovers)
 
--- ---- which kinds are there
+-- ---- the kinds that are there
 
 -- there are operations, if and only if their entries have bytes
 abbrev pub IsAnyBy : List PlainOperation → ℕ → Type 0

@@ -1,4 +1,4 @@
--- More operations make no file shorter, so a batch that stops where one more makes one too long is the longest.
+-- More operations make no file shorter, so a batch that can't take one more is the longest.
 use Rattle.std.proofs.Common.{◌≡◌, ◌∙◌, ℕ, zero, suc, ◌+◌, ◌<◌, ◌≤◌, ◌&&◌, Bool, true, false, nat_le, List, [], ◌∷◌, length, take, Some, None, refl, sym, ap, arith}
 use Rattle.std.specs.Prelude.{min}
 use Rattle.std.specs.List.{sum_by}
@@ -44,7 +44,7 @@ never_shorter role queue fewer more less =
 
 -- ---- batches
 
--- nor is a file too long with fewer operations where none was
+-- nor is a file too long with fewer operations if none was
 fewer_small : (limits : Limits) (few many : ℕ) (operations : List PlainOperation) → few ≤ many
     → are_files_small limits (take many operations) ≡ true → are_files_small limits (take few operations) ≡ true
 unfolding are_files_small
@@ -54,7 +54,7 @@ fewer_small limits few many operations less small =
     small_all limits before (λ role. short_small limits before role
     (omega (arith, never_shorter role operations few many less, small_short limits after role (small_each limits after small role))))
 
--- what goes into a batch does so with fewer operations
+-- operations that go into a batch do so without the last ones
 fewer_go : (limits : Limits) (few many : ℕ) (operations : List PlainOperation) → few ≤ many → many ≤ length operations
     → is_batch limits (take many operations) ≡ true → is_batch limits (take few operations) ≡ true
 fewer_go limits few many operations less within go =
@@ -65,7 +65,7 @@ fewer_go limits few many operations less within go =
     both (nat_le (length (take few operations)) limits.max_operations) (are_files_small limits (take few operations)) count
     (fewer_small limits few many operations less parts.1)
 
--- so many first operations go, and either there are no more or one more does not
+-- this many first operations go, and either there are no more or one more does not go
 record IsLast (limits : Limits) (operations : List PlainOperation) (n : ℕ) : Type 0 where
   within : n ≤ length operations
   goes : 1 ≤ n → is_batch limits (take n operations) ≡ true
@@ -95,14 +95,14 @@ second_fails : (a b : Bool) → b ≡ false → (a && b) ≡ false
 second_fails true b fails = rw fails refl
 second_fails false b fails = refl
 
--- so many are no more than a batch may declare, and no file of theirs is too long
+-- this many are at most as many as a batch may declare, and no file of theirs is too long
 goes_by : (limits : Limits) (operations : List PlainOperation) (n : ℕ) → n ≤ length operations → n ≤ limits.max_operations
     → are_files_small limits (take n operations) ≡ true → is_batch limits (take n operations) ≡ true
 goes_by limits operations n within few small =
     both (nat_le (length (take n operations)) limits.max_operations) (are_files_small limits (take n operations))
     (passes_below (length (take n operations)) limits.max_operations (omega (arith, few, length-take-le n operations within))) small
 
--- as many as a batch may declare, or all, where no file of these is too long
+-- as many as a batch may declare, or all, if no file of these is too long
 pub most_go : (limits : Limits) (operations : List PlainOperation)
     → are_files_small limits (take (min (length operations) limits.max_operations) operations) ≡ true
     → min (length operations) limits.max_operations ≡ batch_count limits operations
@@ -115,7 +115,7 @@ most_go limits operations small =
           (over (length (take (most + 1) operations)) limits.max_operations (omega (arith, more, length-take-le (most + 1) operations)));
     })
 
--- those that it takes are no more than it may declare, and no file of theirs is too long
+-- those taken are at most as many as it may declare, and no file of theirs is too long
 record Taken (limits : Limits) (operations : List PlainOperation) : Type 0 where
   few : batch_count limits operations ≤ limits.max_operations
   small : are_files_small limits (take (batch_count limits operations) operations) ≡ true
@@ -130,7 +130,7 @@ taken_of limits operations some =
 
 -- ---- halving
 
--- no file is too long of so many first operations, and one is of so many more
+-- no file of this many first operations is too long, and one of this many more is
 pub record IsBetween (limits : Limits) (operations : List PlainOperation) (goes stops : ℕ) : Type 0 where
   pub less : goes < stops
   pub within : stops ≤ length operations
@@ -167,7 +167,7 @@ module _ (limits : Limits) (operations : List PlainOperation) where
       long = long;
     }
 
-    -- as the numbers are named behind a turn
+    -- with the names of the numbers after a turn
     pub turned : {before behind : ℕ} → before ≡ goes → behind ≡ stops → IsBetween limits operations before behind
     turned first second = rw (first, second) between
 
@@ -181,9 +181,9 @@ module _ (limits : Limits) (operations : List PlainOperation) where
               (ap (λ n. are_files_small limits (take n operations)) (sym is) ∙ between.long);
         })
 
--- ---- what is written
+-- ---- the written batch
 
--- of so many first operations, no file is too long, or one is
+-- no file of this many first operations is too long, or one is
 pub written_small : (limits : Limits) (operations : List PlainOperation) (n : ℕ) (batch : Batch)
     → batch_where_small limits n (grouped (take n operations)) ≡ Some batch → are_files_small limits (take n operations) ≡ true
 unfolding are_files_small
@@ -194,7 +194,7 @@ pub written_long : (limits : Limits) (operations : List PlainOperation) (n : ℕ
 unfolding are_files_small
 written_long limits operations n none = none_fails _ _ none
 
--- of as many as a batch takes it is written
+-- as many as a batch takes can be written
 pub is_written : (limits : Limits) (operations : List PlainOperation) (n : ℕ) → 1 ≤ batch_count limits operations → n ≡ batch_count limits operations
     → batch_where_small limits n (grouped (take n operations)) ≡ None → ⊥
 is_written limits operations n some is none =
@@ -202,7 +202,7 @@ is_written limits operations n some is none =
     let small = (taken_of limits operations some).small in
     cc
 
--- and it is that of the queue
+-- and the batch is that of the queue
 pub written_of : (limits : Limits) (operations : List PlainOperation) (n : ℕ) (batch : Batch) → n ≡ batch_count limits operations
     → batch_where_small limits n (grouped (take n operations)) ≡ Some batch → batch ≡ batch_of limits operations
 unfolding batch_with

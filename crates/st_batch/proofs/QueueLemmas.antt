@@ -1,4 +1,4 @@
--- Entries under the suffixes of their operations, and what may be queued beside them.
+-- Entries by the suffixes of their operations, and what may be queued besides.
 use Rattle.std.proofs.Common.{◌≡◌, ◌∙◌, ◌<◌, ◌≤◌, Bool, true, false, cond, ◌||◌, List, [], ◌∷◌, length, map, suc, nat_lt, Option, Some, Ok, Err, refl, sym, ap, arith}
 use Rattle.std.proofs.lemmas.Bool.Decides.{nat_tests}
 use Rattle.std.specs.Prelude.{is_some}
@@ -15,7 +15,7 @@ use Rattle.st_ops.specs.declared.operation.Operation.{Operation}
 
 -- ---- lists
 
--- of distinct items none stands twice
+-- no distinct item appears twice
 once_distinct : {Item : Type 0} (same : Item → Item → Bool) (items : List Item) → IsDistinct same items → has_twice same items ≡ false
 unfolding IsDistinct
 once_distinct same [] apart = refl
@@ -32,7 +32,7 @@ first_found : (same : Bool) (found : Option Operation) (later : Bool) (operation
 first_found true found later operation e = refl
 first_found false found later operation e = e
 
--- a key is found exactly where one of the keys is the same
+-- a key is found if and only if one of the keys is the same
 found_any : (suffix : HashValue) (entries : List Entry) → is_some (lookup (same_hash suffix) entries)
     ≡ list_any (same_hash suffix) (map (λ entry. entry.0) entries)
 found_any suffix [] = refl
@@ -40,23 +40,23 @@ found_any suffix (entry ∷ entries) =
     first_found (same_hash suffix entry.0) (lookup (same_hash suffix) entries)
     (list_any (same_hash suffix) (map (λ one. one.0) entries)) entry.1 (found_any suffix entries)
 
--- a suffix is found exactly where an operation for it is queued
+-- a suffix is found if and only if an operation for it is queued
 pub found_queued : (suffix : HashValue) (entries : List Entry) → IsKept entries
     → is_some (lookup (same_hash suffix) entries) ≡ is_queued suffix (operations_of entries)
 found_queued suffix entries kept = found_any suffix entries ∙ ap (list_any (same_hash suffix)) kept.named
 
--- the operations of entries under distinct suffixes are different
+-- the operations of entries with distinct suffixes are different
 pub different : (entries : List Entry) → IsKept entries → IsDistinct same_hash (map (λ entry. entry.0) entries) → AreDifferent (operations_of entries)
 different entries kept apart = ap (has_twice same_hash) (sym kept.named) ∙ once_distinct same_hash _ apart
 
--- how many operations entries have
+-- the number of operations of entries
 pub length_operations : (entries : List Entry) → length (operations_of entries) ≡ length entries
 length_operations [] = refl
 length_operations (entry ∷ entries) = ap suc (length_operations entries)
 
--- ---- what may be queued
+-- ---- operations that may be queued
 
--- what is known of an operation and of where its suffix was looked for
+-- properties of an operation and of the lookup of its suffix
 pub record LookedFor (entries : List Entry) (operation : PlainOperation) (found : Bool) : Type 0 where
   pub kept : IsKept entries
   pub suffix : HashValue

@@ -1,5 +1,4 @@
--- What is known of an operation that fits limits: what it has to have so that its parts are read again,
--- and that it says all that its kind says.
+-- Properties of an operation that fits limits: those by which its parts are read again, and that it is complete.
 use Rattle.std.proofs.Common.{◌≡◌, ℕ, ◌≤◌, Bool, true, false, if◌then◌else◌, Option, Some, None, option_and_then, refl}
 use Rattle.std.specs.Prelude.{IfSome, IsSome}
 use Rattle.std.specs.Str.{IsUtf8}
@@ -43,9 +42,9 @@ ready limits operation fits form = record {
       (right_holds limits (λ delta. depth_of delta ≤ 64) (counted_depth limits) operation fits.delta);
 }
 
--- ---- what it says
+-- ---- its completeness
 
--- where a step gives only this claim
+-- if a step can give only this claim
 claims_only : {Item : Type 0} (there : Option Item) (step : Item → Option Claim) (claim : Claim)
     → ((item : Item) → IsSome (step item) → step item ≡ Some claim) → IsSome (option_and_then step there) → option_and_then step there ≡ Some claim
 claims_only None step claim only some = absurd cc
@@ -81,7 +80,7 @@ recover_says limits target proof delta (Some (Update delta_hash)) is counts = ab
 recover_says limits target proof delta (Some (Recover commitment delta_hash)) is counts = (commitment, delta_hash, is, counts)
 recover_says limits target proof delta (Some Deactivate) is counts = absurd cc
 
--- an operation that fits says all that its kind says
+-- an operation that fits is complete
 pub says_all : (limits : Limits) (operation : PlainOperation) → Fits limits operation → IsReady limits operation → SaysAll limits operation
 unfolding has_right_delta
 says_all limits (creating suffix_data delta) fits right = fits.delta

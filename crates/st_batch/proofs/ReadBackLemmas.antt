@@ -54,7 +54,7 @@ ready_groups limits operations different all = record {
 }
 
 module _ (limits : Limits) (content : Files) where
-  -- no operations are given by a text that declares none
+  -- a text that declares no operations gives none
   none_given : (core : HashValue) → gives content limits (anchor_text 0 core) ≡ []
   unfolding given known known_from
   none_given core = ap (λ bound. given (known_from content bound)) (none_known limits core)
@@ -72,7 +72,7 @@ module _ (limits : Limits) (content : Files) where
       (ready_groups limits (operation ∷ operations) are.different all) content
       (files_there limits content (grouped (operation ∷ operations)) has parts.1) some (below _ _ parts.0) fits
 
--- The batch of operations is read back as these, where their number is a machine word.
+-- The batch of operations is read back as these, if their number fits in a machine word.
 pub batch_is_read_back : (limits : Limits) (operations : List PlainOperation) → AreBatched limits operations → length operations < 2 ^ 64
     → IsReadBack limits (batch_with operations) operations
 batch_is_read_back limits operations are fits =

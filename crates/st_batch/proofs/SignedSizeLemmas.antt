@@ -1,5 +1,5 @@
--- How long a signed text is as JSON, where it can be opened. Nothing in it is escaped: it is three texts in
--- base64url with dots between them.
+-- The length of a signed text as JSON, if it can be opened. Nothing in it is escaped: it is three texts in base64url
+-- with dots between them.
 use Rattle.std.proofs.Common.{◌≡◌, ◌∙◌, ℕ, ◌+◌, ◌≤◌, ◌==◌, Bool, true, false, nat_le, List, [], ◌∷◌, ◌++◌, length, take, drop, position, Option, Some, None, option_map, option_and_then, Result, Ok, Err, refl, sym, ap, subst, length-append, arith}
 use Rattle.std.specs.List.{flat_map}
 use Rattle.std.specs.Option.{ok_or}
@@ -84,13 +84,13 @@ bare_joined header payload signature first second third =
     bare_both header (dot ∷ (payload ++ dot ∷ signature)) first
     (bare_dot (payload ++ dot ∷ signature) (bare_both payload (dot ∷ signature) second (bare_dot signature third)))
 
--- nor is anything in a text that is decoded
+-- nor is anything in a decoded text
 decoded_bare : (text bytes : List ℕ) → bytes_of_text text ≡ Some bytes → IsBare text
 decoded_bare text bytes found = apart_bare text (decoded_apart text bytes found)
 
--- ---- what is opened
+-- ---- opening
 
--- the signed text can be opened, where it may have so many bytes
+-- the signed text can be opened, if it may have this many bytes
 abbrev pub Opens : ℕ → List ℕ → Type 0
 Opens limit signed = (proof : Proof) × (proof_of limit signed ≡ Some proof)
 
@@ -100,7 +100,7 @@ opening_of limit signed opens =
     let step = then_some (result_ok (opened signed limit)) _ opens.0 opens.1 in
     (step.0, given (opened signed limit) step.0 step.1)
 
--- it is no longer than it may be
+-- it is at most as long as it may be
 opened_short : (limit : ℕ) (signed : List ℕ) → Opens limit signed → length signed ≤ limit
 opened_short limit signed opens =
     let opening = opening_of limit signed opens in
@@ -121,7 +121,7 @@ opened_bare limit signed opens =
 
 -- ---- as JSON
 
--- a text that is opened has so many bytes as JSON at most
+-- a text that is opened has at most this many bytes as JSON
 pub opened_within : (limit : ℕ) (signed : List ℕ) → Opens limit signed → size_of (signed_json signed) ≤ limit + 17
 opened_within limit signed opens =
     omega (

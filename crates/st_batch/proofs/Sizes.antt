@@ -1,5 +1,5 @@
--- How many bytes the entries of operations have in the lists of their files, each with a comma behind it, and how many
--- the files have by that (DIF Sidetree v1.0.0, "File Structures").
+-- The size in bytes of the entries of operations in the lists of their files, each with a comma after it, and the
+-- sizes of the files from these (DIF Sidetree v1.0.0, "File Structures").
 use Rattle.std.proofs.Common.{ℕ, ◌+◌, ◌==◌, Bool, List, length, codes, if◌then◌else◌, Option, Some, None, option_map}
 use Rattle.std.specs.Prelude.{max}
 use Rattle.std.specs.List.{sum_by}
@@ -27,21 +27,21 @@ pub record Sizes : Type 0 where
 
 -- ---- entries
 
--- an entry with a comma behind it, where there is one
+-- an entry with a comma after it, if there is one
 abbrev pub entry_size : Option Plain → ℕ
 entry_size None = 0
 entry_size (Some entry) = size_of entry + 1
 
--- ---- what one operation puts into files
+-- ---- the entries that one operation adds to files
 
--- its entry in an index file: the suffix data of a create, what another names
+-- its entry in an index file: the suffix data of a create, the target of another
 abbrev pub index_entry : PlainOperation → Plain
 index_entry (creating suffix_data delta) = create_json suffix_data
 index_entry (updating target proof delta) = target_json target
 index_entry (recovering target proof delta) = target_json target
 index_entry (deactivating target proof) = target_json target
 
--- the size of that
+-- its size
 abbrev pub index_size : PlainOperation → ℕ
 index_size operation = entry_size (Some (index_entry operation))
 
@@ -55,11 +55,11 @@ delta_size operation = entry_size (delta_there operation)
 
 -- ---- lists of entries
 
--- the size of an operation of a kind, and 0 of another
+-- the size of an operation of a kind, or 0 for another
 abbrev pub of_kind : (PlainOperation → Bool) → (PlainOperation → ℕ) → PlainOperation → ℕ
 of_kind is_kind size operation = if is_kind operation then size operation else 0
 
--- the size of each list, by what sums up what operations put into a list
+-- the size of each list, by a function that sums the operations' parts of a list
 abbrev pub sizes_by : ((PlainOperation → ℕ) → ℕ) → Sizes
 sizes_by sum = record {
   creates = sum (of_kind is_create index_size);
@@ -78,23 +78,23 @@ sizes_of operations = sizes_by (λ size. sum_by size operations)
 
 -- ---- parts of files
 
--- a list or an object whose entries have so many bytes, each with a comma behind it
+-- a list or an object whose entries have this many bytes, each with a comma after it
 abbrev pub in_brackets : ℕ → ℕ
 in_brackets inside = max 2 (inside + 1)
 
--- the size of what is left out where there are no entries for it; entries that are there have bytes
+-- the size of a part that is left out if there are no entries for it; entries that are there have bytes
 abbrev pub where_any : ℕ → ℕ → ℕ
 where_any entries size = if entries == 0 then 0 else size
 
--- a member that holds a list or an object whose entries have so many bytes, with a comma behind it
+-- a member with a list or an object whose entries have this many bytes, with a comma after it
 abbrev pub member_size : List ℕ → ℕ → ℕ
 member_size name inside = where_any inside (length name + inside + 5)
 
--- a member that holds the URI of a file, with a comma behind it, where there are entries that need the file
+-- a member with the URI of a file, with a comma after it, if there are entries that need the file
 abbrev pub uri_size : List ℕ → ℕ → ℕ
 uri_size name entries = where_any entries (length name + 52)
 
--- ---- files, 0 where one is not there
+-- ---- files, 0 if one is not written
 
 -- the entries of operations with a proof in the core proof file
 abbrev pub with_core_proof_size : Sizes → ℕ

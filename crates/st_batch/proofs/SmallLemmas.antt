@@ -1,7 +1,7 @@
 -- Files that are small enough, role by role.
 --     small_each, small_all      all files of operations are, if and only if that of each role is
---     small_short, short_small   one is, if and only if it has no more bytes than it may have
---     not_all                    where one is not, not all are
+--     small_short, short_small   one is, if and only if it has at most as many bytes as it may have
+--     not_all                    if one is not, not all are
 use Rattle.std.proofs.Common.{◌≡◌, ◌∙◌, ℕ, ◌<◌, ◌≤◌, ◌&&◌, Bool, true, false, cond, nat_le, List, ◌++◌, length, Option, Some, None, refl, sym, ap, arith}
 use Rattle.std.specs.List.{list_all}
 use Rattle.std.proofs.Math.Bool.{and-true}
@@ -23,11 +23,11 @@ use Rattle.st_batch.proofs.KnownRuleLemmas.{below}
 pub passes_below : (n most : ℕ) → n ≤ most → nat_le n most ≡ true
 passes_below n most within = grind (arith, nat_tests)
 
--- and that of one that it exceeds fails
+-- and that of a smaller bound fails
 pub over : (n most : ℕ) → most < n → nat_le n most ≡ false
 over n most above = grind (arith, nat_tests)
 
--- what is not there failed its test
+-- the test failed if there is no value
 pub none_fails : {Found : Type 0} (test : Bool) (found : Found) → cond test (Some found) None ≡ None → test ≡ false
 none_fails true found none = cc none
 none_fails false found none = refl
@@ -113,7 +113,7 @@ module _ (limits : Limits) (groups : Grouped) where
 -- ---- a batch
 
 module _ (limits : Limits) (count : ℕ) (groups : Grouped) where
-  -- where a file is too long, it is not written
+  -- if a file is too long, it is not written
   pub one_long : (role : Role) → None ≡ where_small limits (filed role (file_in role groups)) → None ≡ batch_where_small limits count groups
   one_long role long =
       let all : are_all_small limits groups ≡ false =

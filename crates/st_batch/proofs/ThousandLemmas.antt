@@ -1,5 +1,5 @@
--- Up to 1,000 operations that fit the limits of some version go into files at the limits of each version.
--- So in version 1 a batch takes the first 1,000 of a queue, and always the first one.
+-- Up to 1,000 operations that fit the limits of some version fit into files at the limits of each version. So in
+-- version 1 a batch takes the first 1,000 of a queue, and always the first one.
 use Rattle.std.proofs.Common.{◌≡◌, ◌∙◌, ℕ, ◌+◌, ◌<◌, ◌≤◌, ◌==◌, Bool, true, false, nat_le, if◌then◌else◌, List, [], ◌∷◌, codes, length, take, sym, arith}
 use Rattle.std.specs.Prelude.{min}
 use Rattle.std.proofs.lemmas.Bool.Decides.{nat_tests}
@@ -23,7 +23,7 @@ use Rattle.st_batch.proofs.PrefixSizeLemmas.{most_go}
 use Rattle.st_batch.proofs.Sizes.{Sizes, chunk_size, core_proof_size, core_size, file_size, index_size, member_size, proof_size, provisional_proof_size, provisional_size, sizes_of, uri_size, where_any, with_core_proof_size, with_delta_size}
 use Rattle.st_batch.proofs.SmallLemmas.{passes_below, short_small, small_all}
 
--- ---- files of so few bytes
+-- ---- files of this few bytes
 
 any_within : (p x : ℕ) → where_any p x ≤ x
 any_within p x = grind (arith, nat_tests)

@@ -1,4 +1,4 @@
--- What is written of operations by kind: which files are there, and what each says.
+-- The written form of operations by kind: which files there are, and the content of each.
 use Rattle.std.proofs.Common.{◌≡◌, ◌∙◌, ℕ, ◌≤◌, Bool, true, false, nat_lt, List, [], ◌∷◌, ◌++◌, codes, length, Option, Some, None, option_map, refl, ap, arith}
 use Rattle.std.specs.Prelude.{slice_get}
 use Rattle.std.specs.List.{filter_map}
@@ -18,17 +18,17 @@ use Rattle.st_batch.specs.BatchFiles.{anchor_text, batch_of_groups, chunk_file, 
 use Rattle.st_batch.specs.Groups.{Grouped, signed_text_in, suffix_data_in, target_in, with_core_proof, with_delta}
 use Rattle.st_batch.specs.declared.batch.BatchFile.{BatchFile}
 
--- where there are operations, what is said of them is there
+-- if there are operations, the value for them is there
 any_some : {Said : Type 0} (operations : List PlainOperation) (said : Said) → 1 ≤ length operations → if_any operations said ≡ Some said
 any_some [] said some = absurd (omega (arith, some))
 any_some (operation ∷ operations) said some = refl
 
--- and where there are none, it is not
+-- and if there are none, it is not
 any_none : {Said : Type 0} (operations : List PlainOperation) (said : Said) → length operations ≡ 0 → if_any operations said ≡ None
 any_none [] said none = refl
 any_none (operation ∷ operations) said none = absurd (omega (arith, none))
 
--- what a test of a number says
+-- a test of a number
 pub no_more : (n : ℕ) (are : Bool) → are ≡ nat_lt 0 n → are ≡ false → n ≡ 0
 no_more n are e is = grind (arith, nat_tests)
 
@@ -56,7 +56,7 @@ some_chunk (delta ∷ deltas) some = ap (λ rest. codes "{\"deltas\":[" ++ rest)
 
 -- ---- URIs
 
--- the URI of a file, where it is there
+-- the URI of a file, if there is one
 pub first_filed : (role : Role) (file : Option (List ℕ)) → option_map (λ found. found.uri) (slice_get (filed role file) 0) ≡ option_map uri_of file
 first_filed role None = refl
 first_filed role (Some bytes) = refl
@@ -85,7 +85,7 @@ module _ (groups : Grouped) where
   pub chunk_some : 1 ≤ length (with_delta groups) → chunk_file groups ≡ Some (chunk_text groups)
   chunk_some some = any_some (with_delta groups) (chunk_text groups) some
 
--- what is said of operations is there wherever something else is
+-- the value for operations is there whenever another is
 both_none : {Said Other : Type 0} (operations : List PlainOperation) (said : Said) (other : Other)
     → if_any operations said ≡ None → if_any operations other ≡ None
 both_none [] said other none = refl
@@ -111,7 +111,7 @@ module _ (groups : Grouped) where
   unfolding provisional_file
   provisional_none none = both_none (with_delta groups) (chunk_text groups) _ (mapped_none uri_of (chunk_file groups) none)
 
-  -- with one there is, and it says this
+  -- with one there is, with this content
   pub provisional_some : (chunk : HashValue) → option_map uri_of (chunk_file groups) ≡ Some chunk
       → (provisional_file groups ≡ Some (canonical (provisional_json (provisional_index groups)))) × (chunk ≡ uri_of (chunk_text groups))
   unfolding provisional_file
@@ -151,6 +151,6 @@ module _ (groups : Grouped) where
       → record { anchor = anchor; files = files } ≡ batch_of_groups count groups
   batch_said count anchor files = rw (anchor, files) refl
 
--- files that are put behind others
+-- files that are appended to others
 pub put_behind : {before after more first second : List BatchFile} → after ≡ before ++ more → before ≡ first → more ≡ second → after ≡ first ++ second
 put_behind {before} {after} {more} {first} {second} e front back = e ∙ (ap (λ files. files ++ more) front ∙ ap (λ files. first ++ files) back)

@@ -1,5 +1,4 @@
--- The files of operations, and the anchor string that stands for them (DIF Sidetree v1.0.0, "File
--- Structures").
+-- The files of operations, and their anchor string (DIF Sidetree v1.0.0, "File Structures").
 use Rattle.std.specs.Prelude.{ℕ, List, [], ◌∷◌, ◌++◌, length, Option, Some, None, option_map}
 use Rattle.std.specs.Fmt.{decimal}
 use Rattle.std.specs.List.{filter_map}
@@ -20,22 +19,22 @@ use Rattle.st_batch.specs.Groups.{Grouped, grouped, signed_text_in, suffix_data_
 use Rattle.st_batch.specs.declared.batch.Batch.{Batch}
 use Rattle.st_batch.specs.declared.batch.BatchFile.{BatchFile}
 
--- this, where there is one of these operations
+-- this value, if there is one of these operations
 abbrev pub if_any : {Said : Type 0} → List PlainOperation → Said → Option Said
 if_any [] said = None
 if_any (operation ∷ operations) said = Some said
 
--- ---- the files, each with what it says. Each operation of a batch has its proof and its delta, where
--- its kind has one, so none is left out of a list.
+-- ---- the files and their contents. Each operation of a batch has its proof and its delta, if
+-- its kind has one, so no list misses an entry.
 
--- the core proof file, where there is a recover or a deactivate: their signed texts
+-- the core proof file, if there is a recover or a deactivate: their signed texts
 unfoldable pub core_proof_file : Grouped → Option (List ℕ)
 core_proof_file groups = if_any (with_core_proof groups) (canonical (core_proof_json (record {
   recovers = filter_map signed_text_in groups.recovers;
   deactivates = filter_map signed_text_in groups.deactivates;
 })))
 
--- the provisional proof file, where there is an update: the signed texts of the updates
+-- the provisional proof file, if there is an update: the signed texts of the updates
 unfoldable pub provisional_proof_file : Grouped → Option (List ℕ)
 provisional_proof_file groups =
     if_any groups.updates (canonical (provisional_proof_json (filter_map signed_text_in groups.updates)))
@@ -44,11 +43,11 @@ provisional_proof_file groups =
 unfoldable pub chunk_text : Grouped → List ℕ
 chunk_text groups = canonical (chunk_json (filter_map delta_there (with_delta groups)))
 
--- the chunk file, where there is a create, a recover or an update
+-- the chunk file, if there is a create, a recover or an update
 abbrev pub chunk_file : Grouped → Option (List ℕ)
 chunk_file groups = if_any (with_delta groups) (chunk_text groups)
 
--- what the provisional index file says: the URIs of the two files below it, and the updates
+-- the content of the provisional index file: the URIs of the two files below it, and the updates
 unfoldable pub provisional_index : Grouped → ProvisionalIndex
 provisional_index groups = record {
   proof = option_map uri_of (provisional_proof_file groups);
@@ -56,11 +55,11 @@ provisional_index groups = record {
   updates = filter_map target_in groups.updates;
 }
 
--- the provisional index file, where there is a create, a recover or an update
+-- the provisional index file, if there is a create, a recover or an update
 unfoldable pub provisional_file : Grouped → Option (List ℕ)
 provisional_file groups = if_any (with_delta groups) (canonical (provisional_json (provisional_index groups)))
 
--- what the core index file says: the URIs of the two files that it names, and the other operations
+-- the content of the core index file: the URIs of the two files that it names, and the other operations
 unfoldable pub core_index : Grouped → CoreIndex
 core_index groups = record {
   core_proof = option_map uri_of (core_proof_file groups);
@@ -76,7 +75,7 @@ core_file groups = canonical (core_json (core_index groups))
 
 -- ---- all of them
 
--- the file of a role, where it is there
+-- the file of a role, if there is one
 abbrev pub file_in : Role → Grouped → Option (List ℕ)
 file_in Core groups = Some (core_file groups)
 file_in CoreProof groups = core_proof_file groups
@@ -84,12 +83,12 @@ file_in Provisional groups = provisional_file groups
 file_in ProvisionalProof groups = provisional_proof_file groups
 file_in Chunk groups = chunk_file groups
 
--- how many bytes a file has, 0 where it is not there
+-- the size of a file in bytes, or 0 if there is none
 abbrev pub bytes_there : Option (List ℕ) → ℕ
 bytes_there None = 0
 bytes_there (Some bytes) = length bytes
 
--- a file in its role under its URI, where it is there
+-- a file in its role with its URI, if there is one
 abbrev pub filed : Role → Option (List ℕ) → List BatchFile
 filed role None = []
 filed role (Some bytes) = record { role = role; uri = uri_of bytes; bytes = bytes } ∷ []
@@ -105,7 +104,7 @@ files_of groups =
 abbrev pub anchor_text : ℕ → HashValue → List ℕ
 anchor_text count core = decimal count ++ dot ∷ hash_text core
 
--- the batch of so many operations by kind
+-- the batch of `count` operations by kind
 abbrev pub batch_of_groups : ℕ → Grouped → Batch
 batch_of_groups count groups = record {
   anchor = anchor_text count (uri_of (core_file groups));

@@ -1,4 +1,4 @@
--- How the logic stores queued operations. Nothing that is said of them turns on it.
+-- How the logic stores queued operations. No statement about them depends on it.
 use Rattle.std.specs.Prelude.{◌≡◌, ℕ, Bool, true, false, List, Option, None, refl}
 use Rattle.std.specs.Coded.{Coded, code_by, coded×, coded_bool, coded_list, coded_option, coded_ℕ}
 use Rattle.st_plain.specs.Plain.{Plain}
@@ -7,11 +7,11 @@ use Rattle.st_ops.specs.Codes.{coded_proof}
 use Rattle.st_plain.specs.PlainCodes.{coded_plain}
 use Rattle.st_ops.specs.Operation.{PlainOperation, Proof, creating, updating, recovering, deactivating}
 
--- two hashes, and a proof and a delta that may be there
+-- two hashes, and an optional proof and delta
 abbrev Held : Type 0
 Held = (HashValue × HashValue) × (Option Proof × Option Plain)
 
--- the kind as two bits, and what an operation holds
+-- the kind as two bits, and the contents of an operation
 abbrev Parts : Type 0
 Parts = (Bool × Bool) × Held
 
@@ -22,7 +22,7 @@ parts_of (updating target proof delta) = ((true, false), ((target.suffix, target
 parts_of (recovering target proof delta) = ((false, true), ((target.suffix, target.reveal), (proof, delta)))
 parts_of (deactivating target proof) = ((false, false), ((target.suffix, target.reveal), (proof, None)))
 
--- the operation of the kind that two bits say
+-- the operation of the kind of these two bits
 abbrev operation_of : Bool → Bool → Held → PlainOperation
 operation_of true true held = creating (record { delta_hash = held.0.0; recovery_commitment = held.0.1 }) held.1.1
 operation_of true false held = updating (record { suffix = held.0.0; reveal = held.0.1 }) held.1.0 held.1.1

@@ -1,4 +1,4 @@
--- Operations with the right delta, and those that fit limits.
+-- Operations with the right delta, and operations that fit limits.
 use Rattle.std.specs.Prelude.{◌≡◌, Bool, true, false, is_some, Option, Some}
 use Rattle.st_apply.specs.Counting.{counted}
 use Rattle.st_ops.specs.Claim.{claim_of}
@@ -15,14 +15,14 @@ delta_counts limits (updating target proof delta) (Some (Update delta_hash)) = i
 delta_counts limits (recovering target proof delta) (Some (Recover recovery_commitment delta_hash)) =
     is_some (counted limits delta_hash delta)
 delta_counts limits (deactivating target proof) claim = true
--- an update or a recover without a claim of its kind has none; its request is refused before
+-- an update or a recover has a claim of its kind; without one its request was refused earlier
 delta_counts limits operation claim = false
 
--- an operation's delta is one at these limits and has its delta hash, where its kind has a delta
+-- an operation's delta is one at these limits and has its delta hash, if its kind has a delta
 unfoldable pub has_right_delta : Limits → PlainOperation → Bool
 has_right_delta limits operation = delta_counts limits operation (claim_of limits operation)
 
--- An operation fits limits: the text of its request asks for it, and it has the right delta.
+-- An operation fits limits: the text of its request is accepted for it, and it has the right delta.
 pub record Fits (limits : Limits) (operation : PlainOperation) : Type 0 where
   pub request : IsReadAgain limits operation
   pub delta : has_right_delta limits operation ≡ true

@@ -1,4 +1,4 @@
--- What a flush makes of a queue.
+-- The result of flushing a queue.
 use Rattle.std.specs.Prelude.{◌≡◌, ◌≤◌, List, [], length, min}
 use Rattle.st_ops.specs.Operation.{PlainOperation}
 use Rattle.st_params.specs.Limits.{Limits}
@@ -8,10 +8,9 @@ use Rattle.st_batch.specs.declared.batch.Batch.{Batch}
 use Rattle.st_batch.specs.declared.refused.FlushRefused.{FlushRefused}
 use Rattle.st_batch.specs.declared.refused.FlushRefused.TheVariants.{Nothing, WantOfMemory}
 
--- What is made is the batch of the queue at these limits, what is left is what stays queued, and at least
--- one operation was taken. No longer prefix goes into one batch; in version 1 it is the first 1,000, or
--- all where there are fewer. Each file stands under its own URI, no role comes twice, and the batch is read
--- back as the operations that were taken.
+-- The batch is that of the queue at these limits, the other operations stay queued, and at least one was taken. No
+-- longer prefix goes into one batch; in version 1 it is the first 1,000, or all if there are fewer. Each file has its
+-- own URI, no role appears twice, and the batch is read back as the operations taken.
 pub record IsFlushed (limits : Limits) (queue left : List PlainOperation) (made : Batch) : Type 0 where
   pub batch : made ≡ batch_of limits queue
   pub rest : left ≡ rest_of limits queue
@@ -22,8 +21,7 @@ pub record IsFlushed (limits : Limits) (queue left : List PlainOperation) (made 
   pub ascend : AscendFrom 0 made.files
   pub read_back : IsReadBack limits made (batched limits queue)
 
--- Nothing is flushed of an empty queue, which comes back. Memory is wanting only where something is
--- queued.
+-- An empty queue flushes nothing, and is returned. Memory can run out only if something is queued.
 abbrev pub RefusesToFlush : List PlainOperation → FlushRefused → Type 0
 RefusesToFlush queue (Nothing back) = (queue ≡ []) × (back ≡ [])
 RefusesToFlush queue WantOfMemory = 1 ≤ length queue

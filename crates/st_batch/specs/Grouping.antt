@@ -1,4 +1,4 @@
--- Operations that are put into groups, one after the other. No public call speaks of them.
+-- Operations that are put into groups, one after another. No contract of a public call mentions them.
 use Rattle.std.specs.Prelude.{[], ◌∷◌, ◌++◌, map}
 use Rattle.st_ops.specs.Operation.{PlainOperation, creating, updating, recovering, deactivating, plain_operation}
 use Rattle.st_batch.specs.Groups.{Grouped}
@@ -17,7 +17,7 @@ plain_groups groups = record {
 abbrev pub no_groups : Grouped
 no_groups = record { creates = []; recovers = []; deactivates = []; updates = [] }
 
--- groups with one operation more, the last of its kind
+-- groups with one more operation, the last of its kind
 abbrev pub with_operation : Grouped → PlainOperation → Grouped
 with_operation groups (creating suffix_data delta) =
     record groups { creates = groups.creates ++ creating suffix_data delta ∷ [] }

@@ -1,4 +1,4 @@
--- The operations of a batch by kind, and what of each goes into the files (DIF Sidetree v1.0.0, "File
+-- The operations of a batch by kind, and the part of each that goes into the files (DIF Sidetree v1.0.0, "File
 -- Structures").
 use Rattle.std.specs.Prelude.{ℕ, Bool, true, false, List, ◌++◌, Option, Some, None, option_map, filter}
 use Rattle.st_indexfiles.specs.declared.suffix_data.SuffixData.{SuffixData}
@@ -60,21 +60,21 @@ with_core_proof groups = groups.recovers ++ groups.deactivates
 abbrev pub with_delta : Grouped → List PlainOperation
 with_delta groups = groups.creates ++ groups.recovers ++ groups.updates
 
--- ---- what of an operation goes into a file; its delta is `delta_there`
+-- ---- the part of an operation that goes into a file; its delta is `delta_there`
 
 -- the suffix data of a create
 abbrev pub suffix_data_in : PlainOperation → Option SuffixData
 suffix_data_in (creating suffix_data delta) = Some suffix_data
 suffix_data_in other = None
 
--- what one of another kind names
+-- the target of an operation of another kind
 abbrev pub target_in : PlainOperation → Option Target
 target_in (creating suffix_data delta) = None
 target_in (updating target proof delta) = Some target
 target_in (recovering target proof delta) = Some target
 target_in (deactivating target proof) = Some target
 
--- its signed text, where there is a proof
+-- its signed text, if there is a proof
 abbrev pub signed_text_in : PlainOperation → Option (List ℕ)
 signed_text_in (creating suffix_data delta) = None
 signed_text_in (updating target proof delta) = option_map (λ found. found.text) proof

@@ -1,4 +1,4 @@
--- That a batch is read back as its operations.
+-- Reading a batch back as its operations.
 use Rattle.std.specs.Prelude.{◌≡◌, ◌≤◌, ℕ, ◌+◌, List, [], ◌∷◌, map, Some, ⊤}
 use Rattle.std.specs.List.{AllByRecursion}
 use Rattle.st_anchor.specs.Gives.{gives, with_suffix}
@@ -18,11 +18,11 @@ use Rattle.st_batch.specs.declared.batch.BatchFile.{BatchFile}
 
 -- ---- the files of a batch
 
--- the content has each of these files under its URI
+-- the content has each of these files by its URI
 abbrev pub HasFiles : Files → List BatchFile → Type 0
 HasFiles content files = AllByRecursion (λ file. file_at file.uri content ≡ Some file.bytes) files
 
--- each file stands under its own URI
+-- each file has its own URI
 abbrev pub AreNamed : List BatchFile → Type 0
 AreNamed files = AllByRecursion (λ file. file.uri ≡ uri_of file.bytes) files
 
@@ -34,19 +34,19 @@ place_of Provisional = 2
 place_of ProvisionalProof = 3
 place_of Chunk = 4
 
--- the roles of the files ascend from this place on, so no role comes twice
+-- the roles of the files ascend from this place on, so no role appears twice
 abbrev pub AscendFrom : ℕ → List BatchFile → Type 0
 AscendFrom least [] = ⊤
 AscendFrom least (file ∷ files) = (least ≤ place_of file.role) × AscendFrom (place_of file.role + 1) files
 
--- ---- what is read back
+-- ---- reading back
 
 -- Each of the operations fits these limits.
 abbrev pub FitAll : Limits → List PlainOperation → Type 0
 FitAll limits operations = AllByRecursion (Fits limits) operations
 
--- At these limits the operation says all that its kind says: it has a claim, where it is signed, and a
--- delta that counts for the delta hash of its suffix data or of its claim, where its kind has one.
+-- The operation is complete at these limits: it has a claim, if it is signed, and a delta that counts for the delta
+-- hash of its suffix data or of its claim, if its kind has one.
 abbrev pub SaysAll : Limits → PlainOperation → Type 0
 SaysAll limits (creating suffix_data delta) = Counts limits suffix_data.delta_hash delta
 SaysAll limits (updating target proof delta) =
@@ -58,9 +58,9 @@ SaysAll limits (recovering target proof delta) =
     × Counts limits delta_hash delta
 SaysAll limits (deactivating target proof) = claim_of limits (deactivating target proof) ≡ Some Deactivate
 
--- A batch is read back as these operations at these limits, where each of them fits these: over every
--- content that has its files, an entry with its anchor string gives exactly these, in the order of a
--- batch, each with its suffix, its proof and its delta; and each of them says all that its kind says.
+-- A batch is read back as these operations at these limits, if each of them fits these: over any content that has its
+-- files, an entry with its anchor string gives exactly these, in the order of a batch, each with its suffix, its
+-- proof and its delta; and each of them is complete.
 pub record IsReadBack (limits : Limits) (batch : Batch) (operations : List PlainOperation) : Type 0 where
   pub given : (content : Files) → HasFiles content batch.files → FitAll limits operations
       → gives content limits batch.anchor ≡ map with_suffix (in_order operations)

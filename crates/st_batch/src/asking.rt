@@ -20,8 +20,8 @@ use st_ops::{Operation, read_request};
 use st_params::Params;
 use std::alloc::Global;
 
-/// The operation that the bytes ask for at these limits, where its delta is right. Where its signed
-/// text is opened, that counts as one proof.
+/// The operation of a request at these limits, if its delta is right. Opening its signed text
+/// counts as one proof.
 pub(crate) fn ask(
     alloc: Global,
     bytes: &[u8],

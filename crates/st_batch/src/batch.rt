@@ -3,7 +3,7 @@ use st_datafiles::Role;
 use st_hash::Hash;
 use std::alloc::Global;
 
-/// A file of a batch: what it is to the entry that names it, its URI, and its bytes.
+/// A file of a batch: its role in the entry that names it, its URI, and its bytes.
 #[derive(Debug, Drop)]
 pub struct BatchFile {
     pub role: Role,
@@ -21,8 +21,8 @@ impl Copied for BatchFile {
     }
 }
 
-/// A batch: an anchor string, and the files that it stands for, in the order of their roles. The first
-/// is the core index file.
+/// A batch: an anchor string, and its files, in the order of their roles. The first is the core
+/// index file.
 #[derive(Debug, Drop)]
 pub struct Batch {
     pub anchor: Text,

@@ -7,7 +7,7 @@ use st_base::{Bytes, WantOfMemory};
 use st_canon::{PackedJson, append, append_comma};
 use std::alloc::Global;
 
-/// The text of the chunk file of these deltas. The texts that they are kept as go into it as they are.
+/// The text of the chunk file of these deltas. Their stored texts are copied unchanged.
 pub(crate) fn chunk_text(alloc: Global, deltas: &[PackedJson]) -> Result<Bytes, WantOfMemory>
     ensures { IfOk result (λ text. text ≡ canonical (chunk_json deltas.now)) }
 {
@@ -34,7 +34,7 @@ fn append_deltas(alloc: Global, text: &mut Bytes, deltas: &[PackedJson]) -> Resu
     Ok(())
 }
 
-// A delta, as the text that it is kept as, where it is kept as that.
+// A delta, as its stored text if it has one.
 fn append_delta(alloc: Global, text: &mut Bytes, delta: &PackedJson) -> Result<(), WantOfMemory>
     ensures { OnOk result (text.new ≡ text.old ++ canonical delta.now) }
 {

@@ -18,7 +18,7 @@ use st_datafiles::{CoreProofs, Role, write_core_proof, write_provisional_proof};
 use st_params::Params;
 use std::alloc::Global;
 
-/// The core proof file, where there is a recover or a deactivate.
+/// The core proof file, if there is a recover or a deactivate.
 pub(crate) fn core_proof_file(
     alloc: Global,
     groups: &Groups,
@@ -58,7 +58,7 @@ fn core_proofs(alloc: Global, groups: &Groups) -> Result<CoreProofs, WantOfMemor
     })
 }
 
-/// The provisional proof file, where there is an update.
+/// The provisional proof file, if there is an update.
 pub(crate) fn provisional_proof_file(
     alloc: Global,
     groups: &Groups,
@@ -74,7 +74,7 @@ pub(crate) fn provisional_proof_file(
     Ok(filed(alloc, Role::ProvisionalProof, bytes, params)?)
 }
 
-/// The chunk file, where there is a create, a recover or an update.
+/// The chunk file, if there is a create, a recover or an update.
 pub(crate) fn chunk_file(
     alloc: Global,
     groups: &Groups,

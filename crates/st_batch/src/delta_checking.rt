@@ -10,7 +10,7 @@ use st_ops::{Claim, Operation, claim_of};
 use st_params::Params;
 use std::alloc::Global;
 
-/// Whether the delta of an operation is one at these limits and has its delta hash, where its kind has
+/// Whether the delta of an operation is one at these limits and has its delta hash, if its kind has
 /// a delta.
 #[tactic(auto, unfolding(crate::specs::Fits::has_right_delta))]
 pub(crate) fn has_right_delta(

@@ -13,13 +13,13 @@ use st_hash::Hash;
 use st_ops::{Operation, suffix};
 use std::alloc::Global;
 
-/// How many operations may be queued.
+/// The largest number of queued operations.
 pub const MOST_QUEUED: usize = 10_000;
 
-/// Operations under their suffixes, in the order in which they came.
+/// Operations by their suffixes, in the order in which they were queued.
 pub(crate) type Entries = IndexMap<Hash, Operation>;
 
-/// Queues an operation, where it may be, and gives its suffix.
+/// Queues an operation, if allowed, and returns its suffix.
 pub(crate) fn put(
     queued: &mut Entries,
     alloc: Global,
@@ -57,7 +57,7 @@ fn suffix_to_queue(
     Ok(suffix)
 }
 
-// Puts an operation last, under a suffix that is not there.
+// Puts an operation last, with a suffix that is not there.
 fn put_last(queued: &mut Entries, suffix: Hash, operation: Operation) -> Result<(), WantOfMemory>
     requires { get same_hash queued.old suffix ≡ None }
     ensures ok { OnOk result (queued.new.entries ≡ queued.old.entries ++ (suffix, operation) ∷ []) }

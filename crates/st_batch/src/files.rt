@@ -11,7 +11,7 @@ use st_hash::{Hash, uri_of};
 use st_params::Params;
 use std::alloc::Global;
 
-/// That a file is too long: how many bytes it has, and how many it may have.
+/// A file is too long: its size, and the largest size, in bytes.
 #[derive(Clone, Copy, Debug)]
 pub(crate) struct TooLong {
     pub long: usize,
@@ -21,7 +21,7 @@ pub(crate) struct TooLong {
 /// Files, or that one is too long.
 pub(crate) type Fitting = Result<List<BatchFile>, TooLong>;
 
-/// A list of the one file, under its URI. Where it is too long it is not hashed.
+/// A list of only this file, with its URI. A file that is too long is not hashed.
 pub(crate) fn filed(
     alloc: Global,
     role: Role,
@@ -40,7 +40,7 @@ pub(crate) fn filed(
     Ok(Ok(files))
 }
 
-/// How many bytes a file of this role may have.
+/// The largest size of a file of this role, in bytes.
 pub(crate) fn most_bytes(role: Role, params: &Params) -> usize
     ensures { result ≡ most_bytes params.now role }
 {
@@ -53,7 +53,7 @@ pub(crate) fn most_bytes(role: Role, params: &Params) -> usize
     }
 }
 
-/// A list of the one file, whose URI is known. It was written with room to grow, and is kept without.
+/// A list of only this file, whose URI is known. Its spare room is given back.
 pub(crate) fn filed_under(
     alloc: Global,
     role: Role,
@@ -69,7 +69,7 @@ pub(crate) fn filed_under(
     Ok(files)
 }
 
-/// The URI of the first file, where there is one.
+/// The URI of the first file, if there is one.
 pub(crate) fn first_uri(files: &List<BatchFile>) -> Option<Hash>
     ensures { result ≡ option_map (λ file. file.uri) (slice_get files.now 0) }
 {

@@ -9,7 +9,7 @@ use st_base::WantOfMemory;
 use st_params::Params;
 use std::alloc::Global;
 
-/// What stays of queued operations, and the batch of those that it takes.
+/// The operations that stay queued, and the batch of those taken.
 pub(crate) fn flush(
     alloc: Global,
     queued: Entries,
@@ -20,7 +20,7 @@ pub(crate) fn flush(
     ensures flushed { IfOk result (λ done. IsFlushed params.now (operations_of queued.entries) (operations_of done.0.entries) done.1) }
     ensures kept { IfOk result (λ done. IsKept done.0.entries) }
 {
-    // For proofs: the limits are those of their version, and no suffix stands twice.
+    // For proofs: the limits are those of their version, and no suffix appears twice.
     let _version = params.version();
     let _length = queued.len();
     let (count, batch) = longest_batch(alloc, &queued, params)?;
@@ -28,7 +28,7 @@ pub(crate) fn flush(
     Ok((rest, batch))
 }
 
-// The entries behind so many first ones.
+// The entries after the first `count`.
 fn behind(entries: Entries, count: usize) -> Result<Entries, WantOfMemory>
     requires { count ≤ length entries.entries }
     ensures { IfOk result (λ rest. rest.entries ≡ drop count entries.entries) }

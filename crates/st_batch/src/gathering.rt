@@ -28,7 +28,7 @@ pub(crate) fn suffix_data_of(
     Ok(found)
 }
 
-/// What these operations name, in order.
+/// The targets of these operations, in order.
 pub(crate) fn targets_of(
     alloc: Global,
     operations: &[Operation],

@@ -9,7 +9,7 @@ use st_base::{Copied, List, WantOfMemory};
 use st_ops::Operation;
 use std::alloc::Global;
 
-/// Operations by kind, each kind in the order in which they came.
+/// Operations by kind, each kind in the order in which they were queued.
 #[derive(Drop)]
 pub(crate) struct Groups {
     pub creates: List<Operation>,
@@ -19,7 +19,7 @@ pub(crate) struct Groups {
 }
 
 impl Groups {
-    /// No operations. It takes no memory yet.
+    /// No operations. It allocates nothing.
     fn new(alloc: Global) -> Groups
         ensures { plain_groups result ≡ no_groups }
     {
@@ -44,7 +44,7 @@ impl Groups {
     }
 }
 
-/// The first operations of entries, so many, by kind. They share their proofs and deltas with these.
+/// The first `count` operations of entries, by kind. They share their proofs and deltas with these.
 pub(crate) fn groups_of(
     alloc: Global,
     entries: &Entries,

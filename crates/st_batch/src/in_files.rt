@@ -20,7 +20,7 @@ pub(crate) fn suffix_data_in(operation: &Operation) -> Option<SuffixData>
     }
 }
 
-/// What an operation of another kind names.
+/// The target of an operation of another kind.
 pub(crate) fn target_in(operation: &Operation) -> Option<Target>
     ensures { result ≡ target_in (plain_operation operation.now) }
 {
@@ -41,7 +41,7 @@ fn target(suffix: &Hash, reveal: &Hash) -> Target
     }
 }
 
-/// The delta that stands beside an operation.
+/// The delta of an operation.
 pub(crate) fn delta_in(operation: &Operation) -> Option<&PackedJson>
     ensures { option_map (λ delta. delta.now) result ≡ delta_there (plain_operation operation.now) }
 {

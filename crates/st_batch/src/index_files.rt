@@ -18,7 +18,7 @@ use st_indexfiles::{CoreIndex, ProvisionalIndex, write_core, write_provisional};
 use st_params::Params;
 use std::alloc::Global;
 
-/// The provisional index file, where there is a create, a recover or an update: it names the two files
+/// The provisional index file, if there is a create, a recover or an update: it names the two files
 /// below it.
 pub(crate) fn provisional_file(
     alloc: Global,

@@ -7,7 +7,7 @@ ghost use Rattle.st_ops.specs.Operation.{plain_operation};
 use crate::parts::signed_text_in;
 use st_ops::{Operation, know_hashes};
 
-/// For proofs: the hashes of an operation have the values that hashes have, and its signed text is
+/// For proofs: the hashes of an operation satisfy the rules of hashes, and its signed text is
 /// UTF-8. Nothing is done.
 pub(crate) fn know_operation(operation: &Operation)
     ensures hashes { HasHashes (plain_operation operation.now) }

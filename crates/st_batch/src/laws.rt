@@ -1,10 +1,10 @@
 ghost use Rattle.st_batch.specs.BatchLaws.{BatchIsReadBack, NeverShorter, TakesAThousand, TakesTheFirst, ThousandFit};
 
-/// What holds of batches: that of different operations which go into one batch is read back as these,
-/// wherever its files are known; and at the limits of each version a batch takes the first operation of
-/// a queue, if that fits the limits of some version. Up to 1,000 such operations never make a file too
-/// long, so in version 1 a batch takes the first 1,000 of a queue of them, or all where there are fewer.
-/// A longer prefix of a queue never has a shorter file.
+/// Laws of batches. If different operations go into one batch, it is read back as these, wherever
+/// its files are known. At the limits of each version a batch takes the first operation of a queue,
+/// if that fits the limits of some version. Up to 1,000 such operations never make a file too long,
+/// so in version 1 a batch takes the first 1,000 of a queue of them, or all if there are fewer. A
+/// longer prefix of a queue never has a shorter file.
 pub fn batch_laws()
     ensures read_back { BatchIsReadBack }
     ensures takes_the_first { TakesTheFirst }

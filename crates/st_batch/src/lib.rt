@@ -1,6 +1,6 @@
-//! The batch writer: operations are queued by requests for them, at most so many, no two for one
-//! suffix, and a flush makes a batch of the first of them: an anchor string and the files that it
-//! stands for (DIF Sidetree v1.0.0, "File Structures").
+//! The batch writer: it queues a bounded number of requested operations, at most one for each
+//! suffix, and a flush makes a batch of the first of them: an anchor string and its files (DIF
+//! Sidetree v1.0.0, "File Structures").
 #![tactic(auto)]
 
 mod asking;

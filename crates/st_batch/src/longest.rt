@@ -13,8 +13,8 @@ use st_base::WantOfMemory;
 use st_params::Params;
 use std::alloc::Global;
 
-/// How many of the queued operations the next batch takes, and that batch. It is written of as many as a batch may
-/// declare; only where a file is too long then is the number sought, by halving.
+/// How many of the queued operations the next batch takes, and that batch. It is written with as
+/// many as a batch may declare; the number is searched by halving only if a file is then too long.
 pub(crate) fn longest_batch(
     alloc: Global,
     queued: &Entries,
@@ -31,13 +31,13 @@ pub(crate) fn longest_batch(
     }
 }
 
-// About how many go, where a file of so many is too long.
+// About how many go, if a file of `count` is too long.
 fn share(count: usize, too_long: &TooLong) -> usize {
     count.saturating_mul(too_long.most) / too_long.long.max(1)
 }
 
-// The same, where a file of so many first operations, as many as a batch may declare, is too long. The number that is
-// tried first is a guess.
+// The same, if a file of the first operations, as many as a batch may declare, is too long. The
+// first number tried is a guess.
 fn halved(
     alloc: Global,
     queued: &Entries,
@@ -68,7 +68,7 @@ fn halved(
     }
 }
 
-// The batch of so many first operations, or that a file of it is too long.
+// The batch of the first operations, or that a file of it is too long.
 fn written(
     alloc: Global,
     queued: &Entries,

@@ -18,11 +18,11 @@ use st_params::Params;
 use std::alloc::Global;
 use std::marker::Model;
 
-/// Operations that wait for a batch, at most `MOST_QUEUED`, no two for one suffix. Contracts see the
-/// list of them, in the order in which they came.
+/// Operations that wait for a batch, at most `MOST_QUEUED`, at most one for each suffix. Contracts
+/// see the list of them, in the order in which they were queued.
 #[derive(Drop)]
 pub struct Queue {
-    // Under their suffixes.
+    // By their suffixes.
     queued: Entries,
 }
 
@@ -42,7 +42,7 @@ impl Model for Queue {
 }
 
 impl Queue {
-    /// No operations. It takes no memory yet.
+    /// No operations. It allocates nothing.
     pub fn new(alloc: Global) -> Queue
         ensures { result ≡ [] }
     {
@@ -51,7 +51,7 @@ impl Queue {
         }
     }
 
-    /// How many operations are queued.
+    /// The number of queued operations.
     pub fn len(&self) -> usize
         ensures value { result ≡ length self.now }
         ensures few { result ≤ most_queued }
@@ -60,11 +60,11 @@ impl Queue {
         self.queued.len()
     }
 
-    /// Queues the operation that the bytes ask for at these limits, and gives its suffix. Where its
-    /// signed text is opened, that counts as one proof.
+    /// Queues the operation of a request at these limits, and returns its suffix. Opening its
+    /// signed text counts as one proof.
     ///
-    /// Each refusal but `WantOfMemory` comes exactly where it is the first in the order of
-    /// `SubmitRefused` that holds. A refusal leaves the queue as it was.
+    /// A refusal other than `WantOfMemory` is returned if and only if it is the first, in the order
+    /// of `SubmitRefused`, that holds. A refusal leaves the queue unchanged.
     pub fn submit(
         &mut self,
         alloc: Global,
@@ -77,23 +77,23 @@ impl Queue {
         // The operation that was added fits these limits.
         ensures fits { OnOk result (AddsFitting params.now self.old self.new) }
         ensures counted { ProofsAtMost 1 work.old work.new }
-        // It is counted exactly where the request came so far.
+        // It is counted if and only if the signed text was opened.
         ensures exact { CountsAsking (request_of params.now bytes.now) result work.old work.new }
     {
         let operation = ask(alloc, bytes, params, work)?;
         put(&mut self.queued, alloc, operation)
     }
 
-    /// Makes a batch of the first operations, as many as go into one at these limits: no more than a
-    /// batch may declare, and none of its files longer than it may be. In version 1 these are the first
-    /// 1,000, or all where there are fewer. It gives what stays queued, in order, and the batch. No file
-    /// is read and nothing is counted.
+    /// Makes a batch of the first operations, as many as go into one at these limits: at most as
+    /// many as a batch may declare, and no file longer than allowed. In version 1 these are the
+    /// first 1,000, or all if there are fewer. Returns the operations that stay queued, in order,
+    /// and the batch. No file is read and nothing is counted.
     ///
     /// Wherever the files of the batch are known, an entry with its anchor string, at a height with
-    /// these limits, gives exactly the operations that were taken, if each of them fits these limits.
+    /// these limits, gives exactly the operations taken, if each of them fits these limits.
     ///
-    /// `Nothing` comes exactly where no operation is queued; a queue that is not empty gives a batch of
-    /// at least one.
+    /// The result is `Nothing` if and only if no operation is queued; a queue that is not empty
+    /// gives a batch of at least one.
     pub fn flush(self, alloc: Global, params: &Params) -> Result<(Queue, Batch), FlushRefused>
         ensures flushed { IfOk result (λ done. IsFlushed params.now self done.0 done.1) }
         ensures refused { IfErr result (RefusesToFlush self) }

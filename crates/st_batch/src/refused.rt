@@ -6,33 +6,33 @@ use thiserror::Error;
 /// Why a request is not queued: the first of these that holds, in this order.
 #[derive(Clone, Copy, Debug, Drop, PartialEq, Eq, Error)]
 pub enum SubmitRefused {
-    /// The bytes are no JSON.
+    /// The bytes are not JSON.
     #[error("not JSON")]
     NotJson,
     /// A number in them is not whole.
     #[error("a number is not whole")]
     NotWhole,
-    /// They are no object with exactly the members of the kind that its `type` names, each a text or
-    /// an object as it has to be.
+    /// They are not an object with exactly the members of the kind named by `type`, each a text or
+    /// an object as required.
     #[error("not the form of a request")]
     BadForm,
-    /// A text that has to be a hash text of the version is none.
+    /// A text that must be a hash text of the version is none.
     #[error("not a hash text")]
     BadHash,
     /// The signed text does not open, or the operation has no claim.
     #[error("not a proof of the operation")]
     BadProof,
-    /// The operation has a delta which is none at these limits, or whose hash, by the algorithm of the
-    /// delta hash of the suffix data or of the claim, is not that delta hash.
+    /// The operation has a delta that is not one at these limits, or whose hash, by the algorithm
+    /// of the delta hash of the suffix data or of the claim, is not that delta hash.
     #[error("not the delta of the operation")]
     BadDelta,
     /// An operation for the same suffix is queued.
     #[error("an operation for this suffix is queued")]
     AlreadyQueued,
-    /// As many operations are queued as may be.
+    /// The queue has the largest number of operations.
     #[error("the queue is full")]
     QueueFull,
-    /// Memory could not be had.
+    /// Out of memory.
     #[error("out of memory")]
     WantOfMemory,
 }
@@ -69,9 +69,9 @@ impl From<RequestRefused> for SubmitRefused {
 /// Why a queue gives no batch.
 #[derive(Drop)]
 pub enum FlushRefused {
-    /// No operation is queued. The queue is handed back.
+    /// No operation is queued. The queue is returned.
     Nothing(Queue),
-    /// Memory could not be had, and the queue is gone.
+    /// Out of memory; the queue is lost.
     WantOfMemory,
 }
 

@@ -15,8 +15,8 @@ use st_hash::{Hash, hash_text, uri_of};
 use st_params::Params;
 use std::alloc::Global;
 
-/// The batch of so many operations by kind, or that a file is too long. That is not hashed then, and no more files
-/// are written.
+/// The batch of `count` operations by kind, or that a file is too long. That file is not hashed,
+/// and no more files are written.
 pub(crate) fn write_batch(
     alloc: Global,
     count: usize,
@@ -57,7 +57,7 @@ pub(crate) fn write_batch(
     Ok(Ok(Batch { anchor, files }))
 }
 
-// The anchor string of so many operations with this core index file.
+// The anchor string of `count` operations with this core index file.
 fn anchor_text(alloc: Global, count: usize, core: &Hash) -> Result<Text, WantOfMemory>
     ensures { IfOk result (λ text. text ≡ anchor_text count core.now) }
 {

@@ -29,7 +29,7 @@ module _ (es fs : List (List ℕ × Json)) (i : ℕ) (e f : List ℕ × Json) (W
   both : W → member e.0 (plain e.1) (plain_members (drop (i + 1) es)) ≡ member f.0 (plain f.1) (plain_members (drop (i + 1) fs))
   both whole = sym (ap plain_members first) ∙ so_far.1 whole ∙ ap plain_members second
 
-  -- where the wholes are the same, so are the names here
+  -- if the whole values are the same, so are these names
   pub name_here : W → e.0 ≡ f.0
   name_here whole = let b = both whole in cc
 

@@ -31,7 +31,7 @@ use Rattle.st_canon.specs.View.{plain, plain_items, plain_members}
 use Rattle.st_canon.specs.declared.value.Json.{Json}
 use Rattle.st_canon.proofs.Places.{plain_members-placed}
 
--- what was read is converted
+-- a value that was read is converted
 pub gives_converted : (bytes : List ℕ) (d : Data) (r : Result Json ReadRefused) → IsUtf8 bytes → read bytes ≡ Some d
     → GivesAs plain refusal_of (ok_or (whole_value d) NotWhole) r → GivesAs plain refusal_of (json_of bytes) r
 gives_converted bytes d r utf8 is h =
@@ -48,7 +48,7 @@ item_pushed : (js : List Json) (j : Json) (o : Option Items)
 item_pushed js j None = refl
 item_pushed js j (Some rest) = ap Some (sym (items_after_push (map plain js) (plain j) rest) ∙ ap (λ ps. items_after ps rest) (plain_pushed js j))
 
--- so far these items were converted, and the others are left
+-- these items were converted, and the others remain
 abbrev pub ItemsSoFar : List Value → List Value → List Json → Type 0
 ItemsSoFar all left js =
     whole_items (items_view all) ≡ option_map (items_after (map plain js)) (whole_items (items_view left))
@@ -90,7 +90,7 @@ puts_in_order [] = refl
 puts_in_order (e ∷ es) =
     ap (put e.0 (plain e.1)) (puts_in_order es) ∙ sym (plain_members-placed e.0 e.1 (in_order es))
 
--- so far these members of the map were converted, and the entries are left
+-- these members of the map were converted, and the other entries remain
 abbrev pub MembersSoFar : List Entry → List Entry → Pairs → Type 0
 MembersSoFar all left es = whole_members (members_view all) ≡ option_map (puts es) (whole_members (members_view left))
 

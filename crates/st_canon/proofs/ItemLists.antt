@@ -1,4 +1,4 @@
--- What an edit of a list of values makes of the plain items.
+-- The effect of an edit of a list of values on the plain items.
 use Rattle.std.proofs.Common.{◌≡◌, ℕ, suc, List, [], ◌∷◌, length, take, drop, set, map, refl, ap, sym, ◌∙◌}
 use Rattle.std.proofs.lemmas.List.{length-map, map-append, map-set, take-map, drop-map}
 use Rattle.std.specs.List.{insert, remove}

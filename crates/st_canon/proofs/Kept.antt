@@ -1,4 +1,4 @@
--- What the items and members of a value keep.
+-- Properties that the items and members of a value keep.
 use Rattle.std.proofs.Common.{◌≡◌, ℕ, zero, suc, ◌+◌, ◌<◌, List, [], ◌∷◌, ◌++◌, length, get_or, drop, sym, subst, Less, Equal, Greater}
 use Rattle.std.specs.List.{AllByRecursion}
 use Rattle.std.specs.List.Sorted.{IsStrictlySortedBy}
@@ -35,7 +35,7 @@ one_more_member es i e s lt is u p k =
     let split : drop i es ≡ e ∷ drop (i + 1) es = next_item es i e lt is in
     subst (λ l. MembersAreProper (plain_members l)) (sym split) (u, first_above e (drop (i + 1) es) (subst NamesAscend split (rest_ascends i es s)), p, k)
 
--- ---- what is put together of proper parts is proper
+-- ---- values built from proper parts are proper
 
 pub one_more_proper : (js : List Json) (j : Json) → ItemsAreProper (plain_items js) → IsProper (plain j)
     → ItemsAreProper (plain_items (js ++ j ∷ []))
@@ -70,6 +70,6 @@ unfolding IsStrictlySortedBy
 ascending_proper [] s h = tt
 ascending_proper (e ∷ es) s h = (h.0.0, above e.0 es s.0, h.0.1, ascending_proper es s.1 h.1)
 
--- pairs that are proper, brought into their order
+-- proper pairs, sorted
 pub members_proper : (es : List (List ℕ × Json)) → PairsAreProper es → MembersAreProper (plain_members (in_order es))
 members_proper es h = ascending_proper (in_order es) (ascend_in_order es) (in_order_proper es h)

@@ -1,11 +1,10 @@
--- Private: what the answers of this crate cite.
+-- Private: lemmas that this crate's proofs cite.
 mod Compared
 mod Converting
 mod Depths
 mod Kept
 mod Searching
--- For the crates above.
--- a list of values that is edited, over its plain items
+-- For the crates above. an edit of a list of values, over its plain items
 pub mod ItemLists
--- the plain members, where a pair was put among the pairs or is looked up
+-- the plain members after a pair is inserted among the pairs, and lookups in them
 pub mod Places

@@ -1,4 +1,4 @@
--- What stands at the place of a name, and at its gap, among pairs whose names ascend.
+-- The pair at the place of a name, and the gap for it, among pairs whose names ascend.
 use Rattle.std.proofs.Common.{◌≡◌, ℕ, zero, suc, ◌<◌, Bool, true, false, cond, List, [], ◌∷◌, length, get_or, set, Option, Some, None, option_map}
 use Rattle.std.proofs.Common.{Ordering, Less, Equal, Greater, refl, sym, ap, ◌∙◌, subst, arith}
 use Rattle.std.specs.Prelude.{nat_eq}
@@ -41,7 +41,7 @@ module _ {X : Type 0} where
     absent_above [] all = tt
     absent_above (e ∷ es) all = (not_name_from_less name e.0 all.0, absent_above es all.1)
 
-    -- the first name is below one that stands later
+    -- the first name is below a later one
     first_below : (e : List ℕ × X) (es : List (List ℕ × X)) (i : ℕ) (d : List ℕ × X) → NamesAscend (e ∷ es)
         → i < length es → (get_or es i d).0 ≡ name → name_cmp name e.0 ≡ Greater
     unfolding IsStrictlySortedBy
@@ -85,7 +85,7 @@ module _ {X : Type 0} where
       pub placed_at_place : (v : X) → set es i (name, v) ≡ placed (name, v) es
       placed_at_place v = placed_over es i (name, v) v ascend at.in_range (at.named (name, v))
 
-      -- the value of what stands there is changed, and its name stays
+      -- the value of the pair there is changed, and its name stays
       pub changed_at_place : (e : List ℕ × X) (v : X) → e ≡ get_or es i e → set es i (e.0, v) ≡ placed (name, v) es
       changed_at_place e v is = ap (λ n. set es i (n, v)) (ap (λ p. p.0) is ∙ at.named e) ∙ placed_at_place v
 
@@ -142,7 +142,7 @@ module _ {X : Type 0} where
       → IsGapFor name es i → fs ≡ placed (name, v) es
   placed_from_gap name v {es} {fs} {i} is gap = is ∙ placed_at_gap name es i v gap
 
--- ---- the same of plain members
+-- ---- the same for plain members
 chosen : (t : Bool) (v : Json) (found : Option Json) (p : Option Plain) → option_map plain found ≡ p
     → option_map plain (cond t (Some v) found) ≡ cond t (Some (plain v)) p
 chosen true v found p is = refl

@@ -1,4 +1,4 @@
--- What a bisection finds among pairs whose names ascend.
+-- The result of a bisection among pairs whose names ascend.
 use Rattle.std.proofs.Common.{◌≡◌, ℕ, zero, suc, ◌<◌, Bool, true, false, cond, List, [], ◌∷◌, length, get_or, Result, Ok, Err, Ordering, Less, Equal}
 use Rattle.std.proofs.Common.{Greater, refl, ap, ◌∙◌, arith, add-one}
 use Rattle.std.specs.Prelude.{IfOk, IfErr}
@@ -31,7 +31,7 @@ never Less e = cc
 never Equal e = cc
 never Greater e = cc
 
--- the order of names, where only the same name is equal
+-- the order of names, in which a name ties only with itself
 abbrev pub exact_cmp : List ℕ → List ℕ → Ordering
 exact_cmp first second = cond (is_name first second) Equal (apart (name_cmp first second))
 

@@ -1,4 +1,4 @@
--- What a value ends as once a `&mut` to what is inside it has ended.
+-- The state of a value after a `&mut` to a part of it has ended.
 use Rattle.std.specs.Prelude.{ℕ, List, Option}
 use Rattle.std.specs.Borrow.{Fml, MutBor, LendsIf}
 use Rattle.st_base.specs.contracts.list.List.{the_row as list_row}
@@ -7,11 +7,10 @@ use Rattle.st_canon.specs.contracts.value.Json.{the_row}
 use Rattle.st_canon.specs.declared.value.Json as value
 use Rattle.st_canon.specs.declared.value.Json.{Json}
 
--- where the value is a list, that list is lent: the value ends as the list that was last written, and
--- every other value stays
+-- a list is lent: the value ends as the list that was last written; every other value stays unchanged
 abbrev pub LendsList : MutBor Json → Option (MutBor (List Json)) → Fml
 LendsList json r = LendsIf the_row (list_row the_row) json r value.List json.now
 
--- the same of the members of an object
+-- the same for the members of an object
 abbrev pub LendsObject : MutBor Json → Option (MutBor (List (List ℕ × Json))) → Fml
 LendsObject json r = LendsIf the_row (members_row the_row) json r value.Object json.now

@@ -1,4 +1,4 @@
--- Where a name stands among pairs whose names ascend, or would go.
+-- The place of a name among pairs whose names ascend, or the place to insert it.
 use Rattle.std.specs.Prelude.{◌≡◌, ℕ, ◌<◌, ◌≤◌, List, length, slice_index_or}
 use Rattle.std.specs.declared.cmp.Ordering.TheVariants.{Less, Greater}
 use Rattle.st_plain.specs.Names.{name_cmp}

@@ -1,11 +1,11 @@
--- The plain value that a `Json` stands for.
+-- The plain value that a `Json` represents.
 use Rattle.std.specs.Prelude.{ℕ, List, map}
 use Rattle.st_plain.specs.Entries.{items_of, members_of}
 use Rattle.st_plain.specs.Plain.{Plain, null, boolean, whole, text, list, object, Items, Members}
 use Rattle.st_canon.specs.declared.value.Json.{Json, fold-Json}
 use Rattle.st_canon.specs.declared.value.Json.TheOpen.{Json-F}
 
--- one level, once each value inside is plain
+-- one level, after each value inside is plain
 abbrev pub plain_step : Json-F Plain → Plain
 plain_step Json-F.Null = null
 plain_step (Json-F.Bool b) = boolean b
@@ -14,14 +14,14 @@ plain_step (Json-F.Text t) = text t
 plain_step (Json-F.List ps) = list (items_of ps)
 plain_step (Json-F.Object ms) = object (members_of ms)
 
--- the plain value that a `Json` stands for
+-- the plain value that a `Json` represents
 abbrev pub plain : Json → Plain
 plain = fold-Json Plain plain_step
 
--- the items that the values of a list stand for
+-- the items that the values of a list represent
 abbrev pub plain_items : List Json → Items
 plain_items values = items_of (map plain values)
 
--- the members that the pairs of an object stand for
+-- the members that the pairs of an object represent
 abbrev pub plain_members : List (List ℕ × Json) → Members
 plain_members pairs = members_of (map (λ e. (e.0, plain e.1)) pairs)

@@ -8,14 +8,14 @@ use crate::counting::size;
 use crate::value::{Json, Object};
 use st_base::List;
 
-/// Whether the canonical texts of two values are equal. It writes neither.
+/// Whether the canonical texts of two values are equal. Neither text is written.
 pub fn equal(first: &Json, second: &Json) -> bool
     ensures value { result ≡ is_equal (plain first.now) (plain second.now) }
     ensures texts { IsTrue result ↔ (canonical (plain first.now) ≡ canonical (plain second.now)) }
     ensures values { IsTrue result ↔ (plain first.now ≡ plain second.now) }
 {
-    // The sizes say more than that they differ: what has one is proper, and no two proper values
-    // have one text.
+    // Comparing the sizes first also proves the values proper: no two proper values have the same
+    // text.
     size(first) == size(second) && same(first, second)
 }
 

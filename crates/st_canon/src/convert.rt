@@ -14,7 +14,7 @@ use st_base::{List, Text};
 use st_plain::{ReadRefused, Whole};
 use std::alloc::Global;
 
-// The value, where each number in it is whole. It takes the texts over, without a copy.
+// The value, if each number in it is whole. It takes over the texts without a copy.
 #[cycle(convert)]
 pub(crate) fn convert(alloc: Global, value: Value) -> Result<Json, ReadRefused>
     ensures value { GivesAs plain refusal_of (ok_or (whole_value (view value)) NotWhole) result }

@@ -12,7 +12,7 @@ use itoa::Buffer;
 use st_base::List;
 use st_plain::split_run;
 
-/// The length of the canonical text of a value, or `u64::MAX` where that is longer.
+/// The length of the canonical text of a value, or `u64::MAX` if that is longer.
 pub fn size(value: &Json) -> u64
     ensures size { result ≡ min (size_of (plain value.now)) (2 ^ 64 - 1) }
     ensures proper { IsProper (plain value.now) }
@@ -20,7 +20,7 @@ pub fn size(value: &Json) -> u64
     add(0, value)
 }
 
-// A size with that of one more value.
+// The sum of a size and that of one more value.
 #[cycle(add)]
 fn add(so_far: u64, value: &Json) -> u64
     ensures size { result ≡ saturated (so_far + length (canonical (plain value.now))) }

@@ -18,8 +18,7 @@ pub fn append_text(alloc: Global, out: &mut Bytes, text: &str) -> Result<(), Wan
     Ok(done?)
 }
 
-/// Appends what stands between the quotes of a JSON string. What lies between two bytes that are escaped is
-/// put in at once.
+/// Appends the inside of a JSON string. The bytes between two escaped ones are copied at once.
 pub fn append_escaped(alloc: Global, out: &mut Bytes, bytes: &[u8]) -> Result<(), WantOfMemory>
     ensures { OnOk result (out.new ≡ out.old ++ flat_map escape bytes.now) }
 {

@@ -11,14 +11,14 @@ use st_base::List;
 use st_plain::split_run;
 
 /// Whether a value nests no deeper than `max_depth`, and its canonical text has at most `max_size`
-/// bytes. It stops where either is passed.
+/// bytes. It stops at the first limit that is passed.
 pub fn fits(value: &Json, max_depth: u64, max_size: u64) -> bool
     ensures { result ≡ fits max_depth max_size (plain value.now) }
 {
     room_after(value, max_depth, max_size).is_some()
 }
 
-// What is left of the room for a text once the value is in it, where it fits.
+// The room that remains after the value's text, if it fits.
 #[cycle(room_after)]
 fn room_after(value: &Json, max_depth: u64, room: u64) -> Option<u64>
     ensures { result ≡ room_after max_depth room (depth_of (plain value.now)) (size_of (plain value.now)) }

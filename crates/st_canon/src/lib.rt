@@ -1,5 +1,6 @@
-//! JSON values with whole numbers as trees: read from any spelling, edited by name, measured, written as the
-//! canonical text of RFC 8785, and kept in little memory as that text, or as a part of a file that is kept anyway.
+//! JSON values with whole numbers as trees: read from any spelling, edited by name, measured,
+//! written as the canonical text of RFC 8785, and stored compactly as that text or as a part of a
+//! file already in memory.
 #![tactic(auto)]
 
 mod comparing;

@@ -32,7 +32,7 @@ impl<T> Model for Members<T> {
 }
 
 impl<T> Members<T> {
-    /// No members. It takes no memory yet.
+    /// No members. It allocates nothing.
     pub fn new(alloc: Global) -> Members<T>
         ensures { result ≡ [] }
     {
@@ -56,7 +56,7 @@ impl<T> Members<T> {
     ghost use Rattle.st_plain.specs.Names.{is_name};
     ghost use Rattle.st_canon.specs.Lends.{lends_member};
 
-    /// The value of the member of this name, to be changed.
+    /// A mutable reference to the value of the member of this name.
     pub fn get_mut(&mut self, name: &str) -> Option<&mut T>
         ensures* writes_back { sem 𝓛 (lends_member T.row self.entry name.now result) }
         ensures value { option_copied_mut result ≡ lookup (is_name name.now) self.old }
@@ -70,7 +70,7 @@ impl<T> Members<T> {
         }
     }
 
-    // Takes pairs over that are in order already.
+    // Takes over pairs that are already in order.
     pub(crate) fn from_pairs(pairs: Vec<(Text, T)>) -> Members<T>
         requires { NamesAscend pairs.items }
         ensures { result ≡ pairs.items }
@@ -80,7 +80,7 @@ impl<T> Members<T> {
 }
 
 impl<T: Drop> Members<T> {
-    // Takes pairs over in any order, whose names are all different.
+    // Takes over pairs with different names, in any order.
     pub(crate) fn sorted(mut pairs: Vec<(Text, T)>) -> Result<Members<T>, AllocError>
         requires { NamesDiffer pairs.items }
         ensures { IfOk result (λ members. members ≡ in_order pairs.items) }

@@ -6,8 +6,8 @@ ghost use Rattle.st_canon.specs.View.{plain, plain_items, plain_members};
 use crate::value::{Json, Object};
 use st_base::List;
 
-/// How deep a value nests, or `u64::MAX` where that is more: a scalar and what is empty have depth
-/// 1, and all else has 1 more than the deepest inside.
+/// How deep a value nests, or `u64::MAX` if that is more: a scalar, an empty list and an empty
+/// object have depth 1, any other value 1 more than the deepest value in it.
 #[cycle(depth)]
 pub fn depth(value: &Json) -> u64
     ensures { result ≡ min (depth_of (plain value.now)) (2 ^ 64 - 1) }

@@ -14,7 +14,8 @@ use crate::value::{Json, Object};
 use st_base::{List, Text, WantOfMemory};
 use std::alloc::Global;
 
-// Among so few members a name is found sooner by comparing each, byte by byte, than by the order of names.
+// Up to this many members, comparing each name byte by byte is faster than a search in the order of
+// names.
 const FEW: usize = 8;
 
 impl Object {
@@ -48,7 +49,7 @@ impl Object {
         self.pairs().is_empty()
     }
 
-    /// The text that the member of this name is.
+    /// The value of the member of this name, if that is a text.
     pub fn text(&self, name: &str) -> Option<&str>
         ensures { option_map (λ text. text.now) result ≡ text_at name.now (Some (object (plain_members self.now))) }
     {
@@ -68,7 +69,7 @@ impl Object {
         }
     }
 
-    /// `insert` at a copy of the name.
+    /// `insert` with a copy of the name.
     pub fn set(&mut self, alloc: Global, name: &str, value: Json) -> Result<(), WantOfMemory>
         ensures ok { OnOk result (plain_members self.new ≡ put name.now (plain value) (plain_members self.old)) }
         ensures here { OnOk result (member_at name.now (plain_members self.new) ≡ Some (plain value)) }
@@ -79,7 +80,7 @@ impl Object {
         self.insert(alloc, name, value)
     }
 
-    /// Takes the member of this name out. Where there is none, nothing changes.
+    /// Removes and returns the member of this name. If there is none, nothing changes.
     pub fn remove(&mut self, name: &str) -> Option<Json>
         ensures value { option_map plain result ≡ member_at name.now (plain_members self.old) }
         ensures rest { plain_members self.new ≡ without name.now (plain_members self.old) }

@@ -13,20 +13,20 @@ use st_base::{Bytes, Copied, Part, Shared, WantOfMemory};
 use std::alloc::Global;
 use std::marker::Model;
 
-// How deep a value may nest whose text is read again for sure.
+// The depth up to which the text of every value is read again.
 const READ_AGAIN: u64 = 127;
 
-/// A JSON value in little memory, which several owners share: it is kept as its canonical text, which
-/// takes a sixth of what its parts would, and is read again where they are wanted. Where that text
-/// stands in a file that is kept, it takes next to nothing. A copy costs nothing but a count. Contracts
-/// see the plain value.
+/// A JSON value in compact form, shared by several owners. It is stored as its canonical text,
+/// which takes a sixth of the memory of its parts and is read again on demand. If that text is part
+/// of a file in memory, it takes almost none. A copy only adds to a count. Contracts see the plain
+/// value.
 #[derive(Drop)]
 pub struct PackedJson {
     form: Shared<Form>,
 }
 
-// What is kept of a value: its canonical text, by itself or in a file where it stands, or where that nests
-// too deep to be read again, its parts.
+// The stored form: the canonical text, by itself or within a file, or the value's parts if the text
+// nests too deep to be read again.
 #[derive(Drop)]
 pub(crate) enum Form {
     Text(Bytes),
@@ -54,7 +54,7 @@ impl PackedJson {
     ghost use Rattle.st_plain.specs.Measure.{size_of};
     ghost use Rattle.st_plain.specs.Proper.{IsProper};
 
-    /// The value in little memory.
+    /// The value in compact form.
     pub fn pack(alloc: Global, value: &Json) -> Result<PackedJson, WantOfMemory>
         ensures { IfOk result (λ packed. packed ≡ plain value.now) }
     {
@@ -64,8 +64,9 @@ impl PackedJson {
         })
     }
 
-    /// The value whose canonical text this is. Where that stands in the file at this offset, in bytes, it is
-    /// shared with the file; elsewhere, an offset beyond the file's end included, it is kept by itself.
+    /// The value with this canonical text. If the file has the text at this offset, in bytes, it is
+    /// shared with the file; otherwise, also for an offset beyond the file's end, it is stored by
+    /// itself.
     pub fn keep_within(
         alloc: Global,
         text: &[u8],
@@ -81,7 +82,7 @@ impl PackedJson {
         })
     }
 
-    /// The value whose canonical text this is, kept by itself.
+    /// The value with this canonical text, stored by itself.
     pub fn keep(alloc: Global, text: &[u8]) -> Result<PackedJson, WantOfMemory>
         requires { IsReadAgain text.now }
         ensures { IfOk result (λ packed. packed ≡ value_read (json_of text.now)) }
@@ -92,7 +93,7 @@ impl PackedJson {
         })
     }
 
-    /// The value in its parts.
+    /// The value as a tree.
     pub fn unpack(&self, alloc: Global) -> Result<Json, WantOfMemory>
         ensures { IfOk result (λ value. plain value ≡ self.now) }
     {
@@ -103,8 +104,8 @@ impl PackedJson {
         }
     }
 
-    /// Its canonical text, where it is kept as that. `None` says nothing of the value: its text is to be
-    /// written of what `unpack` gives.
+    /// The canonical text, if the value is stored as that. `None` says nothing about the value:
+    /// `unpack` and `write` then give its text.
     pub fn text(&self) -> Option<&[u8]>
         ensures value { IfSome result (λ text. text.now ≡ canonical self.now) }
         ensures proper { IfSome result (λ _. IsProper self.now) }
@@ -118,7 +119,7 @@ impl PackedJson {
         }
     }
 
-    /// The length of its canonical text, or `u64::MAX` where that is longer.
+    /// The length of its canonical text, or `u64::MAX` if that is longer.
     pub fn size(&self) -> u64
         ensures { result ≡ min (size_of self.now) (2 ^ 64 - 1) }
     {
@@ -131,7 +132,7 @@ impl PackedJson {
 }
 
 impl Copied for PackedJson {
-    /// One owner more of the same value.
+    /// Another reference to the same value.
     fn copy(&self, alloc: Global) -> Result<PackedJson, WantOfMemory> {
         Ok(PackedJson {
             form: self.form.copy(alloc)?,
@@ -139,7 +140,7 @@ impl Copied for PackedJson {
     }
 }
 
-// What is kept of a value.
+// The stored form of a value.
 fn form_of(alloc: Global, value: &Json) -> Result<Form, WantOfMemory>
     ensures value { IfOk result (λ form. packed_value form ≡ plain value.now) }
     ensures packed { IfOk result IsPacked }
@@ -151,7 +152,7 @@ fn form_of(alloc: Global, value: &Json) -> Result<Form, WantOfMemory>
     form_of_text(alloc, text.as_slice(), None)
 }
 
-// The same of the value whose canonical text this is, which may stand in a file at this offset.
+// The stored form of the value with this canonical text, which a file may have at this offset.
 fn form_of_text(
     alloc: Global,
     text: &[u8],
@@ -166,6 +167,6 @@ fn form_of_text(
             return Ok(Form::Within(part));
         }
     }
-    // A copy has room for the text alone.
+    // A copy has no spare room.
     Ok(Form::Text(Bytes::from_slice(alloc, text)?))
 }

@@ -5,7 +5,7 @@ ghost use Rattle.st_canon.specs.Place.{IsPlaceOf, IsGapFor};
 use st_base::Text;
 use st_plain::compare;
 
-// Where the member of this name is, or would go.
+// The place of the member of this name, or as an error the place to insert it.
 pub(crate) fn place_of<T>(pairs: &[(Text, T)], name: &str) -> Result<usize, usize>
     requires { NamesAscend pairs.now }
     ensures place { IfOk result (IsPlaceOf name.now pairs.now) }

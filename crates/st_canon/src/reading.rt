@@ -13,10 +13,10 @@ use st_base::WantOfMemory;
 use st_plain::ReadRefused;
 use std::alloc::Global;
 
-/// Reads a JSON text of any spelling. A member whose name stands twice has its last value.
+/// Reads a JSON text of any spelling. A member that appears twice has its last value.
 ///
-/// `NotJson` comes exactly where `serde_json` refuses the bytes, `NotWhole` exactly where they are
-/// JSON with a number that no `Whole` holds or that is written as a float.
+/// The result is `NotJson` if and only if `serde_json` refuses the bytes, and `NotWhole` if and
+/// only if they are JSON with a number that no `Whole` holds or that is written as a float.
 pub fn read(alloc: Global, bytes: &[u8]) -> Result<Json, ReadRefused>
     ensures value { GivesAs plain refusal_of (json_of bytes.now) result }
     ensures proper { IfOk result (λ json. IsProper (plain json)) }
@@ -31,7 +31,7 @@ pub fn read(alloc: Global, bytes: &[u8]) -> Result<Json, ReadRefused>
     }
 }
 
-/// The JSON that bytes are. `None` comes exactly where they are no JSON with whole numbers.
+/// The JSON value of the bytes; `None` if and only if they are not JSON with whole numbers.
 pub fn read_json(alloc: Global, bytes: &[u8]) -> Result<Option<Json>, WantOfMemory>
     ensures value { IfOk result (λ json. option_map plain json ≡ json_in bytes.now) }
     ensures proper { IfOk result (λ json. IfSome json (λ json. IsProper (plain json))) }
@@ -44,14 +44,14 @@ pub fn read_json(alloc: Global, bytes: &[u8]) -> Result<Option<Json>, WantOfMemo
     }
 }
 
-/// The value whose canonical text this is.
+/// The value with this canonical text.
 pub fn read_again(alloc: Global, text: &[u8]) -> Result<Json, WantOfMemory>
     requires { IsReadAgain text.now }
     ensures { IfOk result (λ value. plain value ≡ value_read (json_of text.now)) }
 {
     match read(alloc, text) {
         Ok(value) => Ok(value),
-        // A text that was written of a value is read, so nothing but memory can be wanting.
+        // The text was written from a value, so reading can only run out of memory.
         Err(_) => Err(WantOfMemory),
     }
 }

@@ -3,7 +3,8 @@ ghost use Rattle.std.specs.Prelude.{◌≡◌, [], IfOk};
 use st_base::{List, WantOfMemory};
 use std::alloc::Global;
 
-// No items yet, and memory for exactly so many: a list that grows keeps up to twice its items.
+// An empty list with memory for exactly this many items: a list that grows allocates up to twice
+// its items.
 pub(crate) fn room_for<T>(alloc: Global, places: usize) -> Result<List<T>, WantOfMemory>
     ensures { IfOk result (λ list. list ≡ []) }
 {

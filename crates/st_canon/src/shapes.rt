@@ -10,7 +10,7 @@ use crate::value::{Json, Object};
 use st_base::List;
 
 impl Json {
-    /// The text that this value is.
+    /// The text, if this value is one.
     pub fn as_text(&self) -> Option<&str>
         ensures { option_map (λ text. text.now) result ≡ text_in (plain self.now) }
     {
@@ -20,7 +20,7 @@ impl Json {
         }
     }
 
-    /// The list that this value is.
+    /// The list, if this value is one.
     #[tactic(auto, using(crate::proofs::ItemLists::entries_listed))]
     pub fn as_list(&self) -> Option<&List<Json>>
         ensures items { option_map (λ items. plain_items items.now) result ≡ items_in (plain self.now) }
@@ -32,7 +32,7 @@ impl Json {
         }
     }
 
-    /// The list that this value is, to be changed.
+    /// A mutable reference to the list, if this value is one.
     pub fn as_list_mut(&mut self) -> Option<&mut List<Json>>
         ensures* writes_back { sem 𝓛 (LendsList self.entry result) }
         ensures list { option_map (λ items. plain_items items.now) result ≡ items_in (plain self.old) }
@@ -44,7 +44,7 @@ impl Json {
         }
     }
 
-    /// The object that this value is, to be changed.
+    /// A mutable reference to the object, if this value is one.
     pub fn as_object_mut(&mut self) -> Option<&mut Object>
         ensures* writes_back { sem 𝓛 (LendsObject self.entry result) }
         ensures object { option_map (λ members. plain_members members.now) result ≡ members_in (plain self.old) }
@@ -56,7 +56,7 @@ impl Json {
         }
     }
 
-    /// The value of the member of this name, where this is an object that has one.
+    /// The value of the member of this name, if this is an object that has one.
     pub fn member(&self, name: &str) -> Option<&Json>
         ensures { option_map plain (option_copied result) ≡ member_in name.now (Some (plain self.now)) }
     {

@@ -7,7 +7,7 @@ use st_base::{List, WantOfMemory};
 use std::alloc::Global;
 
 impl Object {
-    /// `set`, where there is a value.
+    /// `set`, if there is a value.
     #[tactic(auto, unfolding(st_plain::specs::Objects::put_some))]
     pub fn set_some(
         &mut self,
@@ -25,7 +25,7 @@ impl Object {
     }
 }
 
-/// A list, but for an empty one.
+/// A list, or nothing if it is empty.
 #[tactic(auto, unfolding(st_plain::specs::Objects::some_list))]
 pub fn some_list(list: List<Json>) -> Option<Json>
     ensures { option_map plain result ≡ some_list (map plain list) }
@@ -37,7 +37,7 @@ pub fn some_list(list: List<Json>) -> Option<Json>
     }
 }
 
-/// An object, but for an empty one.
+/// An object, or nothing if it is empty.
 #[tactic(auto, unfolding(st_plain::specs::Objects::some_object))]
 pub fn some_object(object: Object) -> Option<Json>
     ensures { option_map plain result ≡ some_object (plain_members object) }

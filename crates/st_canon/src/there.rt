@@ -7,7 +7,7 @@ ghost use Rattle.st_canon.specs.View.{plain};
 use crate::value::Json;
 use st_base::List;
 
-/// Whether a text is there, or nothing.
+/// Whether the value is a text or missing.
 pub fn is_text_if_there(there: Option<&Json>) -> bool
     ensures { result ≡ is_text_if_there (option_map plain (option_copied there.entry)) }
 {
@@ -18,7 +18,7 @@ pub fn is_text_if_there(there: Option<&Json>) -> bool
     }
 }
 
-/// Whether a list is there, or nothing.
+/// Whether the value is a list or missing.
 pub fn is_list_if_there(there: Option<&Json>) -> bool
     ensures { result ≡ is_list_if_there (option_map plain (option_copied there.entry)) }
 {
@@ -29,7 +29,7 @@ pub fn is_list_if_there(there: Option<&Json>) -> bool
     }
 }
 
-/// The entries of the list that is there. Where there is nothing, or no list, there are none.
+/// The entries of a list. A missing value and any other kind have none.
 pub fn entries_in<'a>(there: Option<&'a Json>) -> &'a [Json]
     ensures { map plain result.now ≡ entries_in (option_map plain (option_copied there.entry)) }
 {

@@ -2,7 +2,7 @@ use crate::members::Members;
 use st_base::{List, Text};
 use st_plain::Whole;
 
-/// A JSON value (RFC 8259) whose numbers are whole. Contracts speak of its plain value.
+/// A JSON value (RFC 8259) whose numbers are whole. Contracts see its plain value.
 #[derive(Drop)]
 pub enum Json {
     Null,
@@ -13,5 +13,5 @@ pub enum Json {
     Object(Object),
 }
 
-/// The members of a JSON object, in the order that RFC 8785 gives their names.
+/// The members of a JSON object, in the order of names of RFC 8785.
 pub type Object = Members<Json>;

@@ -14,18 +14,18 @@ use st_base::{Bytes, List, WantOfMemory};
 use st_plain::Whole;
 use std::alloc::Global;
 
-// Room that most texts do not outgrow, so that they are not moved while they are written: a delta has at
-// most 1,000 bytes in version 1, and 2,000 in version 2.
+// Room that most texts do not outgrow, so that they are not moved while they are written: a delta
+// has at most 1,000 bytes in version 1, and 2,000 in version 2.
 const USUAL: usize = 1_000;
 
-/// The canonical text of a value (RFC 8785), as bytes in UTF-8. It has room for 1,000 bytes at least, so
-/// who keeps a short one copies it.
+/// The canonical text of a value (RFC 8785), in UTF-8. It has room for at least 1,000 bytes; copy a
+/// short one to store it.
 pub fn write(alloc: Global, value: &Json) -> Result<Bytes, WantOfMemory>
     ensures text { IfOk result (λ text. text ≡ canonical (plain value.now)) }
     ensures proper { OnOk result (IsProper (plain value.now)) }
-    // It is read again, where it does not nest too deep for `serde_json`.
+    // It is read again as the value, if it does not nest too deep for `serde_json`.
     ensures read { IfOk result (λ text. depth_of (plain value.now) ≤ 127 → json_of text ≡ Ok (plain value.now)) }
-    // Whatever it is read as, is this value.
+    // It can be read only as this value.
     ensures same { IfOk result (λ text. (read : Plain) → json_of text ≡ Ok read → read ≡ plain value.now) }
     // No other value has this text.
     ensures only { IfOk result (λ text. (other : Plain) → IsProper other → canonical other ≡ text → other ≡ plain value.now) }

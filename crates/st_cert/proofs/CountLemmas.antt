@@ -1,4 +1,4 @@
--- How many operations are applied: at most as many as there are verdicts that act.
+-- How many operations are applied: at most as many as verdicts act.
 use Rattle.std.proofs.Common.{◌≡◌, ◌≤◌, ℕ, ◌+◌, Bool, true, false, cond, List, [], ◌∷◌, length, drop, refl, sym, subst, arith}
 use Rattle.std.proofs.lemmas.List.Sums.{sum_by-cons}
 use Rattle.st_base.specs.Work.{Counts, AppliesAtMost}
@@ -22,7 +22,7 @@ acting_count-cons : (verdict : Verdict) (verdicts : List Verdict)
     → acting_count (verdict ∷ verdicts) ≡ cond (is_acting verdict) 1 0 + acting_count verdicts
 acting_count-cons verdict verdicts = sum_by-cons (λ v. cond (is_acting v) 1 0) verdict verdicts
 
--- one verdict, and those behind it
+-- one verdict, and those after it
 pub applied_next : (verdict : Verdict) (verdicts : List Verdict) (old new : Counts)
     → AppliesAtMost (acting_count verdicts) (counted_if (is_acting verdict) old) new
     → AppliesAtMost (acting_count (verdict ∷ verdicts)) old new
@@ -33,13 +33,13 @@ one_at_most : (b : Bool) → cond b 1 0 ≤ 1
 one_at_most true = omega arith
 one_at_most false = omega arith
 
--- there are no more that act than there are
+-- at most all verdicts act
 pub acting_within : (verdicts : List Verdict) → acting_count verdicts ≤ length verdicts
 acting_within [] = omega arith
 acting_within (verdict ∷ verdicts) =
     omega (arith, acting_count-cons verdict verdicts, one_at_most (is_acting verdict), acting_within verdicts)
 
--- one of the verdicts of a list, and those behind it
+-- one of the verdicts of a list, and those after it
 pub stated_next : (stated : List Verdict) (at : ℕ) (verdict : Verdict) (old between new : Counts) → drop at stated ≡ verdict ∷ drop (at + 1) stated
     → between ≡ counted_if (is_acting verdict) old → AppliesAtMost (acting_count (drop (at + 1) stated)) between new
     → AppliesAtMost (acting_count (drop at stated)) old new

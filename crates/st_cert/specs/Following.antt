@@ -1,4 +1,4 @@
--- How the code finds verdicts and states: step by step.
+-- The code finds verdicts and states step by step.
 use Rattle.std.specs.Prelude.{◌≡◌, ◌≢◌, ℕ, Bool, List, [], ◌∷◌, if◌then◌else◌, Option, Some, None}
 use Rattle.st_apply.specs.Anchored.{Anchored, all_applied}
 use Rattle.st_apply.specs.Applied.{applied}
@@ -15,7 +15,7 @@ use Rattle.st_cert.specs.declared.verdict.Verdict.TheVariants.{WrongReveal}
 abbrev pub full_verdict : {Hash Document : Type 0} → Rules Hash Document → Hash → Hash → Verdict → Verdict
 full_verdict rules reveal recovery acting = if rules.meets reveal recovery then acting else WrongReveal
 
--- the state behind an anchored operation
+-- the state after an anchored operation
 abbrev pub state_behind : Option ℕ → State HashValue PlainDocument → Anchored → State HashValue PlainDocument
 state_behind schedule state item = applied (params_at schedule item.height) state item.operation
 
@@ -25,12 +25,11 @@ verdicts_from schedule state [] = []
 verdicts_from schedule state (item ∷ items) =
     verdict_in schedule state item ∷ verdicts_from schedule (state_behind schedule state item) items
 
--- what is counted where something acts
+-- the count if an operation acts
 abbrev pub counted_if : Bool → Counts → Counts
 counted_if acts work = if acts then one_apply work else work
 
--- What following these verdicts finds: the state that the operations lead to, where these are their verdicts,
--- and none where they are not.
+-- The result of following these verdicts: the state after the operations, if these are their verdicts, else none.
 abbrev pub Follows : Option ℕ → List Anchored → List Verdict → Option (State HashValue PlainDocument) → Type 0
 Follows schedule items verdicts (Some state) =
     (verdicts ≡ verdicts_from schedule absent items) × (state ≡ all_applied schedule absent items)

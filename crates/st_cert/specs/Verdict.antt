@@ -1,4 +1,4 @@
--- What becomes of an operation in the state before it. The rules are this project's own, after DIF Sidetree v1.0.0,
+-- The verdict on an operation in the state before it. The rules are this project's own, after DIF Sidetree v1.0.0,
 -- "Operation Compilation".
 use Rattle.std.specs.Prelude.{Bool, true, false, not, ◌&&◌, List, [], ◌∷◌, if◌then◌else◌, None}
 use Rattle.st_apply.specs.Acting.{has_bad_delta, is_create, reveals}
@@ -6,12 +6,12 @@ use Rattle.st_apply.specs.Seen.{Rules, Seen, creates, recovers, deactivates, upd
 use Rattle.st_cert.specs.declared.verdict.Verdict.{Verdict}
 use Rattle.st_cert.specs.declared.verdict.Verdict.TheVariants.{Before, Again, Ended, Unclaimed, NoUpdates, WrongReveal, BadDelta, Created, Updated, Recovered, Deactivated}
 
--- a verdict, and whether what it says holds
+-- a verdict, and whether its condition holds
 pub record Row : Type 0 where
   pub holds : Bool
   pub verdict : Verdict
 
--- the verdict of the first row that holds, or the other where none does
+-- the verdict of the first row that holds, or the other if none does
 abbrev pub first_or : Verdict → List Row → Verdict
 first_or other [] = other
 first_or other (row ∷ rows) = if row.holds then row.verdict else first_or other rows
@@ -32,7 +32,7 @@ module _ {Hash Document : Type 0} where
   has_no_updates (active recovery None document) = true
   has_no_updates state = false
 
-  -- it is no create and has no claim
+  -- it is not a create and has no claim
   abbrev pub is_unclaimed : Seen Hash Document → Bool
   is_unclaimed unclaimed = true
   is_unclaimed operation = false
@@ -42,7 +42,7 @@ module _ {Hash Document : Type 0} where
   is_update (updates reveal change) = true
   is_update operation = false
 
-  -- what an operation did that acts, by its kind; one without a claim never does
+  -- the verdict on an operation that acts, by its kind; one without a claim never does
   abbrev pub acting_verdict : Seen Hash Document → Verdict
   acting_verdict (creates beginning) = Created
   acting_verdict (updates reveal change) = Updated
@@ -51,7 +51,7 @@ module _ {Hash Document : Type 0} where
   acting_verdict unclaimed = Unclaimed
 
   module _ (rules : Rules Hash Document) where
-    -- Why an operation does not act in a state, in the order in which it is asked.
+    -- Why an operation does not act in a state, in the order of the tests.
     abbrev pub rows : State Hash Document → Seen Hash Document → List Row
     rows state operation =
         (record { holds = is_absent state && not (is_create operation); verdict = Before })

@@ -3,12 +3,12 @@ use st_apply::DidState;
 use st_base::{Copied, List, WantOfMemory};
 use std::alloc::Global;
 
-/// What a resolution came to. A maker may say anything in it: `check_certificate` tells whether it is right.
+/// The result of a resolution. It is not trusted: `check_certificate` decides whether it is right.
 #[derive(Drop)]
 pub struct Certificate {
-    /// What became of each operation, in the order of their places.
+    /// The verdict of each operation, in the order of their places.
     pub verdicts: List<Verdict>,
-    /// The state behind all of them.
+    /// The state after all of them.
     pub finish: DidState,
 }
 

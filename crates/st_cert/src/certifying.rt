@@ -13,9 +13,9 @@ use st_base::{List, WantOfMemory, Work};
 use st_params::Schedule;
 use std::alloc::Global;
 
-/// The certificate of the operations of an identifier, in ascending places: the verdict of each in the state
-/// before it, and the state that they resolve to. `check_certificate` accepts it, and no other. What has a
-/// verdict that acts is applied once, and nothing else is counted.
+/// The certificate of the operations of an identifier, in ascending places: the verdict of each in
+/// the state before it, and the state they resolve to. `check_certificate` accepts this one and no
+/// other. Each operation whose verdict acts is applied once, and nothing else is counted.
 pub fn certify(
     alloc: Global,
     schedule: &Schedule,
@@ -30,7 +30,7 @@ pub fn certify(
     follow(alloc, schedule, items, work)
 }
 
-// The verdicts of the items, step by step, and where they lead to.
+// The verdicts of the items, step by step, and the state after them.
 fn follow(
     alloc: Global,
     schedule: &Schedule,

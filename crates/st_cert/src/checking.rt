@@ -12,9 +12,10 @@ use st_base::{WantOfMemory, Work};
 use st_params::Schedule;
 use std::alloc::Global;
 
-/// Whether the certificate is that of the operations: their places ascend strictly, each has its verdict, and
-/// the state is what they resolve to from nothing. Whoever made it need not be trusted. An operation is applied
-/// only where its verdict in the certificate acts and is the right one, and nothing else is counted.
+/// Whether the certificate is that of the operations: their places ascend strictly, each has its
+/// verdict, and the state is the one they resolve to from nothing. Its maker need not be trusted.
+/// An operation is applied only if its verdict in the certificate acts and is right, and nothing
+/// else is counted.
 pub fn check_certificate(
     alloc: Global,
     schedule: &Schedule,
@@ -36,7 +37,7 @@ pub fn check_certificate(
     }
 }
 
-// Where the items lead to, if these are their verdicts.
+// The state after the items, if these are their verdicts.
 fn follow(
     alloc: Global,
     schedule: &Schedule,

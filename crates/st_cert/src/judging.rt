@@ -40,7 +40,7 @@ pub(crate) fn judge(
     }
 }
 
-// The verdict where no create has acted.
+// The verdict if no create has acted.
 #[tactic(auto, using(crate::proofs::VerdictLemmas::before_create))]
 fn judge_absent(operation: &Operation) -> Verdict
     ensures { (limits : Limits) → result
@@ -52,7 +52,7 @@ fn judge_absent(operation: &Operation) -> Verdict
     }
 }
 
-// The verdict where a deactivate has acted.
+// The verdict if a deactivate has acted.
 #[tactic(auto, using(crate::proofs::VerdictLemmas::behind_end))]
 fn judge_deactivated(operation: &Operation) -> Verdict
     ensures { (limits : Limits) → result
@@ -80,7 +80,7 @@ fn judge_active(
     judge_claim(alloc, recovery, update, operation, &claim, params)
 }
 
-// The same of an operation with this claim.
+// The same for an operation with this claim.
 fn judge_claim(
     alloc: Global,
     recovery: &Hash,

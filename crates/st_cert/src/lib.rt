@@ -1,5 +1,5 @@
-//! What became of each operation of an identifier, and certificates of its resolution: a checker accepts one exactly
-//! where it is right, without trust in its maker.
+//! The verdicts on the operations of an identifier, and certificates of its resolution: a checker
+//! accepts one if and only if it is right, without trust in its maker.
 #![tactic(auto)]
 
 mod certificate;

@@ -7,7 +7,7 @@ use st_params::Schedule;
 use std::alloc::Global;
 use std::marker::Model;
 
-/// The state to which the items have led, and what it holds: it is opened once, when an item has acted.
+/// The state after the items so far, and its parts: it is opened once, when an item has acted.
 /// Contracts see the state.
 #[derive(Drop)]
 pub(crate) struct Standing {
@@ -62,7 +62,7 @@ impl Standing {
         judge(alloc, &self.parts, &item.operation, &params)
     }
 
-    /// Behind an item, whose verdict here is this one.
+    /// After an item, whose verdict here is this one.
     pub(crate) fn behind(
         self,
         alloc: Global,
@@ -82,7 +82,7 @@ impl Standing {
         }
     }
 
-    // Behind an item that acts.
+    // After an item that acts.
     fn applied(
         self,
         alloc: Global,

@@ -1,4 +1,4 @@
--- Look-ups of files, before and after one came.
+-- Lookups of files, before and after one is added.
 use Rattle.std.proofs.Common.{◌≡◌, ◌≢◌, ◌∙◌, ℕ, ◌==◌, Bool, true, false, List, [], ◌∷◌, if◌then◌else◌, Option, Some, None, is_some, Bor, IfSome, refl, sym, ap, subst}
 use Rattle.std.specs.BTreeMap.{insert_entry, is_at}
 use Rattle.std.specs.Cmp.Lexicographic.{slice_cmp, texts_ties}
@@ -14,21 +14,21 @@ use Rattle.st_hash.specs.Order.{same_hash-ties}
 use Rattle.st_hash.proofs.SameHash.{same_hash-is, same_hash-itself, same_hash-other}
 use Rattle.st_content.specs.Files.{AreNamed, Files, file_at, files_of, with_entry, with_file}
 
--- ---- the files under their digests
+-- ---- files by their digests
 
--- a URI's file is the one under its digest
+-- a URI's file is the one with its digest
 pub file_at-files_of : (digest : List ℕ) (entries : List (List ℕ × List ℕ))
     → file_at (record { code = 0x12; digest = digest }) (files_of entries) ≡ lookup (is_at (slice_cmp nat_cmp digest)) entries
 file_at-files_of digest [] = refl
 file_at-files_of digest (entry ∷ entries) = rw (texts_ties digest entry.0, file_at-files_of digest entries) refl
 
--- a hash of another algorithm is no URI
+-- a hash of another algorithm is not a URI
 pub file_at-other : (uri : HashValue) (entries : List (List ℕ × List ℕ)) → uri.code ≢ 0x12
     → file_at uri (files_of entries) ≡ None
 file_at-other uri [] other = refl
 file_at-other uri (entry ∷ entries) other = rw (ne_eqb uri.code 0x12 other) (file_at-other uri entries other)
 
--- a file that is put under its digest is put under its URI
+-- a file put by its digest is put by its URI
 put_at : (order : Ordering) (digest file : List ℕ) (entry : List ℕ × List ℕ) (entries after : List (List ℕ × List ℕ)) (later : Files)
     → files_of after ≡ later
     → files_of (match_ordering order ((digest, file) ∷ entry ∷ entries) ((entry.0, file) ∷ entries) (entry ∷ after))
@@ -47,9 +47,9 @@ files_of-insert digest file [] = refl
 files_of-insert digest file (entry ∷ entries) =
     put_at (slice_cmp nat_cmp digest entry.0) digest file entry entries _ _ (files_of-insert digest file entries)
 
--- ---- a file comes
+-- ---- a file is added
 
--- a new file is found under its URI
+-- a new file is found by its URI
 own_at : (order : Ordering) (uri : HashValue) (file : List ℕ) (entry : HashValue × List ℕ) (files later : Files)
     → same_hash uri entry.0 ≡ is_eq order → file_at uri later ≡ Some file
     → file_at uri (match_ordering order ((uri, file) ∷ entry ∷ files) ((entry.0, file) ∷ files) (entry ∷ later)) ≡ Some file
@@ -63,7 +63,7 @@ found_own uri file (entry ∷ files) =
     own_at (hash_cmp uri entry.0) uri file entry files (insert_entry hash_cmp files uri file) (same_hash-ties uri entry.0)
     (found_own uri file files)
 
--- and each other URI has what it had
+-- and the file of any other URI is unchanged
 other_at : (order : Ordering) (other uri : HashValue) (file : List ℕ) (entry : HashValue × List ℕ) (files later : Files)
     → same_hash uri entry.0 ≡ is_eq order → same_hash other uri ≡ false → file_at other later ≡ file_at other files
     → file_at other (match_ordering order ((uri, file) ∷ entry ∷ files) ((entry.0, file) ∷ files) (entry ∷ later))
@@ -82,7 +82,7 @@ found_other other uri file (entry ∷ files) differs =
     other_at (hash_cmp uri entry.0) other uri file entry files (insert_entry hash_cmp files uri file) (same_hash-ties uri entry.0) differs
     (found_other other uri file files differs)
 
--- the file of its URI is the one that was there, else this one
+-- the file of its URI is the earlier one, if any, or else this one
 first_by : (file : List ℕ) (files : Files) (old : Option (List ℕ)) → file_at (uri_of file) files ≡ old
     → file_at (uri_of file) (if is_some old then files else insert_entry hash_cmp files (uri_of file) file)
     ≡ option_or old (Some file)
@@ -103,7 +103,7 @@ pub file_at-with_file-other : (uri : HashValue) (file : List ℕ) (files : Files
     → file_at uri (with_file file files) ≡ file_at uri files
 file_at-with_file-other uri file files other = other_by (is_some (file_at (uri_of file) files)) uri file files other
 
--- ---- each file stands under its URI
+-- ---- each file has its URI
 
 named_or : (file : List ℕ) (files : Files) (old : Option (List ℕ)) (found : List ℕ) → AreNamed files
     → file_at (uri_of file) files ≡ old → option_or old (Some file) ≡ Some found → uri_of found ≡ uri_of file
@@ -127,9 +127,9 @@ pub AreNamed-with_file : (file : List ℕ) (files : Files) → AreNamed files �
 AreNamed-with_file file files named = λ uri found is.
     named_at (same_hash uri (uri_of file)) uri file found files refl named is
 
--- ---- a file comes under its digest
+-- ---- a file is added by its digest
 
--- the entries are seen as the files, and the digest is the file's
+-- the entries are the representation of the files, and the digest is the file's
 pub record IsPut (digest file : List ℕ) (entries : List (List ℕ × List ℕ)) (files : Files) : Type 0 where
   pub named : digest ≡ sha256 file
   pub seen : files_of entries ≡ files
@@ -162,7 +162,7 @@ after digest file entries files is =
     ∙ ap (λ fs. if there then fs else insert_entry hash_cmp fs (uri_of file) file) is.seen
     ∙ ap (λ o. if is_some o then files else insert_entry hash_cmp files (uri_of file) file) (before digest file entries files is)
 
--- ---- a look-up by a hash
+-- ---- a lookup by a hash
 
 pub found : (uri : HashValue) (digest : List ℕ) (entries : List (List ℕ × List ℕ)) → sha256_digest uri ≡ Some digest
     → lookup (is_at (slice_cmp nat_cmp digest)) entries ≡ file_at uri (files_of entries)
@@ -181,7 +181,7 @@ pub no_uri : (uri : HashValue) (entries : List (List ℕ × List ℕ)) → sha25
     → file_at uri (files_of entries) ≡ None
 no_uri uri entries none = file_at-other uri entries (other_code uri.code uri.digest (uri.code == 0x12) refl none)
 
--- what a look-up lends has the URI that was asked for
+-- a file that a lookup lends has the requested URI
 pub named_found : (lent : Option (Bor (List ℕ))) (uri : HashValue) (files : Files) → AreNamed files
     → option_copied lent ≡ file_at uri files → IfSome lent (λ file. uri_of file.now ≡ uri)
 named_found None uri files named e = tt

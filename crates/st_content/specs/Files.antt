@@ -14,20 +14,20 @@ Files = List (HashValue × List ℕ)
 abbrev pub file_at : HashValue → Files → Option (List ℕ)
 file_at uri files = lookup (same_hash uri) files
 
--- the files with this one, where none of its URI is there
+-- the files with this one, unless one of its URI is there
 abbrev pub with_file : List ℕ → Files → Files
 with_file file files =
     if is_some (file_at (uri_of file) files) then files else insert_entry hash_cmp files (uri_of file) file
 
--- each file stands under its own URI
+-- each file has its own URI
 abbrev pub AreNamed : Files → Type 0
 AreNamed files = (uri : HashValue) (file : List ℕ) → file_at uri files ≡ Some file → uri_of file ≡ uri
 
--- the files that stand under these digests
+-- the files with these digests
 abbrev pub files_of : List (List ℕ × List ℕ) → Files
 files_of entries = map (λ entry. (record { code = 0x12; digest = entry.0 }, entry.1)) entries
 
--- these, with one more where none stands under its digest
+-- these, with one more if none has its digest
 abbrev pub with_entry : List ℕ → List ℕ → List (List ℕ × List ℕ) → List (List ℕ × List ℕ)
 with_entry digest file entries =
     if is_some (lookup (is_at (slice_cmp nat_cmp digest)) entries) then entries

@@ -16,16 +16,16 @@ use std::marker::Model;
 /// Whether a file was new.
 #[derive(Clone, Copy, Debug, PartialEq, Eq)]
 pub enum Put {
-    /// The file is there from now on.
+    /// The file was added.
     New,
-    /// A file of this URI was there, and stays.
+    /// A file of this URI was there already, and stays.
     Had,
 }
 
 /// Files by their URI. Contracts see the pairs of a URI and its file, in the order of the URIs.
 #[derive(Drop)]
 pub struct Content {
-    // Under the digests of the URIs, which are all of SHA-256.
+    // By the digests of the URIs, which are all of SHA-256.
     files: BTreeMap<[u8; 32], Shared<Bytes>>,
 }
 
@@ -40,7 +40,7 @@ impl Model for Content {
 }
 
 impl Content {
-    /// No files. It takes no memory yet.
+    /// No files. It allocates nothing.
     pub fn new(alloc: Global) -> Content
         ensures { result ≡ [] }
     {
@@ -49,8 +49,8 @@ impl Content {
         }
     }
 
-    /// Keeps the file, where none of its URI is there, and gives its URI. `Had` comes exactly where
-    /// one is there; then nothing changes.
+    /// Adds the file, unless one of its URI is there, and returns its URI. The result has `Had` if
+    /// and only if one was there; then nothing changes.
     pub fn put(&mut self, alloc: Global, bytes: Bytes) -> Result<(Hash, Put), WantOfMemory>
         ensures uri { IfOk result (λ done. done.0 ≡ uri_of bytes) }
         ensures had { IfOk result (λ done. (done.1 ≡ Put.Had) ↔ IsSome (file_at (uri_of bytes) self.old)) }
@@ -67,7 +67,7 @@ impl Content {
         Ok((uri, put))
     }
 
-    /// The same of a file whose URI is known, which isn't hashed again.
+    /// The same for a file whose URI is known, so it isn't hashed again.
     pub fn put_under(&mut self, alloc: Global, uri: Hash, bytes: Bytes) -> Result<Put, WantOfMemory>
         requires { uri ≡ uri_of bytes }
         ensures had { IfOk result (λ put. (put ≡ Put.Had) ↔ IsSome (file_at uri self.old)) }
@@ -82,11 +82,11 @@ impl Content {
         Ok(put)
     }
 
-    /// The file of this URI, which those that keep parts of it share. None comes exactly where there is
-    /// none; a hash of another algorithm than SHA-256 is no URI.
+    /// The file of this URI, shared with those that keep parts of it; `None` if and only if there
+    /// is none. A hash of another algorithm than SHA-256 is not a URI.
     pub fn get(&self, uri: &Hash) -> Option<&Shared<Bytes>>
         ensures value { option_copied result ≡ file_at uri.now self.now }
-        // The file has the URI that was asked for.
+        // The file has the requested URI.
         ensures uri { IfSome result (λ file. uri_of file.now ≡ uri.now) }
         ensures named { AreNamed self.now }
     {
@@ -97,7 +97,7 @@ impl Content {
     }
 }
 
-// Puts the file under its digest, where none stands there. The map is searched once.
+// Adds the file by its digest, unless one is there. The map is searched once.
 fn put_first(
     files: &mut BTreeMap<[u8; 32], Shared<Bytes>>,
     digest: [u8; 32],

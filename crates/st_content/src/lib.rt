@@ -1,4 +1,4 @@
-//! The content that has come to a node: files by their URI. The first file of a URI stays.
+//! The files that a node has received, by their URI. The first file of a URI stays.
 #![tactic(auto)]
 
 mod content;

@@ -1,4 +1,4 @@
--- What a chunk file says that is nothing but a list of deltas.
+-- The content of a chunk file that is only a list of deltas.
 use Rattle.std.proofs.Common.{◌≡◌, List, Some, codes, true, refl}
 use Rattle.st_plain.specs.Plain.{Plain}
 use Rattle.st_plain.proofs.ItemLemmas.{entries-items_of}

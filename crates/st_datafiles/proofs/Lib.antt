@@ -1,4 +1,4 @@
--- Private: a chunk file that is nothing but a list.
+-- Private: a chunk file that is only a list.
 mod EntryLemmas
 -- Private: an object whose only member is a list, over its tokens.
 mod OnlyListLemmas

@@ -1,5 +1,5 @@
--- An object whose only member is a list is read from the tokens around the items, and from those; and what goes out of
--- them is read again.
+-- An object whose only member is a list is read from the tokens around the items and the items; and what is written
+-- of them is read again.
 use Rattle.std.proofs.Common.{◌≡◌, ℕ, ◌-◌, List, [], ◌∷◌, length, Some, Ok, refl, sym, ap, ◌∙◌, arith}
 use Rattle.std.specs.Result.{result_ok}
 use Rattle.std.specs.Str.{IsUtf8}

@@ -13,7 +13,7 @@ signed_again : (texts : List (List ℕ)) → filter_map signed_in (map signed_js
 signed_again [] = refl
 signed_again (signed ∷ texts) = ap (λ others. signed ∷ others) (signed_again texts)
 
--- the entries of a kind are those that were written of it
+-- the entries of a kind are those written for it
 kind_again : (kind : List ℕ) (operations : Members) (texts : List (List ℕ))
     → member_at kind operations ≡ some_list (map signed_json texts) → signed_of kind (Some (proof_json operations)) ≡ texts
 unfolding signed_of

@@ -1,5 +1,5 @@
--- Chunk files, which hold deltas: what their JSON says, the JSON that is written, and the rules by
--- which they are accepted (DIF Sidetree v1.0.0, "Chunk Files"). `None` is a file that is no JSON.
+-- Chunk files, which have deltas: the content of their JSON, the JSON that is written, and their rules (DIF Sidetree
+-- v1.0.0, "Chunk Files"). `None` is a file that is not JSON.
 use Rattle.std.specs.Prelude.{ℕ, ◌==◌, Bool, not, nat_lt, List, [], ◌∷◌, codes, length, Option, is_none, is_some, option_and_then}
 use Rattle.st_base.specs.Rules.{Table, first_failing}
 use Rattle.st_plain.specs.Entries.{items_in}
@@ -10,11 +10,11 @@ use Rattle.st_datafiles.specs.declared.chunk_rule.ChunkRule.{ChunkRule}
 use Rattle.st_datafiles.specs.declared.chunk_rule.ChunkRule.TheVariants.{K1, K2, K3, K4}
 use Rattle.st_params.specs.Limits.{Limits}
 
--- what the JSON of a chunk file says: the deltas, which are any values
+-- the content of a chunk file's JSON: the deltas, which are any values
 unfoldable pub deltas_of : Option Plain → List Plain
 deltas_of chunk = entries_in (member_in (codes "deltas") chunk)
 
--- the JSON that is written of deltas, without an empty list
+-- the JSON written for deltas, without an empty list
 abbrev pub chunk_json : List Plain → Plain
 chunk_json deltas = object_of_some ((codes "deltas", some_list deltas) ∷ [])
 
@@ -24,14 +24,14 @@ chunk_json deltas = object_of_some ((codes "deltas", some_list deltas) ∷ [])
 unfoldable pub has_chunk_form : Option Plain → Bool
 has_chunk_form chunk = is_some (option_and_then items_in (only_member (codes "deltas") chunk))
 
--- those that look at the JSON
+-- those about the JSON
 abbrev pub chunk_json_rules : ℕ → Option Plain → Table ChunkRule
 chunk_json_rules wanted chunk =
     (K3, not (has_chunk_form chunk))
     ∷ (K4, not (length (deltas_of chunk) == wanted))
     ∷ []
 
--- all rules, where creates, recovers and updates together are so many
+-- all rules, if creates, recovers and updates together are this many
 abbrev pub chunk_rules : Limits → ℕ → List ℕ → Table ChunkRule
 chunk_rules limits wanted file =
     (K1, nat_lt limits.max_chunk (length file))

@@ -8,10 +8,10 @@ use Rattle.st_plain.specs.Entries.{items_of}
 abbrev pub object_of_list : List ℕ → List Plain → Plain
 object_of_list name entries = object (member name (list (items_of entries)) no_members)
 
--- what opens the object and the list, before these tokens
+-- the opening of the object and the list, before these tokens
 abbrev pub opens_list : List ℕ → List Token → List Token
 opens_list name rest = Token.begin_object ∷ Token.key name ∷ Token.begin_array ∷ rest
 
--- what closes the object, behind the bracket of the list, at the end of a text
+-- the end of the object after the bracket of the list, at the end of a text
 abbrev pub ends : List Token
 ends = Token.end_object ∷ []

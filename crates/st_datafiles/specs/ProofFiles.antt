@@ -1,5 +1,5 @@
--- Proof files, which hold the signed texts of operations: what their JSON says, and the JSON that is
--- written (DIF Sidetree v1.0.0, "Core Proof File" and "Provisional Proof File").
+-- Proof files, which have the signed texts of operations: the content of their JSON, and the JSON that is written
+-- (DIF Sidetree v1.0.0, "Core Proof File" and "Provisional Proof File").
 use Rattle.std.specs.Prelude.{ℕ, List, [], ◌∷◌, codes, map, Option, Some, option_and_then}
 use Rattle.std.specs.List.{filter_map}
 use Rattle.st_plain.specs.Entries.{text_in}
@@ -10,7 +10,7 @@ use Rattle.st_datafiles.specs.declared.core_proofs.CoreProofs.{CoreProofs}
 
 -- ---- read
 
--- the entries of one kind; a list that isn't there has none
+-- the entries of one kind; a missing list has none
 abbrev pub proofs_of : List ℕ → Option Plain → List Plain
 proofs_of kind file = entries_in (member_in kind (member_in (codes "operations") file))
 
@@ -22,7 +22,7 @@ signed_in entry = option_and_then text_in (only_member (codes "signedData") (Som
 unfoldable pub signed_of : List ℕ → Option Plain → List (List ℕ)
 signed_of kind file = filter_map signed_in (proofs_of kind file)
 
--- what the JSON of a core proof file says
+-- the content of a core proof file's JSON
 abbrev pub core_proofs_of : Option Plain → CoreProofs
 core_proofs_of file = record {
   recovers = signed_of (codes "recover") file;

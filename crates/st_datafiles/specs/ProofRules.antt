@@ -1,6 +1,5 @@
--- The rules of the two proof files, which are read beside an index file: a test for each, which stands
--- for itself whatever the others say, and the tables of them in their order. `None` is a file that is
--- no JSON.
+-- The rules of the two proof files, given an index file: a test for each, independent of the others, and the tables
+-- of them in their order. `None` is a file that is not JSON.
 use Rattle.std.specs.Prelude.{ℕ, ◌==◌, Bool, not, ◌&&◌, nat_lt, List, [], ◌∷◌, codes, length, Option, is_none}
 use Rattle.std.specs.List.{list_all}
 use Rattle.st_base.specs.Each.{each_is}
@@ -13,14 +12,14 @@ use Rattle.st_datafiles.specs.declared.proof_rule.ProofRule.{ProofRule}
 use Rattle.st_datafiles.specs.declared.proof_rule.ProofRule.TheVariants.{Q1, Q2, Q3, Q4}
 use Rattle.st_params.specs.Limits.{Limits}
 
--- It is an object with exactly `operations`, which is an object with no member but lists of these
--- kinds, and each entry is an object with exactly `signedData`, a text.
+-- It is an object with exactly `operations`, which is an object with no members except lists of these kinds, and each
+-- entry is an object with exactly `signedData`, a text.
 unfoldable pub has_proof_form : List (List ℕ) → Option Plain → Bool
 has_proof_form kinds file =
     is_object_of_lists kinds (only_member (codes "operations") file)
     && list_all (λ kind. each_is signed_in (proofs_of kind file)) kinds
 
--- there are so many entries of this kind
+-- there are this many entries of this kind
 unfoldable pub has_proofs : List ℕ → ℕ → Option Plain → Bool
 has_proofs kind wanted file = length (proofs_of kind file) == wanted
 
@@ -30,32 +29,32 @@ has_proofs kind wanted file = length (proofs_of kind file) == wanted
 abbrev pub core_proof_kinds : List (List ℕ)
 core_proof_kinds = codes "recover" ∷ codes "deactivate" ∷ []
 
--- the name of the one list of a provisional proof file
+-- the name of the only list of a provisional proof file
 abbrev pub provisional_proof_kinds : List (List ℕ)
 provisional_proof_kinds = codes "update" ∷ []
 
--- those that look at the JSON of a core proof file
+-- those about the JSON of a core proof file
 abbrev pub core_proof_json_rules : ℕ → ℕ → Option Plain → Table ProofRule
 core_proof_json_rules recovers deactivates file =
     (Q3, not (has_proof_form core_proof_kinds file))
     ∷ (Q4, not (has_proofs (codes "recover") recovers file && has_proofs (codes "deactivate") deactivates file))
     ∷ []
 
--- those that look at the JSON of a provisional proof file
+-- those about the JSON of a provisional proof file
 abbrev pub provisional_proof_json_rules : ℕ → Option Plain → Table ProofRule
 provisional_proof_json_rules updates file =
     (Q3, not (has_proof_form provisional_proof_kinds file))
     ∷ (Q4, not (has_proofs (codes "update") updates file))
     ∷ []
 
--- all rules of a core proof file, where the core index has so many recovers and deactivates
+-- all rules of a core proof file, if the core index has this many recovers and deactivates
 abbrev pub core_proof_rules : Limits → ℕ → ℕ → List ℕ → Table ProofRule
 core_proof_rules limits recovers deactivates file =
     (Q1, nat_lt limits.max_proofs (length file))
     ∷ (Q2, is_none (json_in file))
     ∷ core_proof_json_rules recovers deactivates (json_in file)
 
--- all rules of a provisional proof file, where the provisional index has so many updates
+-- all rules of a provisional proof file, if the provisional index has this many updates
 abbrev pub provisional_proof_rules : Limits → ℕ → List ℕ → Table ProofRule
 provisional_proof_rules limits updates file =
     (Q1, nat_lt limits.max_proofs (length file))

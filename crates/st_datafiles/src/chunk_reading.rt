@@ -13,10 +13,10 @@ use st_params::Params;
 use st_scan::{CanonicalText, Entries, Scanned, entries_in};
 use std::alloc::Global;
 
-/// The deltas of a chunk file, of which so many are wanted, each in little memory. It counts as one file,
-/// whatever it answers.
+/// The deltas of a chunk file that must have `wanted` of them, each in compact form. It counts as
+/// one file, whatever the answer is.
 ///
-/// `Rejected` comes exactly with the first rule that the file fails.
+/// The result is `Rejected` if and only if the file fails a rule; it has the first one.
 pub fn read_chunk(
     alloc: Global,
     file: &Shared<Bytes>,
@@ -32,7 +32,7 @@ pub fn read_chunk(
     if bytes.len() > params.max_chunk() {
         return Err(FileRefused::Rejected(ChunkRule::K1));
     }
-    // Nearly all chunk files are read so, a delta at a time.
+    // Nearly all chunk files are read this way, one delta at a time.
     if let Some(found) = read_entries(alloc, file, "deltas", deltas)? {
         return if_wanted(found, deltas);
     }
@@ -42,7 +42,7 @@ pub fn read_chunk(
     }
 }
 
-// These deltas, where so many are wanted.
+// These deltas, if their number is `wanted`.
 fn if_wanted(found: List<PackedJson>, wanted: usize) -> Result<List<PackedJson>, ChunkRefused>
     ensures { Answers (chunk_json_rules wanted (Some (object_of_list (codes "deltas") found)))
         (Some (deltas_of (Some (object_of_list (codes "deltas") found)))) result }

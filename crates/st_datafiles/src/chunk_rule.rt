@@ -17,7 +17,7 @@ pub enum ChunkRule {
 }
 
 impl ChunkRule {
-    /// The name of the rule: a letter for what it judges, and its number, as `K4`.
+    /// The name of the rule: a letter for the kind of file, and its number, as `K4`.
     pub fn name(&self) -> &'static str
         ensures { result.now ≡ chunk_rule_name self.now }
     {

@@ -12,7 +12,7 @@ use std::alloc::Global;
 /// The canonical text of the chunk file of these deltas. Without deltas `deltas` is left out.
 pub fn write_chunk(alloc: Global, deltas: &[Json]) -> Result<Bytes, WantOfMemory>
     ensures text { IfOk result (λ text. text ≡ canonical (chunk_json (map plain deltas.now))) }
-    // Wherever the text fails no rule, it is read as the same deltas, however deep they nest.
+    // If the text fails no rule, it is read as the same deltas, however deep they nest.
     ensures read { IfOk result (λ text. (limits : Limits) (wanted : ℕ) → first_failing_chunk_rule limits wanted text ≡ None
         → deltas_of (json_in text) ≡ map plain deltas.now) }
 {

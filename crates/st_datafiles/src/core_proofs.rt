@@ -1,7 +1,7 @@
 use st_base::{Copied, KeptText, List, WantOfMemory};
 use std::alloc::Global;
 
-/// What a core proof file says: the signed texts of the recovers and of the deactivates.
+/// The content of a core proof file: the signed texts of the recovers and of the deactivates.
 #[derive(Drop)]
 pub struct CoreProofs {
     pub recovers: List<KeptText>,

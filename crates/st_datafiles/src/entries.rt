@@ -12,15 +12,16 @@ use st_canon::PackedJson;
 use st_plain::{MAX_DEPTH, ReadStopped, rewrite};
 use std::alloc::Global;
 
-// How deep the entries may nest, which stand in a list in an object.
+// How deep the entries of a list in an object may nest.
 const INSIDE: usize = MAX_DEPTH - 2;
 
 // Room that most entries do not outgrow.
 const USUAL: usize = 1_000;
 
-/// The entries of the list that is the only member, of this name, of the object that the file is, at most so
-/// many. Each is packed as soon as it was read, and shares its text with the file where that is canonical.
-/// `None` says nothing of the file: it is to be read whole. It comes where there are more entries.
+/// At most `most` entries of the list that is the only member, of this name, of the file's object.
+/// Each is packed when it is read, and shares its text with the file if that is canonical. `None`
+/// says nothing about the file: read it as a whole. It is also the result if there are more
+/// entries.
 pub(crate) fn read_entries(
     alloc: Global,
     file: &Shared<Bytes>,
@@ -51,7 +52,7 @@ pub(crate) fn read_entries(
     }
 }
 
-// Whether an object is opened with a member of this name, and in that a list.
+// Whether an object starts with a member of this name, and that with a list.
 fn skip_opening(reader: &mut Reader<'_>, name: &str) -> bool
     ensures { IsTrue result → reader.old ≡ opens_list name.now reader.new }
 {
@@ -82,7 +83,7 @@ fn pack_items(
     Ok(List::from_vec(found))
 }
 
-// The next value, straight from its tokens.
+// The next value, directly from its tokens.
 fn pack_next(
     alloc: Global,
     reader: &mut Reader<'_>,
@@ -91,7 +92,7 @@ fn pack_next(
     ensures value { IfOk result (λ packed. converted whole_json (value 125 reader.old) ≡ Some (packed, reader.new)) }
     ensures shorter { OnOk result (length reader.new < length reader.old) }
 {
-    // Its text is looked for in the file where the reader stands.
+    // The file may have its text where the reader is.
     let at = reader.offset();
     let mut text = Vec::with_capacity(alloc, USUAL)?;
     rewrite(alloc, &mut text, reader, INSIDE)?;
@@ -101,7 +102,7 @@ fn pack_next(
     }
 }
 
-// Whether the object is closed, and nothing follows.
+// Whether the object ends here, and nothing follows.
 fn is_closed(reader: &mut Reader<'_>) -> bool
     ensures { IsTrue result → reader.old ≡ ends }
 {

@@ -1,6 +1,6 @@
-//! The files that index files name (DIF Sidetree v1.0.0, "Core Proof File", "Provisional Proof File"
-//! and "Chunk Files"): what their JSON says, the rules by which they are accepted, and their canonical
-//! texts; and the roles that the files of an entry have.
+//! The files that index files name (DIF Sidetree v1.0.0, "Core Proof File", "Provisional Proof
+//! File" and "Chunk Files"): their content, their rules, and their canonical texts; and the roles
+//! of an entry's files.
 #![tactic(auto)]
 
 mod chunk_reading;

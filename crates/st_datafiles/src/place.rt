@@ -1,25 +1,25 @@
 use st_base::KeptText;
 
-// What stands before the name of the first kind.
+// The text before the name of the first kind.
 const FRONT: &str = "{\"operations\":{\"";
 
-// What stands between the name of a kind and its first signed text.
+// The text between the name of a kind and its first signed text.
 const OPENED: &str = "\":[{\"signedData\":\"";
 
-// What stands between two signed texts of one kind.
+// The text between two signed texts of one kind.
 const BETWEEN: &str = "\"},{\"signedData\":\"";
 
-// What stands between the last signed text of a kind and the name of the next kind.
+// The text between the last signed text of a kind and the name of the next kind.
 const CLOSED: &str = "\"}],\"";
 
-/// Where in a proof file the next signed text is looked for. In a file that is its own canonical text, as
-/// nearly all are, it stands there, and so it is shared with the file. Elsewhere this is a wrong guess, which
-/// costs memory alone: what does not stand there is copied.
+/// The expected place of the next signed text in a proof file. If the file is its own canonical
+/// text, as nearly all are, the signed text is there and is shared with the file. Otherwise the
+/// guess is wrong and only costs memory: the text is copied.
 #[derive(Drop)]
 pub(crate) struct Place {
-    // Where the name of the next kind stands.
+    // The place of the name of the next kind.
     kind: usize,
-    // Where the next signed text of this kind stands.
+    // The place of the next signed text of this kind.
     text: usize,
 }
 
@@ -43,7 +43,7 @@ impl Place {
         self.text
     }
 
-    /// The next signed text stands behind this one.
+    /// Moves past this signed text.
     pub fn pass(&mut self, text: &KeptText) {
         let end = self.text.saturating_add(text.as_slice().len());
         self.kind = end.saturating_add(CLOSED.len());

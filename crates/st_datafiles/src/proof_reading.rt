@@ -15,10 +15,10 @@ use st_params::Params;
 use st_scan::{CanonicalText, Entries, Scanned, entries_in};
 use std::alloc::Global;
 
-/// The signed texts of a core proof file, of which so many are wanted of each kind. They are shared with the
-/// file where that is canonical. It counts as one file, whatever it answers.
+/// The signed texts of a core proof file, which must have this many of each kind. They are shared
+/// with the file if that is canonical. It counts as one file, whatever the answer is.
 ///
-/// `Rejected` comes exactly with the first rule that the file fails.
+/// The result is `Rejected` if and only if the file fails a rule; it has the first one.
 pub fn read_core_proof(
     alloc: Global,
     file: &Shared<Bytes>,
@@ -41,10 +41,10 @@ pub fn read_core_proof(
     }
 }
 
-/// The signed texts of a provisional proof file, of which so many are wanted. They are shared with the file
-/// where that is canonical. It counts as one file, whatever it answers.
+/// The signed texts of a provisional proof file, which must have this many. They are shared with
+/// the file if that is canonical. It counts as one file, whatever the answer is.
 ///
-/// `Rejected` comes exactly with the first rule that the file fails.
+/// The result is `Rejected` if and only if the file fails a rule; it has the first one.
 pub fn read_provisional_proof(
     alloc: Global,
     file: &Shared<Bytes>,
@@ -66,7 +66,7 @@ pub fn read_provisional_proof(
     }
 }
 
-// The same by the JSON of the file, in which the texts are looked for.
+// The same, from the JSON of the file, in which the texts are looked for.
 fn core_proofs_in(
     alloc: Global,
     json: &Scanned<'_>,
@@ -82,7 +82,7 @@ fn core_proofs_in(
     if !(has_proofs(json, "recover", recovers) && has_proofs(json, "deactivate", deactivates)) {
         return Err(FileRefused::Rejected(ProofRule::Q4));
     }
-    // In the order in which they stand in a canonical text.
+    // In the order of the canonical text.
     let mut place = Place::new();
     let deactivates = signed_of(alloc, json, "deactivate", file, &mut place)?;
     let recovers = signed_of(alloc, json, "recover", file, &mut place)?;
@@ -92,7 +92,7 @@ fn core_proofs_in(
     })
 }
 
-// The same by the JSON of the file, in which the texts are looked for.
+// The same, from the JSON of the file, in which the texts are looked for.
 fn updates_in(
     alloc: Global,
     json: &Scanned<'_>,

@@ -10,15 +10,15 @@ pub enum ProofRule {
     Q1,
     /// It isn't read as JSON with whole numbers.
     Q2,
-    /// It isn't an object with exactly `operations`, an object with no member but lists of its kinds,
-    /// or an entry isn't an object with exactly `signedData`, a text.
+    /// It isn't an object with exactly `operations`, an object with no members except lists of its
+    /// kinds, or an entry isn't an object with exactly `signedData`, a text.
     Q3,
     /// A list's length isn't the number of operations of that kind in the index file.
     Q4,
 }
 
 impl ProofRule {
-    /// The name of the rule: a letter for what it judges, and its number, as `Q4`.
+    /// The name of the rule: a letter for the kind of file, and its number, as `Q4`.
     pub fn name(&self) -> &'static str
         ensures { result.now ≡ proof_rule_name self.now }
     {

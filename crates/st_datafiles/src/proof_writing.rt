@@ -16,7 +16,7 @@ use std::alloc::Global;
 /// `operations` without lists.
 pub fn write_core_proof(alloc: Global, proofs: &CoreProofs) -> Result<Bytes, WantOfMemory>
     ensures text { IfOk result (λ text. text ≡ canonical (core_proof_json proofs.now)) }
-    // Wherever the text fails no rule, it is read as the same signed texts.
+    // If the text fails no rule, it is read as the same signed texts.
     ensures read { IfOk result (λ text. (limits : Limits) (recovers deactivates : ℕ) → first_failing_core_proof_rule limits recovers deactivates text ≡ None
         → core_proofs_of (json_in text) ≡ proofs.now) }
 {
@@ -28,7 +28,7 @@ pub fn write_core_proof(alloc: Global, proofs: &CoreProofs) -> Result<Bytes, Wan
 /// is left out.
 pub fn write_provisional_proof(alloc: Global, proofs: &[KeptText]) -> Result<Bytes, WantOfMemory>
     ensures text { IfOk result (λ text. text ≡ canonical (provisional_proof_json proofs.now)) }
-    // Wherever the text fails no rule, it is read as the same signed texts.
+    // If the text fails no rule, it is read as the same signed texts.
     ensures read { IfOk result (λ text. (limits : Limits) (updates : ℕ) → first_failing_provisional_proof_rule limits updates text ≡ None
         → signed_of (codes "update") (json_in text) ≡ proofs.now) }
 {
@@ -64,7 +64,7 @@ fn proof_json(alloc: Global, operations: Object) -> Result<Json, WantOfMemory>
     Ok(Json::Object(file))
 }
 
-// The entries that hold these texts.
+// The entries with these texts.
 fn signed_entries(alloc: Global, texts: &[KeptText]) -> Result<List<Json>, WantOfMemory>
     ensures { IfOk result (λ entries. map plain entries ≡ map signed_json texts.now) }
 {

@@ -1,8 +1,8 @@
 use st_base::{Copied, WantOfMemory};
 use std::alloc::Global;
 
-/// What a file is to the ledger entry that it serves, in this order. One file may have several roles,
-/// in one entry or in many.
+/// The role of a file in the ledger entry that it serves, in this order. One file may have several
+/// roles, in one entry or in many.
 #[derive(Clone, Copy, Debug, PartialEq, Eq, PartialOrd, Ord)]
 pub enum Role {
     /// The core index file, which the anchor string names.

@@ -1,4 +1,4 @@
--- What is known of a value that is a delta, and of one that is too long: for the crates above.
+-- Properties of deltas, and of values that are too long: for the crates above.
 use Rattle.std.proofs.Common.{◌≡◌, ℕ, ◌<◌, ◌≤◌, Bool, true, false, nat_le, List, codes, Option, Some, None, Result, Ok, Err, refl, arith}
 use Rattle.std.specs.Prelude.{is_some, ok_or}
 use Rattle.std.specs.Result.{result_ok}
@@ -19,13 +19,13 @@ use Rattle.st_doc.specs.declared.refused.DeltaRefused.TheVariants.{BadDelta, Too
 abbrev pub IsDelta : Limits → Plain → Type 0
 IsDelta limits delta = is_some (result_ok (delta_of limits delta)) ≡ true
 
--- the test holds in front of steps that give a value, and these give it by themselves
+-- if the steps after a test give a value, the test holds and they give it without the test
 passed : {A : Type 0} (test : Bool) (refusal : DeltaRefused) (next : Result A DeltaRefused)
     → is_some (result_ok (holds_or test refusal >> next)) ≡ true → (test ≡ true) × (is_some (result_ok next) ≡ true)
 passed true refusal next some = (refl, some)
 passed false refusal next some = absurd cc
 
--- what follows from the steps behind one that may give nothing follows from all
+-- a consequence of the steps after one that may give nothing is one of all
 behind : {A B : Type 0} {P : Type 0} (there : Option A) (refusal : DeltaRefused) (next : A → Result B DeltaRefused)
     → ((x : A) → is_some (result_ok (next x)) ≡ true → P) → is_some (result_ok (ok_or there refusal >>= next)) ≡ true → P
 behind (Some x) refusal next follows some = follows x some
@@ -37,7 +37,7 @@ within n most e = grind (arith, nat_tests)
 beyond : (n most : ℕ) → most < n → nat_le n most ≡ false
 beyond n most more = grind (arith, nat_tests)
 
--- ---- what is left of the steps of a delta
+-- ---- the remaining steps of a delta
 
 abbrev Outer : Type 0
 Outer = Result (List Plain × HashValue) DeltaRefused
@@ -57,7 +57,7 @@ both_of delta = both_members (codes "patches") (codes "updateCommitment") (Some 
 abbrev behind_size : Limits → Plain → Outer
 behind_size limits delta = ok_or (both_of delta) BadDelta >>= behind_form limits delta
 
--- ---- what is known of a delta
+-- ---- properties of a delta
 
 behind_refused : {A B : Type 0} (first : Result A DeltaRefused) (next : A → Result B DeltaRefused) (refusal : DeltaRefused)
     → first ≡ Err refusal → first >>= next ≡ Err refusal
@@ -74,7 +74,7 @@ sized : (limits : Limits) (delta : Plain) → IsDelta limits delta
 unfolding delta_of outer_of
 sized limits delta is = passed (nat_le (size_of delta) limits.max_delta) TooLong (behind_size limits delta) (first_gave _ _ is)
 
--- its canonical text has at most so many bytes
+-- its canonical text has at most this many bytes
 pub delta_size : (limits : Limits) (delta : Plain) → IsDelta limits delta → size_of delta ≤ limits.max_delta
 delta_size limits delta is = within (size_of delta) limits.max_delta (sized limits delta is).0
 
@@ -87,12 +87,12 @@ delta_depth limits delta is =
     formed)
     (sized limits delta is).1
 
--- what is longer is refused
+-- a longer value is refused
 pub long_refused : (limits : Limits) (delta : Plain) → limits.max_delta < size_of delta → delta_of limits delta ≡ Err TooLong
 unfolding delta_of outer_of
 long_refused limits delta more = rw (beyond (size_of delta) limits.max_delta more) refl
 
--- what is no longer and nests deeper is refused
+-- a value that is short enough but nests deeper is refused
 pub deep_refused : (limits : Limits) (delta : Plain) → nat_le (size_of delta) limits.max_delta ≡ true
     → nat_le (depth_of delta) 64 ≡ false → delta_of limits delta ≡ Err BadDelta
 unfolding delta_of outer_of

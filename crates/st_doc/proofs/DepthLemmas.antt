@@ -1,4 +1,4 @@
--- No value nests deeper than its canonical text is long, but for a scalar, whose depth is 1.
+-- The depth of a value is at most the length of its canonical text, or 1 for a scalar.
 use Rattle.std.proofs.Common.{◌≡◌, ℕ, ◌+◌, ◌-◌, ◌<◌, ◌≤◌, ◌^◌, max, Bool, true, false, nat_le, [], ◌∷◌, ◌++◌, length, arith, length-append}
 use Rattle.std.specs.Prelude.{◌&&◌}
 use Rattle.std.proofs.lemmas.Bool.Decides.{nat_tests}
@@ -41,6 +41,6 @@ bounded : (depth size most : ℕ) → depth ≤ max 1 size → most < 2 ^ 64
     → nat_le depth (2 ^ 64 - 1) && nat_le size most ≡ nat_le size most
 bounded depth size most shallow fits = grind (arith, nat_tests)
 
--- where 64 bits hold the bound on the size, none on the depth is needed beside it
+-- if the bound on the size fits in 64 bits, it implies a bound on the depth
 pub fits_by_size : (p : Plain) (most : ℕ) → most < 2 ^ 64 → fits (2 ^ 64 - 1) most p ≡ nat_le (size_of p) most
 fits_by_size p most held = bounded (depth_of p) (length (canonical p)) most (shallow p) held

@@ -8,7 +8,7 @@ use Rattle.st_canon.specs.View.{plain}
 use Rattle.st_canon.specs.declared.value.Json.{Json}
 use Rattle.st_doc.specs.Effects.{added}
 
--- the plain values of those that are kept are the plain values that are kept
+-- filtering commutes with taking plain values
 pub filter-plain : (keep : Plain → Bool) (values : List Json)
     → map plain (filter (λ value. keep (plain value)) values) ≡ filter keep (map plain values)
 filter-plain keep [] = refl
@@ -19,18 +19,18 @@ filter-plain keep (value ∷ values) =
       | false ↦ filter-plain keep values
     ]
 
--- what all are kept of
+-- a filter that keeps all
 all_kept : (values : List Plain) → filter (λ value. true) values ≡ values
 all_kept [] = refl
 all_kept (value ∷ values) = ap (λ rest. value ∷ rest) (all_kept values)
 
--- what is added to no entries stands alone
+-- entries added to none are the whole list
 pub added_to_none : (new : List Plain) (entries : List Json) → nat_eq (length entries) 0 ≡ true → new ≡ added new (map plain entries)
 unfolding added
 added_to_none new [] none = sym (all_kept new)
 added_to_none new (entry ∷ entries) none = absurd (grind (arith, nat_tests))
 
--- the first not yet changed is what stood there at the start
+-- the first entry not yet changed is the original one
 seam : (change : Plain → Plain) (start : List Plain) (at : ℕ) (none : Plain) → at < length start
     → get_or (map change (take at start) ++ drop at start) at none ≡ get_or start at none
 seam change [] at none inside = absurd (omega arith)
@@ -44,7 +44,7 @@ set_seam change [] at none inside = absurd (omega arith)
 set_seam change (p ∷ ps) zero none inside = refl
 set_seam change (p ∷ ps) (suc at) none inside = ap (λ rest. change p ∷ rest) (set_seam change ps at none (omega arith))
 
--- entries of which those below a place are changed
+-- the entries below a place are changed
 pub record IsChangedBelow (change : Plain → Plain) (start entries : List Json) (at : ℕ) : Type 0 where
   pub changed : map plain entries ≡ map change (map plain (take at start)) ++ map plain (drop at start)
   pub inside : at < length start

@@ -12,7 +12,7 @@ use Rattle.st_doc.specs.Patch.{PlainPatch, patch_of}
 use Rattle.st_doc.specs.declared.refused.DeltaRefused.{DeltaRefused}
 use Rattle.st_doc.specs.declared.refused.DeltaRefused.TheVariants.{BadPatch}
 
--- what was read, and behind it what the others are
+-- the patches so far, followed by those of the others
 abbrev pub patches_after : List PlainPatch → Result (List PlainPatch) DeltaRefused → Result (List PlainPatch) DeltaRefused
 patches_after read rest = do
   more ← rest
@@ -21,7 +21,7 @@ patches_after read rest = do
 abbrev with_update : HashValue → List PlainPatch → PlainDelta
 with_update update patches = record { patches = patches; update = update }
 
--- what is made of what was read, is there where that was read
+-- a value built from what was read is there if that was read
 made : {A B : Type 0} (read : Result A DeltaRefused) (f : A → B) → is_some (result_ok (read >>= (λ a. Ok (f a)))) ≡ is_some (result_ok read)
 made (Ok a) f = refl
 made (Err refusal) f = refl
@@ -31,7 +31,7 @@ one_more : {A B : Type 0} (there : Option A) (refusal : DeltaRefused) (next : A 
 one_more (Some a) refusal next test each = each a
 one_more None refusal next test each = refl
 
--- patches are read where each value is one
+-- patches are read if each value is one
 each_is_patch : (limits : Limits) (i : ℕ) (values : List Plain)
     → is_some (result_ok (patches_of limits i values)) ≡ list_all (λ value. is_some (patch_of limits value)) values
 each_is_patch limits i [] = refl
@@ -39,7 +39,7 @@ each_is_patch limits i (value ∷ values) =
     one_more (patch_of limits value) (BadPatch i) _ (list_all (λ v. is_some (patch_of limits v)) values)
     (λ patch. made (patches_of limits (i + 1) values) (λ patches. patch ∷ patches) ∙ each_is_patch limits (i + 1) values)
 
--- what has the outer form of a delta is one where each of its values is a patch
+-- a value with the outer form of a delta is one if each of its values is a patch
 pub is_by_patches : (limits : Limits) (delta : Plain) (values : List Plain) (update : HashValue) → outer_of limits delta ≡ Ok (values, update)
     → list_all (λ value. is_some (patch_of limits value)) values ≡ is_some (result_ok (delta_of limits delta))
 unfolding delta_of

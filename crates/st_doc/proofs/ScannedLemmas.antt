@@ -1,4 +1,4 @@
--- The entries of a value that is a list, and of one that is none.
+-- The entries of a list, and of another value.
 use Rattle.std.proofs.Common.{◌≡◌, true, false, Option, Some, None, option_map, unwrap_or, [], refl}
 use Rattle.std.specs.Prelude.{is_some}
 use Rattle.st_plain.specs.Entries.{entries, items_in, list_in}

@@ -8,6 +8,6 @@ use Rattle.st_base.specs.Each.{each_of}
 abbrev pub steps_in : List Plain → Option (List PlainStep)
 steps_in values = each_of (λ value. result_ok (step_of value)) values
 
--- what was read, and behind it what the others are
+-- the steps so far, followed by those of the others
 abbrev pub steps_after : List PlainStep → List Plain → Option (List PlainStep)
 steps_after read values = option_map (λ more. read ++ more) (steps_in values)

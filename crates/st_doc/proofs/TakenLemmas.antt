@@ -1,4 +1,4 @@
--- What is taken out of a document's JSON is the document.
+-- A document's JSON converts back to the document.
 use Rattle.std.proofs.Common.{◌≡◌, ℕ, Bool, true, false, List, [], ◌∷◌, map, Option, Some, None, if◌then◌else◌, refl, ap, sym, ◌∙◌}
 use Rattle.std.specs.Prelude.{codes, ◌&&◌}
 use Rattle.st_plain.specs.Measure.{fits}
@@ -43,7 +43,7 @@ swapped true false = refl
 swapped false true = refl
 swapped false false = refl
 
--- what is judged by its JSON is judged
+-- the check of its JSON is the check of the document
 right_is : (limits : Limits) (document : PlainDocument) (json : Plain) → json ≡ document_json document
     → (fits limits.max_depth limits.max_document json && keeps_rules limits.version (document_in json)) ≡ is_document limits document
 right_is limits document json is =
@@ -59,7 +59,7 @@ none : (right : Bool) (document : PlainDocument) → right ≡ false → None �
 none true document is = absurd cc
 none false document is = refl
 
--- what is right, and was taken back out of its JSON, is the document
+-- a document that passes, taken back out of its JSON, is unchanged
 pub taken_is : (limits : Limits) (document taken : PlainDocument) (json : Plain)
     → (fits limits.max_depth limits.max_document json && keeps_rules limits.version (document_in json)) ≡ true
     → json ≡ document_json document → taken ≡ document_in json → Some taken ≡ if_document limits document
@@ -67,7 +67,7 @@ taken_is limits document taken json right is from =
     ap Some (from ∙ ap document_in is ∙ document_in-json document)
     ∙ given (is_document limits document) document (sym (right_is limits document json is) ∙ right)
 
--- what is not, is no document
+-- a value that fails is not a document
 pub none_is : (limits : Limits) (document : PlainDocument) (json : Plain)
     → (fits limits.max_depth limits.max_document json && keeps_rules limits.version (document_in json)) ≡ false
     → json ≡ document_json document → None ≡ if_document limits document

@@ -1,4 +1,4 @@
--- No text stands twice where there are as many different ones as all.
+-- All texts differ if and only if there are as many different ones as texts.
 use Rattle.std.proofs.Common.{◌≡◌, ◌∙◌, ℕ, suc, ◌≤◌, nat_eq, true, false, not, cond, List, [], ◌∷◌, length, map, refl, ap, arith, Bor}
 use Rattle.std.specs.Prelude.{◌||◌, bytes_eq}
 use Rattle.std.specs.List.{list_any}

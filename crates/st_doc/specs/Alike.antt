@@ -1,4 +1,4 @@
--- Texts of which no two are alike.
+-- Texts that all differ.
 use Rattle.std.specs.Prelude.{ℕ, Bool, not, bytes_eq, List}
 use Rattle.std.specs.List.{list_any}
 use Rattle.st_base.specs.Twice.{has_twice}
@@ -7,6 +7,6 @@ use Rattle.st_base.specs.Twice.{has_twice}
 abbrev pub is_among : List (List ℕ) → List ℕ → Bool
 is_among texts text = list_any (bytes_eq text) texts
 
--- no text stands twice
+-- no text appears twice
 abbrev pub none_twice : List (List ℕ) → Bool
 none_twice texts = not (has_twice bytes_eq texts)

@@ -1,5 +1,5 @@
--- Deltas, after DIF Sidetree v1.0.0, "Create" to "Recover"; the rules are this project's own. A delta is its
--- patches, and the commitment to the next update.
+-- Deltas, after DIF Sidetree v1.0.0, "Create" to "Recover"; the rules are this project's own. A delta has patches and
+-- the commitment to the next update.
 use Rattle.std.specs.Prelude.{ℕ, ◌+◌, nat_le, List, [], ◌∷◌, map, codes, Option, Some, None, ok_or, option_and_then, Result, Ok}
 use Rattle.st_base.specs.Answers.{◌>>=◌, ◌>>◌, holds_or}
 use Rattle.st_plain.specs.Depth.{depth_of}
@@ -14,21 +14,20 @@ use Rattle.st_doc.specs.declared.delta.Delta.{Delta}
 use Rattle.st_doc.specs.declared.refused.DeltaRefused.{DeltaRefused}
 use Rattle.st_doc.specs.declared.refused.DeltaRefused.TheVariants.{TooLong, BadDelta, BadPatch, WantOfMemory}
 
--- what a delta is: patches, and the commitment to the key of the next update
+-- a delta: patches, and the commitment to the key of the next update
 pub record PlainDelta : Type 0 where
   pub patches : List PlainPatch
   pub update : HashValue
 
--- what a `Delta` stands for
+-- the plain value of a `Delta`
 abbrev pub plain_delta : Delta → PlainDelta
 plain_delta delta = record { patches = map plain_patch delta.patches; update = delta.update }
 
--- the hash of the version whose text a value is
+-- the hash of the version whose text is the value
 abbrev pub hash_in : ℕ → Plain → Option HashValue
 hash_in version value = option_and_then (hash_of_text_at version) (text_in value)
 
--- The patches that these values are, or the number of the first that is none, the first of these
--- being `i`.
+-- The patches of these values, or the number of the first that is not a patch; `i` is the number of the first value.
 abbrev pub patches_of : Limits → ℕ → List Plain → Result (List PlainPatch) DeltaRefused
 patches_of limits i [] = Ok []
 patches_of limits i (value ∷ values) = do
@@ -36,8 +35,8 @@ patches_of limits i (value ∷ values) = do
   patches ← patches_of limits (i + 1) values
   Ok (patch ∷ patches)
 
--- The values in `patches`, and the update commitment, of what has the outer form of a delta; or what is wrong: its
--- canonical text is too long; or it is no object of `patches`, a list, and `updateCommitment`, a hash text of the
+-- The values in `patches` and the update commitment of a value with the outer form of a delta. Else the reason: its
+-- canonical text is too long; or it is not an object of `patches`, a list, and `updateCommitment`, a hash text of the
 -- version, or nests more than 64 deep.
 unfoldable pub outer_of : Limits → Plain → Result (List Plain × HashValue) DeltaRefused
 outer_of limits delta = do
@@ -48,14 +47,14 @@ outer_of limits delta = do
   values ← ok_or (list_in both.0) BadDelta
   Ok (values, update)
 
--- The delta that a value is, or the first that is wrong: its outer form, or a patch that is none.
+-- The delta of a value, or the first fault: its outer form, or a value that is not a patch.
 unfoldable pub delta_of : Limits → Plain → Result PlainDelta DeltaRefused
 delta_of limits delta = do
   outer ← outer_of limits delta
   patches ← patches_of limits 0 outer.0
   Ok (record { patches = patches; update = outer.1 })
 
--- what a refusal says of the value: nothing, where memory was wanting
+-- what a refusal says about the value: nothing, if memory ran out
 abbrev pub refusal_of : DeltaRefused → Option DeltaRefused
 refusal_of TooLong = Some TooLong
 refusal_of BadDelta = Some BadDelta

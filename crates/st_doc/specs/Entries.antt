@@ -1,5 +1,5 @@
--- The forms of the keys and services of a document (after DIF Sidetree v1.0.0, "DID State Patches", in bounds of
--- this project's own). `None` is a value that is not there.
+-- The forms of the keys and services of a document (after DIF Sidetree v1.0.0, "DID State Patches", in this project's
+-- own bounds). `None` is a missing value.
 use Rattle.std.specs.Prelude.{ℕ, ◌==◌, Bool, true, false, ◌&&◌, ◌||◌, nat_le, List, [], ◌∷◌, length, codes, Option, Some, None, is_some, option_and_then, option_map, unwrap_or}
 use Rattle.std.specs.Char.{is_ascii_alphanumeric}
 use Rattle.std.specs.List.{list_all, list_any, filter_map}
@@ -9,25 +9,25 @@ use Rattle.st_plain.specs.Shapes.{is_object_of, member_in, text_at}
 use Rattle.st_scan.specs.Texts.{is_text_of}
 use Rattle.st_doc.specs.Alike.{none_twice}
 
--- every one of the tests is true
+-- all of the tests are true
 abbrev pub all_hold : List Bool → Bool
 all_hold tests = list_all (λ holds. holds) tests
 
 -- ---- texts
 
--- a text of 1 to so many bytes
+-- a text of 1 to `most` bytes
 abbrev pub is_short : ℕ → List ℕ → Bool
 is_short most bytes = nat_le 1 (length bytes) && nat_le (length bytes) most
 
--- a text of which this holds stands there
+-- a text with this property
 abbrev pub is_text_that : (List ℕ → Bool) → Option Plain → Bool
 is_text_that holds there = unwrap_or (option_map holds (option_and_then text_in there)) false
 
--- a text of 1 to so many bytes stands there
+-- a text of 1 to `most` bytes
 abbrev pub is_short_text : ℕ → Option Plain → Bool
 is_short_text most there = is_text_that (is_short most) there
 
--- the same, or no value at all
+-- the same, or no value
 abbrev pub is_short_text_if_there : ℕ → Option Plain → Bool
 is_short_text_if_there most None = true
 is_short_text_if_there most (Some value) = is_short_text most (Some value)
@@ -36,7 +36,7 @@ is_short_text_if_there most (Some value) = is_short_text most (Some value)
 abbrev pub is_base64url_sign : ℕ → Bool
 is_base64url_sign byte = is_ascii_alphanumeric byte || ((byte == 45) || (byte == 95))
 
--- 1 to 50 signs of base64url
+-- 1 to 50 base64url characters
 abbrev pub is_id : List ℕ → Bool
 is_id bytes = is_short 50 bytes && list_all is_base64url_sign bytes
 
@@ -50,11 +50,11 @@ is_name bytes = is_short 100 bytes
 
 -- ---- keys
 
--- an object, whatever is in it
+-- an object with any contents
 abbrev pub is_object : Option Plain → Bool
 is_object there = is_some (option_and_then members_in there)
 
--- what a key may be for (after DIF Sidetree v1.0.0, "add-public-keys")
+-- the purposes of a key (after DIF Sidetree v1.0.0, "add-public-keys")
 abbrev pub purposes : List (List ℕ)
 purposes = codes "authentication" ∷ codes "assertionMethod" ∷ codes "keyAgreement"
     ∷ codes "capabilityInvocation" ∷ codes "capabilityDelegation" ∷ []
@@ -67,11 +67,11 @@ is_purpose value = list_any (λ word. is_text_of word value) purposes
 abbrev pub texts_of : List Plain → List (List ℕ)
 texts_of values = filter_map text_in values
 
--- values that are purposes, each once
+-- values that are purposes, all different
 abbrev pub are_purposes : List Plain → Bool
 are_purposes values = list_all is_purpose values && none_twice (texts_of values)
 
--- a list of these, or no value at all
+-- a list of these, or no value
 abbrev pub are_purposes_if_there : Option Plain → Bool
 are_purposes_if_there None = true
 are_purposes_if_there (Some value) = unwrap_or (option_map are_purposes (list_in value)) false
@@ -80,7 +80,7 @@ are_purposes_if_there (Some value) = unwrap_or (option_map are_purposes (list_in
 abbrev pub key_names : List (List ℕ)
 key_names = codes "id" ∷ codes "type" ∷ codes "publicKeyJwk" ∷ codes "purposes" ∷ codes "controller" ∷ []
 
--- a key: what must hold of its members
+-- a key: the rules of its members
 abbrev pub key_rules : Option Plain → List Bool
 key_rules key =
     is_object_of key_names key
@@ -91,7 +91,7 @@ key_rules key =
     ∷ is_short_text_if_there 200 (member_in (codes "controller") key)
     ∷ []
 
--- a key: every rule of keys holds
+-- a key: all its rules hold
 unfoldable pub is_key : Plain → Bool
 is_key key = all_hold (key_rules (Some key))
 
@@ -105,7 +105,7 @@ service_names = codes "id" ∷ codes "type" ∷ codes "serviceEndpoint" ∷ []
 abbrev pub is_endpoint : Option Plain → Bool
 is_endpoint there = is_short_text 100 there || is_object there
 
--- a service: what must hold of its members
+-- a service: the rules of its members
 abbrev pub service_rules : Option Plain → List Bool
 service_rules service =
     is_object_of service_names service
@@ -114,12 +114,12 @@ service_rules service =
     ∷ is_endpoint (member_in (codes "serviceEndpoint") service)
     ∷ []
 
--- a service: every rule of services holds
+-- a service: all its rules hold
 unfoldable pub is_service : Plain → Bool
 is_service service = all_hold (service_rules (Some service))
 
 -- ---- ids
 
--- the id of a key or a service; of what has none, the empty text
+-- the id of a key or a service, or the empty text if it has none
 abbrev pub id_of : Plain → List ℕ
 id_of entry = unwrap_or (text_at (codes "id") (Some entry)) []

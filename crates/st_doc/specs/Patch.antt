@@ -32,7 +32,7 @@ pub data PlainPatch : Type 0 where
   add_names : List (List ℕ) → PlainPatch
   remove_names : List (List ℕ) → PlainPatch
 
--- the plain patch that a `Patch` stands for
+-- the plain patch of a `Patch`
 abbrev pub plain_patch : Patch → PlainPatch
 plain_patch (AddKeys keys) = add_keys (map plain keys)
 plain_patch (RemoveKeys ids) = remove_keys ids
@@ -43,21 +43,21 @@ plain_patch (Steps list) = steps (map plain_step list)
 plain_patch (AddNames names) = add_names names
 plain_patch (RemoveNames names) = remove_names names
 
--- the same of a patch that was read
+-- the same for a patch that was read
 abbrev pub found_patch : Found → PlainPatch
 found_patch (Keys keys) = add_keys keys
 found_patch (Services services) = add_services services
 found_patch (Whole patch) = plain_patch patch
 
--- ---- what stands in a patch
+-- ---- the contents of a patch
 
--- the value of the one member beside `action`
+-- the value of the only member besides `action`
 abbrev pub beside_action : List ℕ → Plain → Option Plain
 beside_action name patch = do
   both ← both_members (codes "action") name (Some patch)
   Some both.1
 
--- the values of the list that stands there
+-- the values of the list in the member of this name
 abbrev pub values_at : List ℕ → Plain → Option (List Plain)
 values_at name patch = option_and_then list_in (beside_action name patch)
 
@@ -121,7 +121,7 @@ steps_of patch = do
   list ← each_of (λ value. result_ok (step_of value)) values
   Some (steps list)
 
--- `add-also-known-as`: names, each once
+-- `add-also-known-as`: names, all different
 abbrev pub add_names_of : Plain → Option PlainPatch
 add_names_of patch = do
   names ← names_in patch
@@ -136,7 +136,7 @@ remove_names_of patch = do
 
 -- ---- by the action
 
--- the action of this name; the last two stand only in version 2
+-- the action of this name; only version 2 has the last two
 abbrev pub action_named : ℕ → List ℕ → Option Action
 action_named version name =
     if bytes_eq name (codes "add-public-keys") then Some action.AddKeys else
@@ -153,7 +153,7 @@ action_named version name =
 abbrev pub action_of : ℕ → Plain → Option Action
 action_of version value = option_and_then (action_named version) (text_at (codes "action") (Some value))
 
--- the patch that a value with this action is
+-- the patch of a value with this action
 abbrev pub patch_by : Limits → Action → Plain → Option PlainPatch
 patch_by limits action.AddKeys patch = add_keys_of patch
 patch_by limits action.RemoveKeys patch = remove_keys_of patch
@@ -164,7 +164,7 @@ patch_by limits action.Steps patch = steps_of patch
 patch_by limits action.AddNames patch = add_names_of patch
 patch_by limits action.RemoveNames patch = remove_names_of patch
 
--- The patch that a value is.
+-- The patch of a value.
 unfoldable pub patch_of : Limits → Plain → Option PlainPatch
 patch_of limits value = do
   action ← action_of limits.version value

@@ -1,4 +1,4 @@
--- What the patches of a delta make of a document, one after another. One that fails fails them all.
+-- A document after the patches of a delta, one after another. If one fails, all fail.
 use Rattle.std.specs.Prelude.{ℕ, ◌+◌, List, [], ◌∷◌, Option, Some, None, ok_or, Result, Ok}
 use Rattle.st_base.specs.Answers.{◌>>=◌}
 use Rattle.st_params.specs.Limits.{Limits}
@@ -8,14 +8,14 @@ use Rattle.st_doc.specs.Patch.{PlainPatch}
 use Rattle.st_doc.specs.declared.refused.PatchRefused.{PatchRefused}
 use Rattle.st_doc.specs.declared.refused.PatchRefused.TheVariants.{PatchFailed, WantOfMemory}
 
--- The document after all patches, or the number of the first that fails, the first of these being `i`.
+-- The document after all patches, or the number of the first that fails; `i` is the number of the first patch.
 abbrev pub patched : Limits → ℕ → List PlainPatch → PlainDocument → Result PlainDocument ℕ
 patched limits i [] document = Ok document
 patched limits i (patch ∷ patches) document = do
   next ← ok_or (after_patch limits patch document) i
   patched limits (i + 1) patches next
 
--- the number of the patch that a refusal blames: none, where memory was wanting
+-- the number of the patch that a refusal names: none, if memory ran out
 abbrev pub blamed : PatchRefused → Option ℕ
 blamed (PatchFailed i) = Some i
 blamed WantOfMemory = None

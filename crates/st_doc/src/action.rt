@@ -6,7 +6,7 @@ use st_base::WantOfMemory;
 use st_scan::Scanned;
 use std::alloc::Global;
 
-/// What a patch does, by its `action`.
+/// The kind of a patch, by its `action`.
 #[derive(Clone, Copy, Debug)]
 pub(crate) enum Action {
     AddKeys,
@@ -19,7 +19,7 @@ pub(crate) enum Action {
     RemoveNames,
 }
 
-/// The action that a value names, where it is one of this version.
+/// The action of this name, if this version has it.
 pub(crate) fn action_of(
     alloc: Global,
     value: &Scanned<'_>,

@@ -20,11 +20,11 @@ use st_jsonpatch::{Step, StepsRefused, apply_steps};
 use st_params::Params;
 use std::alloc::Global;
 
-/// The document after the patches of the delta. It takes both over: a document that replaces another,
-/// and entries that are added where there were none, are moved and not copied.
+/// The document after the patches of the delta. It takes over both: a document that replaces
+/// another, and entries added to an empty list, are moved, not copied.
 ///
-/// `PatchFailed(i)` comes exactly where patch `i`, counted from 0, is the first that fails: where its
-/// result is no document at these parameters, or a step of it fails.
+/// The result is `PatchFailed(i)` if and only if patch `i`, counted from 0, is the first that
+/// fails: its result is not a document at these parameters, or a step of it fails.
 pub fn apply_all(
     alloc: Global,
     document: Document,
@@ -47,7 +47,7 @@ pub fn apply_all(
     Ok(now)
 }
 
-// The document after the patch, where that does not fail.
+// The document after the patch, if the patch does not fail.
 fn apply(
     alloc: Global,
     document: Document,
@@ -69,7 +69,7 @@ fn apply(
     if_document(alloc, next, params)
 }
 
-// The steps applied to the document's JSON, where none fails and the result is a document.
+// The steps applied to the document's JSON, if none fails and the result is a document.
 fn after_steps(
     alloc: Global,
     document: Document,

@@ -17,15 +17,15 @@ use st_params::Params;
 use st_scan::{Scanned, entries_in};
 use std::alloc::Global;
 
-/// Whether names may stand in documents of this version.
+/// Whether documents of this version may have names.
 pub(crate) fn may_have_names(version: u8) -> bool
     ensures { result ≡ may_have_names version }
 {
     version == 2
 }
 
-/// The document, where it is one at these parameters. Its JSON takes the lists over, is measured, is judged in its
-/// text, and gives them back.
+/// The document, if it is one at these parameters. Its JSON takes over the lists, is measured, is
+/// checked in its text, and gives them back.
 pub(crate) fn if_document(
     alloc: Global,
     document: Document,
@@ -40,7 +40,7 @@ pub(crate) fn if_document(
     Ok(Some(Document::from_json(alloc, json)?))
 }
 
-// Whether this is a document's JSON that keeps the bounds, and the document keeps the rules.
+// Whether the document's JSON is within the bounds, and the document keeps the rules.
 fn is_right(alloc: Global, json: &Json, params: &Params) -> Result<bool, WantOfMemory>
     ensures { IfOk result (λ is. is ≡ (fits params.now.max_depth params.now.max_document (plain json.now)
         && keeps_rules params.now.version (document_in (plain json.now)))) }
@@ -54,7 +54,7 @@ fn is_right(alloc: Global, json: &Json, params: &Params) -> Result<bool, WantOfM
     keeps_rules(alloc, &text.root(), version)
 }
 
-// What must hold of the keys, services and names.
+// The rules of the keys, services and names.
 #[tactic(auto, unfolding(crate::specs::Document::keeps_rules))]
 fn keeps_rules(alloc: Global, document: &Scanned<'_>, version: u8) -> Result<bool, WantOfMemory>
     ensures { IfOk result (λ holds. holds ≡ keeps_rules version (document_in document.now)) }

@@ -22,10 +22,10 @@ use std::alloc::Global;
 
 const MAX_DEPTH: u64 = 64;
 
-/// The delta at these parameters that this value is.
+/// The delta at these parameters in a value.
 ///
-/// It refuses with the first of these that holds: `TooLong`, `BadDelta`, and `BadPatch(i)` for the
-/// first value in `patches` that is no patch.
+/// The refusal is the first of these that holds: `TooLong`, `BadDelta`, and `BadPatch(i)` for the
+/// first value in `patches` that is not a patch.
 #[tactic(auto, using(crate::proofs::DeltaLemmas::long_refused, crate::proofs::DeltaLemmas::deep_refused))]
 pub fn check_delta(alloc: Global, value: &Json, params: &Params) -> Result<Delta, DeltaRefused>
     ensures { GivesAs plain_delta refusal_of (delta_of params.now (plain value.now)) result }
@@ -40,7 +40,8 @@ pub fn check_delta(alloc: Global, value: &Json, params: &Params) -> Result<Delta
     read_delta(alloc, &text.root(), params)
 }
 
-/// The same of a value that stands in its canonical text. Trees are made of what is applied of it.
+/// The same for a value in its canonical text. Trees are built only of the parts that patches
+/// apply.
 #[tactic(auto, unfolding(crate::specs::Delta::delta_of))]
 pub fn read_delta(
     alloc: Global,
@@ -54,7 +55,7 @@ pub fn read_delta(
     Ok(Delta { patches, update })
 }
 
-/// Whether it is a delta at these parameters. Of its keys and services no trees are made.
+/// Whether it is a delta at these parameters. No trees are built of its keys and services.
 #[tactic(auto, unfolding(crate::specs::Delta::delta_of), using(crate::proofs::PatchLists::is_by_patches))]
 pub fn is_delta(alloc: Global, delta: &Scanned<'_>, params: &Params) -> Result<bool, WantOfMemory>
     ensures { IfOk result (λ is. is ≡ is_some (result_ok (delta_of params.now delta.now))) }
@@ -66,7 +67,7 @@ pub fn is_delta(alloc: Global, delta: &Scanned<'_>, params: &Params) -> Result<b
     }
 }
 
-// The patches and the update commitment of what has the outer form of a delta.
+// The patches and the update commitment of a value with the outer form of a delta.
 #[tactic(auto, unfolding(crate::specs::Delta::outer_of))]
 fn outer_of<'a>(
     alloc: Global,
@@ -93,21 +94,21 @@ fn outer_of<'a>(
     Ok((patches, update))
 }
 
-// Whether its canonical text is no longer than that of a delta may be.
+// Whether its canonical text is at most as long as that of a delta may be.
 fn is_within_size(value: &Json, params: &Params) -> bool
     ensures { result ≡ nat_le (size_of (plain value.now)) params.now.max_delta }
 {
     fits(value, u64::MAX, params.max_delta())
 }
 
-// Whether it nests no deeper than a delta may.
+// Whether it nests at most as deep as a delta may.
 fn is_shallow(value: &Json) -> bool
     ensures { result ≡ nat_le (depth_of (plain value.now)) 64 }
 {
     depth(value) <= MAX_DEPTH
 }
 
-// The same of a value in its text, whose brackets mostly tell it.
+// The same for a value in its text, whose brackets usually decide it.
 fn nests_little(alloc: Global, value: &Scanned<'_>) -> Result<bool, WantOfMemory>
     ensures { IfOk result (λ is. is ≡ nat_le (depth_of value.now) 64) }
 {
@@ -118,7 +119,7 @@ fn nests_little(alloc: Global, value: &Scanned<'_>) -> Result<bool, WantOfMemory
     Ok(is_shallow(&json))
 }
 
-// The hash of the version whose text this is.
+// The hash of the version with this text.
 fn hash_in(alloc: Global, value: &Scanned<'_>, version: u8) -> Result<Option<Hash>, WantOfMemory>
     requires first { 1 ≤ version }
     requires last { version ≤ 2 }

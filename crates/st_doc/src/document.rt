@@ -2,8 +2,7 @@ use st_base::{Copied, List, Text, WantOfMemory};
 use st_canon::Json;
 use std::alloc::Global;
 
-/// The document of an identifier: its keys, its services, and the names under which it is also
-/// known.
+/// The document of an identifier: its keys, its services, and its other names (`alsoKnownAs`).
 #[derive(Drop)]
 pub struct Document {
     pub(crate) keys: List<Json>,
@@ -16,7 +15,7 @@ impl Document {
     ghost use Rattle.st_canon.specs.View.{plain};
     ghost use Rattle.st_doc.specs.Document.{empty_document, plain_document};
 
-    /// The document without keys, services and names. It takes no memory yet.
+    /// The document without keys, services and names. It allocates nothing.
     pub fn empty(alloc: Global) -> Document
         ensures { plain_document result ≡ empty_document }
     {

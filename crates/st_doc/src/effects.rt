@@ -10,8 +10,8 @@ use st_base::{Copied, List, Text, WantOfMemory};
 use st_canon::Json;
 use std::alloc::Global;
 
-/// Each new entry replaces the entry of its id in its place, else goes last. Where there are no entries
-/// yet, the new ones are moved and not copied.
+/// Each new entry replaces the entry of its id in its place, or is appended. If there are no
+/// entries yet, the new ones are moved, not copied.
 pub(crate) fn add_entries(
     alloc: Global,
     entries: List<Json>,
@@ -25,7 +25,7 @@ pub(crate) fn add_entries(
     add_copies(alloc, entries, new.as_slice())
 }
 
-// The same with copies of the new entries.
+// The same, with copies of the new entries.
 #[tactic(auto, unfolding(crate::specs::Effects::added))]
 fn add_copies(alloc: Global, entries: List<Json>, new: &[Json]) -> Result<List<Json>, WantOfMemory>
     ensures { IfOk result (λ all. map plain all ≡ added (map plain new.now) (map plain entries)) }
@@ -37,7 +37,7 @@ fn add_copies(alloc: Global, entries: List<Json>, new: &[Json]) -> Result<List<J
     Ok(List::from_vec(all))
 }
 
-// Copies of those whose id no entry has.
+// Copies of the new entries whose id no entry has.
 fn others(alloc: Global, entries: &[Json], new: &[Json]) -> Result<Vec<Json>, WantOfMemory>
     ensures { IfOk result (λ others. map plain others.items
         ≡ filter (λ entry. not (is_among (map id_of (map plain entries.now)) (id_of entry))) (map plain new.now)) }
@@ -51,7 +51,7 @@ fn others(alloc: Global, entries: &[Json], new: &[Json]) -> Result<Vec<Json>, Wa
     Ok(others)
 }
 
-// Each entry becomes a copy of the new one of its id, where there is one.
+// Each entry becomes a copy of the new one of its id, if any.
 fn replace_entries(alloc: Global, entries: &mut [Json], new: &[Json]) -> Result<(), WantOfMemory>
     ensures { OnOk result (map plain entries.new
         ≡ map (λ entry. unwrap_or (entry_of (id_of entry) (map plain new.now)) entry) (map plain entries.old)) }
@@ -85,7 +85,7 @@ fn entry_of<'a>(entries: &'a [Json], id: &str) -> Option<&'a Json>
     None
 }
 
-/// Each entry with one of the ids goes.
+/// Removes each entry with one of the ids.
 #[tactic(auto, unfolding(crate::specs::Effects::removed))]
 pub(crate) fn remove_entries(entries: List<Json>, ids: &[Text]) -> List<Json>
     ensures { map plain result ≡ removed ids.now (map plain entries) }
@@ -101,7 +101,7 @@ fn keep_others(entries: &mut Vec<Json>, ids: &[Text])
     entries.retain(|entry| !is_among(ids, id_of(entry)));
 }
 
-/// Each name that is not there goes last.
+/// Appends each name that is not there yet.
 #[tactic(auto, unfolding(crate::specs::Effects::added_names))]
 pub(crate) fn add_names(
     alloc: Global,
@@ -116,7 +116,7 @@ pub(crate) fn add_names(
     Ok(List::from_vec(all))
 }
 
-// Copies of the new names that are not there.
+// Copies of the new names that are not there yet.
 fn other_names(alloc: Global, names: &[Text], new: &[Text]) -> Result<Vec<Text>, WantOfMemory>
     ensures { IfOk result (λ others. others.items ≡ filter (λ name. not (is_among names.now name)) new.now) }
 {
@@ -129,7 +129,7 @@ fn other_names(alloc: Global, names: &[Text], new: &[Text]) -> Result<Vec<Text>,
     Ok(others)
 }
 
-/// Each of these names goes.
+/// Removes each of these names.
 #[tactic(auto, unfolding(crate::specs::Effects::removed_names))]
 pub(crate) fn remove_names(names: List<Text>, gone: &[Text]) -> List<Text>
     ensures { result ≡ removed_names gone.now names }

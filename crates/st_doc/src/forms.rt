@@ -6,14 +6,14 @@ use st_base::WantOfMemory;
 use st_scan::Scanned;
 use std::alloc::Global;
 
-/// 1 to so many bytes.
+/// 1 to `most` bytes.
 pub(crate) fn is_short(bytes: &[u8], most: usize) -> bool
     ensures { result ≡ is_short most bytes.now }
 {
     1 <= bytes.len() && bytes.len() <= most
 }
 
-/// 1 to 50 signs of base64url.
+/// 1 to 50 base64url characters.
 pub(crate) fn is_id(bytes: &[u8]) -> bool
     ensures { result ≡ is_id bytes.now }
 {
@@ -44,7 +44,7 @@ pub(crate) fn is_name(text: &str) -> bool
     is_short(text.as_bytes(), 100)
 }
 
-/// Whether a text of 1 to so many bytes is there.
+/// Whether the value is a text of 1 to `most` bytes.
 pub(crate) fn is_short_text(
     alloc: Global,
     there: &Option<Scanned<'_>>,
@@ -64,7 +64,7 @@ pub(crate) fn is_short_text(
     }
 }
 
-/// The same, or nothing.
+/// The same, or missing.
 pub(crate) fn is_short_text_if_there(
     alloc: Global,
     there: &Option<Scanned<'_>>,
@@ -78,7 +78,7 @@ pub(crate) fn is_short_text_if_there(
     is_short_text(alloc, there, most)
 }
 
-/// Whether an id is there.
+/// Whether the value is an id.
 pub(crate) fn is_id_text(alloc: Global, there: &Option<Scanned<'_>>) -> Result<bool, WantOfMemory>
     ensures { IfOk result (λ is. is ≡ is_id_text there.now) }
 {
@@ -94,7 +94,7 @@ pub(crate) fn is_id_text(alloc: Global, there: &Option<Scanned<'_>>) -> Result<b
     }
 }
 
-/// Whether an object is there.
+/// Whether the value is an object.
 pub(crate) fn is_object(there: &Option<Scanned<'_>>) -> bool
     ensures { result ≡ is_object there.now }
 {

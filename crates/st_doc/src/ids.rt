@@ -10,11 +10,11 @@ use st_scan::{Entries, Scanned};
 use std::alloc::{AllocError, Global};
 use std::collections::BTreeSet;
 
-// From so many texts on, a set tells whether one stands twice. Fewer are compared with one another,
-// which takes no memory.
+// From this many texts on, a set decides whether one appears twice. Fewer are compared with one
+// another, which takes no memory.
 const MANY: usize = 8;
 
-/// The id of a key or a service; of what has none, the empty text.
+/// The id of a key or a service, or the empty text if it has none.
 pub(crate) fn id_of(entry: &Json) -> &str
     ensures { result.now ≡ id_of (plain entry.now) }
 {
@@ -48,7 +48,7 @@ pub(crate) fn has_id(entries: &[Json], id: &str) -> bool
     false
 }
 
-/// Whether no id stands twice.
+/// Whether all ids differ.
 pub(crate) fn ids_stand_once(alloc: Global, entries: Entries<'_>) -> Result<bool, WantOfMemory>
     ensures { IfOk result (λ once. once ≡ none_twice (map id_of entries.entry)) }
 {
@@ -56,7 +56,7 @@ pub(crate) fn ids_stand_once(alloc: Global, entries: Entries<'_>) -> Result<bool
     texts_stand_once(alloc, ids.as_slice())
 }
 
-/// Whether no text stands twice.
+/// Whether all texts differ.
 pub(crate) fn texts_stand_once(alloc: Global, texts: &[Text]) -> Result<bool, WantOfMemory>
     ensures { IfOk result (λ once. once ≡ none_twice texts.now) }
 {
@@ -78,7 +78,7 @@ fn few_texts_stand_once(texts: &[Text]) -> bool
     true
 }
 
-// The items behind this place.
+// The items after this place.
 fn behind<T>(items: &[T], at: usize) -> &[T]
     requires { at < length items.now }
     ensures { result.now ≡ drop (at + 1) items.now }
@@ -125,7 +125,7 @@ fn none_twice(alloc: Global, texts: &[&str]) -> Result<bool, WantOfMemory>
     Ok(different.len() == texts.len())
 }
 
-// The texts, each once and in order.
+// The set of these texts.
 fn set_of<'a>(alloc: Global, texts: &[&'a str]) -> Result<BTreeSet<&'a str>, AllocError>
     ensures { IfOk result (IsFromIterResult ⟦<&'a str as Ord>⟧.cmp texts.now) }
 {

@@ -9,7 +9,7 @@ use st_canon::{Json, Object, some_list};
 use std::alloc::Global;
 
 impl Document {
-    /// Its JSON: the keys and the services, and the names where there is one.
+    /// Its JSON: the keys and the services, and the names, if there is one.
     pub fn json(&self, alloc: Global) -> Result<Json, WantOfMemory>
         ensures { IfOk result (λ json. plain json ≡ document_json (plain_document self.now)) }
     {
@@ -17,7 +17,7 @@ impl Document {
         copy.into_json(alloc)
     }
 
-    /// The same, which takes keys and services over without a copy.
+    /// The same; it takes over keys and services without a copy.
     pub fn into_json(self, alloc: Global) -> Result<Json, WantOfMemory>
         ensures { IfOk result (λ json. plain json ≡ document_json (plain_document self)) }
     {

@@ -42,7 +42,7 @@ struct Parts<'a> {
     kind: Option<Scanned<'a>>,
 }
 
-// The members of an object that has no other than those of a key.
+// The members of an object that has no members except those of a key.
 fn parts_of<'a>(key: &Scanned<'a>) -> Option<Parts<'a>>
     ensures form { is_some result ≡ is_object_of key_names (Some key.now) }
     ensures controller { IfSome result (λ parts. member_in (codes "controller") (Some key.now) ≡ parts.controller) }
@@ -66,7 +66,7 @@ fn parts_of<'a>(key: &Scanned<'a>) -> Option<Parts<'a>>
     })
 }
 
-// The same where they come in turn and none is missing that a key has.
+// The same, if they are in order and none that a key must have is missing.
 fn parts_in_turn<'a>(key: &Scanned<'a>) -> Option<Parts<'a>>
     ensures form { IfSome result (λ _. is_object_of key_names (Some key.now) ≡ true) }
     ensures controller { IfSome result (λ parts. member_in (codes "controller") (Some key.now) ≡ parts.controller) }

@@ -5,28 +5,28 @@ use st_jsonpatch::Step;
 use st_scan::Entries;
 use std::alloc::Global;
 
-/// A change of a document.
+/// A change to a document.
 #[derive(Drop)]
 pub enum Patch {
-    /// Each key replaces the key of its id in its place, else goes last.
+    /// Each key replaces the key of its id in its place, or is appended.
     AddKeys(List<Json>),
-    /// Each key with one of these ids goes.
+    /// Each key with one of these ids is removed.
     RemoveKeys(List<Text>),
-    /// Each service replaces the service of its id in its place, else goes last.
+    /// Each service replaces the service of its id in its place, or is appended.
     AddServices(List<Json>),
-    /// Each service with one of these ids goes.
+    /// Each service with one of these ids is removed.
     RemoveServices(List<Text>),
     /// The document becomes this.
     Replace(Document),
     /// These steps are applied to the document's JSON.
     Steps(List<Step>),
-    /// Each name that is not there goes last.
+    /// Each name that is not there yet is appended.
     AddNames(List<Text>),
-    /// Each of these names goes.
+    /// Each of these names is removed.
     RemoveNames(List<Text>),
 }
 
-/// A patch that was read. Keys and services stand in the text of the delta still.
+/// A patch that was read. Its keys and services are still in the text of the delta.
 #[derive(Drop)]
 pub(crate) enum Found<'a> {
     Keys(Entries<'a>),

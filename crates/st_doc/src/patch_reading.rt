@@ -24,7 +24,7 @@ use st_params::Params;
 use st_scan::{Entries, Scanned};
 use std::alloc::Global;
 
-/// The patch that this value is, where it is one.
+/// The patch of a value, if it is one.
 #[tactic(auto, unfolding(crate::specs::Patch::patch_of))]
 pub(crate) fn read_patch<'a>(
     alloc: Global,
@@ -77,7 +77,7 @@ fn whole_in<'a>(there: Option<Patch>) -> Option<Found<'a>>
     Some(Found::Whole(there?))
 }
 
-/// The patch with trees of its keys and services.
+/// The patch, with trees of its keys and services.
 pub(crate) fn whole(alloc: Global, found: Found<'_>) -> Result<Patch, WantOfMemory>
     ensures { IfOk result (λ patch. plain_patch patch ≡ found_patch found.entry) }
 {
@@ -187,7 +187,7 @@ fn read_remove_names(alloc: Global, patch: &Scanned<'_>) -> Result<Option<Patch>
     Ok(Some(Patch::RemoveNames(names)))
 }
 
-// The value of the one member beside `action`.
+// The value of the only member besides `action`.
 fn beside_action<'a>(patch: &Scanned<'a>, name: &str) -> Option<Scanned<'a>>
     ensures { result ≡ beside_action name.now patch.now }
 {
@@ -195,7 +195,7 @@ fn beside_action<'a>(patch: &Scanned<'a>, name: &str) -> Option<Scanned<'a>>
     Some(value)
 }
 
-// The values of the list that stands there.
+// The values of the list in the member of this name.
 fn values_at<'a>(patch: &Scanned<'a>, name: &str) -> Option<Entries<'a>>
     ensures { result ≡ values_at name.now patch.now }
 {
@@ -249,7 +249,7 @@ fn are_ids(texts: &[Text]) -> bool
     true
 }
 
-// The steps that these values are, where each is one.
+// The steps of these values, if each is one.
 fn each_step(alloc: Global, values: &[Json]) -> Result<Option<List<Step>>, WantOfMemory>
     ensures { IfOk result (λ steps. option_map (map plain_step) steps ≡ each_of (λ value. result_ok (step_of value)) (map plain values.now)) }
 {

@@ -16,9 +16,9 @@ use st_params::Params;
 use std::alloc::Global;
 
 impl Document {
-    /// The document at these parameters that this value is.
+    /// The document at these parameters of a value.
     ///
-    /// `NotDocument` comes exactly where the value is none.
+    /// The result is `NotDocument` if and only if the value is not one.
     pub fn read(alloc: Global, value: &Json, params: &Params) -> Result<Document, DocumentRefused>
         ensures { GivesAs plain_document refusal_of (document_of params.now (plain value.now)) result }
     {
@@ -42,7 +42,7 @@ fn read_document(
     take_lists(alloc, value.copy(alloc)?, params)
 }
 
-/// The document at these parameters that this value is, which it takes over.
+/// The document at these parameters of a value, which it takes over.
 pub(crate) fn take_document(
     alloc: Global,
     value: Json,
@@ -56,7 +56,7 @@ pub(crate) fn take_document(
     take_lists(alloc, value, params)
 }
 
-// The document of the lists that stand in the value, where it is one at these parameters.
+// The document of the lists in the value, if it is one at these parameters.
 fn take_lists(alloc: Global, value: Json, params: &Params) -> Result<Option<Document>, WantOfMemory>
     ensures { IfOk result (λ document. option_map plain_document document ≡ if_document params.now (document_in (plain value))) }
 {
@@ -64,7 +64,7 @@ fn take_lists(alloc: Global, value: Json, params: &Params) -> Result<Option<Docu
     if_document(alloc, document, params)
 }
 
-// Whether the value is an object of lists, that of the names a list of texts.
+// Whether the value is an object of lists, and that of the names is a list of texts.
 #[tactic(auto, unfolding(crate::specs::Document::has_document_form))]
 fn has_document_form(value: &Json, version: u8) -> bool
     ensures { result ≡ has_document_form version (plain value.now) }

@@ -4,7 +4,7 @@ use thiserror::Error;
 /// Why a value is not read as a document.
 #[derive(Clone, Copy, Debug, Drop, Error, PartialEq, Eq)]
 pub enum DocumentRefused {
-    /// The value is no document of the version.
+    /// The value is not a document of the version.
     #[error("not a document")]
     NotDocument,
     #[error("out of memory")]
@@ -17,11 +17,11 @@ pub enum DeltaRefused {
     /// Its canonical text has too many bytes.
     #[error("the delta is too long")]
     TooLong,
-    /// It is no object with exactly `patches`, a list, and `updateCommitment`, a hash text of the
-    /// version, or nests more than 64 deep.
+    /// It is not an object with exactly `patches`, a list, and `updateCommitment`, a hash text of
+    /// the version, or nests more than 64 deep.
     #[error("not a delta")]
     BadDelta,
-    /// The patch of this number, counted from 0, is the first that has not the form of one.
+    /// The value of this number, counted from 0, is the first that is not a patch.
     #[error("patch {0} is not a patch")]
     BadPatch(usize),
     #[error("out of memory")]

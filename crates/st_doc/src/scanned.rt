@@ -9,7 +9,7 @@ use st_canon::{Json, read_again, write};
 use st_scan::{CanonicalText, Entries, Scanned, entries_in};
 use std::alloc::Global;
 
-/// The entries of the list that it is.
+/// The entries of the list, if it is one.
 #[tactic(auto, using(crate::proofs::ScannedLemmas::listed, crate::proofs::ScannedLemmas::not_listed))]
 pub(crate) fn list_in<'a>(value: Scanned<'a>) -> Option<Entries<'a>>
     ensures { result ≡ list_in value.entry }

@@ -32,7 +32,7 @@ struct Parts<'a> {
     kind: Option<Scanned<'a>>,
 }
 
-// The members of an object that has no other than those of a service.
+// The members of an object that has no members except those of a service.
 fn parts_of<'a>(service: &Scanned<'a>) -> Option<Parts<'a>>
     ensures form { is_some result ≡ is_object_of service_names (Some service.now) }
     ensures id { IfSome result (λ parts. member_in (codes "id") (Some service.now) ≡ parts.id) }
@@ -52,7 +52,7 @@ fn parts_of<'a>(service: &Scanned<'a>) -> Option<Parts<'a>>
     })
 }
 
-// The same where they come in turn and none is missing.
+// The same, if they are in order and none is missing.
 fn parts_in_turn<'a>(service: &Scanned<'a>) -> Option<Parts<'a>>
     ensures form { IfSome result (λ _. is_object_of service_names (Some service.now) ≡ true) }
     ensures id { IfSome result (λ parts. member_in (codes "id") (Some service.now) ≡ parts.id) }

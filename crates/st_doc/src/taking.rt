@@ -12,8 +12,8 @@ use st_canon::{Json, Object, entries_in};
 use std::alloc::Global;
 
 impl Document {
-    /// What the lists of the value hold, taken out of it. Whether that may stand in a document is not
-    /// looked at, so it does not turn on the parameters.
+    /// The contents of the value's lists, which are taken out. The result does not depend on the
+    /// parameters: whether a document may have these contents is not checked.
     pub fn from_json(alloc: Global, value: Json) -> Result<Document, WantOfMemory>
         ensures { IfOk result (λ document. plain_document document ≡ document_in (plain value)) }
     {
@@ -39,7 +39,7 @@ fn taken_out(alloc: Global, members: Object) -> Result<Document, WantOfMemory>
     })
 }
 
-/// The items of the list that is there. Where there is nothing, or no list, there are none.
+/// The items of a list. A missing value and any other kind have none.
 pub(crate) fn list_out(alloc: Global, there: Option<Json>) -> List<Json>
     ensures { map plain result ≡ entries_in (option_map plain there) }
 {
@@ -49,7 +49,7 @@ pub(crate) fn list_out(alloc: Global, there: Option<Json>) -> List<Json>
     }
 }
 
-// The list that the value is; of what is none, no items.
+// The list, if the value is one; else no items.
 #[tactic(auto, using(st_canon::proofs::ItemLists::entries_listed))]
 fn list_of(alloc: Global, value: Json) -> List<Json>
     ensures { map plain result ≡ entries_in (Some (plain value)) }

@@ -1,4 +1,4 @@
--- Texts that are the base64url of so many bytes.
+-- Texts that are the base64url of a given number of bytes.
 use Rattle.std.proofs.Common.{◌≡◌, ◌≢◌, ◌∙◌, ℕ, ◌*◌, ◌/◌, ◌==◌, ◌<◌, nat_lt, Bool, true, false, List, length, if◌then◌else◌, Option, Some, None, option_and_then, refl, sym, ap, arith}
 use Rattle.std.proofs.lemmas.Bool.{eq-eqb, eqb-true, ne_eqb}
 use Rattle.std.proofs.lemmas.Option.{cond_some, option_and_then_some}
@@ -17,13 +17,13 @@ use Rattle.base64.proofs.Decoding.{length-groups_bytes}
 use Rattle.st_hash.specs.Base64url.{base64url, bytes_of_text, fixed_of_text, so_many}
 use Rattle.st_hash.proofs.Spelling.{bytes_of_text-base64url, spelled}
 
--- what was written of so many bytes is read
+-- the text of this many bytes is read
 pub fixed_of_text-base64url : (n : ℕ) (bytes : List ℕ) → IsBytes bytes → length bytes ≡ n
     → fixed_of_text n (base64url bytes) ≡ Some bytes
 fixed_of_text-base64url n bytes are_bytes long =
     ap (option_and_then (so_many n)) (bytes_of_text-base64url bytes are_bytes) ∙ rw (eq-eqb (length bytes) n long) refl
 
--- what is read are so many bytes
+-- the bytes read are this many
 by_found : (n : ℕ) (found : Option (List ℕ)) (bytes : List ℕ) → option_and_then (so_many n) found ≡ Some bytes → length bytes ≡ n
 by_found n None bytes e = cc
 by_found n (Some found) bytes e =
@@ -33,17 +33,17 @@ by_found n (Some found) bytes e =
 pub fixed_of_text-length : (n : ℕ) (text bytes : List ℕ) → fixed_of_text n text ≡ Some bytes → length bytes ≡ n
 fixed_of_text-length n text bytes found = by_found n (bytes_of_text text) bytes found
 
--- bytes of another number
+-- a different number of bytes
 so_many-none : (n : ℕ) (bytes : List ℕ) → length bytes ≢ n → so_many n bytes ≡ None
 so_many-none n bytes other = rw (ne_eqb (length bytes) n other) refl
 
--- so many bytes fit into a slice of their length
+-- bytes fit into a slice of their length
 fits : (n m : ℕ) → m ≡ n → bytes_fit m n ≡ Ok n
 fits n m same =
     let room : nat_lt n n ≡ false = grind (arith, nat_tests) in
     rw (same, room) refl
 
--- Where decoding into a slice of n bytes doesn't answer n, the text is of no n bytes.
+-- If decoding into a slice of n bytes doesn't answer n, the text is not that of n bytes.
 other_answer : (lone rest : Option DecodeError) (small : Bool) (n : ℕ) (bytes : List ℕ)
     → (small ≡ true → n < length bytes)
     → or_error lone (if small then Err OutputSliceTooSmall else or_error rest (bytes_fit (length bytes) n)) ≢ Ok n
@@ -88,13 +88,13 @@ pub fixed_of_text-error : (n room : ℕ) (text : List ℕ) (error : DecodeSliceE
 fixed_of_text-error n room text error answer long decoded refused =
     fixed_of_text-none n text (λ same. ok_no_error answer n error (decoded ∙ ap (decode_slice_of url_safe_no_pad text) long ∙ same) refused)
 
--- a text that is read as so many bytes is their base64url
+-- a text that is read as n bytes is their base64url
 pub fixed_spelled : (n : ℕ) (text bytes : List ℕ) → IsBytes text → fixed_of_text n text ≡ Some bytes → text ≡ base64url bytes
 fixed_spelled n text bytes are_bytes found =
     option_and_then_some (so_many n) (bytes_of_text text) bytes found
     (λ read e f. spelled text read are_bytes e ∙ ap base64url (cond_some (length read == n) read bytes f).1)
 
--- and one that is read as no so many bytes is the base64url of none
+-- a text that is not read as n bytes is the base64url of no n bytes
 pub fixed_of_text-no : (n : ℕ) (text bytes : List ℕ) → fixed_of_text n text ≡ None → IsBytes bytes → length bytes ≡ n → text ≢ base64url bytes
 fixed_of_text-no n text bytes none are_bytes long same =
     let read = fixed_of_text-base64url n bytes are_bytes long in

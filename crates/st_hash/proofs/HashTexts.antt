@@ -1,4 +1,4 @@
--- Hash texts are read as what they were written of, and as nothing else.
+-- Hash texts are read as the hash they were written from, and as nothing else.
 use Rattle.std.proofs.Common.{◌≡◌, ◌≢◌, ◌∙◌, ℕ, ◌==◌, ◌&&◌, ◌<◌, ◌+◌, ◌-◌, slice_set, zero, suc, Bool, true, false, List, [], ◌∷◌, length, drop, slice_index, cond, if◌then◌else◌, Option, Some, None, option_and_then, ◌⊎◌, inl, inr, refl, sym, ap, subst, arith}
 use borrow.Rule.Slice.PartMut.{put_mid}
 use Rattle.std.specs.Option.{option_or}
@@ -87,7 +87,7 @@ multihash_bytes hash is (suc zero) =
     omega (arith, is.long, fits)
 multihash_bytes hash is (suc (suc i)) = is.bytes i
 
--- a hash text is read as the hash that it was written of, by its own algorithm
+-- its own algorithm reads a hash text as the hash it was written from
 pub hash_of_text_with-hash_text : (hash : HashValue) → IsHash hash
     → hash_of_text_with hash.code (hash_text hash) ≡ Some hash
 hash_of_text_with-hash_text hash is =
@@ -95,7 +95,7 @@ hash_of_text_with-hash_text hash is =
     let long : length (multihash hash) ≡ 2 + digest_length hash.code = omega (arith, is.long) in
     read ∙ hash_of_multihash-some hash.code (multihash hash) refl is.long long
 
--- and by another as none
+-- another algorithm refuses it
 pub hash_of_text_with-another : (code : ℕ) (hash : HashValue) → IsHash hash → hash.code ≢ code
     → hash_of_text_with code (hash_text hash) ≡ None
 hash_of_text_with-another code hash is other =
@@ -149,7 +149,7 @@ hash_of_text_at-hash_text version hash is of_version =
           (hash_of_text_with-another 0x12 hash is other) (subst read_by code own)
     ]
 
--- and is the text of the hash that it is read as
+-- a text is that of the hash it is read as
 by_bytes : (code : ℕ) (text : List ℕ) (bytes : Option (List ℕ)) (hash : HashValue)
     → ((found : List ℕ) → bytes ≡ Some found → text ≡ base64url found)
     → option_and_then (hash_of_multihash code) bytes ≡ Some hash → (text ≡ hash_text hash) × (hash.code ≡ code)
@@ -163,7 +163,7 @@ pub hash_of_text_with-spelled : (code : ℕ) (text : List ℕ) (hash : HashValue
 hash_of_text_with-spelled code text hash are_bytes found =
     by_bytes code text (bytes_of_text text) hash (λ bytes e. spelled text bytes are_bytes e) found
 
--- what a version reads a text as
+-- the reading of a text by a version
 either : (first : Bool) (found other : Option HashValue) (hash : HashValue)
     → (if first then found else option_or found other) ≡ Some hash
     → (found ≡ Some hash) ⊎ ((first ≡ false) × (other ≡ Some hash))
@@ -183,7 +183,7 @@ hash_of_text_at-spelled version text hash are_bytes found =
           (parts.0, λ first. absurd (eqb-false version 1 e.0 first))
     ]
 
--- a text that is read as no hash by an algorithm is the text of none of its hashes
+-- a text that an algorithm does not read is not the text of one of its hashes
 pub hash_of_text_with-none : (code : ℕ) (text : List ℕ) (hash : HashValue) → hash_of_text_with code text ≡ None
     → IsHash hash → hash.code ≡ code → text ≢ hash_text hash
 hash_of_text_with-none code text hash none is of_code same =
@@ -192,7 +192,7 @@ hash_of_text_with-none code text hash none is of_code same =
     let refused : hash_of_text_with code (hash_text hash) ≡ None = ap (hash_of_text_with code) (sym same) ∙ none in
     cc
 
--- the so many bytes of a text are what its multihash is looked for in
+-- the multihash is looked for in the bytes of this length that the text encodes
 of_so_many : (code : ℕ) (bytes : List ℕ) (same : Bool) → (length bytes == 2 + digest_length code) ≡ same
     → hash_of_multihash code bytes ≡ option_and_then (hash_of_multihash code) (if same then Some bytes else None)
 of_so_many code bytes true e = refl
@@ -207,7 +207,7 @@ pub hash_of_text_with-fixed : (code : ℕ) (text : List ℕ) → hash_of_text_wi
     ≡ option_and_then (hash_of_multihash code) (fixed_of_text (2 + digest_length code) text)
 hash_of_text_with-fixed code text = of_bytes code (bytes_of_text text)
 
--- what is read from the so many bytes of a text
+-- a text of another length is not read
 pub read-none : (code n d : ℕ) (text : List ℕ) → n ≡ 2 + d → d ≡ digest_length code → fixed_of_text n text ≡ None
     → hash_of_text_with code text ≡ None
 read-none code n d text whole long none =
@@ -237,7 +237,7 @@ neither-none text hash none other is = elim is.code as (λ _. text ≢ hash_text
   | inr code ↦ hash_of_text_with-none 0x13 text hash other is code
 ]
 
--- a buffer with the code, the length and the digest put into it
+-- a buffer into which the code, the length and the digest are put
 pub multihash_put : (code size : ℕ) (into digest copied : List ℕ) → length into ≡ 2 + length digest → copied ≡ digest
     → put_mid 2 (length (slice_set (slice_set into 0 code) 1 size) - 2) (slice_set (slice_set into 0 code) 1 size) copied
     ≡ code ∷ size ∷ digest

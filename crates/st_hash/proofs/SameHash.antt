@@ -1,4 +1,4 @@
--- Two hashes are the same exactly where `same_hash` says so.
+-- Two hashes are the same if and only if `same_hash` says so.
 use Rattle.std.proofs.Common.{◌≡◌, ◌≢◌, ◌==◌, bytes_eq, Bool, true, false, refl}
 use Rattle.std.proofs.lemmas.Bool.{and_parts, eqb-true}
 use Rattle.std.proofs.lemmas.Slice.Eq.{bytes_eq-Decides}

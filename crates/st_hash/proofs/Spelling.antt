@@ -15,16 +15,16 @@ result_of_ok : {T E : Type 0} (r : Result T E) (x : T) → result_ok r ≡ Some 
 result_of_ok (Ok y) x e = cc
 result_of_ok (Err y) x e = cc
 
--- what is read as base64url is the spelling of what it is read as
+-- a text read as base64url is the base64url of the bytes read
 pub spelled : (text bytes : List ℕ) → IsBytes text → bytes_of_text text ≡ Some bytes → text ≡ base64url bytes
 spelled text bytes are_bytes found =
     decode_of_strict url_safe_no_pad text bytes (refl, refl) are_bytes (result_of_ok _ _ found)
 
--- and what was written is read again
+-- and a written text is read again
 pub bytes_of_text-base64url : (bytes : List ℕ) → IsBytes bytes → bytes_of_text (base64url bytes) ≡ Some bytes
 bytes_of_text-base64url bytes are_bytes = ap result_ok (decode_of-encode_of url_safe_no_pad bytes refl are_bytes)
 
--- how long a text is
+-- the length of a text
 pub length-base64url : (bytes : List ℕ) → length (base64url bytes) ≡ (4 * length bytes + 2) / 3
 length-base64url bytes =
     let symbols = url_safe_no_pad.encode_table in

@@ -1,9 +1,9 @@
--- What stands in base64url (RFC 4648, section 5): what one table has a value for, and nothing else, whatever the text
--- is, bytes or not. So it has nothing that JSON escapes, and no dot and no colon: a text that is joined with these is
--- cut there again.
---     decoded_apart      each number in a text that is decoded stands apart from those
---     base64url_apart    and so each in the base64url of bytes
---     hash_apart         and each in a text that is read as a hash
+-- The characters of base64url (RFC 4648, section 5): a decoded text has only characters of one table, for any input,
+-- bytes or not. So JSON escapes none of them, and none is a dot or a colon: a text joined with these is split there
+-- again.
+--     decoded_apart      no number in a decoded text is one of those
+--     base64url_apart    nor is any in the base64url of bytes
+--     hash_apart         nor is any in a text that is read as a hash
 use Rattle.std.proofs.Common.{◌≡◌, ◌∙◌, ℕ, zero, suc, ◌+◌, ◌*◌, ◌-◌, ◌<◌, ◌==◌, ◌&&◌, ◌||◌, inl, inr, Bool, true, false, not, if◌then◌else◌, nat_le, nat_lt, List, [], ◌∷◌, length, drop, slice_index, Option, Some, None, option_and_then, refl, ap, subst, arith}
 use Rattle.std.specs.List.{AllByRecursion}
 use Rattle.std.specs.Option.{option_or}
@@ -30,18 +30,18 @@ use Rattle.st_hash.proofs.Spelling.{bytes_of_text-base64url}
 abbrev table : List ℕ
 table = url_safe_no_pad.decode_table
 
--- what has a value, and the padding
+-- characters with a value, and the padding
 abbrev is_symbol : ℕ → Bool
 is_symbol byte = (byte == 61) || not (slice_index table byte == 255)
 
--- no control character, no quotation mark and no reverse solidus, no dot and no colon
+-- no control character, quotation mark, reverse solidus, dot or colon
 abbrev pub is_apart : ℕ → Bool
 is_apart byte = nat_le 45 byte && (not (byte == 46) && (not (byte == 58) && not (byte == 92)))
 
 abbrev pub IsApart : ℕ → Type 0
 IsApart byte = is_apart byte ≡ true
 
--- so it is with each symbol
+-- this holds for each symbol
 symbols_apart : all_below (λ byte. not (is_symbol byte) || is_apart byte) 256 ≡ true
 symbols_apart = refl
 
@@ -56,9 +56,9 @@ symbol_apart byte is = elim (cases_lt byte 256) [
   | inr past ↦ grind (arith, nat_tests)
 ]
 
--- ---- what is decoded
+-- ---- decoded texts
 
--- both parts of a first error that is none
+-- both parts of a first error that is `None`
 both_none : (x y : Option DecodeError) → or_else x y ≡ None → (x ≡ None) × (y ≡ None)
 both_none None y none = (refl, none)
 both_none (Some e) y none = cc none
@@ -72,7 +72,7 @@ by_value false false e none = refl
 symbol_at : (s : List ℕ) (i : ℕ) → symbol_error table s i ≡ None → is_symbol (slice_index s i) ≡ true
 symbol_at s i none = by_value (slice_index s i == 61) (slice_index table (slice_index s i) == 255) _ none
 
--- so is each of the first groups of four
+-- so is each in the first groups of four
 groups_symbols : (s : List ℕ) (q i : ℕ) → groups_error table s q ≡ None → i < 4 * q → is_symbol (slice_index s i) ≡ true
 unfolding groups_error
 groups_symbols s zero i none within = absurd (omega (arith, within))
@@ -98,7 +98,7 @@ groups_symbols s (suc q) i none within =
       ]
     ]
 
--- a number of the last group that is none is refused
+-- a character of the last group that is no symbol is refused
 by_push : (pad after bad : Bool) (one : _) (e f : DecodeError) (next : _) (at i : ℕ) (more : List ℕ) (last : _)
     → scan_steps table 61 at (if pad then one else if after then Err e else if bad then Err f else Ok next) i more ≡ Ok last
     → (pad || not bad) ≡ true
@@ -108,7 +108,7 @@ by_push false true bad one e f next at i more last scanned = cc scanned
 by_push false false true one e f next at i more last scanned = cc scanned
 by_push false false false one e f next at i more last scanned = refl
 
--- so all are symbols where it is scanned
+-- so all are symbols if the scan succeeds
 scanned_symbols : (at i : ℕ) (so_far : _) (bytes : List ℕ) (last : _)
     → scan_steps table 61 at so_far i bytes ≡ Ok last → (k : ℕ) → k < length bytes → is_symbol (slice_index bytes k) ≡ true
 unfolding scan_steps
@@ -119,7 +119,7 @@ scanned_symbols at i (Ok st) (byte ∷ more) last scanned zero within =
 scanned_symbols at i (Ok st) (byte ∷ more) last scanned (suc k) within =
     scanned_symbols at (i + 1) (push_leftover table 61 at st i byte) more last scanned k (omega (arith, within))
 
--- what was scanned with no error
+-- a text scanned without an error
 scanned_of : (is_empty : Bool) (at : ℕ) (allow : Bool) (mode : DecodePaddingMode) (scanned : _)
     → scan_error is_empty at allow mode scanned ≡ None → (last : _) × (scanned ≡ Ok last)
 scanned_of is_empty at allow mode (Ok last) none = (last, refl)
@@ -159,7 +159,7 @@ decoded_apart text bytes found = each_apart text (decoded_symbols text bytes fou
 pub base64url_apart : (bytes : List ℕ) → IsBytes bytes → AllByRecursion IsApart (base64url bytes)
 base64url_apart bytes are = decoded_apart (base64url bytes) bytes (bytes_of_text-base64url bytes are)
 
--- ---- a text that is read as a hash
+-- ---- a text read as a hash
 
 was_decoded : (first : Bool) (bytes : Option (List ℕ)) (hash : HashValue)
     → (if first then option_and_then (hash_of_multihash 0x12) bytes
@@ -174,7 +174,7 @@ hash_apart version text hash read =
     let found = was_decoded (version == 1) (bytes_of_text text) hash read in
     decoded_apart text found.0 found.1
 
--- ---- what such a text has not
+-- ---- bytes that such a text does not contain
 
 pub no_dot : (text : List ℕ) → AllByRecursion IsApart text → HasNo 46 text
 no_dot text apart = each-weaker IsApart (λ byte. (byte == 46) ≡ false) (λ byte is. grind (arith, nat_tests)) text apart

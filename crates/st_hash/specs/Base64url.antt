@@ -12,10 +12,10 @@ base64url bytes = encode_of url_safe_no_pad bytes
 abbrev pub bytes_of_text : List ℕ → Option (List ℕ)
 bytes_of_text text = result_ok (decode_of url_safe_no_pad text)
 
--- these bytes, where there are so many
+-- these bytes, if there are this many
 abbrev pub so_many : ℕ → List ℕ → Option (List ℕ)
 so_many n bytes = if length bytes == n then Some bytes else None
 
--- the so many bytes that a text is the base64url of
+-- the bytes of this length that a text is the base64url of
 abbrev pub fixed_of_text : ℕ → List ℕ → Option (List ℕ)
 fixed_of_text n text = option_and_then (so_many n) (bytes_of_text text)

@@ -1,4 +1,4 @@
--- What a digest of one of the two algorithms is to contracts.
+-- A digest of one of the two algorithms, as contracts see it.
 use Rattle.std.specs.Prelude.{◌≡◌, ◌==◌, if◌then◌else◌, refl}
 use Rattle.st_hash.specs.declared.hash.Digest.{Digest}
 use Rattle.st_hash.specs.declared.hash.Digest.TheVariants.{Sha256, Sha512}

@@ -14,7 +14,7 @@ pub record HashValue : Type 0 where
   pub code : ℕ
   pub digest : List ℕ
 
--- The code is that of an algorithm: 0x12 is SHA-256, and 0x13 is SHA-512.
+-- The code names an algorithm: 0x12 is SHA-256, and 0x13 is SHA-512.
 abbrev pub IsCode : ℕ → Type 0
 IsCode code = (code ≡ 0x12) ⊎ (code ≡ 0x13)
 
@@ -75,7 +75,7 @@ hash_of_text_with code text = option_and_then (hash_of_multihash code) (bytes_of
 abbrev pub hash_of_text : List ℕ → Option HashValue
 hash_of_text text = hash_of_text_with 0x12 text
 
--- Version 1 has the hashes of SHA-256 alone, version 2 those of both algorithms.
+-- Version 1 has only SHA-256, version 2 both algorithms.
 abbrev pub IsOfVersion : ℕ → HashValue → Type 0
 IsOfVersion version hash = version ≡ 1 → hash.code ≡ 0x12
 

@@ -11,11 +11,11 @@ use thiserror::Error;
 /// Why a text was not decoded.
 #[derive(Clone, Copy, Debug, PartialEq, Eq, Error)]
 pub enum DecRefused {
-    /// The text is the base64url of no bytes: a character of another alphabet, padding, a length
-    /// that no bytes have, or spare bits that are not zero.
+    /// The text is not the base64url of any bytes: a character of another alphabet, padding, a
+    /// length that no bytes have, or spare bits that are not zero.
     #[error("not base64url")]
     BadBase64,
-    /// Memory could not be had.
+    /// Out of memory.
     #[error("out of memory")]
     WantOfMemory,
 }
@@ -29,9 +29,9 @@ pub fn enc(alloc: Global, bytes: &[u8]) -> Result<Text, WantOfMemory>
     Ok(Text::from_string(URL_SAFE_NO_PAD.encode(alloc, bytes)?))
 }
 
-/// The bytes whose base64url text this is.
+/// The bytes with this base64url text.
 ///
-/// `BadBase64` comes exactly where there are no such bytes.
+/// The result is `BadBase64` if and only if there are no such bytes.
 pub fn dec(alloc: Global, text: &[u8]) -> Result<Bytes, DecRefused>
     ensures spelled { IfOk result (λ bytes. text.now ≡ base64url bytes) }
     ensures bytes { IfOk result IsBytes }

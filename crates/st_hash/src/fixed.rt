@@ -4,9 +4,9 @@ ghost use Rattle.st_hash.specs.Base64url.{base64url, fixed_of_text};
 
 use base64::engine::general_purpose::URL_SAFE_NO_PAD;
 
-/// The `N` bytes whose base64url text this is (RFC 4648, section 5). It takes no memory.
+/// The `N` bytes with this base64url text (RFC 4648, section 5). It allocates nothing.
 ///
-/// `None` comes exactly where there are no such bytes.
+/// `None` if and only if there are no such bytes.
 pub fn read_fixed<const N: usize>(text: &[u8]) -> Option<[u8; N]>
     ensures value { result ≡ fixed_of_text N text.now }
     ensures spelled { IfSome result (λ bytes. text.now ≡ base64url bytes) }

@@ -76,7 +76,7 @@ impl Hash {
         }
     }
 
-    /// The digest of a SHA-256 hash. None comes exactly where the algorithm is another.
+    /// The digest of a SHA-256 hash; `None` if and only if the algorithm is another.
     pub fn sha256_digest(&self) -> Option<[u8; 32]>
         ensures { result ≡ sha256_digest self.now }
     {

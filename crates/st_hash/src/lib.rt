@@ -1,5 +1,5 @@
 //! Hashes and their texts: SHA-256 and SHA-512 (FIPS 180-4) as multihashes, and base64url without
-//! padding (RFC 4648, section 5), each read in exactly the one spelling that is written.
+//! padding (RFC 4648, section 5), each read only in the spelling in which it is written.
 #![tactic(auto)]
 
 mod base64url;

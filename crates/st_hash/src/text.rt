@@ -12,7 +12,7 @@ use thiserror::Error;
 // The length of the longest multihash, which is that of SHA-512.
 const LONGEST_MULTIHASH: usize = 66;
 
-/// The text is the hash text of no hash.
+/// The text is not the hash text of any hash.
 #[derive(Clone, Copy, Debug, PartialEq, Eq, Error)]
 #[error("not a hash text")]
 pub struct BadHash;
@@ -22,10 +22,10 @@ pub struct BadHash;
 pub fn hash_text(alloc: Global, hash: &Hash) -> Result<Text, WantOfMemory>
     ensures value { IfOk result (λ text. text ≡ hash_text hash.now) }
     ensures characters { IfOk result (λ text. length text ≡ text_length hash.now.code) }
-    // Each version that has this hash reads it again.
+    // Each version that has this hash reads the text again.
     ensures read { IfOk result (λ text. (version : ℕ) → IsOfVersion version hash.now
         → hash_of_text_at version text ≡ Some hash.now) }
-    // So does `read_hash`, where it is of SHA-256.
+    // So does `read_hash`, if the hash is of SHA-256.
     ensures uri { IfOk result (λ text. hash.now.code ≡ 18 → hash_of_text text ≡ Some hash.now) }
 {
     let digest = hash.digest();
@@ -45,9 +45,9 @@ fn put_multihash(code: u8, digest: &[u8], into: &mut [u8])
     into[2..].copy_from_slice(digest);
 }
 
-/// The SHA-256 hash whose text this is, as in URIs. It takes no memory.
+/// The SHA-256 hash with this text, as in URIs. It allocates nothing.
 ///
-/// `BadHash` comes exactly where the text is the hash text of no SHA-256 hash.
+/// The result is `BadHash` if and only if the text is not the hash text of a SHA-256 hash.
 pub fn read_hash(text: &[u8]) -> Result<Hash, BadHash>
     ensures spelled { IfOk result (λ hash. text.now ≡ hash_text hash) }
     ensures no_spelling { IfErr result (λ _. (hash : HashValue) → IsHash hash → hash.code ≡ 18
@@ -61,10 +61,10 @@ pub fn read_hash(text: &[u8]) -> Result<Hash, BadHash>
     }
 }
 
-/// The hash of this version whose text this is: of SHA-256 in version 1, of either algorithm in
-/// version 2. It takes no memory.
+/// The hash of this version with this text: SHA-256 in version 1, either algorithm in version 2. It
+/// allocates nothing.
 ///
-/// `BadHash` comes exactly where the text is the hash text of no hash of that version.
+/// The result is `BadHash` if and only if the text is not the hash text of a hash of that version.
 pub fn read_hash_at(text: &[u8], version: u8) -> Result<Hash, BadHash>
     requires first { 1 ≤ version }
     requires last { version ≤ 2 }
@@ -107,7 +107,7 @@ fn read_sha512(text: &[u8]) -> Option<Hash>
     }
 }
 
-// The digest in the multihash whose text this is.
+// The digest in the multihash with this text.
 fn read_digest<const DIGEST: usize, const MULTIHASH: usize>(
     text: &[u8],
     code: u8,

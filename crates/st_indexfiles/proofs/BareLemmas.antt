@@ -1,5 +1,5 @@
--- Nothing in base64url is escaped, so a hash text stands in canonical text as it is, and a text of which JSON escapes
--- a byte is none.
+-- Nothing in base64url is escaped, so canonical text has a hash text unchanged, and a text with an escaped byte is
+-- not a hash text.
 use Rattle.std.proofs.Common.{◌≡◌, ◌≢◌, ◌==◌, ◌++◌, Bool, true, false, cond, List, ℕ, [], ◌∷◌, codes, Option, Some, None, option_and_then, refl, sym, ap, append_assoc, arith}
 use Rattle.std.specs.List.{AllByRecursion, flat_map}
 use Rattle.std.specs.Option.{option_or}
@@ -17,7 +17,7 @@ use Rattle.st_indexfiles.specs.Hashes.{hash_in, uri_in}
 use Rattle.st_indexfiles.specs.SuffixData.{suffix_data_json}
 use Rattle.st_indexfiles.specs.declared.suffix_data.SuffixData.{SuffixData}
 
--- no byte of these is escaped
+-- none of these bytes is escaped
 abbrev pub IsBare : List ℕ → Type 0
 IsBare bytes = flat_map escape bytes ≡ bytes
 
@@ -29,13 +29,13 @@ pub apart_bare : (bytes : List ℕ) → AllByRecursion IsApart bytes → IsBare 
 apart_bare [] apart = refl
 apart_bare (byte ∷ bytes) apart = rw (byte_bare byte apart.0, apart_bare bytes apart.1) refl
 
--- no byte of a hash text is
+-- no byte of a hash text is escaped
 pub hash_text_bare : (hash : HashValue) → IsHash hash → IsBare (hash_text hash)
 hash_text_bare hash is = apart_bare (hash_text hash) (base64url_apart (multihash hash) (multihash_bytes hash is))
 
 -- ---- suffix data
 
--- the canonical text of an object of two texts of which no byte is escaped
+-- the canonical text of an object of two texts without escaped bytes
 both_bare : (delta_hash recovery_commitment : List ℕ) → IsBare delta_hash → IsBare recovery_commitment
     → canonical (object_of ((codes "deltaHash", text delta_hash) ∷ (codes "recoveryCommitment", text recovery_commitment) ∷ []))
     ≡ (((codes "{\"deltaHash\":\"" ++ delta_hash) ++ codes "\",\"recoveryCommitment\":\"") ++ recovery_commitment) ++ codes "\"}"
@@ -51,7 +51,7 @@ suffix_data_text suffix_data first second =
     both_bare (hash_text suffix_data.delta_hash) (hash_text suffix_data.recovery_commitment)
     (hash_text_bare suffix_data.delta_hash first) (hash_text_bare suffix_data.recovery_commitment second)
 
--- ---- a text of which JSON escapes a byte
+-- ---- a text with an escaped byte
 
 by_reading : (bytes : List ℕ) (read : Option (List ℕ)) → bytes_of_text bytes ≡ read → flat_map escape bytes ≢ bytes → read ≡ None
 by_reading bytes None is escaped = refl
@@ -84,10 +84,10 @@ no_hash_at version (Some bytes) none = neither (version == 1) _ _ (no_hash_with 
     neither true sha256 sha512 e f = e
     neither false sha256 sha512 e f = rw (e, f) refl
 
--- so it is no URI
+-- so it is not a URI
 pub no_uri_in : (value : Plain) → IsNotBare value → None ≡ uri_in (Some value)
 no_uri_in value escaped = sym (no_hash_with 0x12 (text_in value) (no_bytes_in value escaped))
 
--- and no hash text of any version
+-- nor a hash text of any version
 pub no_hash_in : (value : Plain) → IsNotBare value → (version : ℕ) → None ≡ hash_in version (Some value)
 no_hash_in value escaped version = sym (no_hash_at version (text_in value) (no_bytes_in value escaped))

@@ -1,4 +1,4 @@
--- What the JSON of a core index that was written says.
+-- The content of the JSON of a core index that was written.
 use Rattle.std.proofs.Common.{◌≡◌, ◌∙◌, ℕ, true, List, Some, codes, refl, ap}
 use Rattle.std.proofs.lemmas.Bool.{and_parts}
 use Rattle.st_plain.specs.Find.{member_at}
@@ -17,7 +17,7 @@ module _ (index : CoreIndex) where
   kind_there kind =
       ap (member_in kind) (member_at-some_listed (codes "operations") (core_members index) refl) ∙ member_in-some_object kind (core_operations index)
 
-  -- where its parts have their form, the JSON of an index says this index
+  -- if its parts have their form, the JSON of an index has this index as its content
   pub core_index_of-core_json : (version max_lock_id : ℕ) → IsCoreReadAgain index
       → has_core_members max_lock_id (Some (core_json index)) ≡ true → has_core_entries version (Some (core_json index)) ≡ true
       → core_index_of version (Some (core_json index)) ≡ index

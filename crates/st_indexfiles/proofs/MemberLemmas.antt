@@ -1,4 +1,4 @@
--- The canonical text of index files, a member after another.
+-- The canonical text of index files, one member after another.
 use Rattle.std.proofs.Common.{◌≡◌, ◌∙◌, ℕ, Bool, true, false, List, [], ◌∷◌, ◌++◌, codes, map, Option, Some, None, option_map, refl, sym, ap, append_assoc}
 use Rattle.std.proofs.Common.{◌≤◌, ◌<◌, length, nat_lt, arith}
 use Rattle.std.proofs.lemmas.Bool.Decides.{nat_tests}
@@ -23,7 +23,7 @@ use Rattle.st_indexfiles.specs.declared.provisional_index.ProvisionalIndex.{Prov
 use Rattle.st_indexfiles.specs.declared.suffix_data.SuffixData.{SuffixData}
 use Rattle.st_indexfiles.specs.declared.target.Target.{Target}
 
--- ---- pieces that went out one after another
+-- ---- pieces written one after another
 
 pub in_three : (old one two new a b c whole : List ℕ) → one ≡ old ++ a → two ≡ one ++ b → new ≡ two ++ c → whole ≡ a ++ (b ++ c) → new ≡ old ++ whole
 in_three old one two new a b c whole first second third is = third ∙ rw (second, first, is) (simp append_assoc)
@@ -51,9 +51,9 @@ pub target_text : (target : Target) → canonical (target_json target)
 unfolding names_on_literals escape
 target_text target = simp append_assoc
 
--- ---- members that may be left out
+-- ---- optional members
 
--- nothing is due later but what is due already, where there is nothing
+-- a member that is missing makes no comma due
 pub still_due : (due : Bool) (there : Option Plain) → there ≡ None → due ≡ (due || is_some there)
 still_due true there none = refl
 still_due false there none = sym (ap is_some none)
@@ -72,7 +72,7 @@ something_there old named new name due there value some begun all =
     ∙ ap (λ text. old ++ text) (append_assoc (comma due) (name_text name) (canonical value))
     ∙ ap (λ other. old ++ member_text due name other) (sym some)
 
--- ---- lists and objects that are left out where they are empty
+-- ---- lists and objects that are left out if they are empty
 
 module _ {Said : Type 0} (json : Said → Plain) where
   pub none_said : (said : List Said) → length said ≡ 0 → some_list (map json said) ≡ None
@@ -107,7 +107,7 @@ an_object (member name value ms) some = refl
 
 -- ---- the objects
 
--- which operations there are
+-- the kinds of operations that are there
 of_kinds : (creates recovers deactivates : Option Plain)
     → is_some (some_object (some_listed ((codes "create", creates) ∷ (codes "recover", recovers) ∷ (codes "deactivate", deactivates) ∷ [])))
     ≡ ((is_some creates || is_some recovers) || is_some deactivates)
@@ -133,7 +133,7 @@ neither false true z none = cc
 neither false false true none = cc
 neither false false false none = (refl, refl, refl)
 
--- where there are none, there is none of any kind
+-- if there are no operations, there are none of any kind
 pub no_operations : (index : CoreIndex) → is_some (some_object (core_operations index)) ≡ false
     → AreReadAgain create_of create_json index.creates × AreReadAgain target_of target_json index.recovers × AreReadAgain target_of target_json index.deactivates
 no_operations index none =

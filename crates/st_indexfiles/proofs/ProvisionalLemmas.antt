@@ -1,4 +1,4 @@
--- What the JSON of a provisional index that was written says.
+-- The content of the JSON of a provisional index that was written.
 use Rattle.std.specs.Prelude.{is_some}
 use Rattle.std.proofs.Common.{◌≡◌, ◌∙◌, ℕ, true, [], ◌∷◌, Option, Some, option_map, map, codes, refl, sym, ap}
 use Rattle.std.proofs.lemmas.Bool.{and_parts}
@@ -32,7 +32,7 @@ module _ (index : ProvisionalIndex) where
       ∙ ap (λ entries. uri_in (only_member (codes "chunkFileUri") (only_of entries))) (entries_in-some_list (chunk_json index.chunk ∷ [])) in
       is ∙ read_as (uri_in (Some (hash_json index.chunk))) index.chunk (sym (ap is_some is) ∙ some) (again 1)
 
-  -- where its parts have their form, the JSON of an index says this index
+  -- if its parts have their form, the JSON of an index has this index as its content
   pub provisional_index_of-provisional_json : (version : ℕ) → IsProvisionalReadAgain index
       → is_some (chunk_in (Some (provisional_json index))) ≡ true → has_provisional_entries version (Some (provisional_json index)) ≡ true
       → provisional_index_of version (Some (provisional_json index)) ≡ Some index

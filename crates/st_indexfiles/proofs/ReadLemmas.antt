@@ -1,4 +1,4 @@
--- Where what stands in a file has its form, as much is read as stands there: of entries, and of URIs.
+-- If the parts of a file have their form, as many entries and URIs are read as the file has.
 use Rattle.std.proofs.Common.{◌≡◌, ◌∙◌, ℕ, suc, ◌+◌, true, if◌then◌else◌, List, [], ◌∷◌, codes, length, Option, Some, None, refl, ap}
 use Rattle.std.specs.Prelude.{◌||◌, is_some, nat_lt}
 use Rattle.std.specs.List.{cons_option, filter_map}
@@ -21,7 +21,7 @@ one_read : {Read : Type 0} (found : Option Read) (others : List Read) → is_som
 one_read None others some = cc some
 one_read (Some one) others some = refl
 
--- where each item is read, as many are read
+-- if each item is read, as many are read
 length-read : {Item Read : Type 0} (read : Item → Option Read) (items : List Item) → each_is read items ≡ true
     → length (filter_map read items) ≡ length items
 length-read read [] each = refl
@@ -29,21 +29,21 @@ length-read read (item ∷ items) each =
     let parts = and_parts (is_some (read item)) (each_is read items) each in
     one_read (read item) (filter_map read items) parts.0 ∙ ap suc (length-read read items parts.1)
 
--- where a URI stands there or nothing, it is read where something stands there
+-- if the value is a URI or missing, a URI is read if and only if it is present
 uri_there : (there : Option Plain) → is_uri_if_there there ≡ true → is_some (uri_in there) ≡ is_some there
 uri_there None is = refl
 uri_there (Some value) is = is
 
 -- ---- core index files
 
--- what its parts say is what it says
+-- the content of its parts is its content
 pub said_core : (version : ℕ) (index : Option Plain)
     → core_said version (core_uris_in index) (core_operations_in index) ≡ (if has_core_entries version index then Some (core_index_of version index) else None)
 unfolding core_said core_uris_in core_operations_in has_core_entries core_index_of
 said_core version index = refl
 
 module _ (version : ℕ) (index : Option Plain) (are_entries : has_core_entries version index ≡ true) where
-  -- as many operations are read as stand there
+  -- as many operations are read as the file has
   pub counted_core : core_count (core_index_of version index) ≡ operation_count index
   unfolding has_core_entries core_index_of operation_count
   counted_core =
@@ -54,7 +54,7 @@ module _ (version : ℕ) (index : Option Plain) (are_entries : has_core_entries 
       let deactivates = length-read (target_of version) (operations_of (codes "deactivate") index) later.1 in
       λ i. creates i + recovers i + deactivates i
 
-  -- and it tells whether one of a proof file and an operation that is signed is there without the other
+  -- and it shows whether only one of a proof file and a signed operation is there
   pub stray_core : (max_lock_id : ℕ) → has_core_members max_lock_id index ≡ true
       → says_stray_proof (core_index_of version index) ≡ one_alone (is_some (member_in (codes "coreProofFileUri") index)) (has_signed index)
   unfolding has_core_entries has_core_members core_index_of says_stray_proof has_signed
@@ -68,12 +68,12 @@ module _ (version : ℕ) (index : Option Plain) (are_entries : has_core_entries 
 -- ---- provisional index files
 
 module _ (version : ℕ) (index : Option Plain) (are_entries : has_provisional_entries version index ≡ true) where
-  -- as many updates are read as stand there
+  -- as many updates are read as the file has
   pub counted_updates : length (updates_in version index) ≡ update_count index
   unfolding has_provisional_entries updates_in update_count
   counted_updates = length-read (target_of version) (operations_of (codes "update") index) (and_parts _ _ are_entries).1
 
-  -- and the URI of the proof file is read where something stands there
+  -- and the URI of the proof file is read if and only if it is present
   pub stray_provisional : is_some (uri_in (member_in (codes "provisionalProofFileUri") index)) ≡ is_some (member_in (codes "provisionalProofFileUri") index)
   unfolding has_provisional_entries
   stray_provisional = uri_there (member_in (codes "provisionalProofFileUri") index) (and_parts _ _ are_entries).0

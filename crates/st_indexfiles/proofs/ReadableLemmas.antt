@@ -1,4 +1,4 @@
--- What index files are written as is proper and does not nest too deep, so its canonical text is read again.
+-- The JSON of index files is proper and does not nest too deep, so its canonical text is read again.
 use Rattle.std.proofs.Common.{◌≡◌, ℕ, ◌≤◌, true, List, [], ◌∷◌, codes, map, Option, Some, None, refl, arith}
 use Rattle.std.specs.Prelude.{option_map}
 use Rattle.std.specs.List.{AllByRecursion}
@@ -86,7 +86,7 @@ creates_readable creates =
     each_map create_json (λ one. IsReadable 3 (create_json one)) (IsReadable 3) (λ one readable. readable) creates
     (each_holds (λ one. IsReadable 3 (create_json one)) create_readable creates)
 
--- a URI that may be there
+-- an optional URI
 pub uri_readable : (most : ℕ) (uri : Option HashValue) → 1 ≤ most → IsReadableThere most (option_map hash_json uri)
 uri_readable most None some = tt
 uri_readable most (Some uri) some = deeper 1 most (hash_json uri) some (hash_readable uri)

@@ -1,4 +1,4 @@
--- An item stands twice where there are fewer different ones than all; hashes by the order of a set.
+-- An item appears twice if there are fewer different ones than items; hashes by the order of a set.
 use Rattle.std.proofs.Common.{◌≡◌, ◌∙◌, ℕ, suc, ◌+◌, ◌<◌, ◌≤◌, ◌==◌, Bool, true, false, not, cond, List, [], ◌∷◌, length, drop, get_or, refl, sym, ap, arith}
 use Rattle.std.specs.Prelude.{◌||◌}
 use Rattle.std.specs.BTreeSet.{BTreeSet, IsFromIterResult, contains}
@@ -27,14 +27,14 @@ has_twice-counted same (item ∷ later) =
       | false ↦ same_count (distinct_count same later) (length later) ∙ has_twice-counted same later
     ]
 
--- a hash stands twice where there are fewer different ones than all
+-- a hash appears twice if there are fewer different ones than hashes
 pub has_twice-count : (hashes : List HashValue) (different : ℕ) → different ≡ distinct_count (eq_by_cmp hash_cmp) hashes
     → not (different == length hashes) ≡ has_twice same_hash hashes
 has_twice-count hashes different is =
     ap (λ count. not (count == length hashes)) is ∙ has_twice-counted (eq_by_cmp hash_cmp) hashes
     ∙ (λ i. has_twice (λ x y. sym (same_hash-ties x y) i) hashes)
 
--- a set of hashes has those of the list that it was made of
+-- a set of hashes has those of the list it was made from
 pub found_in : (set : BTreeSet HashValue) (hashes : List HashValue) → IsFromIterResult hash_cmp hashes set → (hash : HashValue)
     → contains hash_cmp set hash ≡ list_any (same_hash hash) hashes
 found_in set hashes made hash = made.0 hash ∙ (λ i. list_any (λ other. sym (same_hash-ties hash other) i) hashes)

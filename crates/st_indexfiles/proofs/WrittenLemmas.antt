@@ -30,7 +30,7 @@ pub hash_again : (hash : HashValue) → hash_of_text_at 2 (hash_text hash) ≡ S
 hash_again hash e = λ version.
     in_version (version == 1) (hash_of_text (hash_text hash)) (hash_of_text_with 0x13 (hash_text hash)) hash e
 
--- what is made of two hashes is read again where they are
+-- a value built from two hashes is read again if these are
 pub both_again : {Said : Type 0} (make : HashValue → HashValue → Said) (first second : Option HashValue) (x y : HashValue)
     → ReadsAs first x → ReadsAs second y
     → ReadsAs (option_and_then (λ a. option_and_then (λ b. Some (make a b)) second) first) (make x y)
@@ -38,7 +38,7 @@ both_again make None second x y p q = tt
 both_again make (Some a) None x y p q = tt
 both_again make (Some a) (Some b) x y p q = λ i. make (p i) (q i)
 
--- where it is read, it is read as this
+-- if it is read, it is read as this
 pub read_as : {Said : Type 0} (read : Option Said) (said : Said) → is_some read ≡ true → ReadsAs read said → read ≡ Some said
 read_as None said some again = cc
 read_as (Some found) said some again = ap Some again
@@ -57,7 +57,7 @@ read_again read json version (one ∷ more) some again =
     let parts = and_parts (is_some (read version (json one))) (each_is (read version) (map json more)) some in
     read_one (read version (json one)) one _ parts.0 (again.0 version) ∙ ap (λ rest. one ∷ rest) (read_again read json version more parts.1 again.1)
 
--- entries that were written are read as what they were written of, where each is read
+-- written entries are read as their originals, if each is read
 pub entries_again : {Said : Type 0} (read : ℕ → Plain → Option Said) (json : Said → Plain) (version : ℕ) (said : List Said) (there : Option Plain)
     → AreReadAgain read json said → there ≡ some_list (map json said) → each_is (read version) (entries_in there) ≡ true
     → filter_map (read version) (entries_in there) ≡ said
@@ -67,7 +67,7 @@ entries_again read json version said there again is some =
 
 -- ---- URIs
 
--- a URI that was written is read as itself, where what is there is one
+-- a written URI is read as itself, if the value is a URI or missing
 pub uri_again : (uri : Option HashValue) (there : Option Plain) → IsUriReadAgain uri → there ≡ option_map hash_json uri
     → is_uri_if_there there ≡ true → uri_in there ≡ uri
 uri_again None there again is holds = ap uri_in is

@@ -1,5 +1,4 @@
--- Core index files: what their JSON says, and the JSON that is written (DIF Sidetree v1.0.0, "Core
--- Index File").
+-- Core index files: the content of their JSON, and the JSON that is written (DIF Sidetree v1.0.0, "Core Index File").
 use Rattle.std.specs.Prelude.{ℕ, List, [], ◌∷◌, ◌++◌, codes, map, Option, option_map}
 use Rattle.std.specs.List.{filter_map}
 use Rattle.st_plain.specs.Objects.{object_of_some, some_list, some_listed, some_object}
@@ -13,12 +12,11 @@ use Rattle.st_indexfiles.specs.declared.core_index.CoreIndex.{CoreIndex}
 
 -- ---- read
 
--- the entries of the operations of one kind; a list that isn't there has none
+-- the entries of the operations of one kind; a missing list has none
 abbrev pub operations_of : List ℕ → Option Plain → List Plain
 operations_of kind index = entries_in (member_in kind (member_in (codes "operations") index))
 
--- What the JSON of a core index file says. An entry of another form says nothing: a rule refuses its
--- file.
+-- The content of a core index file's JSON. An entry of another form is skipped: a rule refuses its file.
 unfoldable pub core_index_of : ℕ → Option Plain → CoreIndex
 core_index_of version index = record {
   core_proof = uri_in (member_in (codes "coreProofFileUri") index);
@@ -35,18 +33,18 @@ suffixes_of index =
 
 -- ---- written
 
--- the lists of a core index file by the kinds of its operations; a kind without any has none
+-- the lists of a core index file by the kinds of its operations, without empty ones
 abbrev pub core_lists : CoreIndex → List (List ℕ × Option Plain)
 core_lists index =
     (codes "create", some_list (map create_json index.creates))
     ∷ (codes "recover", some_list (map target_json index.recovers))
     ∷ (codes "deactivate", some_list (map target_json index.deactivates)) ∷ []
 
--- the operations of a core index file by their kinds; a kind without any is left out
+-- the operations of a core index file by kind, without empty lists
 abbrev pub core_operations : CoreIndex → Members
 core_operations index = some_listed (core_lists index)
 
--- the members of a core index file, each where there is something to say
+-- the members of a core index file, without empty ones
 abbrev pub core_members : CoreIndex → List (List ℕ × Option Plain)
 core_members index =
     (codes "coreProofFileUri", option_map hash_json index.core_proof)

@@ -1,4 +1,4 @@
--- What a core index file is read from, each part of it found once, and what is read from that.
+-- The parts of a core index file, each looked up once, and their content.
 use Rattle.std.specs.Prelude.{ℕ, Bool, ◌&&◌, ◌||◌, nat_lt, if◌then◌else◌, codes, length, Option, Some, None, is_some}
 use Rattle.std.specs.List.{filter_map}
 use Rattle.st_base.specs.Each.{each_is}
@@ -21,14 +21,14 @@ core_operations_in index = record {
   deactivates = operations_of (codes "deactivate") index;
 }
 
--- the files beside it
+-- the files that it names
 unfoldable pub core_uris_in : Option Plain → CoreUris
 core_uris_in index = record {
   core_proof = uri_in (member_in (codes "coreProofFileUri") index);
   provisional = uri_in (member_in (codes "provisionalIndexFileUri") index);
 }
 
--- what these say, where each entry has its form
+-- their content, if each entry has its form
 unfoldable pub core_said : ℕ → CoreUris → CoreOperations → Option CoreIndex
 core_said version uris operations =
     if each_is (create_of version) operations.creates
@@ -42,7 +42,7 @@ core_said version uris operations =
     })
     else None
 
--- a URI of a proof file without an operation that is signed, or the reverse
+-- a URI of a proof file without a signed operation, or the reverse
 unfoldable pub says_stray_proof : CoreIndex → Bool
 says_stray_proof index =
     one_alone (is_some index.core_proof) (nat_lt 0 (length index.recovers) || nat_lt 0 (length index.deactivates))

@@ -1,5 +1,5 @@
--- The rules of a core index file: a test for each, which stands for itself whatever the others say,
--- and the table of them in their order. `None` is a file that is no JSON, or a value that isn't there.
+-- The rules of a core index file: a test for each, independent of the others, and the table of them in their order.
+-- `None` is a file that is not JSON, or a missing value.
 use Rattle.std.specs.Prelude.{ℕ, ◌+◌, Bool, true, false, not, ◌&&◌, ◌||◌, nat_le, nat_lt, List, [], ◌∷◌, codes, length, Option, Some, None, is_none, is_some}
 use Rattle.st_base.specs.Each.{each_is}
 use Rattle.st_base.specs.Rules.{Table, first_failing}
@@ -25,20 +25,20 @@ core_names =
 abbrev pub core_kinds : List (List ℕ)
 core_kinds = codes "create" ∷ codes "recover" ∷ codes "deactivate" ∷ []
 
--- It is an object with no member of another name. `operations`, where it is there, is an object with
--- no member of another name, and each of its members is a list.
+-- It is an object with no member of another name. `operations`, if present, is an object with no member of another
+-- name, and each of its members is a list.
 unfoldable pub has_core_form : Option Plain → Bool
 has_core_form index =
     is_object_of core_names index && is_object_of_lists_if_there core_kinds (member_in (codes "operations") index)
 
--- a text of at most so many bytes stands there, or nothing
+-- a text of at most this many bytes, or no value
 abbrev pub is_lock_id_if_there : ℕ → Option Plain → Bool
 is_lock_id_if_there most None = true
 is_lock_id_if_there most (Some (text lock_id)) = nat_le (length lock_id) most
 is_lock_id_if_there most (Some other) = false
 
--- each URI member that is there is a SHA-256 hash text, and `writerLockId`, where it is there, is a
--- text of at most so many bytes
+-- each URI member, if present, is a SHA-256 hash text, and `writerLockId`, if present, is a text of at most this many
+-- bytes
 unfoldable pub has_core_members : ℕ → Option Plain → Bool
 has_core_members max_lock_id index =
     is_uri_if_there (member_in (codes "coreProofFileUri") index)
@@ -52,7 +52,7 @@ has_core_entries version index =
     && (each_is (target_of version) (operations_of (codes "recover") index)
     && each_is (target_of version) (operations_of (codes "deactivate") index))
 
--- how many operations there are
+-- the number of operations
 unfoldable pub operation_count : Option Plain → ℕ
 operation_count index =
     length (operations_of (codes "create") index) + length (operations_of (codes "recover") index)
@@ -63,14 +63,14 @@ unfoldable pub has_signed : Option Plain → Bool
 has_signed index =
     nat_lt 0 (length (operations_of (codes "recover") index)) || nat_lt 0 (length (operations_of (codes "deactivate") index))
 
--- one of the two without the other
+-- exactly one of the two
 abbrev pub one_alone : Bool → Bool → Bool
 one_alone true second = not second
 one_alone false second = second
 
 -- ---- the table
 
--- the rules that look at the JSON
+-- the rules about the JSON
 abbrev pub core_json_rules : Limits → ℕ → Option Plain → Table CoreRule
 core_json_rules limits count index =
     (C3, not (has_core_form index))

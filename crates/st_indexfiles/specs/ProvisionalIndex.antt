@@ -1,5 +1,5 @@
--- Provisional index files: what their JSON says, and the JSON that is written (DIF Sidetree v1.0.0,
--- "Provisional Index File").
+-- Provisional index files: the content of their JSON, and the JSON that is written (DIF Sidetree v1.0.0, "Provisional
+-- Index File").
 use Rattle.std.specs.Prelude.{ℕ, List, [], ◌∷◌, codes, map, Option, option_map}
 use Rattle.std.specs.List.{filter_map}
 use Rattle.st_plain.specs.Objects.{object_of, object_of_some, some_list, some_listed, some_object}
@@ -14,7 +14,7 @@ use Rattle.st_indexfiles.specs.declared.target.Target.{Target}
 
 -- ---- read
 
--- the URI of the chunk file: the one member of the one entry of `chunks`
+-- the URI of the chunk file: the only member of the only entry of `chunks`
 unfoldable pub chunk_in : Option Plain → Option HashValue
 chunk_in index = uri_in (only_member (codes "chunkFileUri") (only_of (entries_in (member_in (codes "chunks") index))))
 
@@ -22,7 +22,7 @@ chunk_in index = uri_in (only_member (codes "chunkFileUri") (only_of (entries_in
 unfoldable pub updates_in : ℕ → Option Plain → List Target
 updates_in version index = filter_map (target_of version) (operations_of (codes "update") index)
 
--- what the JSON says beside the URI of its chunk file
+-- the content of the JSON, given the URI of its chunk file
 unfoldable pub provisional_with : ℕ → Option Plain → HashValue → ProvisionalIndex
 provisional_with version index chunk = record {
   proof = uri_in (member_in (codes "provisionalProofFileUri") index);
@@ -30,7 +30,7 @@ provisional_with version index chunk = record {
   updates = updates_in version index;
 }
 
--- what the JSON of a provisional index file says, where it names its chunk file
+-- the content of a provisional index file's JSON, if it names its chunk file
 abbrev pub provisional_index_of : ℕ → Option Plain → Option ProvisionalIndex
 provisional_index_of version index = option_map (provisional_with version index) (chunk_in index)
 
@@ -44,7 +44,7 @@ suffixes_in updates = map (λ update. update.suffix) updates
 abbrev pub chunk_json : HashValue → Plain
 chunk_json uri = object_of ((codes "chunkFileUri", hash_json uri) ∷ [])
 
--- the list of updates of a provisional index file, where there are any
+-- the list of updates of a provisional index file, if there are any
 abbrev pub provisional_lists : ProvisionalIndex → List (List ℕ × Option Plain)
 provisional_lists index = (codes "update", some_list (map target_json index.updates)) ∷ []
 
@@ -52,7 +52,7 @@ provisional_lists index = (codes "update", some_list (map target_json index.upda
 abbrev pub provisional_operations : ProvisionalIndex → Members
 provisional_operations index = some_listed (provisional_lists index)
 
--- the members of a provisional index file, each where there is something to say
+-- the members of a provisional index file, without empty ones
 abbrev pub provisional_members : ProvisionalIndex → List (List ℕ × Option Plain)
 provisional_members index =
     (codes "provisionalProofFileUri", option_map hash_json index.proof)

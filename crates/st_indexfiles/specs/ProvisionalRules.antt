@@ -1,6 +1,5 @@
--- The rules of a provisional index file, which is read beside a core index: a test for each, which
--- stands for itself whatever the others say, and the table of them in their order. `None` is a file
--- that is no JSON, or a value that isn't there.
+-- The rules of a provisional index file, given its core index: a test for each, independent of the others, and the
+-- table of them in their order. `None` is a file that is not JSON, or a missing value.
 use Rattle.std.specs.Prelude.{ℕ, ◌+◌, ◌==◌, Bool, not, ◌&&◌, ◌||◌, nat_lt, List, [], ◌∷◌, codes, length, Option, is_none, is_some}
 use Rattle.st_base.specs.Each.{each_is}
 use Rattle.st_base.specs.Rules.{Table, first_failing}
@@ -23,34 +22,34 @@ use Rattle.st_params.specs.Limits.{Limits}
 abbrev pub provisional_names : List (List ℕ)
 provisional_names = codes "provisionalProofFileUri" ∷ codes "chunks" ∷ codes "operations" ∷ []
 
--- It is an object with no member of another name. `operations`, where it is there, is an object with
--- no member of another name than `update`, which is a list.
+-- It is an object with no member of another name. `operations`, if present, is an object with no member except
+-- `update`, which is a list.
 unfoldable pub has_provisional_form : Option Plain → Bool
 has_provisional_form index =
     is_object_of provisional_names index && is_object_of_lists_if_there (codes "update" ∷ []) (member_in (codes "operations") index)
 
--- `provisionalProofFileUri`, where it is there, is a SHA-256 hash text, and each update is an object
--- with exactly its members, which are hash texts of the version
+-- `provisionalProofFileUri`, if present, is a SHA-256 hash text, and each update is an object with exactly its
+-- members, which are hash texts of the version
 unfoldable pub has_provisional_entries : ℕ → Option Plain → Bool
 has_provisional_entries version index =
     is_uri_if_there (member_in (codes "provisionalProofFileUri") index)
     && each_is (target_of version) (operations_of (codes "update") index)
 
--- a suffix stands twice among these, or stands in the core index too
+-- a suffix appears twice among these, or also in the core index
 abbrev pub repeats_suffix : List HashValue → CoreIndex → Bool
 repeats_suffix suffixes core = has_twice same_hash suffixes || shares_one same_hash suffixes (suffixes_of core)
 
--- how many updates there are
+-- the number of updates
 unfoldable pub update_count : Option Plain → ℕ
 update_count index = length (operations_of (codes "update") index)
 
--- how many operations the core index has
+-- the number of operations of the core index
 abbrev pub core_count : CoreIndex → ℕ
 core_count core = length core.creates + length core.recovers + length core.deactivates
 
 -- ---- the table
 
--- the rules that look at the JSON
+-- the rules about the JSON
 abbrev pub provisional_json_rules : Limits → ℕ → CoreIndex → Option Plain → Table ProvisionalRule
 provisional_json_rules limits count core index =
     (P3, not (has_provisional_form index))
@@ -62,7 +61,7 @@ provisional_json_rules limits count core index =
     ∷ (P9, length core.creates + length core.recovers + update_count index == 0)
     ∷ []
 
--- all rules, under the declared count and beside a core index
+-- all rules, under the declared count and given the core index
 abbrev pub provisional_rules : Limits → ℕ → CoreIndex → List ℕ → Table ProvisionalRule
 provisional_rules limits count core file =
     (P1, nat_lt limits.max_index (length file))

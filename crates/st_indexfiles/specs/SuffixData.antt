@@ -1,5 +1,5 @@
--- Suffix data: what a create commits to; and the suffix of its identifier (DIF Sidetree v1.0.0, "DID
--- URI Composition").
+-- Suffix data: the commitments of a create; and the suffix of its identifier (DIF Sidetree v1.0.0, "DID URI
+-- Composition").
 use Rattle.std.specs.Prelude.{ℕ, [], ◌∷◌, codes, Option, Some}
 use Rattle.st_base.specs.Options.{◌>>=◌, ◌>>◌}
 use Rattle.st_plain.specs.Canonical.{canonical}
@@ -30,7 +30,7 @@ suffix_data_json suffix_data = object_of
     ((codes "deltaHash", hash_json suffix_data.delta_hash)
     ∷ (codes "recoveryCommitment", hash_json suffix_data.recovery_commitment) ∷ [])
 
--- a create as a core index file has it
+-- a create in a core index file
 abbrev pub create_json : SuffixData → Plain
 create_json create = object_of ((codes "suffixData", suffix_data_json create) ∷ [])
 

@@ -1,4 +1,4 @@
--- What an update, a recover or a deactivate names.
+-- The target of an update, a recover or a deactivate.
 use Rattle.std.specs.Prelude.{ℕ, [], ◌∷◌, codes, Option, Some}
 use Rattle.st_base.specs.Options.{◌>>=◌, ◌>>◌}
 use Rattle.st_plain.specs.Objects.{object_of}
@@ -15,6 +15,6 @@ target_of version entry = do
   reveal ← hash_in version (member_in (codes "revealValue") (Some entry))
   Some (record { suffix = suffix; reveal = reveal })
 
--- an identifier and the reveal value for it, as an index file has them
+-- an identifier and its reveal value, in an index file
 abbrev pub target_json : Target → Plain
 target_json target = object_of ((codes "didSuffix", hash_json target.suffix) ∷ (codes "revealValue", hash_json target.reveal) ∷ [])

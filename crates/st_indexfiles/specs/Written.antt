@@ -1,4 +1,4 @@
--- What was written is read as what it was written of, wherever it is read.
+-- What was written is read back unchanged by every version that reads it.
 use Rattle.std.specs.Prelude.{◌≡◌, ⊤, ℕ, List, Option, Some, None, IfSome}
 use Rattle.std.specs.List.{AllByRecursion}
 use Rattle.st_plain.specs.Plain.{Plain}
@@ -8,7 +8,7 @@ use Rattle.st_indexfiles.specs.Target.{target_json, target_of}
 use Rattle.st_indexfiles.specs.declared.core_index.CoreIndex.{CoreIndex}
 use Rattle.st_indexfiles.specs.declared.provisional_index.ProvisionalIndex.{ProvisionalIndex}
 
--- it is read as this, where it is read at all
+-- if it is read, it is read as this
 abbrev pub ReadsAs : {Said : Type 0} → Option Said → Said → Type 0
 ReadsAs read said = IfSome read (λ found. found ≡ said)
 
@@ -16,7 +16,7 @@ ReadsAs read said = IfSome read (λ found. found ≡ said)
 abbrev pub IsHashReadAgain : HashValue → Type 0
 IsHashReadAgain hash = (version : ℕ) → ReadsAs (hash_of_text_at version (hash_text hash)) hash
 
--- a URI, where there is one
+-- a URI, if there is one
 abbrev pub IsUriReadAgain : Option HashValue → Type 0
 IsUriReadAgain None = ⊤
 IsUriReadAgain (Some uri) = IsHashReadAgain uri

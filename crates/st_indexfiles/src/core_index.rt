@@ -7,8 +7,8 @@ use st_base::{Copied, List, WantOfMemory};
 use st_hash::Hash;
 use std::alloc::Global;
 
-/// What a core index file says: the URIs of the files beside it, and the operations of a batch but
-/// for its updates.
+/// The content of a core index file: the URIs of its other files, and the operations of a batch
+/// except its updates.
 #[derive(Debug, Drop)]
 pub struct CoreIndex {
     pub core_proof: Option<Hash>,

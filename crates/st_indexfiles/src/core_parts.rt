@@ -17,14 +17,14 @@ pub(crate) struct CoreOperations<'a> {
     pub(crate) deactivates: Entries<'a>,
 }
 
-/// The files beside a core index file.
+/// The URIs in a core index file.
 #[derive(Clone, Copy)]
 pub(crate) struct CoreUris {
     pub(crate) core_proof: Option<Hash>,
     pub(crate) provisional: Option<Hash>,
 }
 
-/// The operations, where the file has its form. Each kind is found once.
+/// The operations, if the file has its form. Each kind is looked up once.
 #[tactic(auto, unfolding(crate::specs::CoreRules::has_core_form, crate::specs::CoreParts::core_operations_in))]
 pub(crate) fn find_operations<'a>(index: &Scanned<'a>) -> Option<CoreOperations<'a>>
     ensures { result ≡ (if has_core_form (Some index.now) then Some (core_operations_in (Some index.now)) else None) }
@@ -49,7 +49,7 @@ pub(crate) fn find_operations<'a>(index: &Scanned<'a>) -> Option<CoreOperations<
     Some(found)
 }
 
-/// The URIs, where they and the lock id have their form.
+/// The URIs, if they and the lock id have their form.
 #[tactic(auto, unfolding(crate::specs::CoreRules::has_core_members, crate::specs::CoreParts::core_uris_in))]
 pub(crate) fn read_uris(
     alloc: Global,
@@ -88,7 +88,7 @@ fn is_lock_id_if_there(
     }
 }
 
-// A lock id of which JSON escapes a byte is made, since it is not as long as it stands in the file.
+// A lock id with escaped bytes is decoded, since it is shorter than its text in the file.
 fn is_lock_id(alloc: Global, value: &Scanned<'_>, most: usize) -> Result<bool, WantOfMemory>
     ensures { IfOk result (λ is. is ≡ is_lock_id_if_there most (Some value.now)) }
 {

@@ -19,10 +19,10 @@ use st_params::Params;
 use st_scan::{CanonicalText, Scanned};
 use std::alloc::Global;
 
-/// What a core index file says, under the count that its anchor string declares. It counts as one
-/// file, whatever it answers.
+/// Reads a core index file, under the count that its anchor string declares. It counts as one file,
+/// whatever the answer is.
 ///
-/// `Rejected` comes exactly with the first rule that the file fails.
+/// The result is `Rejected` if and only if the file fails a rule; it has the first one.
 pub fn read_core(
     alloc: Global,
     bytes: &[u8],
@@ -73,7 +73,7 @@ fn read_index(
     Ok(found)
 }
 
-// The index, where each entry has its form.
+// The index, if each entry has its form.
 #[tactic(auto, unfolding(crate::specs::CoreParts::core_said))]
 fn read_operations(
     alloc: Global,
@@ -109,7 +109,7 @@ fn has_more_than(index: &CoreIndex, count: u32) -> bool
     let creates = index.creates.len();
     let recovers = index.recovers.len();
     let deactivates = index.deactivates.len();
-    // The sum of three lengths is not known to fit, and at the limit it is above every count.
+    // The sum of three lengths may overflow; the saturated sum is above every count.
     creates.saturating_add(recovers).saturating_add(deactivates) > count as usize
 }
 
@@ -129,7 +129,7 @@ fn has_stray_proof(index: &CoreIndex) -> bool
     is_one_alone(index.core_proof.is_some(), is_signed)
 }
 
-/// Whether one of the two holds without the other.
+/// Whether exactly one of the two holds.
 pub(crate) fn is_one_alone(first: bool, second: bool) -> bool
     ensures { result ≡ one_alone first second }
 {

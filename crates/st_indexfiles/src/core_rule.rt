@@ -10,24 +10,24 @@ pub enum CoreRule {
     C1,
     /// It isn't read as JSON with whole numbers.
     C2,
-    /// It isn't an object, has a member of another name, `operations` is there and isn't an object,
-    /// has a member of another name, or one of its members isn't a list.
+    /// It isn't an object, has a member of another name, or has an `operations` that isn't an
+    /// object, has a member of another name, or has a member that isn't a list.
     C3,
-    /// A URI member is there and isn't a hash text, or `writerLockId` is there and isn't a text of at
-    /// most `max_lock_id` bytes.
+    /// A URI member isn't a hash text, or `writerLockId` isn't a text of at most `max_lock_id`
+    /// bytes. Both may be missing.
     C4,
-    /// An entry isn't an object with exactly its members, or one of its hash texts isn't one.
+    /// An entry isn't an object with exactly its members, or one of these isn't a hash text.
     C5,
     /// There are more operations than the declared count.
     C6,
-    /// Two operations have the same suffix, that of a create being computed.
+    /// Two operations have the same suffix; that of a create is computed.
     C7,
-    /// `coreProofFileUri` is there and there is no recover or deactivate, or the reverse.
+    /// `coreProofFileUri` is there without a recover or deactivate, or the reverse.
     C8,
 }
 
 impl CoreRule {
-    /// The name of the rule: a letter for what it judges, and its number, as `C8`.
+    /// The name of the rule: a letter for the kind of file, and its number, as `C8`.
     pub fn name(&self) -> &'static str
         ensures { result.now ≡ core_rule_name self.now }
     {

@@ -15,11 +15,11 @@ use crate::members::{append_list, append_name, append_uri};
 use st_base::{Bytes, WantOfMemory};
 use std::alloc::Global;
 
-/// The canonical text of a core index file that says this. Empty lists are left out, and an
+/// The canonical text of a core index file with this content. Empty lists are left out, and an
 /// `operations` without lists.
 pub fn write_core(alloc: Global, index: &CoreIndex) -> Result<Bytes, WantOfMemory>
     ensures text { IfOk result (λ text. text ≡ canonical (core_json index.now)) }
-    // Wherever the text fails no rule, it is read as the same index.
+    // If the text fails no rule, it is read as the same index.
     ensures read { IfOk result (λ text. (limits : Limits) (count : ℕ) → first_failing_core_rule limits count text ≡ None
         → core_index_of limits.version (json_in text) ≡ index.now) }
 {
@@ -44,7 +44,7 @@ pub fn write_core(alloc: Global, index: &CoreIndex) -> Result<Bytes, WantOfMemor
     Ok(text)
 }
 
-// Appends the operations by their kinds, where there are any.
+// Appends the operations by kind, if there are any.
 fn append_operations(
     alloc: Global,
     text: &mut Bytes,

@@ -10,19 +10,20 @@ use st_base::{Bytes, List, WantOfMemory};
 use st_scan::{Entries, Scanned, entries_in};
 use std::alloc::Global;
 
-/// What an entry of a list of operations says.
+/// The content of an entry in a list of operations.
 pub(crate) trait Entry: Drop {
     ghost of: { ℕ → Plain → Option Self };
 
     ghost json: { Self → Plain };
 
-    /// What the entry says, by the hash texts of the version.
+    /// The content of the entry, with the hash texts of the version.
     fn read(entry: &Scanned<'_>, version: u8) -> Option<Self>
         requires first { 1 ≤ version }
         requires last { version ≤ 2 }
         ensures { result ≡ of version entry.now };
 
-    /// Appends the canonical text of the entry that says this. In whatever version it is read, it is read as this.
+    /// Appends the canonical text of the entry with this content. Every version that reads it reads
+    /// this content.
     fn append(&self, alloc: Global, out: &mut Bytes) -> Result<(), WantOfMemory>
         ensures text { OnOk result (out.new ≡ out.old ++ canonical (json self.now)) }
         ensures read { OnOk result ((version : ℕ) → ReadsAs (of version (json self.now)) self.now) };
@@ -38,7 +39,7 @@ pub(crate) fn entries_of<'a>(operations: Option<&Scanned<'a>>, kind: &str) -> En
     }
 }
 
-/// What all entries say, where each says something.
+/// The contents of all entries, if each has one.
 pub(crate) fn read_entries<T: Entry>(
     alloc: Global,
     entries: Entries<'_>,

@@ -11,7 +11,7 @@ use st_hash::{Hash, hash_text, read_hash, read_hash_at};
 use st_scan::Scanned;
 use std::alloc::Global;
 
-/// The hash whose hash text of the version stands there. It takes no memory.
+/// The hash of the version whose hash text this value is. It allocates nothing.
 pub fn hash_in(there: Option<Scanned<'_>>, version: u8) -> Option<Hash>
     requires first { 1 ≤ version }
     requires last { version ≤ 2 }
@@ -26,7 +26,7 @@ pub fn hash_in(there: Option<Scanned<'_>>, version: u8) -> Option<Hash>
     }
 }
 
-/// The same, of a value that was read into its parts.
+/// The same for a value as a tree.
 pub fn hash_in_json(there: Option<&Json>, version: u8) -> Option<Hash>
     requires first { 1 ≤ version }
     requires last { version ≤ 2 }
@@ -41,7 +41,7 @@ pub fn hash_in_json(there: Option<&Json>, version: u8) -> Option<Hash>
     }
 }
 
-/// The file whose URI stands there.
+/// The file whose URI this value is.
 pub(crate) fn uri_in(there: Option<&Scanned<'_>>) -> Option<Hash>
     ensures { result ≡ uri_in (option_copied there.entry) }
 {
@@ -54,8 +54,8 @@ pub(crate) fn uri_in(there: Option<&Scanned<'_>>) -> Option<Hash>
     }
 }
 
-// The text that stands there, where it may be a hash text. JSON escapes no byte of a hash text, so one of
-// which it escapes a byte is none.
+// The text, if the value may be a hash text. JSON escapes no byte of a hash text, so a text with an
+// escaped byte is none.
 #[tactic(auto, using(crate::proofs::BareLemmas::no_hash_in, crate::proofs::BareLemmas::no_uri_in))]
 fn hash_text_in<'a>(there: Option<&Scanned<'a>>) -> Option<&'a [u8]>
     ensures hash { (version : ℕ) → option_and_then (hash_of_text_at version) (option_copied result) ≡ hash_in version (option_copied there.entry) }
@@ -70,7 +70,7 @@ fn hash_text_in<'a>(there: Option<&Scanned<'a>>) -> Option<&'a [u8]>
     }
 }
 
-/// Whether a URI stands there, or nothing.
+/// Whether the value is a URI or missing.
 pub(crate) fn is_uri_if_there(there: Option<&Scanned<'_>>) -> bool
     ensures { result ≡ is_uri_if_there (option_copied there.entry) }
 {
@@ -80,7 +80,7 @@ pub(crate) fn is_uri_if_there(there: Option<&Scanned<'_>>) -> bool
     }
 }
 
-/// The hash text of a hash as JSON. In whatever version it is read, it is read as this hash.
+/// The hash text of a hash as JSON. Every version that reads it reads this hash.
 pub fn hash_json(alloc: Global, hash: &Hash) -> Result<Json, WantOfMemory>
     ensures value { IfOk result (λ json. plain json ≡ hash_json hash.now) }
     ensures read { OnOk result (IsHashReadAgain hash.now) }

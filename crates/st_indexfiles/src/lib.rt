@@ -1,7 +1,7 @@
 //! The two index files of a batch (DIF Sidetree v1.0.0, "Core Index File" and "Provisional Index
-//! File"): what their JSON says, the rules by which they are accepted, and their canonical texts.
-//! Suffix data, the suffixes of identifiers, and hash texts in JSON stand here too. A file is read from its
-//! canonical text, and no tree is made of it.
+//! File"): their content, their rules, and their canonical texts. Suffix data, the suffixes of
+//! identifiers, and hash texts in JSON are here too. A file is read from its canonical text,
+//! without building a tree.
 #![tactic(auto)]
 
 mod core_index;

@@ -12,8 +12,8 @@ use st_canon::{append_comma, append_text};
 use st_hash::{Hash, hash_text};
 use std::alloc::Global;
 
-// Index files go out as canonical text (RFC 8785), a member after another in the order of their names. Of a member
-// that may be left out each call gives whether a comma is due before the next.
+// Index files are written as canonical text (RFC 8785), one member after another in the order of
+// their names. For an optional member each call returns whether a comma is due before the next.
 
 /// Appends the name of a member and a colon.
 pub(crate) fn append_name(
@@ -29,7 +29,7 @@ pub(crate) fn append_name(
     out.push_all(alloc, b":")
 }
 
-/// Appends a hash text. In whatever version it is read, it is read as this hash.
+/// Appends a hash text. Every version that reads it reads this hash.
 pub(crate) fn append_hash(alloc: Global, out: &mut Bytes, hash: &Hash) -> Result<(), WantOfMemory>
     ensures text { OnOk result (out.new ≡ out.old ++ canonical (hash_json hash.now)) }
     ensures read { OnOk result (IsHashReadAgain hash.now) }
@@ -38,7 +38,7 @@ pub(crate) fn append_hash(alloc: Global, out: &mut Bytes, hash: &Hash) -> Result
     Ok(append_text(alloc, out, text.as_str())?)
 }
 
-/// Appends a member with a URI, where there is one.
+/// Appends a member with a URI, if there is one.
 pub(crate) fn append_uri(
     alloc: Global,
     out: &mut Bytes,
@@ -60,7 +60,7 @@ pub(crate) fn append_uri(
     }
 }
 
-/// Appends a member with the list of these entries, where there are any.
+/// Appends a member with the list of these entries, if there are any.
 pub(crate) fn append_list<T: Entry>(
     alloc: Global,
     out: &mut Bytes,

@@ -21,10 +21,10 @@ use st_params::Params;
 use st_scan::{CanonicalText, Entries, Scanned, entries_in, is_object_of_lists_if_there, only_of};
 use std::alloc::Global;
 
-/// What a provisional index file says, beside its core index and under the count that the anchor
-/// string declares. It counts as one file, whatever it answers.
+/// Reads a provisional index file, given its core index and the count that the anchor string
+/// declares. It counts as one file, whatever the answer is.
 ///
-/// `Rejected` comes exactly with the first rule that the file fails.
+/// The result is `Rejected` if and only if the file fails a rule; it has the first one.
 pub fn read_provisional(
     alloc: Global,
     bytes: &[u8],
@@ -80,7 +80,7 @@ fn read_index(
     Ok(found)
 }
 
-// The updates, where the file has its form.
+// The updates, if the file has its form.
 #[tactic(auto, unfolding(crate::specs::ProvisionalRules::has_provisional_form))]
 fn find_updates<'a>(index: &Scanned<'a>) -> Option<Entries<'a>>
     ensures { result ≡ (if has_provisional_form (Some index.now) then Some (operations_of (codes "update") (Some index.now)) else None) }
@@ -107,7 +107,7 @@ fn chunk_in(index: &Scanned<'_>) -> Option<Hash>
     }
 }
 
-// The index, where its proof URI and each update have their form.
+// The index, if its proof URI and each update have their form.
 #[tactic(auto, unfolding(crate::specs::ProvisionalRules::has_provisional_entries, crate::specs::ProvisionalIndex::provisional_with, crate::specs::ProvisionalIndex::updates_in))]
 fn read_entries_beside(
     alloc: Global,
@@ -135,7 +135,7 @@ fn read_entries_beside(
     }))
 }
 
-// Whether a suffix stands twice among the updates, or in the core index too.
+// Whether a suffix appears twice among the updates, or also in the core index.
 fn repeats_suffix(
     alloc: Global,
     index: &ProvisionalIndex,
@@ -143,7 +143,7 @@ fn repeats_suffix(
 ) -> Result<bool, WantOfMemory>
     ensures { IfOk result (λ repeats. repeats ≡ repeats_suffix (suffixes_in index.now.updates) core.now) }
 {
-    // The suffixes of creates cost a hash each.
+    // Computing the suffixes of creates takes a hash each.
     if index.updates.as_slice().is_empty() {
         return Ok(false);
     }
@@ -163,7 +163,7 @@ fn has_more_than(index: &ProvisionalIndex, core: &CoreIndex, count: u32) -> bool
     let recovers = core.recovers.len();
     let deactivates = core.deactivates.len();
     let updates = index.updates.len();
-    // The sum of the lengths is not known to fit, and at the limit it is above every count.
+    // The sum of the lengths may overflow; the saturated sum is above every count.
     let in_core = creates.saturating_add(recovers).saturating_add(deactivates);
     in_core.saturating_add(updates) > count as usize
 }

@@ -10,27 +10,27 @@ pub enum ProvisionalRule {
     P1,
     /// It isn't read as JSON with whole numbers.
     P2,
-    /// It isn't an object, has a member of another name, `operations` is there and isn't an object,
-    /// has a member of another name, or `update` isn't a list.
+    /// It isn't an object, has a member of another name, or has an `operations` that isn't an
+    /// object, has a member of another name, or has an `update` that isn't a list.
     P3,
-    /// `chunks` isn't there, or isn't a list of exactly one object with exactly the member
+    /// `chunks` is missing, or isn't a list of exactly one object with exactly the member
     /// `chunkFileUri`, a hash text.
     P4,
     /// `provisionalProofFileUri` is there and isn't a hash text, or an entry of `update` isn't an
-    /// object with exactly its members, or one of its hash texts isn't one.
+    /// object with exactly its members, or one of these isn't a hash text.
     P5,
-    /// A suffix stands twice among the updates, or stands in the core index too.
+    /// A suffix appears twice among the updates, or also in the core index.
     P6,
     /// The core index's operations and the updates are more than the declared count.
     P7,
-    /// `provisionalProofFileUri` is there and there is no update, or the reverse.
+    /// `provisionalProofFileUri` is there without an update, or the reverse.
     P8,
     /// There is no create, no recover and no update.
     P9,
 }
 
 impl ProvisionalRule {
-    /// The name of the rule: a letter for what it judges, and its number, as `P9`.
+    /// The name of the rule: a letter for the kind of file, and its number, as `P9`.
     pub fn name(&self) -> &'static str
         ensures { result.now ≡ provisional_rule_name self.now }
     {

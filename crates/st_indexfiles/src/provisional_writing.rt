@@ -15,11 +15,11 @@ use crate::provisional_index::ProvisionalIndex;
 use st_base::{Bytes, WantOfMemory};
 use std::alloc::Global;
 
-/// The canonical text of a provisional index file that says this. Without updates `operations` is
-/// left out.
+/// The canonical text of a provisional index file with this content. Without updates `operations`
+/// is left out.
 pub fn write_provisional(alloc: Global, index: &ProvisionalIndex) -> Result<Bytes, WantOfMemory>
     ensures text { IfOk result (λ text. text ≡ canonical (provisional_json index.now)) }
-    // Wherever the text fails no rule, it is read as the same index.
+    // If the text fails no rule, it is read as the same index.
     ensures read { IfOk result (λ text. (limits : Limits) (count : ℕ) (core : CoreIndex) → first_failing_provisional_rule limits count core text ≡ None
         → provisional_index_of limits.version (json_in text) ≡ Some index.now) }
 {
@@ -39,7 +39,7 @@ pub fn write_provisional(alloc: Global, index: &ProvisionalIndex) -> Result<Byte
     Ok(text)
 }
 
-// Appends the updates, where there are any.
+// Appends the updates, if there are any.
 fn append_operations(
     alloc: Global,
     text: &mut Bytes,

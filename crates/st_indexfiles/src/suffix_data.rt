@@ -14,14 +14,14 @@ use st_hash::{Hash, hash_text, hash_with};
 use st_scan::Scanned;
 use std::alloc::Global;
 
-// What stands round the two hash texts in the canonical text of suffix data.
+// The fixed parts around the two hash texts in the canonical text of suffix data.
 const DELTA_HASH: &[u8] = b"{\"deltaHash\":\"";
 
 const RECOVERY_COMMITMENT: &[u8] = b"\",\"recoveryCommitment\":\"";
 
 const END: &[u8] = b"\"}";
 
-/// What a create commits to: the hash of its delta, and the commitment to its recovery key.
+/// The commitments of a create: the hash of its delta, and the commitment to its recovery key.
 #[derive(Clone, Copy, Debug, PartialEq, Eq)]
 pub struct SuffixData {
     pub delta_hash: Hash,
@@ -31,8 +31,8 @@ pub struct SuffixData {
 impl SuffixData {
     ghost use Rattle.st_indexfiles.specs.SuffixData.{suffix_data_json, suffix_data_of};
 
-    /// The suffix data that the value is: an object with exactly the two hash texts of the version.
-    /// It takes no memory.
+    /// The suffix data of a value: an object with exactly the two hash texts of the version. It
+    /// allocates nothing.
     pub fn read(value: &Scanned<'_>, version: u8) -> Option<SuffixData>
         requires first { 1 ≤ version }
         requires last { version ≤ 2 }
@@ -47,8 +47,8 @@ impl SuffixData {
         })
     }
 
-    /// The suffix data as a JSON object. In whatever version its hash texts are read, they are read
-    /// as these hashes.
+    /// The suffix data as a JSON object. Every version that reads its hash texts reads these
+    /// hashes.
     #[tactic(auto, unfolding(st_plain::proofs::OnLiterals::names_on_literals))]
     pub fn json(&self, alloc: Global) -> Result<Json, WantOfMemory>
         ensures value { IfOk result (λ json. plain json ≡ suffix_data_json self.now) }
@@ -79,8 +79,7 @@ pub fn suffix_of(alloc: Global, suffix_data: &SuffixData) -> Result<Hash, WantOf
     Ok(hash_with(text.as_slice(), suffix_data.delta_hash.code()))
 }
 
-// The canonical text of suffix data. It takes no value of JSON, since in a hash text no byte is
-// escaped.
+// The canonical text of suffix data. It needs no tree, since no byte of a hash text is escaped.
 #[tactic(auto, using(crate::proofs::BareLemmas::suffix_data_text))]
 fn suffix_text(alloc: Global, suffix_data: &SuffixData) -> Result<Bytes, WantOfMemory>
     ensures { IfOk result (λ text. text ≡ canonical (suffix_data_json suffix_data.now)) }
@@ -92,7 +91,7 @@ fn suffix_text(alloc: Global, suffix_data: &SuffixData) -> Result<Bytes, WantOfM
     Ok(between_parts(alloc, delta_hash.as_str(), recovery_commitment.as_str())?)
 }
 
-// The two hash texts with what stands round them. The memory is had at once.
+// The two hash texts with the fixed parts around them, allocated once.
 fn between_parts(
     alloc: Global,
     delta_hash: &str,
@@ -112,7 +111,7 @@ fn between_parts(
     Ok(Bytes::from_vec(text))
 }
 
-// For the proof: the value is one that hashes have, by a clause of `code`. Nothing is done.
+// For the proof: the value is that of a hash, by a clause of `code`. Nothing is done.
 fn know_hash(hash: &Hash)
     ensures { IsHash hash.now }
 {

@@ -21,7 +21,7 @@ pub(crate) fn push_creates(
     Ok(())
 }
 
-/// Appends the suffixes that targets name.
+/// Appends the suffixes of targets.
 pub(crate) fn push_targets(
     alloc: Global,
     suffixes: &mut List<Hash>,

@@ -6,8 +6,8 @@ use st_hash::Hash;
 use st_scan::Scanned;
 use std::alloc::Global;
 
-/// What an update, a recover or a deactivate names: the suffix that it is for, and the reveal value
-/// of its key.
+/// The target of an update, a recover or a deactivate: the suffix of the identifier, and the reveal
+/// value of its key.
 #[derive(Clone, Copy, Debug, PartialEq, Eq)]
 pub struct Target {
     pub suffix: Hash,

@@ -8,7 +8,7 @@ use st_hash::Hash;
 use std::alloc::{AllocError, Global};
 use std::collections::BTreeSet;
 
-/// Whether one of the hashes stands twice.
+/// Whether one of the hashes appears twice.
 pub(crate) fn has_twice(alloc: Global, hashes: &[Hash]) -> Result<bool, WantOfMemory>
     ensures { IfOk result (λ twice. twice ≡ has_twice same_hash hashes.now) }
 {
@@ -16,7 +16,7 @@ pub(crate) fn has_twice(alloc: Global, hashes: &[Hash]) -> Result<bool, WantOfMe
     Ok(different.len() != hashes.len())
 }
 
-/// Whether one of the hashes stands among the others too.
+/// Whether one of the hashes is also among the others.
 pub(crate) fn shares_one(
     alloc: Global,
     hashes: &[Hash],
@@ -33,7 +33,7 @@ pub(crate) fn shares_one(
     Ok(false)
 }
 
-// The hashes, each once and in order.
+// The set of these hashes.
 fn set_of(alloc: Global, hashes: &[Hash]) -> Result<BTreeSet<Hash>, AllocError>
     ensures { IfOk result (IsFromIterResult ⟦<Hash as Ord>⟧.cmp hashes.now) }
 {

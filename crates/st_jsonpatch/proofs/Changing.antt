@@ -1,4 +1,4 @@
--- Changes that are handed on by the calls above.
+-- Changes that are passed on by the calling functions.
 use Rattle.std.proofs.Common.{◌≡◌, Option, Some, None, option_map, Result, Ok, Err, ap, sym, subst, ◌∙◌}
 use Rattle.std.specs.Option.{OnSome}
 use Rattle.st_plain.specs.Plain.{Plain}
@@ -7,7 +7,7 @@ use Rattle.st_jsonpatch.specs.Edited.{put_back}
 use Rattle.st_jsonpatch.specs.declared.refused.ChangeRefused.{ChangeRefused}
 use Rattle.st_jsonpatch.specs.declared.refused.ChangeRefused.TheVariants.{Fails, WantOfMemory}
 
--- what a call made of the entry that stands there, it made of the whole
+-- the change that a call made to the entry, it made to the whole
 pub put_back_changes : {P T : Type 0} (back : Plain → P) (change : Plain → Option Plain) (there : Option Plain) (old new : Plain) (whole : P) (r : Result T ChangeRefused)
     → there ≡ Some old → whole ≡ back new → Changes (change old) new r → Changes (put_back back change there) whole r
 put_back_changes back change there old new whole (Ok x) at is made = ap (put_back back change) at ∙ ap (option_map back) made ∙ ap Some (sym is)

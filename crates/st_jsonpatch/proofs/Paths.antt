@@ -11,7 +11,7 @@ and_false : (b : Bool) → b && false ≡ false
 and_false true = refl
 and_false false = refl
 
--- a path that is no shorter leads to nothing above
+-- a path that is not longer does not lead into the value
 pub not_above : (from path : List (List ℕ)) → length path ≤ length from → is_above from path ≡ false
 not_above from [] le = refl
 not_above [] (token ∷ path) le = absurd (omega arith)
@@ -43,7 +43,7 @@ nothing_after token (boolean b) none = refl
 nothing_after token (whole z) none = refl
 nothing_after token (text t) none = refl
 
--- behind the last token stands the entry itself
+-- after the last token the entry itself is next
 pub last_token : (entry : Option Plain) → option_and_then (at []) entry ≡ entry
 last_token None = refl
 last_token (Some p) = refl
@@ -52,7 +52,7 @@ last_none : (o : Option Plain) → option_and_then (at []) o ≡ None → o ≡ 
 last_none None none = refl
 last_none (Some p) none = cc
 
--- what is not there is not taken out
+-- a missing entry is not removed
 pub nothing_taken : (token : List ℕ) (path : List (List ℕ)) (p : Plain) → at (token ∷ path) p ≡ None → edited take_out token path p ≡ None
 nothing_taken token [] p none = nothing_after token p (last_none (selected token p) none)
 nothing_taken token (next ∷ path) p none =

@@ -1,4 +1,4 @@
--- Pieces of a pointer's text, and the tokens that they are.
+-- Pieces of a pointer's text, and their tokens.
 use Rattle.std.proofs.Common.{◌≡◌, ◌≢◌, ℕ, suc, ◌==◌, true, false, List, [], ◌∷◌, ◌++◌, length, Result, Ok, Err, refl, ap, sym, subst, ◌∙◌, append_assoc, arith, eqb-true}
 use Rattle.st_jsonpatch.specs.Pointer.{after, Lacks, begun_with, pieces_of, token_from, token_of, tokens_of, pointer_of, refusal_of}
 use Rattle.st_base.specs.Answers.{Gives}
@@ -14,7 +14,7 @@ other_first c b bs lacks = elim (b == c) as (λ t. (b == c) ≡ t → t ≡ fals
 lacks_rest : (c b : ℕ) (bs : List ℕ) → Lacks c (b ∷ bs) → Lacks c bs
 lacks_rest c b bs lacks i lt = lacks (suc i) (omega arith)
 
--- what stands behind two lists that were read stands behind both
+-- what follows two lists that were read follows both
 after-after : {A : Type 0} (first second : List A) (rest : Result (List A) PointerRefused) → after first (after second rest) ≡ after (first ++ second) rest
 after-after first second (Ok more) = ap Ok (simp append_assoc)
 after-after first second (Err refused) = refl
@@ -28,7 +28,7 @@ nothing_read rest read is = rw is (after-nothing rest)
 
 -- ---- `~`
 
--- what stands before the first `~` stands for itself
+-- the text before the first `~` means itself
 token-cut : (front back : List ℕ) → Lacks 126 front → token_of (front ++ 126 ∷ back) ≡ after front (token_from true back)
 token-cut [] back lacks = after-nothing (token_from true back)
 token-cut (b ∷ front) back lacks =
@@ -38,7 +38,7 @@ token-plain : (text : List ℕ) → Lacks 126 text → token_of text ≡ Ok text
 token-plain [] lacks = refl
 token-plain (b ∷ text) lacks = rw (other_first 126 b text lacks, token-plain text (lacks_rest 126 b text lacks)) refl
 
--- a token of which some is written, where a `~` stands in the rest
+-- a token of which a prefix is decoded, if the rest has a `~`
 pub record IsCutAtEscape (whole written rest front back : List ℕ) : Type 0 where
   pub so_far : token_of whole ≡ after written (token_of rest)
   pub cut : rest ≡ front ++ 126 ∷ back
@@ -64,7 +64,7 @@ pub all_of_token : (whole written rest : List ℕ) → token_of whole ≡ after 
     → token_of whole ≡ Ok (written ++ rest)
 all_of_token whole written rest so_far lacks = so_far ∙ ap (after written) (token-plain rest lacks)
 
--- a `~` before anything else, or at the end
+-- a `~` before any other byte, or at the end
 pub no_escape : (bs : List ℕ) → ((rest : List ℕ) → bs ≢ 48 ∷ rest) → ((rest : List ℕ) → bs ≢ 49 ∷ rest)
     → token_from true bs ≡ Err BadPointer
 no_escape [] no_zero no_one = refl
@@ -83,7 +83,7 @@ pieces-one : (text : List ℕ) → Lacks 47 text → pieces_of text ≡ text ∷
 pieces-one [] lacks = refl
 pieces-one (b ∷ text) lacks = rw (other_first 47 b text lacks) (ap (begun_with b) (pieces-one text (lacks_rest 47 b text lacks)))
 
--- tokens of which some are read, where a `/` stands in the rest
+-- tokens of which the first are read, if the rest has a `/`
 pub record IsCutAtSlash (whole read : List (List ℕ)) (rest front back : List ℕ) : Type 0 where
   pub so_far : tokens_of whole ≡ after read (tokens_of (pieces_of rest))
   pub cut : rest ≡ front ++ 47 ∷ back
@@ -114,7 +114,7 @@ pub no_last : (whole read : List (List ℕ)) (rest : List ℕ) → tokens_of who
 no_last whole read rest so_far lacks refused none =
     so_far ∙ ap (λ pieces. after read (tokens_of pieces)) (pieces-one rest lacks) ∙ rw none refl
 
--- what is refused inside is refused as a whole
+-- a refusal of a part is a refusal of the whole
 pub refused_inside : {A B : Type 0} {part : Result A PointerRefused} {whole : Result B PointerRefused} (refused : PointerRefused)
     (result : Result B PointerRefused) → result ≡ Err refused → Gives refusal_of part (Err refused)
     → ((r : PointerRefused) → part ≡ Err r → whole ≡ Err r) → Gives refusal_of whole result
@@ -124,7 +124,7 @@ refused_inside {A} {B} {part} {whole} refused result is given inside =
       | WantOfMemory ↦ λ given. tt
     ] given)
 
--- a text that is not empty and begins with no `/`
+-- a text that is not empty and does not start with `/`
 pub no_slash : (bs : List ℕ) → (length bs == 0) ≡ false → ((rest : List ℕ) → bs ≢ 47 ∷ rest) → pointer_of bs ≡ Err BadPointer
 no_slash [] some not = cc
 no_slash (b ∷ bs) some not =

@@ -1,4 +1,4 @@
--- What a list of values ends as once a `&mut` to one of them has ended.
+-- The state of a list of values after a `&mut` to one of them has ended.
 use Rattle.std.specs.Prelude.{◌≡◌, List, ℕ, Option, OnSome}
 use Rattle.std.specs.Borrow.{Fml, MutBor, LendsSo}
 use Rattle.st_base.specs.contracts.list.List.{the_row as list_row}

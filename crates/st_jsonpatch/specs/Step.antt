@@ -21,7 +21,7 @@ pub data PlainStep : Type 0 where
   copy : List (List ℕ) → List (List ℕ) → PlainStep
   test : List (List ℕ) → Plain → PlainStep
 
--- the plain step that a `Step` stands for
+-- the plain step of a `Step`
 abbrev pub plain_step : Step → PlainStep
 plain_step (Add path value) = add path (plain value)
 plain_step (Remove path) = remove path
@@ -32,12 +32,12 @@ plain_step (Test path value) = test path (plain value)
 
 -- ---- read
 
--- what is no pointer makes no step
+-- a value without a pointer is not a step
 abbrev pub or_bad_step : {A : Type 0} → Result A PointerRefused → Result A StepRefused
 or_bad_step (Ok x) = Ok x
 or_bad_step (Err refused) = Err BadStep
 
--- the pointer that the member of this name is
+-- the pointer in the member of this name
 abbrev pub path_at : List ℕ → Plain → Result (List (List ℕ)) StepRefused
 path_at name value = do
   written ← ok_or (text_at name (Some value)) BadStep
@@ -61,13 +61,13 @@ with_from step value = do
   from ← path_at (codes "from") value
   Ok (step from path)
 
--- a step that needs a path alone
+-- a step that needs only a path
 abbrev pub with_path : (List (List ℕ) → PlainStep) → Plain → Result PlainStep StepRefused
 with_path step value = do
   path ← path_at (codes "path") value
   Ok (step path)
 
--- the step of this name, with what it needs; other members are ignored
+-- the step of this name, with the members it needs; other members are ignored
 abbrev pub step_named : List ℕ → Plain → Result PlainStep StepRefused
 step_named op value =
     if is_name op (codes "add") then with_value add value else
@@ -78,13 +78,13 @@ step_named op value =
     if is_name op (codes "test") then with_value test value else
     Err BadStep
 
--- The step that a value is: an object with `op` and what that needs.
+-- The step of a value: an object with `op` and the members that this needs.
 abbrev pub step_of : Plain → Result PlainStep StepRefused
 step_of value = do
   op ← ok_or (text_at (codes "op") (Some value)) BadStep
   step_named op value
 
--- what a refusal says of the value: nothing, where memory was wanting
+-- what a refusal says about the value: nothing, if memory ran out
 abbrev pub refusal_of : StepRefused → Option StepRefused
 refusal_of BadStep = Some BadStep
 refusal_of WantOfMemory = None

@@ -1,4 +1,4 @@
--- What the steps of a JSON Patch make of a value (RFC 6902, section 4).
+-- The effect of a step of a JSON Patch on a value (RFC 6902, section 4).
 use Rattle.std.specs.Prelude.{ℕ, Bool, true, false, not, ◌&&◌, List, [], ◌∷◌, bytes_eq, Option, Some, None}
 use Rattle.st_base.specs.Options.{◌>>=◌, ◌>>◌}
 use Rattle.st_plain.specs.Measure.{fits, is_equal}
@@ -7,28 +7,28 @@ use Rattle.st_jsonpatch.specs.At.{at}
 use Rattle.st_jsonpatch.specs.Edited.{edited, put_new, take_out, set_to}
 use Rattle.st_jsonpatch.specs.Step.{PlainStep, add, remove, replace, move, copy, test}
 
--- at the empty path the value replaces all
+-- at the empty path the value replaces the whole document
 abbrev pub added : Plain → List (List ℕ) → Plain → Option Plain
 added new [] value = Some new
 added new (token ∷ path) value = edited (put_new new) token path value
 
--- the whole is not removed
+-- the root can't be removed
 abbrev pub removed : List (List ℕ) → Plain → Option Plain
 removed [] value = None
 removed (token ∷ path) value = edited take_out token path value
 
--- `replace`: the new value where the path leads, which must be there
+-- `replace`: the new value at the path, which must exist
 abbrev pub replaced : Plain → List (List ℕ) → Plain → Option Plain
 replaced new [] value = Some new
 replaced new (token ∷ path) value = edited (set_to new) token path value
 
--- the first path leads to a value that the second leads into
+-- the second path leads into the value at the first
 abbrev pub is_above : List (List ℕ) → List (List ℕ) → Bool
 is_above from [] = false
 is_above [] (token ∷ path) = true
 is_above (first ∷ from) (token ∷ path) = bytes_eq first token && is_above from path
 
--- no value is moved into itself
+-- a value can't be moved into itself
 abbrev pub moved : List (List ℕ) → List (List ℕ) → Plain → Option Plain
 moved from path value = do
   not (is_above from path)
@@ -36,20 +36,20 @@ moved from path value = do
   rest ← removed from value
   added entry path rest
 
--- `copy`: what is at the first path, added at the second
+-- `copy`: the value at the first path, added at the second
 abbrev pub copied : List (List ℕ) → List (List ℕ) → Plain → Option Plain
 copied from path value = do
   entry ← at from value
   added entry path value
 
--- `test`: nothing changes where the value is equal to what is expected
+-- `test`: nothing changes if the value is the expected one
 abbrev pub tested : Plain → List (List ℕ) → Plain → Option Plain
 tested expected path value = do
   entry ← at path value
   is_equal entry expected
   Some value
 
--- the value after a step, where no bound is looked at
+-- the value after a step, without the bounds
 abbrev pub changed : PlainStep → Plain → Option Plain
 changed (add path new) = added new path
 changed (remove path) = removed path
@@ -58,8 +58,8 @@ changed (move from path) = moved from path
 changed (copy from path) = copied from path
 changed (test path expected) = tested expected path
 
--- The value after a step, where the step does not fail. It fails too where the whole value after it
--- nests too deep, or has too long a canonical text.
+-- The value after a step, if the step does not fail. It also fails if the whole value after it nests too deep, or its
+-- canonical text is too long.
 abbrev pub stepped : ℕ → ℕ → PlainStep → Plain → Option Plain
 stepped max_depth max_size step value = do
   new ← changed step value

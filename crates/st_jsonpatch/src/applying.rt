@@ -15,9 +15,9 @@ use st_base::{Copied, Text};
 use st_canon::{Json, equal, fits};
 use std::alloc::Global;
 
-/// The value after the steps, each of which keeps the whole value within the two bounds.
+/// The value after the steps; after each step the whole value must be within the two bounds.
 ///
-/// `Failed(i)` comes exactly where step `i`, counted from 0, is the first that fails.
+/// The result is `Failed(i)` if and only if step `i`, counted from 0, is the first that fails.
 pub fn apply_steps(
     alloc: Global,
     value: &Json,

@@ -31,7 +31,7 @@ pub(crate) fn add(
     }
 }
 
-// Hands out what stood at the path.
+// Returns the removed value.
 pub(crate) fn remove(alloc: Global, value: &mut Json, path: &[Text]) -> Result<Json, ChangeRefused>
     ensures value { Changes (removed path.now (plain value.old)) (plain value.new) result }
     ensures out { IfOk result (λ out. at path.now (plain value.old) ≡ Some (plain out)) }

@@ -24,7 +24,7 @@ pub(crate) fn item<'a>(items: &'a List<Json>, token: &str) -> Option<&'a Json>
     }
 }
 
-// The same, to be changed.
+// A mutable reference to the item that a token selects.
 pub(crate) fn item_mut<'a>(items: &'a mut List<Json>, token: &str) -> Option<&'a mut Json>
     ensures* writes_back { sem 𝓛 (LendsItem items.entry token.now result) }
     ensures item { option_map plain (option_copied_mut result) ≡ item_at token.now (plain_items items.old) }
@@ -36,7 +36,7 @@ pub(crate) fn item_mut<'a>(items: &'a mut List<Json>, token: &str) -> Option<&'a
     }
 }
 
-// The token acts on the list that it selects in.
+// Applies the action to the list, at the item that the token selects.
 pub(crate) fn act_on_items(
     alloc: Global,
     items: &mut List<Json>,
@@ -79,7 +79,7 @@ fn insert_item(
     }
 }
 
-// Where an item goes in a list of this length.
+// The place for an item in a list of this length.
 fn place_in(token: &str, length: usize) -> Option<usize>
     ensures place { result ≡ place_in length token.now }
     ensures within { IfSome result (λ at. at ≤ length) }

@@ -9,7 +9,7 @@ use crate::refused::ChangeRefused;
 use st_canon::{Json, Object};
 use std::alloc::Global;
 
-// The token acts on the object that it selects in.
+// Applies the action to the object, at the member that the token selects.
 pub(crate) fn act_on_members(
     alloc: Global,
     members: &mut Object,

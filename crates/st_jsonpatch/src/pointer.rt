@@ -23,9 +23,9 @@ impl Model for Pointer {
 }
 
 impl Pointer {
-    /// The pointer that this text is, which is empty or begins with `/`.
+    /// The pointer of a text, which is empty or starts with `/`.
     ///
-    /// `BadPointer` comes exactly where the text is no pointer.
+    /// The result is `BadPointer` if and only if the text is not a pointer.
     pub fn read(alloc: Global, text: &str) -> Result<Pointer, PointerRefused>
         ensures { Gives refusal_of (pointer_of text.now) result }
     {
@@ -43,7 +43,7 @@ impl Pointer {
         }
     }
 
-    /// The tokens, from the whole value down.
+    /// The tokens, from the root down.
     pub fn tokens(&self) -> &[Text]
         ensures { result.now ≡ self.now }
     {

@@ -13,22 +13,22 @@ use std::alloc::Global;
 /// A step of a JSON Patch (RFC 6902, section 4).
 #[derive(Drop)]
 pub enum Step {
-    /// The parent has one more entry, or the value replaces all.
+    /// The parent gets one more entry, or the value replaces the whole document.
     Add { path: Pointer, value: Json },
     Remove { path: Pointer },
     Replace { path: Pointer, value: Json },
-    /// What stands at `from` is removed there, and added at `path`.
+    /// The value at `from` is removed there, and added at `path`.
     Move { from: Pointer, path: Pointer },
     Copy { from: Pointer, path: Pointer },
-    /// Changes nothing, and fails where the target is not equal to the value.
+    /// Changes nothing, and fails if the target is not equal to the value.
     Test { path: Pointer, value: Json },
 }
 
 impl Step {
-    /// The step that this value is: an object with `op`, `path`, and what that `op` needs. Other
-    /// members are ignored.
+    /// The step of a value: an object with `op`, `path`, and the members that this `op` needs.
+    /// Other members are ignored.
     ///
-    /// `BadStep` comes exactly where the value is no step.
+    /// The result is `BadStep` if and only if the value is not a step.
     pub fn read(alloc: Global, value: &Json) -> Result<Step, StepRefused>
         ensures { GivesAs plain_step refusal_of (step_of (plain value.now)) result }
     {
@@ -106,7 +106,7 @@ fn read_test(alloc: Global, value: &Json) -> Result<Step, StepRefused>
     Ok(Step::Test { path, value })
 }
 
-// The pointer that the member of this name is.
+// The pointer in the member of this name.
 fn read_path(alloc: Global, value: &Json, name: &str) -> Result<Pointer, StepRefused>
     ensures { Gives refusal_of (path_at name.now (plain value.now)) result }
 {
@@ -120,7 +120,7 @@ fn read_path(alloc: Global, value: &Json, name: &str) -> Result<Pointer, StepRef
     }
 }
 
-// The text that the member of this name is.
+// The text in the member of this name.
 fn text_at<'a>(value: &'a Json, name: &str) -> Option<&'a str>
     ensures { option_map (λ text. text.now) result ≡ text_at name.now (Some (plain value.now)) }
 {

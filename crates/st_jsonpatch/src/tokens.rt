@@ -23,7 +23,7 @@ pub(crate) fn read_tokens(alloc: Global, text: &str) -> Result<List<Text>, Point
     Ok(tokens)
 }
 
-// The token that is written so.
+// The token with this spelling.
 fn read_token(alloc: Global, piece: &str) -> Result<Text, PointerRefused>
     ensures { Gives refusal_of (token_of piece.now) result }
 {
@@ -41,7 +41,7 @@ fn read_token(alloc: Global, piece: &str) -> Result<Text, PointerRefused>
     Ok(Text::from_string(token))
 }
 
-// What a `~` stands for that has this text behind it, and what is left of the text.
+// The character of a `~` escape before this text, and the rest of the text.
 fn read_escape(text: &str) -> Option<(char, &str)>
     ensures token { MatchOption result (token_from true text.now ≡ Err BadPointer)
         (λ escape. token_from true text.now ≡ after (escape.0 ∷ []) (token_of escape.1.now)) }
@@ -57,7 +57,7 @@ fn read_escape(text: &str) -> Option<(char, &str)>
     None
 }
 
-// What stands before the first such sign, and all that stands behind it.
+// The text before the first such sign, and all text after it.
 fn cut(text: &str, sign: char) -> Option<(&str, &str)>
     requires { sign < 128 }
     ensures { MatchOption result (Lacks sign text.now)

@@ -1,4 +1,4 @@
--- Texts cut at their dots.
+-- Texts split at their dots.
 use Rattle.std.proofs.Common.{◌≡◌, ◌∙◌, ℕ, ◌+◌, List, ◌∷◌, ◌++◌, length, take, Some, sym, ap, refl, append_assoc, length-append, arith}
 use Rattle.std.proofs.lemmas.List.{take_at}
 use Rattle.st_base.specs.Words.{cut_at}
@@ -15,7 +15,7 @@ input_of whole a b c e =
     let long : length (a ++ dot ∷ b) ≡ length a + 1 + length b = omega (arith, length-append a (dot ∷ b)) in
     ap (take (length a + 1 + length b)) e ∙ take_at (a ++ dot ∷ b) (dot ∷ c) (length a + 1 + length b) long
 
--- the texts that are cut out one after another
+-- the texts split off one after another
 pub texts_found : (whole header rest payload signature : List ℕ) → whole ≡ (header ++ dot ∷ payload) ++ dot ∷ signature
     → cut_at dot whole ≡ Some (header, rest) → cut_at dot rest ≡ Some (payload, signature)
     → Some (record { input = take (length header + 1 + length payload) whole; header = header; payload = payload; signature = signature }) ≡ texts_of whole

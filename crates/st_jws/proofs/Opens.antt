@@ -1,4 +1,4 @@
--- What is joined from a signature over a payload opens to that payload and its key.
+-- A text joined from a signature over a payload opens to that payload and its key.
 use Rattle.std.proofs.Common.{◌≡◌, ◌∙◌, ℕ, ◌≤◌, true, nat_le, List, ◌∷◌, ◌++◌, length, codes, Some, Ok, refl, sym, ap, subst, append_assoc, lit≤, arith}
 use Rattle.std.proofs.lemmas.Bool.Decides.{nat_tests}
 use Rattle.std.specs.Result.{result_ok}

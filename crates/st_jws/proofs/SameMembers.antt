@@ -1,4 +1,4 @@
--- Members are told by what stands under each name.
+-- Members are determined by the value under each name.
 use Rattle.std.proofs.Common.{◌≡◌, ◌≢◌, ◌∙◌, ℕ, true, false, if◌then◌else◌, List, Some, None, Less, Equal, Greater, refl, sym, ap, subst}
 use Rattle.std.proofs.lemmas.Bool.{and_parts}
 use Rattle.std.proofs.lemmas.Option.{same_Some}
@@ -14,7 +14,7 @@ not_above : (name : List ℕ) (ms : Members) → AllAbove name ms → member_at 
 not_above name no_members above = refl
 not_above name (member n p ms) above = rw (not_name_from_less name n above.0) (not_above name ms above.1)
 
--- what is below a name is below all that are above it
+-- a name below this one is below all that are above it
 above_lower : (low name : List ℕ) (ms : Members) → name_cmp low name ≡ Less → AllAbove name ms → AllAbove low ms
 above_lower low name no_members less above = tt
 above_lower low name (member n p ms) less above =
@@ -23,7 +23,7 @@ above_lower low name (member n p ms) less above =
 first_found : (name : List ℕ) (p : Plain) (ms : Members) → member_at name (member name p ms) ≡ Some p
 first_found name p ms = rw (is_name_from_same name name refl) refl
 
--- a first member whose name is below all others is missed there
+-- a first member whose name is below all others is missing from them
 missed : (low name : List ℕ) (p q : Plain) (ms ns : Members) → name_cmp low name ≡ Less → AllAbove name ns
     → member_at low (member low p ms) ≢ member_at low (member name q ns)
 missed low name p q ms ns less above same =
@@ -31,7 +31,7 @@ missed low name p q ms ns less above same =
     let none : member_at low (member name q ns) ≡ None = not_above low (member name q ns) (less, above_lower low name ns less above) in
     cc
 
--- behind the first member stands what stands under the other names
+-- the rest of the members has the same under the other names
 behind_first : (name other : List ℕ) (p : Plain) (ms : Members) → AllAbove name ms
     → member_at other ms ≡ (if is_name other name then None else member_at other (member name p ms))
 behind_first name other p ms above =

@@ -1,4 +1,4 @@
--- A proper value that is read as a key is the one that is written of it.
+-- A proper value that is read as a key is the one written for it.
 use Rattle.std.proofs.Common.{◌≡◌, ◌∙◌, ℕ, true, false, List, [], ◌∷◌, codes, Option, Some, None, option_map, refl, sym, subst}
 use Rattle.std.specs.Str.{IsUtf8}
 use Rattle.std.proofs.lemmas.Str.{IsUtf8-from_ascii}
@@ -19,7 +19,7 @@ use Rattle.st_jws.proofs.SameMembers.{none_beside, same_members}
 use Rattle.st_lms.specs.Keys.{public_text}
 use lib.Utf8.{encode}
 
--- ---- what is written is proper
+-- ---- the written value is proper
 
 utf8_alg : IsUtf8 (codes "alg")
 unfolding encode
@@ -44,7 +44,7 @@ utf8_lms = (lms, (refl, refl))
 utf8_base64url : (bytes : List ℕ) → IsUtf8 (base64url bytes)
 utf8_base64url bytes = IsUtf8-from_ascii (base64url bytes) (IsAscii-encode_of url_safe_no_pad bytes)
 
--- the members that are written
+-- the written members
 abbrev members_of : Plain → Option Plain → Members
 members_of public nonce =
     some_listed ((codes "alg", Some (text lms)) ∷ (codes "kty", Some (text lms)) ∷ (codes "pub", Some public) ∷ (codes "nonce", nonce) ∷ [])
@@ -56,9 +56,9 @@ proper_members public None =
 proper_members public (Some nonce) =
     (utf8_alg, (refl, (refl, (refl, tt))), utf8_lms, (utf8_kty, (refl, (refl, tt)), utf8_lms, (utf8_nonce, (refl, tt), utf8_base64url nonce, (utf8_pub, tt, utf8_base64url public, tt))))
 
--- ---- what stands under each name
+-- ---- the value under each name
 
--- what is written under a name
+-- the value written under each name
 record Holds (public : Plain) (nonce : Option Plain) : Type 0 where
   alg : member_at (codes "alg") (members_of public nonce) ≡ Some (text lms)
   kty : member_at (codes "kty") (members_of public nonce) ≡ Some (text lms)
@@ -94,7 +94,7 @@ module _ (members : Members) (key : Jwk) where
     abbrev says : Holds (bytes_json (public_text key.public)) (option_map bytes_json key.nonce)
     says = holds (bytes_json (public_text key.public)) (option_map bytes_json key.nonce)
 
-    -- under a name that is one of the four the same stands
+    -- a name that equals one of the four has the same value
     named : (one name : List ℕ) → is_name name one ≡ true → member_at one members ≡ member_at one written
         → member_at name members ≡ member_at name written
     named one name is same =
@@ -116,7 +116,7 @@ module _ (members : Members) (key : Jwk) where
           ] refl
         ] refl
 
-    -- proper members that have a key are those that are written of it
+    -- proper members that are read as a key are those written for it
     pub members-written : MembersAreProper members → members ≡ some_listed (jwk_members key)
     members-written proper =
         same_members members written proper (proper_members (public_text key.public) key.nonce) agree

@@ -37,7 +37,7 @@ jwk_json key = object_of_some (jwk_members key)
 
 -- ---- read
 
--- a nonce, where there is one, has 16 bytes
+-- a nonce, if any, has 16 bytes
 abbrev pub IsNonce : Option (List ℕ) → Type 0
 IsNonce None = ⊤
 IsNonce (Some nonce) = (length nonce ≡ 16) × IsBytes nonce
@@ -46,26 +46,26 @@ IsNonce (Some nonce) = (length nonce ≡ 16) × IsBytes nonce
 abbrev pub jwk_names : List (List ℕ)
 jwk_names = codes "alg" ∷ codes "kty" ∷ codes "pub" ∷ codes "nonce" ∷ []
 
--- the text is there, and is `LMS`
+-- the text is `LMS`, and not missing
 abbrev pub is_lms : Option (List ℕ) → Bool
 is_lms None = false
 is_lms (Some bytes) = is_name bytes lms
 
--- an object with no members but those of a key, whose `alg` and `kty` are `LMS`
+-- an object with no members except those of a key, whose `alg` and `kty` are `LMS`
 abbrev pub is_lms_key : Option Plain → Bool
 is_lms_key there =
     is_object_of jwk_names there && (is_lms (text_at (codes "alg") there) && is_lms (text_at (codes "kty") there))
 
--- the public key whose 56 bytes stand in a text in base64url
+-- the public key whose 56 bytes a text has in base64url
 abbrev pub public_of_text : List ℕ → Option PublicKey
 public_of_text bytes = option_and_then public_in (fixed_of_text 56 bytes)
 
--- the nonce whose 16 bytes stand there in a text in base64url, or that there is none
+-- the nonce whose 16 bytes a text has in base64url, or that there is none
 abbrev pub nonce_at : Option Plain → Option (Option (List ℕ))
 nonce_at None = Some None
 nonce_at (Some value) = option_map Some (option_and_then (fixed_of_text 16) (text_in value))
 
--- the key that a value is
+-- the key of a value
 abbrev pub jwk_of : Plain → Option Jwk
 jwk_of value = do
   is_lms_key (Some value)

@@ -1,5 +1,4 @@
--- What a compact signed text opens to (RFC 7515, section 5.2) with the algorithm LMS and a key inside
--- the payload.
+-- The content of a compact signed text (RFC 7515, section 5.2) with the algorithm LMS and a key inside the payload.
 use Rattle.std.specs.Prelude.{ℕ, Bool, ◌&&◌, nat_le, List, [], ◌∷◌, length, codes, Option, Some, None, option_and_then, Result, Ok}
 use Rattle.std.specs.Option.{ok_or, option_xor}
 use Rattle.st_base.specs.Answers.{◌>>=◌, ◌>>◌, holds_or}
@@ -24,12 +23,12 @@ abbrev pub key_in : Plain → Option Jwk
 key_in payload =
     option_and_then jwk_of (option_xor (member_in (codes "updateKey") (Some payload)) (member_in (codes "recoveryKey") (Some payload)))
 
--- what a signed text says: its payload, and the key that signed it
+-- the content of a signed text: its payload, and the key that signed it
 pub record Opened : Type 0 where
   pub payload : Plain
   pub key : Jwk
 
--- the payload and the key of a signed text of at most so many bytes, or the first rule that it breaks
+-- the payload and the key of a signed text of at most this many bytes, or the first rule that it breaks
 abbrev pub opened : List ℕ → ℕ → Result Opened SignedRefused
 opened compact limit = do
   holds_or (nat_le (length compact) limit) BadForm
@@ -43,7 +42,7 @@ opened compact limit = do
   holds_or (is_signature key.public texts.input signature) BadSignature
   Ok (record { payload = json; key = key })
 
--- the refusal that an error is
+-- the refusal of an error, if it is one
 abbrev pub refusal_of : SignedRefused → Option SignedRefused
 refusal_of WantOfMemory = None
 refusal_of refusal = Some refusal

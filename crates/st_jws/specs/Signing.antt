@@ -1,4 +1,4 @@
--- Compact signed texts (RFC 7515, section 5.1), written.
+-- Writing compact signed texts (RFC 7515, section 5.1).
 use Rattle.std.specs.Prelude.{◌≡◌, ◌≤◌, ℕ, List, ◌∷◌, ◌++◌, codes, Some}
 use Rattle.st_plain.specs.Canonical.{canonical}
 use Rattle.st_plain.specs.Depth.{depth_of}
@@ -14,11 +14,11 @@ use Rattle.st_lms.specs.Signature.{IsSignature}
 abbrev pub header_text : List ℕ
 header_text = codes "{\"alg\":\"LMS\"}"
 
--- what is signed of a payload: the header and the canonical payload, with a dot between their texts
+-- the input of a signature of a payload: the header and the canonical payload, with a dot between their texts
 abbrev pub signing_input : Plain → List ℕ
 signing_input payload = base64url header_text ++ dot ∷ base64url (canonical payload)
 
--- what was signed, a dot, the text of the signature
+-- the input, a dot, the text of the signature
 abbrev pub join_signed : List ℕ → List ℕ → List ℕ
 join_signed input signature = input ++ dot ∷ base64url signature
 

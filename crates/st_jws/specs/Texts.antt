@@ -7,15 +7,15 @@ use Rattle.st_base.specs.Words.{cut_at}
 abbrev pub dot : ℕ
 dot = 46
 
--- the three texts between the first two dots, and what is signed: the first two with their dot
+-- the three texts between the first two dots, and the signed input: the first two with their dot
 pub record Texts : Type 0 where
   pub input : List ℕ
   pub header : List ℕ
   pub payload : List ℕ
   pub signature : List ℕ
 
--- A signed text, cut at its first two dots (RFC 7515, section 3.1). What was signed is all that stands
--- before the second.
+-- A signed text, split at its first two dots (RFC 7515, section 3.1). The signed input is the part before the second
+-- dot.
 abbrev pub texts_of : List ℕ → Option Texts
 texts_of text = do
   (header, rest) ← cut_at dot text

@@ -45,8 +45,8 @@ pub fn commitment(alloc: Global, key: &Jwk) -> Result<Hash, WantOfMemory>
     Ok(commitment_with(alloc, key, SHA_256)?)
 }
 
-/// Whether the commitment is the hash of the reveal value's digest, with the algorithm of the reveal
-/// value. It takes no memory.
+/// Whether the commitment is the hash of the reveal value's digest, with the algorithm of the
+/// reveal value. It allocates nothing.
 pub fn meets(reveal: &Hash, commitment: &Hash) -> bool
     ensures { IsTrue result ↔ Meets reveal.now commitment.now }
 {

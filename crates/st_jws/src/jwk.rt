@@ -21,30 +21,30 @@ use thiserror::Error;
 
 const LMS: &str = "LMS";
 
-/// The value is no JWK of an LMS key.
+/// The value is not a JWK of an LMS key.
 #[derive(Clone, Copy, Debug, PartialEq, Eq, Error)]
 #[error("not a JWK of an LMS key")]
 pub struct BadJwk;
 
-/// An LMS key as a JSON Web Key (RFC 7517): the public key, and a nonce by which one LMS key gives
-/// several JWKs with reveal values of their own.
+/// An LMS key as a JSON Web Key (RFC 7517): the public key, and a nonce, so that one LMS key can
+/// have several JWKs with different reveal values.
 #[derive(Clone, Copy, Debug, PartialEq, Eq)]
 pub struct Jwk {
     /// The LMS public key.
     pub public: Public,
-    /// What tells the JWKs of one public key apart.
+    /// Distinguishes the JWKs of one public key.
     pub nonce: Option<[u8; 16]>,
 }
 
 impl Jwk {
-    /// The key that this value is. It takes no memory.
+    /// The key of this value. It allocates nothing.
     ///
-    /// `BadJwk` comes exactly where the value is no object with exactly `alg` = `LMS`, `kty` = `LMS`,
-    /// `pub`, the base64url of the 56 bytes of a public key, and optionally `nonce`, the base64url of
-    /// 16 bytes.
+    /// The result is `BadJwk` if and only if the value is not an object with exactly `alg` = `LMS`,
+    /// `kty` = `LMS`, `pub`, the base64url of the 56 bytes of a public key, and optionally `nonce`,
+    /// the base64url of 16 bytes.
     pub fn read(value: &Json) -> Result<Jwk, BadJwk>
         ensures value { result_ok result ≡ jwk_of (plain value.now) }
-        // A proper value that is a key is the one that `json` writes of it.
+        // A proper value that is read as a key is the one that `json` writes for it.
         ensures written { IfOk result (λ key. IsProper (plain value.now)
             → plain value.now ≡ jwk_json key) }
     {
@@ -57,7 +57,7 @@ impl Jwk {
         }
     }
 
-    /// The object of this key, which is read as this key again.
+    /// The JSON object of this key, which is read as this key again.
     pub fn json(&self, alloc: Global) -> Result<Json, WantOfMemory>
         ensures value { IfOk result (λ json. plain json ≡ jwk_json self.now) }
         ensures read { IfOk result (λ json. jwk_of (plain json) ≡ Some self.now) }
@@ -155,7 +155,7 @@ fn is_lms_key(members: &Object) -> bool
         && is_lms(members.text("kty"))
 }
 
-/// Whether the text is there, and is `LMS`.
+/// Whether the text is `LMS`; `None` is not.
 pub(crate) fn is_lms(text: Option<&str>) -> bool
     ensures { result ≡ is_lms (option_map (λ text. text.now) text.entry) }
 {

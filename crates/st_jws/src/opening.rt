@@ -20,14 +20,13 @@ use st_hash::{DecRefused, dec};
 use st_lms::verify;
 use std::alloc::Global;
 
-/// A signed text whose signature holds under the key in its payload.
 #[derive(Drop)]
 pub struct Signed {
-    /// The text as it was.
+    /// The original text.
     pub text: KeptText,
-    /// What was signed, kept as its canonical text.
+    /// The signed payload, stored as its canonical text.
     pub payload: PackedJson,
-    /// The key of the payload, under which the signature holds.
+    /// The key in the payload, under which the signature holds.
     pub key: Jwk,
 }
 
@@ -40,11 +39,11 @@ impl Copied for Signed {
     }
 }
 
-/// Opens a signed text of at most `limit` bytes. What is shared with a file goes on being shared. It counts as
-/// one proof, whatever it answers.
+/// Opens a signed text of at most `limit` bytes. Parts shared with a file stay shared. It counts as
+/// one proof, whatever the answer is.
 ///
-/// Each refusal but `WantOfMemory` comes exactly where it is the first in the order of
-/// `SignedRefused` that holds.
+/// A refusal other than `WantOfMemory` is returned if and only if it is the first, in the order of
+/// `SignedRefused`, that holds.
 pub fn open_signed(
     alloc: Global,
     text: &KeptText,
@@ -91,7 +90,7 @@ fn open_text(alloc: Global, text: &[u8], limit: usize) -> Result<(Json, Jwk), Si
     Ok((payload, key))
 }
 
-// The bytes whose base64url this is.
+// The bytes with this base64url text.
 fn decode(alloc: Global, text: &[u8]) -> Result<Bytes, SignedRefused>
     ensures { Gives refusal_of (ok_or (bytes_of_text text.now) BadForm) result }
 {

@@ -6,7 +6,7 @@ ghost use Rattle.st_jws.specs.Opening.{key_in};
 use crate::jwk::Jwk;
 use st_canon::Json;
 
-/// The key of a payload: that of its one member `updateKey` or `recoveryKey`.
+/// The key of a payload: the value of its only member `updateKey` or `recoveryKey`.
 pub(crate) fn key_in(payload: &Json) -> Option<Jwk>
     ensures { result ≡ key_in (plain payload.now) }
 {

@@ -7,17 +7,17 @@ pub enum SignedRefused {
     /// The text has more bytes than the limit, or is not three base64url texts joined by two dots.
     #[error("not a signed text")]
     BadForm,
-    /// The header is no JSON object with exactly `alg` = `LMS` and optionally a text `kid`.
+    /// The header is not a JSON object with exactly `alg` = `LMS` and optionally a text `kid`.
     #[error("not the header of an LMS signature")]
     BadHeader,
-    /// The payload is no JSON object with exactly one of `updateKey` and `recoveryKey` among its
+    /// The payload is not a JSON object with exactly one of `updateKey` and `recoveryKey` among its
     /// members, whose value is a JWK.
     #[error("not a payload with a key")]
     BadPayload,
-    /// The signature is not one of the first two texts and their dot under the payload's key.
+    /// The signature is not one of the first two texts and their dot, under the payload's key.
     #[error("the signature does not hold")]
     BadSignature,
-    /// Memory could not be had.
+    /// Out of memory.
     #[error("out of memory")]
     WantOfMemory,
 }

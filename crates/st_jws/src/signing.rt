@@ -15,8 +15,8 @@ use std::alloc::Global;
 
 const HEADER: &[u8] = b"{\"alg\":\"LMS\"}";
 
-/// What is signed of a payload: the base64url of the header `{"alg":"LMS"}`, a dot, and the
-/// base64url of the canonical payload (RFC 7515, section 5.1).
+/// The bytes that are signed for a payload: the base64url of the header `{"alg":"LMS"}`, a dot, and
+/// the base64url of the canonical payload (RFC 7515, section 5.1).
 pub fn signing_input(alloc: Global, payload: &Json) -> Result<Bytes, WantOfMemory>
     ensures value { IfOk result (λ input. input ≡ signing_input (plain payload.now)) }
     ensures ascii { IfOk result IsAscii }
@@ -33,7 +33,7 @@ pub fn signing_input(alloc: Global, payload: &Json) -> Result<Bytes, WantOfMemor
     Ok(input)
 }
 
-// Two texts with a dot between them.
+// Two texts, joined by a dot.
 fn with_dot(alloc: Global, first: &[u8], second: &[u8]) -> Result<Bytes, WantOfMemory>
     ensures { IfOk result (λ joined. joined ≡ first.now ++ dot ∷ second.now) }
 {
@@ -43,12 +43,12 @@ fn with_dot(alloc: Global, first: &[u8], second: &[u8]) -> Result<Bytes, WantOfM
     Ok(joined)
 }
 
-/// The signed text of what was signed and its signature: the input, a dot, and the base64url of the
+/// The signed text of an input and its signature: the input, a dot, and the base64url of the
 /// signature (RFC 7515, section 7.1).
 pub fn join_signed(alloc: Global, input: &Bytes, signature: &Bytes) -> Result<Text, WantOfMemory>
     requires { IsAscii input.now }
     ensures value { IfOk result (λ text. text ≡ join_signed input.now signature.now) }
-    // A signature over a payload under the one key in it opens to that payload and key.
+    // A signature over a payload under the only key in it opens to that payload and key.
     ensures opens { IfOk result (λ text. (payload : Plain) (key : Jwk) (limit : ℕ)
         → Signs payload key signature.now → input.now ≡ signing_input payload → length text ≤ limit
         → opened text limit ≡ Ok (record { payload = payload; key = key })) }

@@ -3,7 +3,7 @@ ghost use Rattle.st_jws.specs.Texts.{texts_of};
 
 use st_base::cut_at;
 
-// The texts of a signed text between its first two dots, and the first two with their dot.
+// The three texts of a signed text, split at its first two dots, and the first two with their dot.
 #[derive(Clone, Copy)]
 pub(crate) struct Texts<'a> {
     pub(crate) input: &'a [u8],

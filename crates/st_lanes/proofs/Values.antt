@@ -17,7 +17,7 @@ one_more P k before here m lt = elim (cases_lt m k) [
   | inr past ↦ let same : k ≡ m = omega arith in subst P same here
 ]
 
--- the first n elements of a list with this length are those that f gives
+-- the first n elements of a list with this length are those of f
 pub record IsFilled (f : ℕ → ℕ) (size : ℕ) (xs : List ℕ) (n : ℕ) : Type 0 where
   pub long : length xs ≡ size
   pub each : (m : ℕ) → m < n → slice_index xs m ≡ f m
@@ -162,7 +162,7 @@ head_is head i long small =
       small = omega arith;
     }
 
--- ---- a value that is put into a row
+-- ---- a value written into a row
 
 pub put_value : (row v : List ℕ) (i k : ℕ) → k ≡ 32 → 32 * i + 32 ≤ length row → length v ≡ 32 → value_at (put_mid (32 * i) k row v) i ≡ v
 unfolding value_at

@@ -5,12 +5,12 @@ use Rattle.sha2.specs.Sha256.{digest_bytes, sha256}
 use Rattle.st_lanes.specs.Chains.{IsAt, steps}
 use Rattle.st_lanes.specs.Links.{AreWords}
 
--- the words of a value that has no step behind it
+-- the words of a value before any step
 pub at_start : (w p : List ℕ) (k : ℕ) (v : List ℕ) → AreWords w → digest_bytes w 8 ≡ v → IsAt w p k v 0
 unfolding steps
 at_start w p k v words is = record { words = words; value = is }
 
--- the words x after one step more
+-- the words x after one more step
 pub at_next : (p v w x : List ℕ) (k n byte : ℕ) → IsAt w p k v n → byte ≡ (k + n + 255) % 256 → AreWords x
     → digest_bytes x 8 ≡ sha256 (p ++ byte ∷ digest_bytes w 8) → IsAt x p k v (n + 1)
 unfolding steps

@@ -105,7 +105,7 @@ fn all_numbers() -> [u16; 265]
     numbers
 }
 
-// The numbers of the first chains, those with few steps first: eight side by side take the time of
+// The numbers of the first chains, those with few steps first: eight side by side take as long as
 // the longest.
 fn by_steps(from: &[u16; 265], to: &[u16; 265], count: usize) -> [u16; 265]
     requires { count ≤ 265 }
@@ -121,7 +121,7 @@ fn by_steps(from: &[u16; 265], to: &[u16; 265], count: usize) -> [u16; 265]
     numbers
 }
 
-// The eight numbers before place `end`. Where there are fewer, the first one fills the lanes.
+// The eight numbers before place `end`. If there are fewer, the first one fills the other lanes.
 #[inline(always)]
 #[tactic(auto, using(crate::proofs::Values::filled_none, crate::proofs::Values::filled_more))]
 fn eight_before(order: &[u16], end: usize) -> [u32; 8]
@@ -159,7 +159,7 @@ pub fn walk(
 {
     let order = by_steps(from, to, count);
     let mut ends = blank();
-    // From the longest chains on, so that those that fill the last lanes are short.
+    // The longest chains are first, so the chains that fill the last lanes are short.
     'groups: for group in 0..(count + 7) / 8 {
         let numbers = eight_before(&order[..count], count - 8 * group);
         walk_eight(&mut ends, head, from, to, starts, &numbers);

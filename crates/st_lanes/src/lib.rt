@@ -1,9 +1,9 @@
 //! Hash chains of SHA-256, eight side by side: each word of the eight computations is a vector, with a
 //! lane for each chain.
 //!
-//! A step of a chain hashes 55 bytes, which fill one block with their padding: a head of 20 bytes, the
-//! number of the chain in 2, a byte that tells the steps apart, and the value before. So the values stay
-//! words, in their lanes, from a chain's first step to its last.
+//! A step of a chain hashes 55 bytes, which fill one block with their padding: a head of 20 bytes,
+//! the number of the chain in 2, a byte that differs at each step, and the previous value. So the
+//! values stay words, in their lanes, for the whole chain.
 #![tactic(auto)]
 
 mod block;

@@ -42,7 +42,7 @@ fn link(head: &[u32x8; 6], value: &[u32x8; 8], j: u32x8) -> [u32x8; 16]
     ]
 }
 
-/// The digests, as words, of the messages that are a head of 22 bytes, one byte and a digest.
+/// The digests, as words, of the messages of a head of 22 bytes, one byte and a digest.
 #[inline(always)]
 pub(crate) fn step(head: &[u32x8; 6], value: &[u32x8; 8], j: u32x8) -> [u32x8; 8]
     ensures digest { (k : ℕ) (p : List ℕ) → k < 8 → IsHead (lane k head.now) p → AreWords (lane k value.now)

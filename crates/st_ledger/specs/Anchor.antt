@@ -12,7 +12,7 @@ use Rattle.st_params.specs.Limits.{Limits}
 abbrev pub dot : ℕ
 dot = 46
 
--- the count that a text is, from 1 to the greatest
+-- the count in a text, from 1 to the greatest
 abbrev pub count_in : ℕ → List ℕ → Option ℕ
 count_in most text = option_and_then (λ count. if nat_le 1 count then Some count else None) (number_of most text)
 
@@ -20,12 +20,12 @@ count_in most text = option_and_then (λ count. if nat_le 1 count then Some coun
 abbrev pub count_of : Limits → List ℕ → Option ℕ
 count_of limits text = option_and_then (λ parts. count_in limits.max_operations parts.0) (cut_at dot text)
 
--- the URI behind it
+-- the URI after it
 abbrev pub core_of : List ℕ → Option HashValue
 core_of text = option_and_then (λ parts. hash_of_text parts.1) (cut_at dot text)
 
--- The rules of an anchor string, in their order: there is no dot; there is no count before the first
--- one; there is no URI behind it.
+-- The rules of an anchor string, in their order: there is no dot; there is no count before the first one; there is no
+-- URI after it.
 abbrev pub anchor_rules : Limits → List ℕ → Table AnchorRule
 anchor_rules limits text =
     (A1, is_none (cut_at dot text))
@@ -39,12 +39,12 @@ anchor_rule_name A1 = codes "A1"
 anchor_rule_name A2 = codes "A2"
 anchor_rule_name A3 = codes "A3"
 
--- what an anchor string says, where it has both
+-- the content of an anchor string, if it has both
 abbrev pub anchor_of : Limits → List ℕ → Option Anchor
 anchor_of limits text =
     option_and_then (λ count. option_map (λ core. record { count = count; core = core }) (core_of text)) (count_of limits text)
 
--- The answer is the first rule that fails, or where none does, what the text says.
+-- The answer is the first rule that fails, or if none does, the content of the text.
 abbrev pub AnswersByRule : Table AnchorRule → Option Anchor → Result Anchor AnchorRule → Type 0
 AnswersByRule rules says (Ok anchor) = (first_failing rules ≡ None) × (says ≡ Some anchor)
 AnswersByRule rules says (Err rule) = first_failing rules ≡ Some rule

@@ -6,8 +6,8 @@ use st_hash::{Hash, read_hash};
 use st_params::Params;
 use thiserror::Error;
 
-/// What an anchor string says: how many operations the batch declares, and the URI of its core
-/// index file.
+/// The content of an anchor string: the number of operations that the batch declares, and the URI
+/// of its core index file.
 #[derive(Clone, Copy, Debug, PartialEq, Eq)]
 pub struct Anchor {
     pub count: u32,
@@ -20,17 +20,17 @@ pub enum AnchorRule {
     /// There is no `.`.
     #[error("an anchor string without a dot")]
     A1,
-    /// What stands before the first `.` is no decimal number from 1 to `max_operations` without
+    /// The text before the first `.` is not a decimal number from 1 to `max_operations` without
     /// leading zero.
     #[error("an anchor string without a count")]
     A2,
-    /// What stands after the first `.` is no hash text.
+    /// The text after the first `.` is not a hash text.
     #[error("an anchor string without a hash text")]
     A3,
 }
 
 impl AnchorRule {
-    /// The name of the rule: a letter for what it judges, and its number, as `A3`.
+    /// The name of the rule: a letter for the kind of text, and its number, as `A3`.
     pub fn name(&self) -> &'static str
         ensures { result.now ≡ anchor_rule_name self.now }
     {
@@ -42,10 +42,10 @@ impl AnchorRule {
     }
 }
 
-/// What an anchor string says: a decimal count, a dot, and the URI of the core index file. It takes
-/// no memory.
+/// Reads an anchor string: a decimal count, a dot, and the URI of the core index file. It allocates
+/// nothing.
 ///
-/// Each refusal comes exactly with the first rule that the text fails.
+/// A rule is returned if and only if it is the first that the text fails.
 pub fn read_anchor(text: &[u8], params: &Params) -> Result<Anchor, AnchorRule>
     ensures { AnswersByRule (anchor_rules params.now text.now) (anchor_of params.now text.now) result }
 {

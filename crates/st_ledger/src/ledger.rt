@@ -8,7 +8,7 @@ use st_base::{Bytes, WantOfMemory};
 use std::alloc::Global;
 use std::marker::Model;
 
-// How many entries a ledger may have.
+// The largest number of entries of a ledger.
 const MOST_ENTRIES: usize = 1_048_576;
 
 /// The ledger: its entries in order, numbered from 0, whose heights never fall. Contracts see the
@@ -31,7 +31,7 @@ impl Model for Ledger {
 }
 
 impl Ledger {
-    /// No entries. It takes no memory yet.
+    /// No entries. It allocates nothing.
     pub fn new(alloc: Global) -> Ledger
         ensures { result ≡ [] }
     {
@@ -40,7 +40,7 @@ impl Ledger {
         }
     }
 
-    /// How many entries there are.
+    /// The number of entries.
     pub fn len(&self) -> u32
         ensures value { result ≡ length self.now }
         ensures is { IsLedger self.now }
@@ -48,7 +48,7 @@ impl Ledger {
         self.entries.len() as u32
     }
 
-    /// The entry with this number. None comes exactly where the number is not below the length.
+    /// The entry with this number; `None` if and only if the number is not below the length.
     pub fn entry(&self, n: u32) -> Option<&Entry>
         ensures { option_copied result ≡ slice_get self.now n }
     {
@@ -62,7 +62,7 @@ impl Ledger {
         self.entries.as_slice()
     }
 
-    /// The height of the last entry, or 0 where there is none.
+    /// The height of the last entry, or 0 if there is none.
     pub fn last_height(&self) -> u32
         ensures { result ≡ last_height self.now }
     {
@@ -74,8 +74,8 @@ impl Ledger {
 
     /// Whether an entry of this height may come next.
     ///
-    /// `HeightFalls` comes exactly where the last entry's height is greater, with that height; else
-    /// `LedgerFull` exactly where there are 1,048,576 entries.
+    /// The refusal is `HeightFalls`, with the last entry's height, if and only if that is greater;
+    /// else `LedgerFull` if and only if there are 1,048,576 entries.
     pub fn admits(&self, height: u32) -> Result<(), LedgerRefused>
         ensures { result ≡ admitted self.now height }
     {
@@ -89,7 +89,7 @@ impl Ledger {
         Ok(())
     }
 
-    /// Appends the entry, and gives its number.
+    /// Appends the entry, and returns its number.
     pub fn append(&mut self, _alloc: Global, height: u32, text: Bytes) -> Result<u32, WantOfMemory>
         requires { IsOk (admitted self.old height) }
         ensures number { IfOk result (λ number. number ≡ length self.old) }
@@ -101,7 +101,7 @@ impl Ledger {
         Ok(number)
     }
 
-    /// Keeps the first `n` entries, and gives the number of those removed.
+    /// Keeps the first `n` entries, and returns how many were removed.
     pub fn cut(&mut self, n: u32) -> u32
         requires { n ≤ length self.old }
         ensures kept { self.new ≡ take n self.old }

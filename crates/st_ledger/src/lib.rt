@@ -1,5 +1,5 @@
-//! The ledger: entries of a height and a text, whose heights never fall, and what the anchor string
-//! of an entry says.
+//! The ledger: entries of a height and a text, whose heights never fall, and the content of anchor
+//! strings.
 #![tactic(auto)]
 
 mod anchor;

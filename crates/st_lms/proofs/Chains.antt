@@ -1,4 +1,4 @@
--- How a chain goes on, and the steps of a walk.
+-- Chains in two parts, and the steps of a walk.
 use Rattle.std.proofs.Common.{◌≡◌, ℕ, zero, suc, ◌+◌, ◌-◌, ◌*◌, ◌%◌, ◌<◌, ◌≤◌, List, ◌++◌, length, take, drop, slice_index, add-one, ap, arith, refl, sym, ◌∙◌}
 use Rattle.std.proofs.lemmas.List.{drop-take, take-append-drop, take-take}
 use Rattle.std.specs.Int.{to_be_bytes, w16}
@@ -39,7 +39,7 @@ pub steps_secret : (id : List ℕ) (q i n : ℕ) (seed : List ℕ) → n < 256
     → steps (id ++ u32str q ++ to_be_bytes w16 i) 0 (n + 1) seed ≡ chain id q i 0 n (secret_element id q i seed)
 steps_secret id q i n seed fits = rw add-one (steps_of_seed id q i n seed fits)
 
--- the value to which a walk leads that begins at a seed
+-- the end of a walk that starts at a seed
 pub walk_of_seed : (id : List ℕ) (q i n : ℕ) (seed : List ℕ) (head from to starts : List ℕ) {value : List ℕ} → value ≡ end_of head from to starts i
     → head ≡ id ++ u32str q → slice_index from i ≡ 0 → slice_index to i ≡ n + 1 → value_at starts i ≡ seed → n < 256
     → value ≡ chain id q i 0 n (secret_element id q i seed)
@@ -47,7 +47,7 @@ walk_of_seed id q i n seed head from to starts walked is first last start fits =
     let count : n + 1 - 0 ≡ n + 1 = omega arith in
     walked ∙ rw (is, first, last, start, count) (steps_secret id q i n seed fits)
 
--- and one that begins at the value which a digit names
+-- and of one that starts at the value of a digit
 pub walk_of_value : (id : List ℕ) (q i digit end : ℕ) (head from to starts : List ℕ) {value : List ℕ} → value ≡ end_of head from to starts i
     → head ≡ id ++ u32str q → slice_index from i ≡ digit + 1 → slice_index to i ≡ end + 1 → digit ≤ end → end < 256
     → value ≡ chain id q i digit (end - digit) (value_at starts i)
@@ -74,7 +74,7 @@ row_joined row string (suc n) is =
     let size : 32 * suc n ≡ 32 * (n + 1) = omega arith in
     rw size (sym (take_value row n) ∙ rw (before, is n (omega arith)) refl)
 
--- a value of a row that begins with known strings
+-- a value of a row whose prefix is known strings
 pub value_in_row : (row : List ℕ) (string : ℕ → List ℕ) (n i : ℕ) → ((i : ℕ) → length (string i) ≡ 32) → take (32 * n) row ≡ joined string n → i < n
     → value_at row i ≡ string i
 unfolding value_at

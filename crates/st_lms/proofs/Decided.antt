@@ -1,4 +1,4 @@
--- The key that bytes are, and whether bytes are a signature, by computation.
+-- The key in bytes, and whether bytes are a signature, by computation.
 use Rattle.std.proofs.Common.{◌≡◌, ◌∙◌, ◌↔◌, IsTrue, ℕ, ◌+◌, ◌*◌, ◌^◌, ◌<◌, ◌≤◌, Bool, true, false, ◌==◌, bytes_eq, nat_le, nat_lt, List, length, Some, None, refl, sym, ap, arith}
 use Rattle.std.proofs.lemmas.Bool.{and_parts, cond-false, eqb-true, eq-eqb, false_from_ne_true}
 use Rattle.std.proofs.lemmas.Bool.Decides.{nat_tests}
@@ -41,7 +41,7 @@ tree_from_test t e =
     let high : t ≤ 6 = grind (arith, nat_tests) in
     (low, high)
 
--- ---- the key that bytes are
+-- ---- the key in bytes
 
 pub public_in-known : (text : List ℕ) → length text ≡ 56 → IsOneTimeType (one_time_type_in text)
     → IsTreeType (tree_type_in text)
@@ -117,7 +117,7 @@ IsSignature-is_signature public message signature small e =
     let cut = cut-parts_in n signature (omega (arith, long)) in
     signature_of_parts public message signature (parts_in n signature) cut long small (parts_from_test public message (parts_in n signature) tests.1)
 
--- the answer that is true exactly where the bytes are a signature
+-- an answer that is true if and only if the bytes are a signature
 pub decided : (public : PublicKey) (message signature : List ℕ) (answer : Bool) → AreBytes signature
     → IsTrue answer ↔ IsSignature public message signature → answer ≡ is_signature public message signature
 decided public message signature true small h = sym (is_signature-IsSignature public message signature (h.0 refl))

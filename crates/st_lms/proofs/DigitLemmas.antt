@@ -15,7 +15,7 @@ coef-greatest s i t =
     let below = mod_below shifted (2 ^ width t) (pow_pos (width t)) in
     omega (arith, below)
 
--- what the table says of each type
+-- the table's entries for each type
 pub record IsSized (t : ℕ) : Type 0 where
   pub digits : 256 / width t ≤ 256
   pub greatest : greatest_digit t ≤ 255
@@ -44,14 +44,14 @@ place_below i n w m some h k =
     let split : suc i * w ≡ i * w + w = suc-mul i w in
     omega arith
 
--- each digit that is signed stands in the string of a hash and its checksum
+-- each signed digit is within the string of a hash and its checksum
 pub digit_in_digits : (i t : ℕ) → IsOneTimeType t → i < chains t → i * width t < 8 * 34
 digit_in_digits i t h k =
     let fits : FitsByte i (width t) = fits_byte i (width t) t refl h in
     let sizes : IsSized t = sized t h in
     place_below i (chains t) (width t) (8 * 34) fits.some k sizes.chain_room
 
--- the digits fall short by no more than the greatest one each
+-- each digit falls short by at most the greatest one
 pub shortfall-le : (t : ℕ) (s : List ℕ) (n : ℕ) → shortfall t s n ≤ n * greatest_digit t
 unfolding shortfall
 shortfall-le t s zero = omega arith
@@ -60,7 +60,7 @@ shortfall-le t s (suc n) =
     let split : suc n * greatest_digit t ≡ n * greatest_digit t + greatest_digit t = suc-mul n (greatest_digit t) in
     omega arith
 
--- one digit more
+-- one more digit
 pub shortfall-more : (t : ℕ) (s : List ℕ) (n : ℕ)
     → shortfall t s (n + 1) ≡ shortfall t s n + (greatest_digit t - coef s n (width t))
 unfolding shortfall
@@ -70,7 +70,7 @@ pub shortfall-none : (t : ℕ) (s : List ℕ) → shortfall t s 0 ≡ 0
 unfolding shortfall
 shortfall-none t s = refl
 
--- the digits of a hash fall short by no more than 16 bits hold
+-- the sum for a hash fits in 16 bits
 pub shortfall_fits : (t : ℕ) (s : List ℕ) (n : ℕ) → IsOneTimeType t → n ≤ 256 → shortfall t s n < 2 ^ 16
 shortfall_fits t s n h k =
     let sizes : IsSized t = sized t h in

@@ -1,4 +1,4 @@
--- Nodes that are kept in a row.
+-- Nodes stored in a row.
 use Rattle.std.proofs.Common.{◌≡◌, ◌∙◌, ℕ, zero, suc, ◌+◌, ◌-◌, ◌*◌, ◌^◌, ◌<◌, ◌≤◌, List, [], ◌++◌, length, take, drop, inl, inr, sym, ap, refl, arith}
 use Rattle.std.proofs.lemmas.Bool.{cases_lt}
 use Rattle.std.proofs.lemmas.List.{length-append, length-drop, drop-append-le, take-append-le, drop_at, take_all}
@@ -26,7 +26,7 @@ value_at-last row last i before long =
 
 -- ---- numbers of nodes
 
--- no node has a number past the last
+-- each node has a number of at most the last
 pub node_below : (t n r : ℕ) → IsNode t n r → r < past_last t
 node_below t n r is =
     let less : height t - n ≤ height t = omega arith in
@@ -53,7 +53,7 @@ inner_level t zero r is below =
     absurd (omega (arith, rw all at is.low))
 inner_level t (suc n) r is below = omega arith
 
--- ---- nodes that are kept
+-- ---- stored nodes
 
 -- none at first
 pub holds_none : (secret : SecretKey) → HoldsFrom secret (past_last secret.tree) []
@@ -62,7 +62,7 @@ holds_none secret = record {
   each = λ n r is past. absurd (omega (arith, node_below secret.tree n r is));
 }
 
--- one node more
+-- one more node
 pub holds_next : (secret : SecretKey) (r : ℕ) (nodes next : List ℕ) → r < past_last secret.tree
     → HoldsFrom secret (r + 1) nodes
     → length next ≡ 32
@@ -81,7 +81,7 @@ holds_next secret r nodes next below holds long is_node = record {
   ];
 }
 
--- what is made of two kept nodes
+-- a node computed from two stored ones
 pub inner_of_kept : (secret : SecretKey) (r n : ℕ) (nodes : List ℕ) → 1 ≤ r → r < 2 ^ height secret.tree
     → HoldsFrom secret (r + 1) nodes
     → IsNode secret.tree n r

@@ -1,4 +1,4 @@
--- A key that is held has the values of a key.
+-- A key value satisfies the rules of a key.
 use Rattle.std.proofs.Common.{◌≡◌, length, subst}
 use Rattle.st_lms.specs.Keys.{PublicKey, SecretKey, IsPublicKey, IsSecretKey}
 use Rattle.st_lms.specs.TypeNumbers.{one_time_number, tree_number}

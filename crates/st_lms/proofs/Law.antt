@@ -1,4 +1,4 @@
--- What a secret signs is a signature under its public key.
+-- A secret's signature is a signature under its public key.
 use Rattle.std.proofs.Common.{◌≡◌, ℕ, zero, suc, ◌+◌, ◌-◌, ◌*◌, ◌/◌, ◌%◌, ◌^◌, ◌<◌, List, ◌++◌, length, take, drop, inl, inr, sym, ap, ◌∙◌, refl, arith}
 use Rattle.std.proofs.lemmas.Bool.{cases_lt}
 use Rattle.std.proofs.lemmas.List.{take_at, drop_at, length-append}
@@ -11,7 +11,7 @@ use Rattle.st_lms.specs.Tree.{leaf, inner, node, parent, sibling, node_above, pa
 use Rattle.st_lms.specs.Signature.{IsSignature, root_of, public_of, randomizer_of, signature_of}
 use Rattle.st_lms.proofs.OneTimeLaw.{candidate_key-signed, length-signed_values, length-secret_element}
 
--- nodes have 32 bytes, and a path as many of them as levels
+-- nodes have 32 bytes, and a path has one node for each level
 pub length-node : (secret : SecretKey) (n r : ℕ) → length (node secret n r) ≡ 32
 unfolding node leaf inner
 length-node secret zero r = length-sha256 _
@@ -77,7 +77,7 @@ leaf-node secret q =
 abbrev digits_of : SecretKey → ℕ → List ℕ → List ℕ
 digits_of secret q message = checked secret.ots (message_hash secret.id q (randomizer_of secret q) message)
 
--- the parts of what a secret signs lead to its root
+-- the parts of a secret's signature give its root
 root_of-signed : (secret : SecretKey) (q : ℕ) (message : List ℕ) → q < 2 ^ height secret.tree →
     root_of (public_of secret) q (randomizer_of secret q)
     (signed_values secret.ots secret.id q secret.seed (digits_of secret q message))

@@ -1,4 +1,4 @@
--- Which nodes a tree has.
+-- The nodes of a tree.
 use Rattle.std.proofs.Common.{◌≡◌, ℕ, zero, suc, ◌+◌, ◌-◌, ◌*◌, ◌/◌, ◌%◌, ◌^◌, ◌<◌, ◌≤◌, [], ◌∷◌, slice_index, lit≤, inl, inr, arith}
 use Rattle.std.proofs.lemmas.Bool.{cases_lt}
 use Rattle.std.proofs.Math.Nat.{pow-suc, pow-le-pow_right}
@@ -6,7 +6,7 @@ use Rattle.st_lms.specs.Parameters.{IsTreeType, height}
 use Rattle.st_lms.specs.Keys.{SecretKey}
 use Rattle.st_lms.specs.Tree.{IsNode, inner, node, sibling}
 
--- no tree is higher than 10
+-- every tree has a height of at most 10
 pub height-small : (t : ℕ) → IsTreeType t → height t ≤ 10
 unfolding height
 height-small zero h = absurd (omega arith)
@@ -18,7 +18,7 @@ height-small (suc (suc (suc (suc (suc zero))))) h = omega arith
 height-small (suc (suc (suc (suc (suc (suc zero)))))) h = omega arith
 height-small (suc (suc (suc (suc (suc (suc (suc n))))))) h = absurd (omega arith)
 
--- no tree has a leaf whose number is large
+-- a tree has few leaves
 small_tree : (i : ℕ) → 2 ^ slice_index (5 ∷ 10 ∷ []) i ≤ 1024
 small_tree zero = lit≤ tt
 small_tree (suc zero) = lit≤ tt
@@ -28,7 +28,7 @@ pub small_leaf : (tree q : ℕ) → q < 2 ^ height tree → q < 2 ^ 32
 unfolding height
 small_leaf tree q below = omega (arith, small_tree (tree - 5))
 
--- one level lower there are twice as many
+-- one level lower there are twice as many nodes
 doubled : (h n : ℕ) → suc n ≤ h → 2 ^ (h - n) ≡ 2 * 2 ^ (h - suc n)
 doubled h n k =
     let e : h - n ≡ suc (h - suc n) = omega arith in

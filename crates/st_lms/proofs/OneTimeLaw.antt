@@ -1,4 +1,4 @@
--- The values that a secret signs lead to its public key.
+-- The values that a secret signs give its public key.
 use Rattle.std.proofs.Common.{◌≡◌, ℕ, zero, suc, ◌+◌, ◌-◌, ◌*◌, ◌<◌, List, length, sym, ap, ◌∙◌, arith}
 use Rattle.sha2.proofs.Facts256.{length-sha256}
 use Rattle.st_lms.specs.OneTime.{chain, chain_step, secret_element, signed_value, signed_values, end_of_secret, end_of_value, key_of_ends, one_time_public, candidate_key}
@@ -46,7 +46,7 @@ end_of_value-signed t id q seed digits i h =
     ∙ sym (rw start at parts)
     ∙ ap (λ n. chain id q i 0 n element) whole
 
--- the key that a secret's values lead to is its public key
+-- the key computed from a secret's values is its public key
 pub candidate_key-signed : (t : ℕ) (id : List ℕ) (q : ℕ) (seed digits : List ℕ) →
     candidate_key t id q digits (signed_values t id q seed digits) ≡ one_time_public t id q seed
 unfolding candidate_key one_time_public key_of_ends

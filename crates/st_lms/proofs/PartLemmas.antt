@@ -15,7 +15,7 @@ use Rattle.st_lms.proofs.Nodes.{small_leaf}
 abbrev pub whole_of : SignatureParts → List ℕ
 whole_of parts = parts.q ++ parts.ots ++ parts.randomizer ++ parts.values ++ parts.tree ++ parts.path
 
--- a signature that was cut into parts, the values being n bytes
+-- a signature split into parts, with n bytes of values
 pub record IsCut (n : ℕ) (signature : List ℕ) (parts : SignatureParts) : Type 0 where
   pub whole : signature ≡ whole_of parts
   pub q : length parts.q ≡ 4
@@ -37,13 +37,13 @@ length-whole_of parts =
       length-append parts.q parts.ots,
     )
 
--- the path is what the other parts leave
+-- the path is the rest after the other parts
 pub length-path : (n m : ℕ) (signature : List ℕ) (parts : SignatureParts) → IsCut n signature parts
     → length signature ≡ 44 + n + m
     → length parts.path ≡ m
 length-path n m signature parts cut long = omega (arith, ap length cut.whole, length-whole_of parts)
 
--- the parts that a signature says it has
+-- the parts of a signature
 abbrev parts_of : (public : PublicKey) (message signature : List ℕ) → IsSignature public message signature → SignatureParts
 parts_of public message signature is = record {
   q = u32str is.q;
@@ -70,7 +70,7 @@ length-signature public message signature is =
       is.path_long,
     )
 
--- two cuts of a signature are one
+-- two splits of a signature are the same
 pub record SameParts (one other : SignatureParts) : Type 0 where
   pub q : one.q ≡ other.q
   pub ots : one.ots ≡ other.ots
@@ -99,7 +99,7 @@ same_parts n signature one other a b paths =
       path = six.back_is;
     }
 
--- the parts that are cut out of a signature hold
+-- the parts of a signature hold
 pub parts_hold_of : (public : PublicKey) (message signature : List ℕ) (parts : SignatureParts)
     → IsCut (32 * chains public.ots) signature parts
     → IsSignature public message signature
@@ -157,7 +157,7 @@ signature_of_parts public message signature parts cut long small hold =
       root = hold.root;
     }
 
--- bytes of the right length, cut by their lengths
+-- bytes of the right length, split by their lengths
 pub cut-parts_in : (n : ℕ) (signature : List ℕ) → 44 + n ≤ length signature → IsCut n signature (parts_in n signature)
 unfolding parts_in
 cut-parts_in n signature long =

@@ -1,4 +1,4 @@
--- How a path is followed.
+-- Following a path.
 use Rattle.std.proofs.Common.{◌≡◌, ℕ, suc, ◌+◌, ◌-◌, ◌*◌, ◌/◌, ◌<◌, ◌≤◌, ◌^◌, List, ◌++◌, take, drop, append_assoc, sym, ap, ◌∙◌, refl, arith}
 use Rattle.std.proofs.lemmas.List.{drop-drop, append-nil}
 use Rattle.st_lms.specs.Keys.{SecretKey}
@@ -6,7 +6,7 @@ use Rattle.st_lms.specs.Parameters.{IsTreeType, height}
 use Rattle.st_lms.specs.Tree.{IsNode, node, node_above, parent, path_from, sibling}
 use Rattle.st_lms.proofs.Nodes.{leaf_node, parent_node}
 
--- one level more
+-- one more level
 pub node_above-level : (id : List ℕ) (r : ℕ) (node path : List ℕ) (level levels : ℕ) → level < levels →
     node_above id (r / 2) (parent id r node (take 32 (drop (32 * level) path))) (drop (32 * (level + 1)) path) (levels - (level + 1))
     ≡ node_above id r node (drop (32 * level) path) (levels - level)
@@ -22,13 +22,13 @@ pub node_above-none : (id : List ℕ) (r : ℕ) (node path : List ℕ) → node_
 unfolding node_above
 node_above-none id r node path = refl
 
--- how far a path was written: what is out, and the node whose sibling comes next
+-- progress in writing a path: the output, and the node whose sibling is next
 pub record Way : Type 0 where
   pub out : List ℕ
   pub level : ℕ
   pub r : ℕ
 
--- what is out, with what is still to come, is the whole
+-- the output and the remaining nodes are the whole path
 pub record IsOnWay (secret : SecretKey) (whole : List ℕ) (way : Way) : Type 0 where
   pub at : IsNode secret.tree way.level way.r
   pub rest : way.out ++ path_from secret way.level way.r (height secret.tree - way.level) ≡ whole
@@ -41,7 +41,7 @@ path_from-level secret n r h k =
     let next : n + 1 ≡ suc n = omega arith in
     rw (left, next)
 
--- the whole path of a leaf behind a beginning
+-- the whole path of a leaf, after a prefix
 abbrev pub whole_path : SecretKey → List ℕ → ℕ → List ℕ
 whole_path secret start q = start ++ path_from secret 0 (2 ^ height secret.tree + q) (height secret.tree)
 
@@ -67,7 +67,7 @@ on_way_next secret whole way out' below is e =
           ∙ ap (λ xs. way.out ++ xs) (sym more) ∙ is.rest;
     }
 
--- at the root all is out
+-- at the root the output is complete
 pub on_way_last : (secret : SecretKey) (whole : List ℕ) (way : Way) → height secret.tree ≤ way.level
     → IsOnWay secret whole way
     → way.out ≡ whole

@@ -37,7 +37,7 @@ public_text-key_in text long small =
     ∙ ap (λ xs. take 4 text ++ xs) (take-append-drop 4 rest)
     ∙ take-append-drop 4 text
 
--- what the text of a key shows
+-- how the text of a key determines the key
 pub record ShowsKey (key : PublicKey) (text : List ℕ) : Type 0 where
   pub long : length text ≡ 56
   pub one_time_type : one_time_type_in text ≡ key.ots

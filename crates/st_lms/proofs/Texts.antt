@@ -1,11 +1,11 @@
--- Strings that are written part by part, and taken apart again.
+-- Strings written part by part, and split again.
 use Rattle.std.proofs.Common.{◌≡◌, ℕ, ◌+◌, ◌<◌, ◌≤◌, ◌^◌, List, ◌++◌, length, take, drop, get_or, inl, inr, ap, ◌∙◌, refl, arith}
 use Rattle.std.proofs.lemmas.Bool.{cases_lt}
 use Rattle.std.proofs.lemmas.List.{length-take, get_or-take, get_or-drop, get_or_past}
 use Rattle.std.proofs.lemmas.Nat.{be_bytes_4, from_be_bytes-to_be_bytes_4}
 use Rattle.st_lms.specs.Strings.{u32str, str_to_u32}
 
--- one part more behind those that were written, where `put` says what it wrote
+-- one more part after those already written; `put` gives the second premise
 pub written : (before part old new : List ℕ) (at : ℕ) → take at old ≡ before
     → take (at + length part) new ≡ take at old ++ part
     → take (at + length part) new ≡ before ++ part

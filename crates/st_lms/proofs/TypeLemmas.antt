@@ -1,4 +1,4 @@
--- Each type stands in its table.
+-- Each type is in its table.
 use Rattle.std.proofs.Common.{arith}
 use Rattle.st_lms.specs.Parameters.{IsOneTimeType, IsTreeType}
 use Rattle.st_lms.specs.TypeNumbers.{one_time_number, tree_number}

@@ -1,9 +1,9 @@
--- The four widths, and what follows from there being no others.
+-- The four widths, by cases.
 use Rattle.std.proofs.Common.{◌≡◌, ℕ, zero, suc, ◌+◌, ◌-◌, ◌*◌, ◌/◌, ◌%◌, ◌^◌, ◌<◌, ◌≤◌, arith}
 use Rattle.std.proofs.lemmas.Nat.{mul-le}
 use Rattle.st_lms.specs.Parameters.{IsOneTimeType, width}
 
--- what holds at each width holds at the width of each type
+-- a property of each width holds for the width of each type
 pub width_cases : (P : ℕ → Type 0) → P 1 → P 2 → P 4 → P 8 → (t : ℕ) → IsOneTimeType t → P (width t)
 unfolding width
 width_cases P a b c d zero h = absurd (omega arith)
@@ -13,7 +13,7 @@ width_cases P a b c d (suc (suc (suc zero))) h = c
 width_cases P a b c d (suc (suc (suc (suc zero)))) h = d
 width_cases P a b c d (suc (suc (suc (suc (suc n))))) h = absurd (omega arith)
 
--- what the place of a digit within its byte takes
+-- the shift and the mask of a digit within its byte
 pub record FitsByte (i w : ℕ) : Type 0 where
   pub some : 0 < w
   pub small : w ≤ 8

@@ -10,7 +10,7 @@ pub record PublicKey : Type 0 where
   pub id : List ℕ
   pub root : List ℕ
 
--- a secret key, all of whose one-time keys come from one seed (appendix A)
+-- a secret key, all of whose one-time keys are derived from one seed (appendix A)
 pub record SecretKey : Type 0 where
   pub ots : ℕ
   pub tree : ℕ
@@ -35,7 +35,7 @@ pub record IsSecretKey (key : SecretKey) : Type 0 where
 unfoldable pub public_text : PublicKey → List ℕ
 public_text key = u32str key.tree ++ u32str key.ots ++ key.id ++ key.root
 
--- the number of the tree type, with which a public key begins
+-- the number of the tree type, the first field of a public key
 unfoldable pub tree_type_in : List ℕ → ℕ
 tree_type_in text = str_to_u32 (take 4 text)
 

@@ -5,13 +5,13 @@ use Rattle.sha2.specs.Sha256.{sha256}
 use Rattle.st_lms.specs.Strings.{u32str, u16str, coef, joined, value_at}
 use Rattle.st_lms.specs.Parameters.{width, chains, shift, greatest_digit}
 
--- ---- what tells the messages of the hash apart (7.1)
+-- ---- domain separation of hashes (7.1)
 
--- what sets a hash of a public key apart
+-- of a public key
 abbrev pub d_pblc : ℕ
 d_pblc = 0x8080
 
--- what sets a hash of a message apart
+-- of a message
 abbrev pub d_mesg : ℕ
 d_mesg = 0x8181
 
@@ -21,7 +21,7 @@ d_mesg = 0x8181
 unfoldable pub message_hash : List ℕ → ℕ → List ℕ → List ℕ → List ℕ
 message_hash id q c message = sha256 (id ++ u32str q ++ u16str d_mesg ++ c ++ message)
 
--- how far the first n digits fall short of the greatest one, added up
+-- the sum of the differences between the greatest digit and the first n digits
 unfoldable pub shortfall : ℕ → List ℕ → ℕ → ℕ
 shortfall t s zero = 0
 shortfall t s (suc n) = shortfall t s n + (greatest_digit t - coef s n (width t))
@@ -49,7 +49,7 @@ chain id q i j (suc n) value = chain_step id q i (j + n) (chain id q i j n value
 unfoldable pub secret_element : List ℕ → ℕ → ℕ → List ℕ → List ℕ
 secret_element id q i seed = sha256 (id ++ u32str q ++ u16str i ++ 0xff ∷ seed)
 
--- where the randomizer of a key stands among its secret elements
+-- the place of a key's randomizer among its secret elements
 abbrev pub randomizer_place : ℕ
 randomizer_place = 0xfffd
 
@@ -67,7 +67,7 @@ end_of_secret t id q seed i = chain id q i 0 (greatest_digit t) (secret_element 
 unfoldable pub one_time_public : ℕ → List ℕ → ℕ → List ℕ → List ℕ
 one_time_public t id q seed = key_of_ends t id q (end_of_secret t id q seed)
 
--- what is signed of digit i of a checked hash: chain i after as many steps as the digit says
+-- the signed value of digit i of a checked hash: chain i after as many steps as the digit says
 unfoldable pub signed_value : ℕ → List ℕ → ℕ → List ℕ → List ℕ → ℕ → List ℕ
 signed_value t id q seed digits i =
     chain id q i 0 (coef digits i (width t)) (secret_element id q i seed)

@@ -10,11 +10,11 @@ IsOneTimeType t = (1 ≤ t) × (t ≤ 4)
 abbrev pub IsTreeType : ℕ → Type 0
 IsTreeType t = (5 ≤ t) × (t ≤ 6)
 
--- w: how many bits a digit has
+-- w: the number of bits of a digit
 unfoldable pub width : ℕ → ℕ
 width t = slice_index (1 ∷ 2 ∷ 4 ∷ 8 ∷ []) (t - 1)
 
--- p: how many digits are signed, each by a chain of its own
+-- p: the number of signed digits, each with its own chain
 unfoldable pub chains : ℕ → ℕ
 chains t = slice_index (265 ∷ 133 ∷ 67 ∷ 34 ∷ []) (t - 1)
 
@@ -22,7 +22,7 @@ chains t = slice_index (265 ∷ 133 ∷ 67 ∷ 34 ∷ []) (t - 1)
 unfoldable pub shift : ℕ → ℕ
 shift t = slice_index (7 ∷ 6 ∷ 4 ∷ 0 ∷ []) (t - 1)
 
--- the greatest digit, which is also how many steps a whole chain has
+-- the greatest digit, which is also the number of steps of a whole chain
 unfoldable pub greatest_digit : ℕ → ℕ
 greatest_digit t = 2 ^ width t - 1
 

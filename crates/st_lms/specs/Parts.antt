@@ -1,11 +1,11 @@
--- A signature, cut into its parts (RFC 8554, section 5.4).
+-- A signature, split into its parts (RFC 8554, section 5.4).
 use Rattle.std.specs.Prelude.{◌≡◌, ◌<◌, ℕ, ◌^◌, Bool, ◌&&◌, nat_lt, List, take, drop, bytes_eq}
 use Rattle.st_lms.specs.Strings.{u32str, str_to_u32}
 use Rattle.st_lms.specs.Parameters.{height}
 use Rattle.st_lms.specs.Keys.{PublicKey}
 use Rattle.st_lms.specs.Signature.{root_of}
 
--- the strings that a signature is made of, in this order
+-- the strings of a signature, in this order
 pub record SignatureParts : Type 0 where
   pub q : List ℕ
   pub ots : List ℕ
@@ -14,7 +14,7 @@ pub record SignatureParts : Type 0 where
   pub tree : List ℕ
   pub path : List ℕ
 
--- the parts of bytes, where the values are n of them
+-- the parts of bytes, with n bytes of values
 unfoldable pub parts_in : ℕ → List ℕ → SignatureParts
 parts_in n signature =
     let behind = drop 4 (drop 4 signature) in
@@ -28,7 +28,7 @@ parts_in n signature =
       path = drop 4 last;
     }
 
--- the parts have the types of the public key and the number of one of its leaves, and lead to its root
+-- the parts have the types of the public key and the number of one of its leaves, and give its root
 pub record PartsHold (public : PublicKey) (message : List ℕ) (parts : SignatureParts) : Type 0 where
   pub ots : parts.ots ≡ u32str public.ots
   pub tree : parts.tree ≡ u32str public.tree

@@ -1,4 +1,4 @@
--- The parts that were cut out of a signature, as definitions see them.
+-- The parts of a signature, as definitions see them.
 use Rattle.st_lms.specs.Parts.{SignatureParts}
 use Rattle.st_lms.specs.declared.verification.Parts.{Parts}
 

@@ -1,4 +1,4 @@
--- Signatures and the keys that they are of (RFC 8554, sections 5.3 and 5.4).
+-- Signatures and their keys (RFC 8554, sections 5.3 and 5.4).
 use Rattle.std.specs.Prelude.{◌≡◌, ℕ, ◌+◌, ◌*◌, ◌^◌, ◌<◌, List, ◌++◌, length}
 use Rattle.st_lms.specs.Strings.{u32str}
 use Rattle.st_lms.specs.Parameters.{chains, height}
@@ -6,7 +6,7 @@ use Rattle.st_lms.specs.OneTime.{message_hash, checked, candidate_key, secret_el
 use Rattle.st_lms.specs.Keys.{PublicKey, SecretKey}
 use Rattle.st_lms.specs.Tree.{leaf, node, node_above, path_from}
 
--- the root that the parts of a signature lead to (5.4.2, algorithm 6a)
+-- the root that is computed from the parts of a signature (5.4.2, algorithm 6a)
 unfoldable pub root_of : PublicKey → ℕ → List ℕ → List ℕ → List ℕ → List ℕ → List ℕ
 root_of public q randomizer values path message =
     let digits = checked public.ots (message_hash public.id q randomizer message) in
@@ -14,8 +14,8 @@ root_of public q randomizer values path message =
     let r = 2 ^ height public.tree + q in
     node_above public.id r (leaf public.id r key) path (height public.tree)
 
--- the bytes are a signature of the message under the public key: they are made of these parts, with
--- the lengths and the types of that key, and lead to its root
+-- the bytes are a signature of the message under the public key: they consist of these parts, have the lengths and
+-- the types of that key, and give its root
 pub record IsSignature (public : PublicKey) (message signature : List ℕ) : Type 0 where
   pub q : ℕ
   pub randomizer : List ℕ
@@ -38,11 +38,11 @@ public_of secret = record {
   root = node secret (height secret.tree) 1;
 }
 
--- the randomizer that a secret signs with at q
+-- the randomizer of a secret's signature with one-time key q
 unfoldable pub randomizer_of : SecretKey → ℕ → List ℕ
 randomizer_of secret q = secret_element secret.id q randomizer_place secret.seed
 
--- what stands before the path in the signature of a message by the one-time key q of a secret
+-- the part before the path of the signature of a message by the one-time key q of a secret
 unfoldable pub front_of : SecretKey → ℕ → List ℕ → List ℕ
 front_of secret q message =
     let digits = checked secret.ots (message_hash secret.id q (randomizer_of secret q) message) in

@@ -3,15 +3,15 @@ use Rattle.std.specs.Prelude.{ℕ, zero, suc, ◌+◌, ◌-◌, ◌*◌, ◌/◌
 use Rattle.std.specs.Int.{w16, w32, to_be_bytes, from_be_bytes}
 unfoldable pub use Rattle.st_lanes.specs.Chains.{value_at}
 
--- a number as 4 bytes, high first (3.1.1)
+-- a number as 4 bytes, big-endian (3.1.1)
 unfoldable pub u32str : ℕ → List ℕ
 u32str n = to_be_bytes w32 n
 
--- a number as 2 bytes, high first (3.1.1)
+-- a number as 2 bytes, big-endian (3.1.1)
 unfoldable pub u16str : ℕ → List ℕ
 u16str n = to_be_bytes w16 n
 
--- the number that 4 bytes are (3.1.1)
+-- the number in 4 bytes (3.1.1)
 unfoldable pub str_to_u32 : List ℕ → ℕ
 str_to_u32 bytes = from_be_bytes w32 bytes
 

@@ -8,13 +8,13 @@ use Rattle.st_lms.specs.Parameters.{IsTreeType, height}
 use Rattle.st_lms.specs.OneTime.{one_time_public}
 use Rattle.st_lms.specs.Keys.{SecretKey}
 
--- ---- what tells the messages of the hash apart (7.1)
+-- ---- domain separation of hashes (7.1)
 
--- what sets a leaf of the tree apart
+-- of a leaf of the tree
 abbrev pub d_leaf : ℕ
 d_leaf = 0x8282
 
--- what sets an inner node of the tree apart
+-- of an inner node of the tree
 abbrev pub d_intr : ℕ
 d_intr = 0x8383
 
@@ -47,7 +47,7 @@ pub record IsNode (tree n r : ℕ) : Type 0 where
 unfoldable pub parent : List ℕ → ℕ → List ℕ → List ℕ → List ℕ
 parent id r node other = if r % 2 == 0 then inner id (r / 2) node other else inner id (r / 2) other node
 
--- the node n levels above r, from r and the other nodes on the way
+-- the node n levels above r, from r and the siblings on the way
 unfoldable pub node_above : List ℕ → ℕ → List ℕ → List ℕ → ℕ → List ℕ
 node_above id r node path zero = node
 node_above id r node path (suc n) =
@@ -57,7 +57,7 @@ node_above id r node path (suc n) =
 unfoldable pub sibling : ℕ → ℕ
 sibling r = if r % 2 == 0 then r + 1 else r - 1
 
--- the other nodes on the way m levels up from node r of height n
+-- the siblings on the way m levels up from node r of height n
 unfoldable pub path_from : SecretKey → ℕ → ℕ → ℕ → List ℕ
 path_from secret n r zero = []
 path_from secret n r (suc m) = node secret n (sibling r) ++ path_from secret (suc n) (r / 2) m

@@ -17,10 +17,10 @@ abbrev pub tree_number : TreeType → ℕ
 tree_number Height5 = 5
 tree_number Height10 = 6
 
--- the one-time type with this number; every number but 1 to 3 gives that of width 8
+-- the one-time type with this number; every number except 1 to 3 gives that of width 8
 abbrev pub one_time_of : ℕ → OneTimeType
 one_time_of n = if n == 1 then Width1 else if n == 2 then Width2 else if n == 3 then Width4 else Width8
 
--- the tree type with this number; every number but 5 gives that of height 10
+-- the tree type with this number; every number except 5 gives that of height 10
 abbrev pub tree_of : ℕ → TreeType
 tree_of n = if n == 5 then Height5 else Height10

@@ -14,10 +14,10 @@ use st_base::{Bytes, WantOfMemory};
 use std::alloc::Global;
 use std::marker::Model;
 
-/// A secret key with all the nodes of its tree, which take 2,016 or 65,504 bytes, so that a signature
-/// takes the time of one one-time key and not of all of them.
+/// A secret key with all the nodes of its tree, which take 2,016 or 65,504 bytes, so that a
+/// signature takes the time of one one-time key and not of all of them.
 ///
-/// A one-time key signs one message. Which of them are spent is not kept here.
+/// A one-time key signs one message. The caller records which of them are spent.
 #[derive(Drop)]
 pub struct Signer {
     secret: Secret,
@@ -35,7 +35,7 @@ impl Model for Signer {
     ghost invariant = { λ s. HoldsFrom s.secret 1 s.nodes };
 }
 
-/// Node `r`, where it stands in these bytes.
+/// Node `r`, from these bytes.
 fn kept_node(secret: &Secret, nodes: &[u8], r: u32) -> [u8; 32]
     requires small { r < past_last secret.now.tree }
     requires there { 32 * (past_last secret.now.tree - r) ≤ length nodes.now }
@@ -46,7 +46,7 @@ fn kept_node(secret: &Secret, nodes: &[u8], r: u32) -> [u8; 32]
     value_at(nodes, (last - r) as usize)
 }
 
-/// Node `r`, where all nodes with greater numbers stand in these bytes.
+/// Node `r`, if these bytes have all nodes with greater numbers.
 fn next_node(secret: &Secret, nodes: &[u8], r: u32) -> [u8; 32]
     requires some { 1 ≤ r }
     requires small { r < past_last secret.now.tree }
@@ -110,7 +110,7 @@ fn public_with_root(secret: &Secret, root: [u8; 32]) -> Public
 }
 
 impl Signer {
-    /// The key with its nodes. It takes as long as `Secret::public` does, and fails where there is no
+    /// The key with its nodes. It takes as long as `Secret::public` does, and fails if there is no
     /// memory for the nodes.
     pub fn new(alloc: Global, secret: &Secret) -> Result<Signer, WantOfMemory>
         ensures { IfOk result (λ signer. signer ≡ secret.now) }
@@ -130,10 +130,10 @@ impl Signer {
         public_with_root(&self.secret, root)
     }
 
-    /// The signature of a message by the one-time key with number `q` (RFC 8554, section 5.4.1), which
-    /// is that of `sign_at`. It computes this key's chains and no leaf of the tree.
+    /// The signature of a message by the one-time key with number `q` (RFC 8554, section 5.4.1),
+    /// the same as that of `sign_at`. It computes this key's chains and no leaf of the tree.
     ///
-    /// A one-time key must sign no more than one message: who may call it is said at `sign_at`.
+    /// A one-time key must sign at most one message; see `sign_at` for who may call it.
     pub fn sign(&self, alloc: Global, q: u32, message: &[u8]) -> Result<Bytes, WantOfMemory>
         requires { q < 2 ^ height self.now.tree }
         ensures value { IfOk result (λ signature. signature ≡ signature_of self.now q message.now) }

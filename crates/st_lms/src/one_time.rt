@@ -68,7 +68,7 @@ pub(crate) fn one_time_public(kind: OneTimeType, id: &[u8; 16], q: u32, seed: &[
     key_of_ends(kind, id, q, &ends)
 }
 
-/// What is signed of each digit, in a row.
+/// The signed values of the digits, in a row.
 pub(crate) fn signed_values(
     kind: OneTimeType,
     id: &[u8; 16],
@@ -83,7 +83,7 @@ pub(crate) fn signed_values(
     values_of_secret(kind, id, q, seed, &digit_places(kind, digits))
 }
 
-/// The public key under which these values sign these digits.
+/// The public key under which these values are a signature of these digits.
 pub(crate) fn candidate_key(
     kind: OneTimeType,
     id: &[u8; 16],

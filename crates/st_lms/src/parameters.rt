@@ -12,7 +12,7 @@ pub(crate) enum OneTimeType {
 }
 
 /// A row of the table of LM-OTS parameter sets (RFC 8554, section 4.1): the number of the type, the
-/// bits of a digit, the greatest digit, how many digits are signed, and the shift of the checksum.
+/// bits of a digit, the greatest digit, the number of signed digits, and the shift of the checksum.
 #[derive(Clone, Copy, Debug)]
 pub(crate) struct Parameters {
     pub(crate) number: u32,
@@ -101,7 +101,7 @@ impl TreeType {
         }
     }
 
-    /// How many leaves the tree has.
+    /// The number of leaves of the tree.
     #[tactic(auto, unfolding(crate::specs::Parameters::height))]
     pub(crate) fn leaf_count(self) -> u32
         ensures count { result ≡ 2 ^ height (tree_number self) }

@@ -1,6 +1,5 @@
-// Where the chains of a key begin and end. The places of a chain are numbered from what makes its
-// element: that has place 0, the element place 1, and the value that a digit names the place after
-// the digit.
+// The starts and the ends of a key's chains. Place 0 of a chain is the input of its secret element,
+// place 1 the element, and the value of a digit is at the place after the digit.
 
 ghost use Rattle.std.specs.Prelude.{◌≡◌, ◌+◌, ◌*◌, ◌<◌, ◌≤◌, ◌++◌, ℕ, length, slice_index};
 ghost use Rattle.st_lms.specs.Parameters.{chains, greatest_digit, width};
@@ -17,7 +16,7 @@ pub(crate) type Places = [u16; 265];
 /// A value of each chain, in a row.
 pub(crate) type Values = [u8; 8480];
 
-/// What the steps of all chains of a key hash first.
+/// The common prefix of the steps of all chains of a key.
 pub(crate) fn head(id: &[u8; 16], q: u32) -> [u8; 20]
     ensures { result ≡ id.now ++ u32str q }
 {
@@ -27,7 +26,7 @@ pub(crate) fn head(id: &[u8; 16], q: u32) -> [u8; 20]
     head
 }
 
-/// The places of the values that these digits name.
+/// The places of the values of these digits.
 pub(crate) fn digit_places(kind: OneTimeType, digits: &Digits) -> Places
     ensures { (i : ℕ) → i < chains (one_time_number kind)
         → slice_index result i ≡ coef digits.now i (width (one_time_number kind)) + 1 }
@@ -53,7 +52,7 @@ fn blank() -> Values
     [0; 8480]
 }
 
-/// A row in which each of the first values is this one.
+/// A row whose first values are all this one.
 pub(crate) fn repeated(value: &[u8; 32], count: u16) -> Values
     requires { count ≤ 265 }
     ensures long { length result ≡ 8480 }

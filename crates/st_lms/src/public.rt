@@ -11,7 +11,7 @@ use crate::strings::{copied, put, str_to_u32, u32str};
 use std::marker::Model;
 use thiserror::Error;
 
-/// Why bytes are no public key.
+/// Why bytes are not a public key.
 #[derive(Clone, Copy, Debug, PartialEq, Eq, Error)]
 pub enum PublicRefused {
     /// There aren't 56 bytes.
@@ -63,7 +63,7 @@ fn blank() -> [u8; 56]
 }
 
 impl Public {
-    /// The public key that 56 bytes are.
+    /// The public key in 56 bytes.
     pub fn read(bytes: &[u8]) -> Result<Public, PublicRefused>
         ensures ok { IfOk result (λ key. bytes.now ≡ public_text key) }
         ensures known { IfOk result IsPublicKey }
@@ -138,7 +138,7 @@ impl Public {
     {
         self.root
     }
-    /// How many bytes the values of a signature under this key have.
+    /// The number of bytes of the values in a signature under this key.
     pub(crate) fn values_len(&self) -> usize
         ensures len { result ≡ 32 * chains self.now.ots }
         ensures small { result ≤ 8480 }
@@ -153,7 +153,7 @@ impl Public {
         32 * self.tree.height() as usize
     }
 
-    /// How many bytes a signature under this key has: 1,292 to 8,844.
+    /// The number of bytes of a signature under this key: 1,292 to 8,844.
     pub fn signature_len(&self) -> usize
         ensures value { result ≡ 44 + 32 * chains self.now.ots + 32 * height self.now.tree }
         ensures small { result ≤ 8844 }

@@ -18,9 +18,9 @@ use thiserror::Error;
 #[error("the type of a key is not known")]
 pub struct BadType;
 
-/// An LMS secret key, all of whose one-time keys come from one seed (RFC 8554, appendix A).
+/// An LMS secret key, all of whose one-time keys are derived from one seed (RFC 8554, appendix A).
 ///
-/// A one-time key signs one message. Which of them are spent is not kept here.
+/// A one-time key signs one message. The caller records which of them are spent.
 #[derive(Clone, Copy)]
 pub struct Secret {
     pub(crate) ots: OneTimeType,
@@ -54,7 +54,7 @@ impl Model for Secret {
     ghost inverse_ok = { λ a h. secret_inverse a };
 }
 
-/// Where the randomizer of a one-time key stands among its secret elements.
+/// The place of a one-time key's randomizer among its secret elements.
 const RANDOMIZER: u16 = 0xfffd;
 
 impl Secret {
@@ -118,7 +118,7 @@ impl Secret {
         self.tree.height()
     }
 
-    /// How many one-time keys there are: 32 or 1,024. They are numbered from 0.
+    /// The number of one-time keys: 32 or 1,024. They are numbered from 0.
     pub fn leaf_count(&self) -> u32
         ensures count { result ≡ 2 ^ height self.now.tree }
         ensures small { result ≤ 1024 }
@@ -159,7 +159,7 @@ pub(crate) fn leaf_of(secret: &Secret, r: u32) -> [u8; 32]
     leaf(&secret.id, r, &key)
 }
 
-/// The node with number `r` of the tree, which has this height above the leaves.
+/// The node with number `r` of the tree, at this height above the leaves.
 pub(crate) fn node(secret: &Secret, height: u32, r: u32) -> [u8; 32]
     requires { IsNode secret.now.tree height r }
     ensures { result ≡ node secret.now height r }

@@ -11,7 +11,7 @@ use crate::strings::u32str;
 use st_base::{Bytes, WantOfMemory};
 use std::alloc::Global;
 
-/// Appends what is signed of each digit.
+/// Appends the signed value of each digit.
 pub(crate) fn push_values(
     alloc: Global,
     out: &mut Bytes,
@@ -30,7 +30,7 @@ pub(crate) fn push_values(
     Ok(())
 }
 
-/// What stands before the path in the signature of a message by the one-time key with number `q`.
+/// The part before the path of the signature of a message by the one-time key with number `q`.
 pub(crate) fn begin_signature(
     alloc: Global,
     secret: &Secret,
@@ -76,10 +76,10 @@ fn push_path(alloc: Global, out: &mut Bytes, secret: &Secret, q: u32) -> Result<
 
 /// The signature of a message by the one-time key with number `q` (RFC 8554, section 5.4.1).
 ///
-/// A one-time key must sign no more than one message: whoever calls keeps the numbers that are
-/// spent, so outside tests only the vault's counters and the keys that are made under a vault call
-/// this, or `Signer::sign`. It computes all the leaves of the tree but one, as `Secret::public`
-/// computes them all; where many messages are signed, a `Signer` keeps what it computes.
+/// A one-time key must sign at most one message, so the caller records the numbers that are spent.
+/// Outside tests only the vault's counters and the keys made under a vault call this or
+/// `Signer::sign`. It computes all the leaves of the tree but one; a `Signer` stores them for many
+/// messages.
 pub fn sign_at(
     alloc: Global,
     secret: &Secret,

@@ -16,7 +16,7 @@ pub(crate) fn copied<const N: usize>(bytes: &[u8]) -> [u8; N]
     copied
 }
 
-/// Writes these bytes over what stands in `row` from place `at` on.
+/// Writes these bytes over `row` from place `at` on.
 #[inline(always)]
 pub(crate) fn put(row: &mut [u8], at: usize, bytes: &[u8])
     requires { at + length bytes.now ≤ length row.old }
@@ -25,7 +25,7 @@ pub(crate) fn put(row: &mut [u8], at: usize, bytes: &[u8])
     row[at..at + bytes.len()].copy_from_slice(bytes);
 }
 
-/// A number as 4 bytes, high first (RFC 8554, section 3.1.1).
+/// A number as 4 bytes, big-endian (RFC 8554, section 3.1.1).
 #[tactic(auto, unfolding(crate::specs::Strings::u32str))]
 pub(crate) fn u32str(n: u32) -> [u8; 4]
     ensures { result ≡ u32str n }
@@ -33,7 +33,7 @@ pub(crate) fn u32str(n: u32) -> [u8; 4]
     n.to_be_bytes()
 }
 
-/// A number as 2 bytes, high first.
+/// A number as 2 bytes, big-endian.
 #[tactic(auto, unfolding(crate::specs::Strings::u16str))]
 pub(crate) fn u16str(n: u16) -> [u8; 2]
     ensures { result ≡ u16str n }
@@ -41,7 +41,7 @@ pub(crate) fn u16str(n: u16) -> [u8; 2]
     n.to_be_bytes()
 }
 
-/// The number that 4 bytes are.
+/// The number in 4 bytes, big-endian.
 #[tactic(auto, unfolding(crate::specs::Strings::str_to_u32))]
 pub(crate) fn str_to_u32(bytes: &[u8]) -> u32
     requires { length bytes.now ≡ 4 }
@@ -50,7 +50,7 @@ pub(crate) fn str_to_u32(bytes: &[u8]) -> u32
     u32::from_be_bytes(copied(bytes))
 }
 
-/// String `i` of the strings of 32 bytes that stand in a row.
+/// String `i` of a row of strings of 32 bytes.
 #[tactic(auto, unfolding(crate::specs::Strings::value_at))]
 pub(crate) fn value_at(row: &[u8], i: usize) -> [u8; 32]
     requires { 32 * i + 32 ≤ length row.now }

@@ -34,7 +34,7 @@ fn parent(id: &[u8; 16], r: u32, node: &[u8], other: &[u8]) -> [u8; 32]
     }
 }
 
-/// The node `levels` above leaf `r`, from that leaf and the other nodes on the way.
+/// The node `levels` above leaf `r`, from that leaf and the siblings on the way.
 pub(crate) fn node_above(
     id: &[u8; 16],
     r: u32,

@@ -48,7 +48,7 @@ fn parts_of(signature: &[u8], values_len: usize) -> Parts<'_>
     }
 }
 
-/// The root that the parts of a signature lead to.
+/// The root that is computed from the parts of a signature.
 fn root_of(
     public: &Public,
     q: u32,
@@ -90,8 +90,8 @@ fn is_same(left: &[u8; 32], right: &[u8; 32]) -> bool
     left.as_slice() == right.as_slice()
 }
 
-/// Whether the parts have the types of the public key and the number of one of its leaves, and lead
-/// to its root.
+/// Whether the parts have the types of the public key and the number of one of its leaves, and give
+/// its root.
 fn parts_hold(public: &Public, message: &[u8], parts: &Parts<'_>) -> bool
     requires q { length parts.now.q.now ≡ 4 }
     requires values { length parts.now.values.now ≡ 32 * chains public.now.ots }
@@ -117,7 +117,7 @@ fn parts_hold(public: &Public, message: &[u8], parts: &Parts<'_>) -> bool
 }
 
 /// Whether these bytes are a signature of the message under the public key (RFC 8554, section
-/// 5.4.2). Any bytes may be asked about. It takes no memory.
+/// 5.4.2). All inputs are allowed. It allocates nothing.
 pub fn verify(public: &Public, message: &[u8], signature: &[u8]) -> bool
     ensures holds { IsTrue result ↔ IsSignature public.now message.now signature.now }
     ensures value { result ≡ is_signature public.now message.now signature.now }

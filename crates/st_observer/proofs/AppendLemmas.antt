@@ -1,5 +1,5 @@
--- An entry is appended: what is kept, and what was counted.
---     appended-known    what is known of it
+-- An entry is appended: the stored data, and the counts.
+--     appended-known    what is known about it
 --     appended-kept, appended-few, appended-wanting
 use Rattle.std.proofs.Common.{◌≡◌, ◌∙◌, ℕ, ◌≤◌, List, length, ap, refl, subst, sym, arith}
 use Rattle.std.specs.List.{AllByRecursion}
@@ -65,7 +65,7 @@ module _ (observed : Observed) (entry : Entry) (text : List ℕ) (limits : Limit
       let at : entry_cost n entry after ≡ entry_cost (length observed.ledger) entry after = ap (λ k. entry_cost k entry after) number in
       grew-more decided-few opened-few (omega (arith, cost, same, at)) (grew-worked few (applied names covers))
 
--- memory ran out before its files were all read
+-- memory ran out before all its files were read
 pub appended-wanting : (observed : Observed) (entry : Entry) (text : List ℕ) (limits : Limits) (anchored : Known) → text ≡ entry.text
     → limits ≡ params_at observed.schedule entry.height
     → anchored ≡ known_of_text limits text → (old new : Counts)

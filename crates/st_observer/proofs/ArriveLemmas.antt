@@ -1,7 +1,7 @@
--- A file arrives: what is kept, and what was counted.
+-- A file is received: the stored data, and the counts.
 --     arrived-start     the entries that wait for it
---     arrived-kept      once they have been looked at again
---     arrived-exact, arrived-few     what was counted
+--     arrived-kept      after they have been checked again
+--     arrived-exact, arrived-few     the counts
 use Rattle.std.proofs.Common.{◌≡◌, ◌∙◌, ℕ, ◌+◌, ◌-◌, ◌<◌, List, Option, length, map, ap, subst, sym, arith}
 use Rattle.std.specs.List.{sum_by}
 use Rattle.std.proofs.lemmas.List.Folds.{fold-map}
@@ -22,7 +22,7 @@ use Rattle.st_observer.proofs.LookingLemmas.{entry-at, entry-inside}
 use Rattle.st_observer.proofs.NamesLemmas.{names-late}
 use Rattle.st_observer.proofs.WorkLemmas.{grew-more}
 
--- what the code hands on is the file, the schedule and the files with it
+-- the code passes on the file, the schedule and the files with it
 module _ (file : List ℕ) (observed : Observed) (before : Kept) (uri : HashValue) (later : Files) (is : IsKept observed before)
     (named : uri ≡ uri_of file) (with : later ≡ with_file file observed.files) where
   same-over : over before.index.folder.schedule observed.ledger later ≡ arrived file observed
@@ -37,7 +37,7 @@ module _ (file : List ℕ) (observed : Observed) (before : Kept) (uri : HashValu
       → IsObserved (over observed.schedule observed.ledger later) after
   arrived-kept after held = subst (λ (s : Option ℕ). IsObserved (over s observed.ledger later) after) is.schedule held
 
-  -- counts of what is known of the entries
+  -- counts over what is known about the entries
   module _ (count : Known → ℕ) where
     sum-known : (o : Observed) (kept : Kept) → IsKept o kept → sum_by count kept.bounds.items ≡ sum_by
         (λ entry. count (known_of o.schedule o.files entry)) o.ledger
@@ -51,7 +51,7 @@ module _ (file : List ℕ) (observed : Observed) (before : Kept) (uri : HashValu
         ∙ ap (sum_by count) (going-start file observed before is).same
         ∙ fold-map (λ total bound. total + count bound) (known_of observed.schedule (with_file file observed.files)) 0 observed.ledger
 
-  -- what entries give that missed the file is what those give that wait for it
+  -- the entries that missed the file are those that wait for it
   late-where : CoversWhere (λ n. is_waiting uri n before.waiting) (over before.index.folder.schedule observed.ledger later) (late file observed)
   late-where =
       subst (λ (o : Observed). CoversWhere (λ n. is_waiting uri n before.waiting) o (late file observed)) (sym same-over) (λ n entry found waits.

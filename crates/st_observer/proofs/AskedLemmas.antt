@@ -1,7 +1,7 @@
--- A file is missed exactly where some entry waits for it.
---     asked-missed      what is missed is what entries wait for
---     asked-by          and what the reports of entries say
---     asked-wanted, asked-wants     all that are wanted, and whether one is
+-- A file is missing if and only if some entry waits for it.
+--     asked-missed      the missing files are those that entries wait for
+--     asked-by          and those in the reports of entries
+--     asked-wanted, asked-wants     all wanted files, and whether one is
 use Rattle.std.proofs.Common.{◌≡◌, ◌∙◌, ⊎_elim, ℕ, ◌<◌, ◌≤◌, ◌↔◌, Bool, true, false, ◌||◌, List, [], ◌∷◌, length, map, get_or, slice_get, Some, option_map, refl, sym, ap, arith}
 use Rattle.std.specs.Cmp.{both_ways}
 use Rattle.std.specs.List.{flat_map, list_any}
@@ -24,7 +24,7 @@ use Rattle.st_observer.proofs.WaitingLemmas.{text-same}
 use Rattle.st_observer.proofs.WaitsLemmas.{roles-inside, roles-past}
 use Rattle.st_observer.proofs.WantedLemmas.{ascending_once-has, ascending_once-is}
 
--- one of the items that a list of lists makes
+-- one of the items in a list of lists
 any-flat : {X Y : Type 0} (test : Y → Bool) (part : X → List Y) (xs : List X) → list_any test (flat_map part xs) ≡ list_any (λ x. list_any test (part x)) xs
 any-flat test part [] = refl
 any-flat test part (x ∷ xs) =
@@ -34,18 +34,18 @@ any-alike : {X : Type 0} (test other : X → Bool) → ((x : X) → test x ≡ o
 any-alike test other alike [] = refl
 any-alike test other alike (x ∷ xs) = ap (λ here. here || list_any test xs) (alike x) ∙ ap (λ rest. other x || rest) (any-alike test other alike xs)
 
--- some role of the entry misses it
+-- it is missing for some role of the entry
 abbrev pub asks : HashValue → Observed → Entry → Bool
 asks uri observed entry = one_misses uri (verdicts_on observed.schedule observed.files entry)
 
--- a file is missed where some role of some entry misses it
+-- a file is missing if it is missing for some role of some entry
 missed-asked : (uri : HashValue) (observed : Observed) → list_any (same_hash uri) (missed_files observed) ≡ list_any (asks uri observed) observed.ledger
 missed-asked uri observed =
     any-flat (same_hash uri) (λ entry. flat_map missed_in (verdicts_on observed.schedule observed.files entry)) observed.ledger
     ∙ any-alike (λ entry. list_any (same_hash uri) (flat_map missed_in (verdicts_on observed.schedule observed.files entry))) (asks uri observed)
     (λ entry. any-flat (same_hash uri) missed_in (verdicts_on observed.schedule observed.files entry)) observed.ledger
 
--- how the entry with this number waits
+-- whether the entry with this number waits
 pub waits-asked : (uri : HashValue) (observed : Observed) (kept : Kept) (n : ℕ) (d : Entry) → IsKept observed kept → n < length observed.ledger
     → is_waiting uri n kept.waiting ≡ asks uri observed (get_or observed.ledger n d)
 waits-asked uri observed kept n d is inside =
@@ -76,7 +76,7 @@ asked-waited uri observed kept is asked =
     let found = Any-from_list_any (asks uri observed) observed.ledger asked in
     (found.0, waits-asked uri observed kept found.0 found.1 is found.2 ∙ ap (asks uri observed) found.3 ∙ found.4)
 
--- These are the files that entries wait for, so they are those that are missed.
+-- The files that entries wait for are the missing ones.
 pub asked-missed : (observed : Observed) (kept : Kept) (uris : List HashValue) → IsKept observed kept
     → ((uri : HashValue) → list_any (same_hash uri) uris ≡ true → IsWaitedFor uri kept.waiting)
     → ((uri : HashValue) → IsWaitedFor uri kept.waiting → list_any (same_hash uri) uris ≡ true)
@@ -123,7 +123,7 @@ asked-by observed uri uris same =
     let alike : list_any (same_hash uri) uris ≡ list_any (asks uri observed) observed.ledger = same ∙ missed-asked uri observed in
     ((λ there. asked-said uri observed (sym alike ∙ there)), (λ missed. alike ∙ said-asked uri observed missed))
 
--- So they are what is wanted, where they ascend by their texts.
+-- So they are the wanted ones, if they ascend by their texts.
 pub asked-wanted : (observed : Observed) (kept : Kept) (uris : List HashValue) → IsKept observed kept → IsStrictlySortedBy text_cmp uris
     → ((uri : HashValue) → list_any (same_hash uri) uris ≡ true → IsWaitedFor uri kept.waiting)
     → ((uri : HashValue) → IsWaitedFor uri kept.waiting → list_any (same_hash uri) uris ≡ true)
@@ -132,7 +132,7 @@ unfolding wanted
 asked-wanted observed kept uris is sorted waited all =
     ascending_once-is uris (missed_files observed) sorted (asked-missed observed kept uris is waited all)
 
--- And one file is wanted where some entry waits for it.
+-- And a file is wanted if some entry waits for it.
 pub asked-wants : (observed : Observed) (kept : Kept) (uri : HashValue) (found : Bool) → IsKept observed kept → AreRead kept.waiting
     → (found ≡ true) ↔ IsWaitedFor uri kept.waiting → found ≡ is_wanted uri observed
 unfolding wanted

@@ -1,5 +1,5 @@
--- An item is taken out of a list, the last stands in its place meanwhile, and it is put back.
---     put-back        then it is the item at its place that changed
+-- An item is taken out of a list, the last one is at its place meanwhile, and it is put back.
+--     put-back        then only the item at its place has changed
 use Rattle.std.proofs.Common.{◌≡◌, ◌∙◌, ℕ, ◌+◌, ◌-◌, ◌<◌, List, [], ◌∷◌, ◌++◌, get_or, length, set, take, inl, inr, ap, sym, arith}
 use Rattle.std.proofs.lemmas.Bool.{cases_eq}
 use Rattle.std.proofs.lemmas.List.{ext_get_or, get_or_append_left, get_or-set_other, get_or-set_same, get_or-take, get_or_default, length-append, length-set, length-take-le}
@@ -17,7 +17,7 @@ module _ {X : Type 0} (items rest pushed after : List X) (n last : ℕ) (out ite
   more : length pushed ≡ last + 1
   more = omega (arith, many, ap length pushes, length-append rest (item ∷ []))
 
-  -- the first of them are as they were, but for the last in the place of the one that was taken out
+  -- the first of them are unchanged, except for the last at the place of the one taken out
   at-first : (i : ℕ) → i < last → get_or pushed i item ≡ get_or (set items n (get_or items last out)) i item
   at-first i lt =
       let end : length items - 1 ≡ last = omega (arith, fewer) in

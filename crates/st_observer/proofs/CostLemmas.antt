@@ -1,7 +1,7 @@
--- What may be folded, by what has been seen.
+-- Bounds on folding, by the entries received.
 --     kept-cost, folded-few     by names
---     pushed-cost     of an entry that comes last
---     cut-cost        of identifiers that lose an operation
+--     pushed-cost     for an appended entry
+--     cut-cost        for identifiers that lose an operation
 use Rattle.std.proofs.Common.{◌≡◌, ◌∙◌, ℕ, ◌+◌, ◌*◌, ◌≤◌, Bool, leb, ltb, List, [], ◌∷◌, length, ap, arith, subst, sym}
 use Rattle.std.specs.List.{AllByRecursion}
 use Rattle.std.proofs.lemmas.Bool.{lt-leb, ltb-true}
@@ -25,7 +25,7 @@ use Rattle.st_observer.proofs.KeptLemmas.{kept-operations}
 use Rattle.st_observer.proofs.StatesLemmas.{from-length}
 use Rattle.st_observer.proofs.WorkLemmas.{grew-then}
 
--- what names cost by what is kept they cost by what has been seen
+-- the cost of names from the stored data is that from the entries received
 pub kept-cost : (observed : Observed) (kept : Kept) → IsKept observed kept → (names : List (HashValue × ℕ))
     → cover_cost hash_cmp kept.index.items names ≤ named_cost observed names
 kept-cost observed kept is names =
@@ -36,13 +36,13 @@ kept-cost observed kept is names =
       ap (λ operations. length (from_place name.1 operations)) (kept-operations name.0 observed kept is),
     ))
 
--- what was looked at was read, and then what pended was folded
+-- entries were checked, and then the pending changes folded
 pub folded-few : (observed : Observed) (start later : Kept) (names : List (HashValue × ℕ)) (old mid new : Counts) → IsKept observed later
     → GrewOver observed.files start.bounds.items 0 old mid → AppliesAtMost (cover_cost hash_cmp later.index.items names) mid new
     → GrewOver observed.files start.bounds.items (named_cost observed names) old new
 folded-few observed start later names old mid new is grew applied = grew-then grew applied (kept-cost observed later is names)
 
--- so where what is kept was taken out of its box first
+-- the same after the stored data is taken out of its box
 pub taken-few : (ledger : List Entry) (files : Files) (waits among : ℕ → Bool) (kept taken : Kept) (names : List (HashValue × ℕ)) (old new : Counts)
     → taken ≡ kept → ((n : ℕ) → among n ≡ waits n)
     → (CoversWhere among (over taken.index.folder.schedule ledger files) names
@@ -54,12 +54,12 @@ taken-few ledger files waits among kept taken names old new is same grew covers 
     (grew (subst (λ (k : Kept). CoversWhere among (over k.index.folder.schedule ledger files) names) (sym is)
     (λ n entry found one. covers n entry found (sym (same n) ∙ one))))
 
--- an entry costs what its identifiers do, at its place
+-- the cost of an entry is that of its identifiers, at its place
 pub entry-cost : (n : ℕ) (entry : Entry) (observed : Observed) → named_cost observed (at_place n (suffixes_of observed entry)) ≡ entry_cost n entry observed
 entry-cost n entry observed =
     fold-map (λ total name. total + suffix_cost name.1 observed name.0) (λ suffix. (suffix, n)) 0 (suffixes_of observed entry)
 
--- what a cut leaves of an identifier has nothing from its place on
+-- the operations of an identifier that a cut keeps are all before its place
 module _ (n : ℕ) (before after : Operations)
     (cuts : (suffix : HashValue) → operations_in suffix after ≡ before_place n (operations_in suffix before)) where
   pub cut-cost : (suffixes : List HashValue) → cover_cost hash_cmp after.items (at_place n suffixes) ≤ 7 * length suffixes

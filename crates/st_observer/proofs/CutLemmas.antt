@@ -1,6 +1,6 @@
--- The last entry is taken away, on the way to the first that is cut.
---     taken-length, taken-first    what is left
---     taken-turn, taken-waits      how it stood, and that it waits for nothing any longer
+-- The last entry is removed, on the way to the first one that is cut.
+--     taken-length, taken-first    the remaining entries
+--     taken-turn, taken-waits      its states, and that it no longer waits for any file
 use Rattle.std.proofs.Common.{◌≡◌, ◌∙◌, ℕ, ◌+◌, ◌-◌, ◌<◌, List, [], ◌∷◌, ◌++◌, length, take, get_or, ap, subst, sym, arith}
 use Rattle.std.proofs.lemmas.List.{length-take-le, take-take, take_more, take_all}
 use Rattle.st_anchor.specs.Known.{Known}

@@ -1,6 +1,6 @@
--- The operations for a suffix among what entries give, as entries come, change and go.
+-- The operations for a suffix among those of entries, when entries are added, changed and removed.
 --     given_from-append     of two lists of entries, one after the other
---     operations-put        an entry gives for the suffix, at its place, where it gave nothing else or less
+--     operations-put        an entry gives one for the suffix, at its place, and gave no other before
 --     operations-before     of the first entries alone
 use Rattle.std.proofs.Common.{◌≡◌, ◌∙◌, ℕ, suc, ◌+◌, ◌<◌, ◌≤◌, Bool, true, false, nat_lt, List, [], ◌∷◌, ◌++◌, length, filter, Option, Some, None, option_map, refl, sym, ap, arith, append-nil}
 use Rattle.std.specs.List.{cons_option}
@@ -50,7 +50,7 @@ module _ (test : Anchored → Bool) where
   one-none number height None rest fails = refl
   one-none number height (Some operation) rest fails = rw (fails (anchored_at number height operation) refl) refl
 
-  -- all pass, where all places of the entries do
+  -- all pass, if all places of the entries do
   operations-all : (suffix : HashValue) (number : ℕ) (gifts : List Gift)
       → ((anchored : Anchored) → number ≤ anchored.place → anchored.place < number + length gifts → test anchored ≡ true)
       → filter test (operations_from suffix number gifts) ≡ operations_from suffix number gifts
@@ -60,7 +60,7 @@ module _ (test : Anchored → Bool) where
       (λ anchored at. passes anchored (omega (arith, at)) (omega (arith, at)))
       (operations-all suffix (number + 1) gifts (λ anchored low high. passes anchored (omega (arith, low)) (omega (arith, high))))
 
-  -- none passes, where none of the places does
+  -- none passes, if none of the places does
   operations-none : (suffix : HashValue) (number : ℕ) (gifts : List Gift)
       → ((anchored : Anchored) → number ≤ anchored.place → anchored.place < number + length gifts → test anchored ≡ false)
       → filter test (operations_from suffix number gifts) ≡ []
@@ -71,7 +71,7 @@ module _ (test : Anchored → Bool) where
       ∙ operations-none suffix (number + 1) gifts (λ anchored low high. fails anchored (omega (arith, low)) (omega (arith, high)))
 
 module _ (suffix : HashValue) where
-  -- the operations before the place where the second list begins are those of the first
+  -- the operations before the first place of the second list are those of the first
   pub operations-first : (xs ys : List Gift) (n : ℕ) → length xs ≡ n
       → before_place n (operations_from suffix 0 (xs ++ ys)) ≡ operations_from suffix 0 xs
   operations-first xs ys n many =
@@ -82,7 +82,7 @@ module _ (suffix : HashValue) where
       ∙ append-nil (before_place n (operations_from suffix 0 xs))
       ∙ operations-all (λ anchored. nat_lt anchored.place n) suffix 0 xs (λ anchored low high. lt-ltb anchored.place n (omega (arith, high, many)))
 
-  -- those after the place of an entry are those of the entries behind it
+  -- those after the place of an entry are those of the entries after it
   operations-last : (xs ys : List Gift) (gift : Gift) (n : ℕ) → length xs ≡ n
       → after_place n (operations_from suffix 0 (xs ++ gift ∷ ys)) ≡ operations_from suffix (n + 1) ys
   operations-last xs ys gift n many =
@@ -94,7 +94,7 @@ module _ (suffix : HashValue) where
       (λ anchored at. le-ltb n anchored.place (omega (arith, at)))
       ∙ operations-all (λ anchored. nat_lt n anchored.place) suffix (n + 1) ys (λ anchored low high. lt-ltb n anchored.place (omega (arith, low)))
 
-  -- what may be given for the suffix by an entry in the midst
+  -- the operation of an entry in the middle for the suffix
   put-found : (height : ℕ) (xs ys : List Gift) (old : Gift) (n : ℕ) (was is : Option PlainOperation) → length xs ≡ n
       → given_for suffix old.1 ≡ was → (is ≡ None → was ≡ None)
       → with_given n height is (operations_from suffix 0 (xs ++ old ∷ ys))
@@ -109,7 +109,7 @@ module _ (suffix : HashValue) where
       ap (λ first. first ++ anchored_at n height operation ∷ after_place n (operations_from suffix 0 (xs ++ old ∷ ys))) front
       ∙ ap (λ last. operations_from suffix 0 xs ++ anchored_at n height operation ∷ last) back
 
-  -- An entry in the midst gives this now, and gave nothing for the suffix that it doesn't still give.
+  -- An entry in the middle gives this now, and still gives for the suffix what it gave before.
   pub operations-put : (height : ℕ) (xs ys : List Gift) (old : Gift) (new : List (HashValue × PlainOperation)) (n : ℕ) → length xs ≡ n
       → (given_for suffix new ≡ None → given_for suffix old.1 ≡ None)
       → with_given n height (given_for suffix new) (operations_from suffix 0 (xs ++ old ∷ ys)) ≡ operations_from suffix 0 (xs ++ (height, new) ∷ ys)

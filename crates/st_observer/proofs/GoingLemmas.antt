@@ -1,8 +1,8 @@
--- What is kept, as a file arrives and the entries that wait for it are looked at again.
---     kept-length, going-length   something is known of each entry
+-- The stored data while a file is received and the entries that wait for it are checked again.
+--     kept-length, going-length   something is known about each entry
 --     going-start      before the first of them
 --     going-settled    one of them
---     going-end        after the last of them, it is what is kept with the file
+--     going-end        after the last of them, it is the stored data with the file
 use Rattle.std.proofs.Common.{◌≡◌, ◌≢◌, ◌∙◌, ◌⊎◌, ⊎_elim, inl, inr, ℕ, ◌+◌, ◌<◌, ◌≤◌, ◌==◌, Bool, true, false, List, [], ◌∷◌, length, map, drop, set, get_or, refl, sym, ap, subst, arith}
 use Rattle.std.specs.List.{AllByRecursion, list_any}
 use Rattle.std.proofs.lemmas.Bool.{cases_eq, eqb-true, or_from, or_parts, true≢false}
@@ -52,7 +52,7 @@ none-each : (test : RoleState → Bool) (states : List RoleState) → list_any t
 none-each test [] none = tt
 none-each test (state ∷ states) none = let parts = or_parts (test state) (list_any test states) none in (parts.0, none-each test states parts.1)
 
--- a file that no role of an entry misses
+-- a file that is missing for no role of an entry
 pub unmissed : (uri : HashValue) (bound : Known) → one_misses uri (role_states bound) ≡ false → IsUnmissed uri bound
 unmissed uri bound none =
     let each = none-each (misses uri) (role_states bound) none in
@@ -76,7 +76,7 @@ known-unmissed : (file : List ℕ) (files : Files) (limits : Limits) (text : Lis
 unfolding known
 known-unmissed file files limits text none = known_from-unmissed file files (known_of_text limits text) none
 
--- a file that no role of an entry misses makes no more of it
+-- a file that is missing for no role of an entry adds nothing to it
 pub known_of-unmissed : (file : List ℕ) (observed : Observed) (entry : Entry)
     → one_misses (uri_of file) (role_states (known_of observed.schedule observed.files entry)) ≡ false
     → known_of observed.schedule (with_file file observed.files) entry ≡ known_of observed.schedule observed.files entry
@@ -102,7 +102,7 @@ all-later file observed (entry ∷ entries) =
 no_entry : Entry
 no_entry = record { height = 0; text = [] }
 
--- what is known of the entry with this number
+-- what is known about the entry with this number
 pub bound-is : (observed : Observed) (kept : Kept) (n : ℕ) (d : Known) (entry : Entry) → IsKept observed kept → n < length kept.bounds.items
     → get_or kept.bounds.items n d ≡ known_of observed.schedule observed.files (get_or observed.ledger n entry)
 bound-is observed kept n d entry is inside =
@@ -119,7 +119,7 @@ start-settled file observed kept n is none d inside =
     ∙ sym (is.waits.each (uri_of file) n) ∙ none in
     ap (known_from (with_file file observed.files)) at ∙ known_of-later file observed entry ∙ known_of-unmissed file observed entry unasked ∙ sym at
 
--- The file has come; of the entries that don't wait for it, it makes no more.
+-- The file was received; it adds nothing to the entries that don't wait for it.
 pub going-start : (file : List ℕ) (observed : Observed) (kept : Kept) → IsKept observed kept
     → IsGoing (arrived file observed) (λ n. is_waiting (uri_of file) n kept.waiting) kept
 going-start file observed kept is = record {
@@ -135,7 +135,7 @@ going-start file observed kept is = record {
 pub known_from-twice : (files : Files) (bound : Known) → known_from files (known_from files bound) ≡ known_from files bound
 known_from-twice files bound = known_from-again files files (record { kept = λ uri file is. is }) bound
 
--- the files make the same of it, whether an entry has been looked at or not
+-- the files add the same to it before and after an entry is checked
 pub map-settled : (files : Files) (bounds : List Known) (n : ℕ)
     → map (known_from files) (set bounds n (known_from files (bound_at n bounds))) ≡ map (known_from files) bounds
 map-settled files bounds n =
@@ -202,7 +202,7 @@ going-skipped observed still next n kept going past left = record {
   states = going.states;
 }
 
--- the number that was next is no longer among those that are left
+-- the number that was next is no longer among the remaining ones
 among-next : (n m : ℕ) (rest : List ℕ) (here : Bool) → (n == m) ≡ here → is_among rest m ≡ false → (is_among (n ∷ rest) m ≡ false) ⊎ (m ≡ n)
 among-next n m rest true here none = inr (sym (eqb-true n m here))
 among-next n m rest false here none = inl (or_from (n == m) (is_among rest m) here none)

@@ -1,4 +1,4 @@
--- What leaves the operations of an identifier.
+-- Changes that leave the operations of an identifier.
 use Rattle.std.proofs.Common.{◌≡◌, ◌∙◌, ℕ, ◌+◌, false, List, [], ◌∷◌, ◌++◌, length, take, drop, Option, option_map, refl, sym, ap, append-nil}
 use Rattle.std.specs.List.{AllByRecursion, cons_option}
 use Rattle.std.proofs.lemmas.List.{take-append-drop}
@@ -18,7 +18,7 @@ pub operations-decide : OperationsDecide
 operations-decide suffix first second schedules same =
     ap (λ schedule. resolved schedule (operations suffix first)) schedules ∙ ap (resolved second.schedule) same
 
--- entries that give nothing for the suffix
+-- entries that give no operation for the suffix
 nothing-from : (suffix : HashValue) (observed : Observed) (number : ℕ) (entries : List Entry) → AllByRecursion (GivesNothing suffix observed) entries
     → given_from (anchored_for suffix observed.schedule observed.files) number entries ≡ []
 nothing-from suffix observed number [] each = refl

@@ -1,9 +1,9 @@
--- What is kept, as the observer's calls use and change it.
+-- The stored data, as the observer's calls use and change it.
 --     kept-operations, kept-state     the operations and the state of an identifier
---     kept-folded                     once what pends is folded
---     kept-pushed, kept-cut           once an entry has come, or entries are cut
---     losing-covers                   whose operations are fewer then
---     settled-known    what a new entry's text and the files make of it
+--     kept-folded                     after pending changes are folded
+--     kept-pushed, kept-cut           after an entry is appended, or entries are cut
+--     losing-covers                   the identifiers that then have fewer operations
+--     settled-known    what a new entry's text and the files give
 use Rattle.std.proofs.Common.{◌≡◌, ◌∙◌, ℕ, ◌≤◌, List, [], ◌∷◌, ◌++◌, length, take, Option, Some, None, option_map, unwrap_or, sym, ap, subst, arith}
 use Rattle.std.proofs.lemmas.List.{map_push, take-map}
 use Rattle.st_anchor.specs.Known.{Known, known, known_from, known_of_text}
@@ -35,7 +35,7 @@ pub kept-operations : (suffix : HashValue) (observed : Observed) (kept : Kept) �
     → operations_in suffix kept.index ≡ operations suffix observed
 kept-operations suffix observed kept is = operations-agree suffix observed kept.bounds.items kept.index is.same is.states
 
--- the operations of an identifier stand in ascending places
+-- the operations of an identifier have ascending places
 pub operations-ascend : (suffix : HashValue) (observed : Observed) → PlacesAscend place_of (operations suffix observed)
 unfolding operations
 operations-ascend suffix observed =
@@ -47,7 +47,7 @@ operations-ascend suffix observed =
     at number entry item None is = cc
     at number entry item (Some operation) is = ap (λ found. (unwrap_or found item).place) (sym is)
 
--- what they fold to is what they resolve to
+-- the state they fold to is the one they resolve to
 pub kept-state : (suffix : HashValue) (observed : Observed) (kept : Kept) → IsKept observed kept
     → folded (stepped kept.index.folder.schedule) absent (items_at hash_cmp suffix kept.index.items) ≡ state_of suffix observed
 kept-state suffix observed kept is =
@@ -56,7 +56,7 @@ kept-state suffix observed kept is =
     ∙ ap (λ schedule. resolved schedule (operations_in suffix kept.index)) is.schedule
     ∙ ap (resolved observed.schedule) same
 
--- ---- what pends is folded
+-- ---- pending changes are folded
 
 pub kept-folded : (observed : Observed) (before after : Kept) → IsKept observed before → Folds before after → IsObserved observed after
 kept-folded observed before after is step = record {
@@ -71,7 +71,7 @@ kept-folded observed before after is step = record {
   none = step.none;
 }
 
--- ---- an entry comes
+-- ---- an entry is appended
 
 pub settled-known : (files : Files) (limits : Limits) (text : List ℕ) (bound settled : Known) → bound ≡ known_of_text limits text
     → settled ≡ known_from files bound
@@ -111,7 +111,7 @@ kept-cut observed n before after is within step = record {
 
 -- ---- an identifier loses operations
 
--- the suffixes that lose an operation cover what a cut changes
+-- the suffixes that lose an operation cover the changes of a cut
 pub losing-covers : (n : ℕ) (observed seen : Observed) (kept : Kept) → IsKept observed kept → observed ≡ seen
     → CoversLosing hash_cmp (at_place n (losing n seen)) n kept.index.items
 losing-covers n observed seen kept is same suffix any =

@@ -1,4 +1,4 @@
--- Private: what the calls of the observer rest on.
+-- Private: lemmas for the observer's calls.
 mod WaitingLemmas
 mod WantedLemmas
 mod StatesLemmas

@@ -1,6 +1,6 @@
--- What is kept while the entries that wait for a file are looked at again, one after the other.
---     looking-next, looking-skipped     after one, and after one that isn't there
---     looking-few, looking-wanting      what was counted at the end, and where memory ran out
+-- The stored data while the entries that wait for a file are checked again, one after another.
+--     looking-next, looking-skipped     after one, and after one that does not exist
+--     looking-few, looking-wanting      the counts at the end, and if memory ran out
 use Rattle.std.proofs.Common.{◌≡◌, ◌∙◌, inl, inr, ℕ, zero, suc, ◌+◌, ◌<◌, ◌≤◌, ◌==◌, true, ◌||◌, List, [], ◌∷◌, length, map, drop, take, get_or, slice_get, Some, None, refl, sym, ap, subst, arith}
 use Rattle.std.specs.List.{AllByRecursion}
 use Rattle.std.proofs.lemmas.Bool.{eq-eqb, false≢true, or_cases, or_left, or_right}
@@ -40,15 +40,15 @@ entry-past (entry ∷ ledger) (suc n) none = let rest : length ledger ≤ n = en
 
 -- ---- on the way
 
--- The first of the entries with these numbers have been looked at, so many of them. Nothing is applied, and
--- names that cover what all of them give cover what is changed.
+-- This many of the entries with these numbers have been checked. Nothing is applied yet, and names that cover the
+-- operations of all of them cover the changes.
 pub record Looking (observed : Observed) (entries : List ℕ) (at : ℕ) (start now : Kept) (old new : Counts) : Type 0 where
   pub going : IsGoing observed (is_among (drop at entries)) now
   pub same : map (known_from observed.files) now.bounds.items ≡ map (known_from observed.files) start.bounds.items
   pub reading : Reading start.bounds.items now.bounds.items old new
   pub covers : (names : List (HashValue × ℕ)) → CoversWhere (is_among entries) observed names → AllByRecursion (Covers hash_cmp names) now.index.changes
 
--- more is known of an entry that is looked at again
+-- more is known about an entry that was checked again
 more-known : (observed : Observed) (bounds : List Known) (entry : Entry) (n : ℕ)
     → map (known_from observed.files) bounds ≡ map (known_of observed.schedule observed.files) observed.ledger
     → n < length bounds → get_or observed.ledger n entry ≡ entry
@@ -69,7 +69,7 @@ among-taken (x ∷ xs) (suc many) m there = elim (or_cases (x == m) (is_among (t
   | inr later ↦ or_right (x == m) (is_among xs m) (among-taken xs many m later)
 ]
 
--- one number more
+-- one more number
 module _ (entries : List ℕ) (at n : ℕ) (inside : at < length entries) (is : n ≡ get_or entries at n) where
   more-among : (m : ℕ) → is_among (take (at + 1) entries) m ≡ (is_among (take at entries) m || (n == m))
   more-among m = list_any_more (λ k. k == m) entries at n inside ∙ ap (λ k. is_among (take at entries) m || (k == m)) (sym is)
@@ -82,7 +82,7 @@ module _ (entries : List ℕ) (at n : ℕ) (inside : at < length entries) (is : 
   looking-inside observed start now entry old mid looking within =
       omega (arith, within, going-length observed (is_among (drop at entries)) now looking.going)
 
-  -- the entry with this number is looked at again
+  -- the entry with this number is checked again
   pub looking-next : (observed : Observed) (start now after : Kept) (entry : Entry) (old mid new : Counts) → Looking observed entries at start now old mid
       → Some entry ≡ slice_get observed.ledger n
       → Settles observed.files n entry.height now after

@@ -1,6 +1,6 @@
--- Identifiers, each once, of which entries give operations.
---     losing-has      those that lose an operation where entries are cut
---     names-late      those of which entries give one that missed a file
+-- Identifiers, each once, for which entries give operations.
+--     losing-has      those that lose an operation if entries are cut
+--     names-late      those for which entries that missed a file give one
 use Rattle.std.proofs.Common.{◌≡◌, ◌∙◌, ◌⊎◌, ℕ, zero, suc, ◌+◌, ◌≤◌, leb, true, false, not, ◌&&◌, Bool, List, [], ◌∷◌, ◌++◌, drop, filter, length, map, slice_get, Option, Some, None, Equal, option_map, is_some, unwrap_or, if◌then◌else◌, inl, inr, ⊎_elim, is_eq, refl, sym, ap, subst, arith}
 use Rattle.std.proofs.lemmas.Bool.{cases_Bool, true≢false, and_parts, le-leb, leb-true, or_cases, or_left, or_right}
 use Rattle.std.proofs.lemmas.List.Folds.{list_any-append}
@@ -54,7 +54,7 @@ module _ (suffix : HashValue) (observed : Observed) where
       list_any-append (same_hash suffix) (suffixes_of observed entry) (flat_map (suffixes_of observed) entries)
       ∙ or_right (list_any (same_hash suffix) (suffixes_of observed entry)) (list_any (same_hash suffix) (flat_map (suffixes_of observed) entries)) named
 
-  -- where entries give an operation for a suffix, it is among those that they give
+  -- if entries give an operation for a suffix, it is among the suffixes of their operations
   some-named : (test : Anchored → Bool) (number : ℕ) (entries : List Entry) → 1 ≤ length (filter test (given_from given_at number entries)) → named_in entries
   some-named test number [] some = absurd (omega (arith, some))
   some-named test number (entry ∷ entries) some = elim (given_or_not number entry) [
@@ -63,7 +63,7 @@ module _ (suffix : HashValue) (observed : Observed) where
     | inr gives ↦ front entry entries gives.0
   ]
 
-  -- and where the operation stands at a number or later, it is among those that the entries from there on give
+  -- and if the operation is at a number or later, it is among those of the entries from there on
   later-named : (n number : ℕ) (entries : List Entry) → 1 ≤ length (from_place (number + n) (given_from given_at number entries)) → named_in (drop n entries)
   later-named zero number entries some = some-named (λ anchored. leb (number + 0) anchored.place) number entries some
   later-named (suc n) number [] some = absurd (omega (arith, some))
@@ -86,11 +86,11 @@ module _ (suffix : HashValue) (observed : Observed) where
         | inr not ↦ not
       ]
 
--- hashes that the order does not tell apart are the same
+-- hashes that tie in the order are the same
 tied-same : (first second : HashValue) → hash_cmp first second ≡ Equal → first ≡ second
 tied-same first second equal = same_hash-is first second (same_hash-ties first second ∙ ap is_eq equal)
 
--- each identifier that loses an operation is among those that are computed
+-- each identifier that loses an operation is in the computed list
 pub losing-has : (n : ℕ) (observed : Observed) (suffix : HashValue) → 1 ≤ length (from_place n (operations suffix observed))
     → list_any (same_hash suffix) (losing n observed) ≡ true
 unfolding operations
@@ -101,7 +101,7 @@ losing-has n observed suffix some =
 
 -- ---- entries that missed a file
 
--- what passes a test passes it behind a filter that lets it through
+-- if an item passes a test and a filter keeps it, some item passes after the filter
 any-filter : {X : Type 0} (test keep : X → Bool) (xs : List X) → ((x : X) → test x ≡ true → keep x ≡ true) → list_any test xs ≡ true
     → list_any test (filter keep xs) ≡ true
 any-filter test keep xs keeps any = any-filter_same test keep true keeps xs ∙ any
@@ -120,7 +120,7 @@ module _ (place : ℕ) where
       (λ rest. or_right (test (other, place)) (list_any test (map (λ s. (s, place)) suffixes)) (covers-here suffix later suffixes le rest))
       (or_cases (same_hash suffix other) (list_any (same_hash suffix) suffixes) any)
 
--- What names a suffix goes on doing so where other suffixes are named first, at an earlier place.
+-- A name of a suffix still is one after other suffixes are added before it, at an earlier place.
 named_on : (place later : ℕ) (suffixes : List HashValue) (names : List (HashValue × ℕ)) (suffix : HashValue) → place ≤ later → Covers hash_cmp names (suffix, later)
     → Covers hash_cmp (map (λ other. (other, place)) suffixes ++ filter (λ name. not (list_any (same_hash name.0) suffixes)) names) (suffix, later)
 named_on place later suffixes names suffix le named =
@@ -170,7 +170,7 @@ module _ (file : List ℕ) (observed : Observed) where
       (λ suffix named. named_on place (place + 1 + n) (late_in file observed first) (late_from (place + 1) file observed entries) suffix (omega arith) named)
       (suffixes_of (arrived file observed) entry) (each-late (place + 1) n entries entry found missed))
 
-  -- each of which an entry gives one that missed the file is among those that are computed, at the entry's place or before
+  -- each suffix of an entry that missed the file is in the computed list, at the entry's place or before
   pub names-late : (n : ℕ) (entry : Entry) → Some entry ≡ slice_get observed.ledger n → is_missed_by file observed entry ≡ true
       → AllByRecursion (λ suffix. Covers hash_cmp (late file observed) (suffix, n)) (suffixes_of (arrived file observed) entry)
   names-late n entry found missed =

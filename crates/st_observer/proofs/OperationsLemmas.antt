@@ -1,9 +1,9 @@
--- What the operations of a suffix are, by what is known of the entries.
---     gifts-length, gifts-append, gifts-take, gifts-at   what entries give, as lists
---     operations-known    what is known of each entry is what the files make of it
---     given-stays         a suffix that is given is given over more files too
---     operations-pushed, operations-settled   once an entry comes, and once more is known of one
---     agree-pushed, agree-settled, agree-cut  the states go on agreeing with what is known
+-- The operations of a suffix, from what is known about the entries.
+--     gifts-length, gifts-append, gifts-take, gifts-at   the operations of entries, as lists
+--     operations-known    what is known about each entry is what the files give
+--     given-stays         a suffix with an operation has one over more files too
+--     operations-pushed, operations-settled   after an entry is appended, and after more is known about one
+--     agree-pushed, agree-settled, agree-cut  the states still agree with what is known
 use Rattle.std.proofs.Common.{◌≡◌, ◌∙◌, ℕ, zero, suc, ◌+◌, ◌<◌, ◌≤◌, Bool, true, false, ◌||◌, cond, List, [], ◌∷◌, ◌++◌, length, map, take, drop, set, get_or, Option, Some, None, is_some, refl, sym, ap, arith}
 use Rattle.std.specs.List.{cons_option, list_any}
 use Rattle.std.proofs.lemmas.Bool.{false≢true}
@@ -43,7 +43,7 @@ gifts-take (suc n) [] bounds = refl
 gifts-take (suc n) (entry ∷ entries) [] = refl
 gifts-take (suc n) (entry ∷ entries) (bound ∷ bounds) = ap (λ rest. (entry.height, given bound) ∷ rest) (gifts-take n entries bounds)
 
--- something else is known of the entry with this number
+-- the knowledge of the entry with this number changes
 pub gifts-set : (entries : List Entry) (bounds : List Known) (n : ℕ) (bound : Known) (entry : Entry) → n < length entries → n < length bounds
     → get_or entries n entry ≡ entry
     → gifts entries (set bounds n bound) ≡ set (gifts entries bounds) n (entry.height, given bound)
@@ -53,7 +53,7 @@ gifts-set (first ∷ entries) (one ∷ bounds) zero bound entry inside within is
 gifts-set (first ∷ entries) (one ∷ bounds) (suc n) bound entry inside within is =
     ap (λ rest. (first.height, given one) ∷ rest) (gifts-set entries bounds n bound entry (omega (arith, inside)) (omega (arith, within)) is)
 
--- what the entry with this number gives
+-- the operations of the entry with this number
 pub gifts-at : (entries : List Entry) (bounds : List Known) (n : ℕ) (gift : Gift) (bound : Known) → n < length entries → n < length bounds
     → (get_or (gifts entries bounds) n gift).1 ≡ given (get_or bounds n bound)
 gifts-at [] bounds n gift bound inside within = absurd (omega (arith, inside))
@@ -62,7 +62,7 @@ gifts-at (first ∷ entries) (one ∷ bounds) zero gift bound inside within = re
 gifts-at (first ∷ entries) (one ∷ bounds) (suc n) gift bound inside within = gifts-at entries bounds n gift bound (omega (arith, inside))
     (omega (arith, within))
 
--- ---- by what the files make of the entries
+-- ---- from what the files give the entries
 
 known-from : (suffix : HashValue) (schedule : Option ℕ) (files : Files) (number : ℕ) (entries : List Entry)
     → given_from (anchored_for suffix schedule files) number entries ≡ operations_from suffix number (gifts entries (map (known_of schedule files) entries))
@@ -70,7 +70,7 @@ known-from suffix schedule files number [] = refl
 known-from suffix schedule files number (entry ∷ entries) =
     ap (cons_option (anchored_for suffix schedule files number entry)) (known-from suffix schedule files (number + 1) entries)
 
--- The operations of a suffix are those that the entries give by what the files make of them.
+-- The operations of a suffix are those of the entries, from what the files give them.
 pub operations-known : (suffix : HashValue) (observed : Observed)
     → operations suffix observed ≡ operations_from suffix 0 (gifts observed.ledger (map (known_of observed.schedule observed.files) observed.ledger))
 unfolding operations
@@ -82,7 +82,7 @@ pub operations-agree : (suffix : HashValue) (observed : Observed) (bounds : List
 operations-agree suffix observed bounds states same agree =
     agree.each suffix ∙ ap (λ b. operations_from suffix 0 (gifts observed.ledger b)) same ∙ sym (operations-known suffix observed)
 
--- ---- what is given stays given
+-- ---- an operation that is given stays given
 
 some_or : {X : Type 0} (here : Bool) (x : X) (found : Option X) (any : Bool) → is_some found ≡ any → is_some (cond here (Some x) found) ≡ (here || any)
 some_or true x found any e = refl
@@ -102,7 +102,7 @@ none_before : (before after : Bool) → (before ≡ true → after ≡ true) →
 none_before true after grows none = absurd (false≢true (sym none ∙ grows refl))
 none_before false after grows none = refl
 
--- A suffix for which nothing is given over more files was given nothing before.
+-- If no operation is given for a suffix over more files, none was given before.
 pub given-stays : (suffix : HashValue) (files : Files) (bound : Known) → given_for suffix (given (known_from files bound)) ≡ None
     → given_for suffix (given bound) ≡ None
 given-stays suffix files bound none =
@@ -113,7 +113,7 @@ given-stays suffix files bound none =
 
 -- ---- the states agree
 
--- the items before a place, the one there, and those behind it
+-- the items before a place, the one there, and those after it
 split : {X : Type 0} (xs : List X) (n : ℕ) (d : X) → n < length xs → xs ≡ take n xs ++ get_or xs n d ∷ drop (n + 1) xs
 split xs n d inside = sym (take-append-drop n xs) ∙ ap (λ rest. take n xs ++ rest) (drop_more xs n d inside)
 
@@ -134,7 +134,7 @@ nothing-from : (suffix : HashValue) (number : ℕ) (all : List Gift) (height : �
 nothing-from suffix number [] height = refl
 nothing-from suffix number (gift ∷ all) height = ap (cons_option (anchored_in suffix number gift)) (nothing-from suffix (number + 1) all height)
 
--- An entry comes last, and gives this.
+-- An entry is appended, and gives this.
 pub operations-pushed : (suffix : HashValue) (entries : List Entry) (bounds : List Known) (entry : Entry) (bound : Known) (n : ℕ) (states : Operations)
     → length bounds ≡ length entries → n ≡ length bounds → StatesAgree (gifts entries bounds) states
     → with_given n entry.height (given_for suffix (given bound)) (operations_in suffix states)
@@ -153,7 +153,7 @@ agree-pushed entries bounds entry bound n old new many number agree puts = recor
   each = λ suffix. puts.operations suffix ∙ operations-pushed suffix entries bounds entry bound n old many number agree;
 }
 
--- More is known of the entry with this number over more files.
+-- More is known about the entry with this number over more files.
 pub operations-settled : (suffix : HashValue) (entries : List Entry) (bounds : List Known) (entry : Entry) (files : Files) (d : Known) (n : ℕ)
     (states : Operations)
     → length bounds ≡ length entries → n < length bounds → get_or entries n entry ≡ entry → StatesAgree (gifts entries bounds) states
@@ -177,7 +177,7 @@ agree-settled entries bounds entry files d n old new many inside is agree puts =
   each = λ suffix. puts.operations suffix ∙ operations-settled suffix entries bounds entry files d n old many inside is agree;
 }
 
--- the first entries alone
+-- only the first entries
 pub agree-cut : (entries : List Entry) (bounds : List Known) (n : ℕ) (old new : Operations)
     → length bounds ≡ length entries → n ≤ length entries → StatesAgree (gifts entries bounds) old
     → ((suffix : HashValue) → operations_in suffix new ≡ before_place n (operations_in suffix old))

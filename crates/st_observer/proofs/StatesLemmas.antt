@@ -1,9 +1,9 @@
--- Operations at their places, kept by suffix.
---     put_operations, cut_operations          what a put and a cut of the index leave of each identifier
---     state_resolved                          what the index folds is what the operations resolve to
+-- Operations at their places, stored by suffix.
+--     put_operations, cut_operations          the operations of each identifier after a put and a cut of the index
+--     state_resolved                          the state that the index folds is the one the operations resolve to
 --     goes_on, way-done                       given operations, put one after another
 --     covers-itself, covers-before, covers-put     names that cover changes
---     from-length, loses                      what is folded from a place on, and what a cut drops
+--     from-length, loses                      the operations folded from a place on, and those that a cut drops
 use Rattle.std.proofs.Common.{◌≡◌, ◌∙◌, ℕ, ◌≤◌, Bool, true, false, cond, ltb, leb, List, [], ◌∷◌, ◌++◌, length, filter, reverse, sym, ap, subst, refl, arith, append-nil, append_assoc, inl, inr}
 use Rattle.std.specs.Prelude.{map, Option, Some, None, ◌||◌, ◌&&◌}
 use Rattle.std.specs.BTreeMap.{is_at}
@@ -65,7 +65,7 @@ module _ (place : ℕ) (items : List (Held Item)) where
 tied : (suffix : HashValue) → is_at (hash_cmp suffix) suffix ≡ true
 tied suffix = sym (same_hash-ties suffix suffix) ∙ same_hash-itself suffix
 
--- an order that is a tie is sameness
+-- hashes that tie are the same
 same-at : (key other : HashValue) → is_at (hash_cmp key) other ≡ same_hash other key
 same-at key other = sym (same_hash-ties key other) ∙ same_hash-equivalence.symm key other
 
@@ -75,7 +75,7 @@ module _ (place height : ℕ) (key : HashValue) (operation : Operation) where
   choose true items = with-items place items height operation
   choose false items = refl
 
-  -- what a put of an item leaves of each identifier,
+  -- the items of each identifier after a put,
   pub put_operations : (old new : BySuffix) → ChangesAt hash_cmp key (with_item place (height, operation)) old new → (suffix : HashValue)
       → operations_at suffix new ≡ with_given place height (given_for suffix ((key, plain_operation operation) ∷ [])) (operations_at suffix old)
   unfolding operations_at
@@ -96,13 +96,13 @@ pub same_operations : (suffix : HashValue) (old new : BySuffix) → items_at has
 unfolding operations_at
 same_operations suffix old new same = ap (map anchored_item) same
 
--- what a cut leaves of an identifier
+-- the items of an identifier after a cut
 pub cut_operations : (place : ℕ) (suffix : HashValue) (old new : BySuffix) → items_at hash_cmp suffix new ≡ before place (items_at hash_cmp suffix old)
     → operations_at suffix new ≡ before_place place (operations_at suffix old)
 unfolding operations_at
 cut_operations place suffix old new cut = ap (map anchored_item) cut ∙ sym (before-items place (items_at hash_cmp suffix old))
 
--- some item passes a test: a filter leaves one or more
+-- if some item passes a test, a filter keeps at least one
 some_left : {X : Type 0} (test : X → Bool) (xs : List X) → list_any test xs ≡ true → 1 ≤ length (filter test xs)
 some_left test [] any = absurd (false≢true any)
 some_left test (x ∷ xs) any = elim (cases_Bool (test x)) [
@@ -110,7 +110,7 @@ some_left test (x ∷ xs) any = elim (cases_Bool (test x)) [
   | inr is ↦ rw is (some_left test xs (rw is at any))
 ]
 
--- where some item would go in a cut, some operation would
+-- if some item is lost in a cut, some operation is
 pub loses : (place : ℕ) (suffix : HashValue) (items : BySuffix) → reaches place (items_at hash_cmp suffix items) ≡ true
     → 1 ≤ length (from_place place (operations_at suffix items))
 unfolding operations_at
@@ -126,7 +126,7 @@ from-length place suffix items =
     let kept = items_at hash_cmp suffix items in
     rw (from-items place kept) (sym (length-map (from place kept) anchored_item))
 
--- what the items of an identifier fold to is what its operations resolve to
+-- the state that the items of an identifier fold to is the one its operations resolve to
 pub state_resolved : (schedule : Option ℕ) (suffix : HashValue) (items : BySuffix) → PlacesAscend place_of (operations_at suffix items)
     → folded (stepped schedule) absent (items_at hash_cmp suffix items) ≡ resolved schedule (operations_at suffix items)
 unfolding operations_at
@@ -138,7 +138,7 @@ state_resolved schedule suffix items ascend =
 -- ---- a list of given operations, put one after another
 
 module _ {X : Type 0} (test : HashValue → Bool) where
-  -- a look-up finds the last where it finds none before,
+  -- a lookup finds the last one if it finds none before,
   lookup-last : (given : List (HashValue × X)) (last : HashValue × X) → lookup test given ≡ None → test last.0 ≡ true
       → lookup test (given ++ last ∷ []) ≡ Some last.1
   lookup-last [] last none is = rw is refl
@@ -147,12 +147,12 @@ module _ {X : Type 0} (test : HashValue → Bool) where
     | inr apart ↦ let rest : lookup test given ≡ None = rw apart at none in rw apart (lookup-last given last rest is)
   ]
 
-  -- and what it finds before where the last is another
+  -- and what it found before if the last has another name
   lookup-other : (given : List (HashValue × X)) (last : HashValue × X) → test last.0 ≡ false → lookup test (given ++ last ∷ []) ≡ lookup test given
   lookup-other [] last not = rw not refl
   lookup-other (first ∷ given) last not = rw (lookup-other given last not) refl
 
--- where no suffix stands twice, the last one doesn't stand before
+-- if no suffix appears twice, the last one's does not appear before
 last_once : {X : Type 0} (given : List (HashValue × X)) (last : HashValue × X) → has_twice same_hash (map (λ entry. entry.0) (given ++ last ∷ [])) ≡ false
     → lookup (same_hash last.0) given ≡ None
 last_once [] last once = refl
@@ -169,7 +169,7 @@ last_once (first ∷ given) last once =
 abbrev Givens : Type 0
 Givens = List (HashValue × PlainOperation)
 
--- what is left to be put leads from here to what all lead to from the first
+-- putting the rest leads from here to the result of putting all from the start
 pub record IsOnWay (place height : ℕ) (all left : Givens) (first now : Operations) : Type 0 where
   pub once : has_twice same_hash (suffixes_given left) ≡ false
   pub schedule : now.folder.schedule ≡ first.folder.schedule
@@ -177,7 +177,7 @@ pub record IsOnWay (place height : ℕ) (all left : Givens) (first now : Operati
       ≡ with_given place height (given_for suffix all) (operations_at suffix first.items)
   pub changes : now.changes ++ reverse (at_place place (suffixes_given left)) ≡ first.changes ++ reverse (at_place place (suffixes_given all))
 
--- the last of those that are left is put
+-- the last of the remaining ones is put
 module _ {place height : ℕ} {all whole : Givens} {first now : Operations} (left : Givens) (last : HashValue × PlainOperation)
     (split : whole ≡ left ++ last ∷ []) (way : IsOnWay place height all whole first now) where
   with_last : IsOnWay place height all (left ++ last ∷ []) first now
@@ -226,7 +226,7 @@ module _ {place height : ℕ} {all whole : Givens} {first now : Operations} (lef
           ∙ ap (λ given. with_given place height given (operations_at last.0 now.items)) (lookup-last (same_hash last.0) [] last refl (same_hash-itself last.0))
           ∙ last_leads
 
--- once all are put
+-- after all are put
 pub way-done : {place height : ℕ} {all : Givens} {first now : Operations} → IsOnWay place height all [] first now → PutsGiven place height all first now
 way-done {now = now} way = record {
   schedule = way.schedule;
@@ -237,7 +237,7 @@ way-done {now = now} way = record {
 -- ---- names that cover changes
 
 module _ {X Y : Type 0} (P : Y → Type 0) (f : X → Y) where
-  -- what holds of each of these holds of each of those that they are made of
+  -- a property of each of these is one of each of those they are made from
   pub each-of : (xs : List X) → AllByRecursion P (map f xs) → AllByRecursion (λ x. P (f x)) xs
   each-of [] all = tt
   each-of (x ∷ xs) all = (all.0, each-of xs all.1)
@@ -264,7 +264,7 @@ covers-itself (change ∷ changes) =
           changes (covers-itself changes),
     )
 
--- what some names cover more do
+-- changes covered by some names are covered by more
 pub covers-before : (front back changes : List (HashValue × ℕ)) → AllByRecursion (Covers hash_cmp front) changes
     → AllByRecursion (Covers hash_cmp (front ++ back)) changes
 covers-before front back changes covers =
@@ -274,7 +274,7 @@ covers-before front back changes covers =
     (list_any (λ name. is_at (hash_cmp change.0) name.0 && leb name.1 change.1) back) is)
     changes covers
 
--- what covers the changes, and what is given at a place, covers the changes with these
+-- names that cover the changes, and the suffixes given at a place, cover the changes after these are put
 pub covers-put : {place height : ℕ} {given : Givens} {old new : Operations} → PutsGiven place height given old new → (names : List (HashValue × ℕ))
     → AllByRecursion (Covers hash_cmp names) old.changes → AllByRecursion (λ suffix. Covers hash_cmp names (suffix, place)) (suffixes_given given)
     → AllByRecursion (Covers hash_cmp names) new.changes

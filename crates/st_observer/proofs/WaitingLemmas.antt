@@ -1,7 +1,7 @@
--- What waits for a file, after the row of a URI was changed.
---     text-same, at-same        texts tell hashes apart that are read from them
---     rows-insert, rows-remove  the rows stay right
---     sets-gone, sets-back      what a change of one row makes of who waits
+-- The entries that wait for a file, after the row of a URI was changed.
+--     text-same, at-same        texts distinguish hashes that are read from them
+--     rows-insert, rows-remove  the rows stay valid
+--     sets-gone, sets-back      how a change of one row changes who waits
 --     row-waited, rows-read     the row of a URI, and that it is read from its text
 use Rattle.std.proofs.Common.{◌≡◌, ◌∙◌, ◌⊎◌, ℕ, ◌≤◌, ◌↔◌, eqb, Bool, true, false, cond, ◌&&◌, ◌||◌, List, [], ◌∷◌, length, Option, Some, None, is_some, unwrap_or, option_map, Ordering, Less, Equal, Greater, nat_cmp, is_eq, inl, inr, ⊎_elim, refl, sym, ap, subst, arith}
 use Rattle.std.proofs.lemmas.Bool.{eq-eqb, false_from_ne_true, or_cases, true≢false}
@@ -26,7 +26,7 @@ use Rattle.st_observer.specs.Wanted.{one_misses, text_cmp}
 inside : (first second : HashValue) → Some first ≡ Some second → first ≡ second
 inside first second same = ap (λ found. unwrap_or found first) same
 
--- hashes that are read from their texts are the same where their texts are
+-- hashes that are read from their texts are the same if their texts are
 pub text-same : (first second : HashValue) → IsRead first → IsRead second → hash_text first ≡ hash_text second → first ≡ second
 text-same first second one two same = inside first second (sym one ∙ ap (hash_of_text_at 2) same ∙ two)
 
@@ -53,12 +53,12 @@ some_or_not uri (Some hash) =
 read_or_not : (uri : HashValue) → IsRead uri ⊎ (IsRead uri → ⊥)
 read_or_not uri = some_or_not uri (hash_of_text_at 2 (hash_text uri))
 
--- a hash that isn't read from its text is another than one that is
+-- a hash that isn't read from its text differs from one that is
 unread-apart : (first second : HashValue) → (IsRead first → ⊥) → IsRead second → same_hash first second ≡ false
 unread-apart first second not is =
     false_from_ne_true (same_hash first second) (λ same. not (subst IsRead (sym (same_hash-is first second same)) is))
 
--- ---- rows by look-up
+-- ---- rows by lookup
 
 abbrev Rows : Type 0
 Rows = List (HashValue × BTreeSet ℕ)
@@ -74,7 +74,7 @@ none_unread uri [] not are = refl
 none_unread uri (row ∷ rows) not are =
     λ i. cond (unread-apart uri row.0 not are.0.read i) (Some row.1) (none_unread uri rows not are.1 i)
 
--- the change of one row, as std's maps say it
+-- the change of one row, in the form of std's maps
 abbrev IsUpdated : HashValue → Option (BTreeSet ℕ) → Rows → Rows → Type 0
 IsUpdated uri row old new =
     (other : HashValue) → lookup (is_at (text_cmp other)) new ≡ cond (is_at (text_cmp uri) other) row (lookup (is_at (text_cmp other)) old)
@@ -131,7 +131,7 @@ rows-remove test (row ∷ rows) are = remove_by (test row.0) row rows (remove_en
 
 -- ---- who waits
 
--- the numbers in a row, where there is one
+-- the numbers in a row, if there is one
 abbrev pub numbers_in : Option (BTreeSet ℕ) → List ℕ
 numbers_in row = unwrap_or (option_map (λ entries. entries.keys) row) []
 
@@ -157,7 +157,7 @@ numbers-cond : (here : Bool) (n : ℕ) (row found : Option (BTreeSet ℕ))
 numbers-cond true n row found = refl
 numbers-cond false n row found = refl
 
--- whether this number is there becomes `waits`, and all others stay
+-- whether this number is there is set to `waits`, and all others stay
 abbrev SetsNumber : ℕ → Bool → List ℕ → List ℕ → Type 0
 SetsNumber n waits old new = (m : ℕ) → list_any (λ k. eqb k m) new ≡ cond (eqb m n) waits (list_any (λ k. eqb k m) old)
 
@@ -165,7 +165,7 @@ set_by : (here this waits was now : Bool) → (here ≡ true → now ≡ cond th
 set_by true this waits was now changes = changes refl
 set_by false this waits was now changes = refl
 
--- of one role, the file that it misses
+-- for one role, its missing file
 or_none : (a : Bool) → ((a || false) || false) ≡ a
 or_none true = refl
 or_none false = refl
@@ -173,7 +173,7 @@ or_none false = refl
 one_role : (uri other : HashValue) → one_misses other (Missing uri ∷ []) ≡ same_hash uri other
 one_role uri other = or_none (same_hash other uri) ∙ same_hash-equivalence.symm other uri
 
--- what the change of the row of a URI makes of who waits
+-- how a change of the row of a URI changes who waits
 sets-row : (uri : HashValue) (n : ℕ) (waits : Bool) (row : Option (BTreeSet ℕ)) (old new : Rows)
     → ((other : HashValue) → lookup (same_hash other) new ≡ cond (same_hash uri other) row (lookup (same_hash other) old))
     → SetsNumber n waits (numbers_in (lookup (same_hash uri) old)) (numbers_in row)
@@ -195,7 +195,7 @@ sets-row uri n waits row old new updates changes = record {
       ∙ ap (λ here. cond (here && eqb m n) waits (is_waiting other m (seen old))) (sym (one_role uri other));
 }
 
--- The row of a URI was taken out, and these are the numbers in it.
+-- The row of a URI was taken out, with these numbers in it.
 pub record IsTaken (uri : HashValue) (old mid : Rows) (entries : BTreeSet ℕ) : Type 0 where
   pub read : IsRead uri
   pub before : AreRows old
@@ -203,7 +203,7 @@ pub record IsTaken (uri : HashValue) (old mid : Rows) (entries : BTreeSet ℕ) :
   pub updates : IsUpdated uri None old mid
   pub numbers : entries.keys ≡ numbers_in (lookup (is_at (text_cmp uri)) old)
 
--- Whether this number is among them became this.
+-- Whether this number is among them was set to this.
 abbrev IsChanged : ℕ → Bool → BTreeSet ℕ → BTreeSet ℕ → Type 0
 IsChanged n waits entries changed = (m : ℕ) → contains nat_cmp changed m ≡ cond (is_at (nat_cmp n) m) waits (contains nat_cmp entries m)
 
@@ -219,13 +219,13 @@ module _ {uri : HashValue} {old mid : Rows} {entries : BTreeSet ℕ} (taken : Is
       ∙ ap (λ numbers. cond (eqb m n) waits (list_any (λ k. eqb k m) numbers))
       (taken.numbers ∙ ap numbers_in (found_by_text uri old taken.read taken.before))
 
-  -- where no number is left
+  -- if no number remains
   pub sets-gone : changed.keys ≡ [] → SetsMissed (Missing uri ∷ []) n waits (seen old) (seen mid)
   sets-gone none =
       sets-row uri n waits None old mid (row_updated uri None old mid taken.read taken.before taken.after taken.updates)
       (subst (λ numbers. SetsNumber n waits (numbers_in (lookup (same_hash uri) old)) numbers) none sets_number)
 
-  -- and where what is left is put back
+  -- and if the remaining ones are put back
   pub sets-back : (new : Rows) → AreRows new → IsUpdated uri (Some changed) mid new → SetsMissed (Missing uri ∷ []) n waits (seen old) (seen new)
   sets-back new are puts =
       sets-row uri n waits (Some changed) old new
@@ -239,7 +239,7 @@ some_left (n ∷ numbers) empty not is = omega arith
 
 -- ---- URIs for whose files entries wait
 
--- nothing ascends
+-- the empty list ascends
 pub ascends-none : {K : Type 0} (cmp : K → K → Ordering) → IsStrictlySortedBy cmp []
 unfolding IsStrictlySortedBy
 ascends-none cmp = tt
@@ -263,7 +263,7 @@ waited uri (row ∷ rows) are any =
     let found = waited_by (same_hash uri row.0) uri row rows refl are.0.some (waited uri rows are.1) any in
     (found.0, found.1)
 
--- and there is one of each URI for whose file an entry waits
+-- and each URI for whose file an entry waits has a row
 has_row : (uri : HashValue) (n : ℕ) (rows : Rows) → is_waiting uri n (seen rows) ≡ true → list_any (same_hash uri) (keys_of rows) ≡ true
 has_row uri n [] any = absurd (true≢false (sym any))
 has_row uri n (row ∷ rows) any =
@@ -276,7 +276,7 @@ has_row uri n (row ∷ rows) any =
 pub all_waited : (uri : HashValue) (rows : Rows) → IsWaitedFor uri (seen rows) → list_any (same_hash uri) (keys_of rows) ≡ true
 all_waited uri rows waits = has_row uri waits.0 rows waits.1
 
--- so whether there is a row under its text says whether an entry waits,
+-- so there is a row with its text if and only if an entry waits,
 pub row-waited : (uri : HashValue) (rows : Rows) (found : Bool) → IsRead uri → AreRows rows → found ≡ is_some (lookup (is_at (text_cmp uri)) rows)
     → (found ≡ true) ↔ IsWaitedFor uri (seen rows)
 row-waited uri rows found read are looked =

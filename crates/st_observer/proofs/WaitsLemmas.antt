@@ -1,4 +1,4 @@
--- Entries wait by what is known of them, as entries come, are looked at again, and go.
+-- Entries wait by what is known about them, when entries are appended, checked again, and removed.
 --     waits-pushed, waits-settled, waits-popped
 use Rattle.std.proofs.Common.{◌≡◌, ◌≢◌, ◌∙◌, ◌⊎◌, inl, inr, ℕ, ◌<◌, ◌≤◌, List, [], ◌∷◌, ◌++◌, length, map, set, get_or, sym, ap, arith}
 use Rattle.std.proofs.lemmas.Bool.{cases_eq, cases_lt}
@@ -11,7 +11,7 @@ use Rattle.st_observer.specs.Kept.{WaitsAgree, no_needs, roles_at}
 use Rattle.st_observer.specs.Waiting.{TurnsTo, Waits, is_waiting}
 use Rattle.st_observer.specs.Wanted.{one_misses}
 
--- one entry turns, and the others stand as before
+-- the states of one entry change, and the others stay as before
 module _ (n : ℕ) (states : List RoleState) (before after : List Known) (old new : Waits) where
   turned-at : roles_at n after ≡ states → ((m : ℕ) → m ≢ n → roles_at m after ≡ roles_at m before)
       → TurnsTo n states old new → WaitsAgree before old → (uri : HashValue) (m : ℕ) → (m ≡ n) ⊎ (m ≢ n)
@@ -25,7 +25,7 @@ module _ (n : ℕ) (states : List RoleState) (before after : List Known) (old ne
       → TurnsTo n states old new → WaitsAgree before old → WaitsAgree after new
   turned own others turns agree = record { each = λ uri m. turned-at own others turns agree uri m (cases_eq m n) }
 
--- an entry that isn't there needs no file
+-- an entry that does not exist needs no file
 pub roles-past : (n : ℕ) (bounds : List Known) → length bounds ≤ n → roles_at n bounds ≡ no_needs
 roles-past n bounds past = get_or_past (map role_states bounds) n no_needs (omega (arith, past, length-map bounds role_states))
 

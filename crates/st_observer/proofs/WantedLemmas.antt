@@ -1,6 +1,6 @@
--- Lists that ascend, and which list `ascending_once` is.
---     ascending_once-is        a list that does, and has the same hashes, is it
---     ascending_once-has       which hashes it has
+-- Ascending lists, and which of them `ascending_once` is.
+--     ascending_once-is        an ascending list with the same hashes is it
+--     ascending_once-has       its hashes
 use Rattle.std.proofs.Common.{◌≡◌, ◌∙◌, Bool, true, false, List, [], ◌∷◌, Ordering, Less, Equal, Greater, is_eq, ⊎_elim, refl, sym, ap, subst}
 use Rattle.std.proofs.lemmas.Bool.{or_left, or_right, or_cases, true≢false}
 use Rattle.std.proofs.lemmas.Map.Lookups.{exact_bytes}
@@ -17,7 +17,7 @@ use Rattle.st_observer.specs.Waiting.{text_cmp-total}
 use Rattle.st_observer.specs.Wanted.{ascending_once, text_cmp}
 use Rattle.st_observer.proofs.WaitingLemmas.{ascends-none}
 
--- ---- keys that are put in one by one
+-- ---- keys that are inserted one by one
 
 module _ {K : Type 0} (cmp : K → K → Ordering) where
   each_by : (P : K → Type 0) (order : Ordering) (key first : K) (keys after : List K) → AllByRecursion P (first ∷ keys) → P key
@@ -31,7 +31,7 @@ module _ {K : Type 0} (cmp : K → K → Ordering) where
   each-put P (first ∷ keys) key all one =
       each_by P (cmp key first) key first keys (insert_key cmp keys key) all one (each-put P keys key all.1 one)
 
-  -- what holds of each key that is there, and of each that is put in, holds of all
+  -- a property of each key that is there and of each that is inserted is one of all
   each-once : (P : K → Type 0) (keys more : List K) → AllByRecursion P keys → AllByRecursion P more
       → AllByRecursion P (fold (insert_key cmp) keys more)
   each-once P keys [] all new = all
@@ -57,7 +57,7 @@ module _ {K : Type 0} (cmp : K → K → Ordering) where
   any-once test keys (key ∷ more) any = any-once test (insert_key cmp keys key) more (any-put test keys key any)
 
 module _ {K : Type 0} {cmp : K → K → Ordering} (order : IsTotalOrder cmp) where
-  -- a key that is put in is found
+  -- a key that is inserted is found
   found_by : (key first : K) (keys after : List K) (rank : Ordering) → cmp key first ≡ rank → list_any (is_at (cmp key)) after ≡ true
       → list_any (is_at (cmp key)) (match_ordering rank (key ∷ first ∷ keys) (first ∷ keys) (first ∷ after)) ≡ true
   found_by key first keys after Less is later =
@@ -115,7 +115,7 @@ module _ {K : Type 0} {same : K → K → Bool} (is : (first second : K) → sam
         (λ key there. or_right (same key first) (list_any (same key) keys) there) keys (each_among keys),
   )
 
-  -- what holds of each holds of one that is among them
+  -- a property of each holds for one that is among them
   at_among : (P : K → Type 0) (key : K) (keys : List K) → AllByRecursion P keys → list_any (same key) keys ≡ true → P key
   at_among P key [] all any = absurd (true≢false (sym any))
   at_among P key (first ∷ keys) all any =
@@ -136,7 +136,7 @@ module _ {K : Type 0} {same : K → K → Bool} (is : (first second : K) → sam
     not_less : (first second : K) → cmp first second ≡ Less → cmp first second ≡ Equal → ⊥
     not_less first second less equal = true≢false (ap is_lt (sym less ∙ equal))
 
-    -- keys of an ascending list that the order doesn't tell apart are the same
+    -- keys of an ascending list that tie in the order are the same
     tied-same : (first second : K) (keys : List K) → IsStrictlySortedBy cmp keys → list_any (same first) keys ≡ true
         → list_any (same second) keys ≡ true → cmp first second ≡ Equal → first ≡ second
     unfolding IsStrictlySortedBy
@@ -194,11 +194,11 @@ module _ {K : Type 0} {same : K → K → Bool} (is : (first second : K) → sam
         among_rest second others keys two.0 (subst (λ k. AllByRecursion (λ key. list_any (same key) (k ∷ keys) ≡ true) others) head back.1) in
         λ i. head i ∷ same_keys keys others one.1 two.1 forth home i
 
-    -- what was put in is among what it was put in from
+    -- each inserted key is in the list it was inserted from
     once-among : (more : List K) → AllByRecursion (λ key. list_any (same key) more ≡ true) (fold (insert_key cmp) [] more)
     once-among more = each-once cmp (λ key. list_any (same key) more ≡ true) [] more tt (each_among more)
 
-    -- and the other way round, where the order tells apart what is put in
+    -- and conversely, if the order distinguishes the inserted keys
     pub once-has : (more : List K) (tells : (first second : K) → list_any (same first) more ≡ true → list_any (same second) more ≡ true
         → cmp first second ≡ Equal → first ≡ second) (key : K) → list_any (same key) more ≡ true
         → list_any (same key) (fold (insert_key cmp) [] more) ≡ true
@@ -211,7 +211,7 @@ module _ {K : Type 0} {same : K → K → Bool} (is : (first second : K) → sam
         let one : key ≡ found.0 = tells key found.0 there among ((Equal-is (cmp key found.0)).0 found.1) in
         subst (λ k. list_any (same k) keys ≡ true) (sym one) found.2
 
-    -- so a list that ascends and has the same keys is what they make when they are put in one by one
+    -- so a list that ascends and has the same keys is the result of inserting them one by one
     once-is : (found more : List K) → IsStrictlySortedBy cmp found
         → ((key : K) → list_any (same key) found ≡ list_any (same key) more) → found ≡ fold (insert_key cmp) [] more
     once-is found more sorted alike =
@@ -224,14 +224,14 @@ module _ {K : Type 0} {same : K → K → Bool} (is : (first second : K) → sam
         (each-weaker (λ key. list_any (same key) more ≡ true) (λ key. list_any (same key) found ≡ true)
         (λ key there. alike key ∙ there) keys (once-among more))
 
--- ---- the files that are wanted
+-- ---- the wanted files
 
 -- a list that ascends strictly by the texts and has the same hashes is it
 pub ascending_once-is : (found uris : List HashValue) → IsStrictlySortedBy text_cmp found
     → ((uri : HashValue) → list_any (same_hash uri) found ≡ list_any (same_hash uri) uris) → found ≡ ascending_once uris
 ascending_once-is found uris sorted alike = once-is same_hash-is same_hash-itself text_cmp-total found uris sorted alike
 
--- it has each of these, where their texts tell them apart, and no other
+-- it has each of these and no other, if their texts distinguish them
 pub ascending_once-has : (uris : List HashValue)
     → ((first second : HashValue) → list_any (same_hash first) uris ≡ true → list_any (same_hash second) uris ≡ true
     → hash_text first ≡ hash_text second → first ≡ second)

@@ -1,6 +1,6 @@
--- Work that is counted while entries are looked at again.
---     counted_more-few, counted_more-least   so many more are at most so many more, and no fewer than before
---     Reading                                what was counted on the way, from where it began
+-- Work that is counted while entries are checked again.
+--     counted_more-few, counted_more-least   this many more are at most this many more, and no fewer than before
+--     Reading                                the counts on the way, from the start
 --     reading-settled, reading-few, reading-wanting
 use Rattle.std.proofs.Common.{◌≡◌, ◌∙◌, ℕ, zero, suc, ◌+◌, ◌-◌, ◌<◌, ◌≤◌, List, length, map, set, ap, subst, arith}
 use Rattle.std.specs.List.{sum_by}
@@ -47,7 +47,7 @@ applied-least applied = record { files = omega (arith, applied.files); proofs = 
 
 -- ---- one entry
 
--- what was counted exactly, and what was applied then
+-- exact counts, and operations applied after
 pub grew-worked : {files proofs applies : ℕ} {old mid new : Counts} → WorkedAtMost files proofs old mid → AppliesAtMost applies mid new
     → GrewAtMost files proofs applies old new
 grew-worked {old = old} few applied = record {
@@ -86,7 +86,7 @@ grew-then grew applied fits = record {
 
 -- ---- several entries
 
--- a count of what is known of an entry, which more files never lower
+-- a count over what is known about an entry, which more files never lower
 module _ (count : Known → ℕ) (files : Files) (up : (bound : Known) → count bound ≤ count (known_from files bound)) where
   sum-later : (bounds : List Known) → sum_by count bounds ≤ sum_by count (map (known_from files) bounds)
   sum-later bounds =
@@ -99,7 +99,7 @@ module _ (count : Known → ℕ) (files : Files) (up : (bound : Known) → count
       (known_from files (bound_at n bounds))
   sum-settled bounds n inside = sum_by-set count bounds n (known_from files (bound_at n bounds)) unknown inside
 
-  -- what one entry adds lies below what all will have
+  -- the part of one entry is at most the sum of all
   sum-wanting : (start bounds : List Known) (n : ℕ) → n < length bounds → map (known_from files) bounds ≡ map (known_from files) start
       → sum_by count bounds + (count (known_from files (bound_at n bounds)) - count (bound_at n bounds)) ≤ sum_by count (map (known_from files) start)
   sum-wanting start bounds n inside same =
@@ -108,7 +108,7 @@ module _ (count : Known → ℕ) (files : Files) (up : (bound : Known) → count
       (map-settled files bounds n ∙ same) in
       omega (arith, alike, sum-later after, sum-settled bounds n inside, up (bound_at n bounds))
 
--- What was counted on the way from what was known at first to what is known now. Nothing was applied.
+-- The counts on the way from the first knowledge to the present one. Nothing was applied.
 pub record Reading (start bounds : List Known) (old new : Counts) : Type 0 where
   pub decides : decided_of start ≤ decided_of bounds
   pub opens : opened_of start ≤ opened_of bounds
@@ -123,7 +123,7 @@ reading-least {start} {bounds} {old} {new} reading = record {
   applies = omega (arith, reading.applies);
 }
 
--- first so many, and then more
+-- first this many, and then more
 then-more : (start now after before later old mid new : ℕ) → start ≤ now → before ≤ later → after + before ≡ now + later
     → mid ≡ counted_more (now - start) old → new ≡ counted_more (later - before) mid → new ≡ counted_more (after - start) old
 then-more start now after before later old mid new up more sum first second =

@@ -1,4 +1,4 @@
--- What is kept of the entries of a ledger, and how it agrees with what an observer has seen.
+-- The data kept for the entries of a ledger, and how it agrees with the entries and files received.
 use Rattle.std.specs.Prelude.{◌≡◌, ℕ, List, [], ◌∷◌, map, slice_index_or, Option, option_map}
 use Rattle.st_anchor.specs.Gives.{given}
 use Rattle.st_anchor.specs.Known.{Known}
@@ -18,11 +18,11 @@ use Rattle.st_observer.specs.declared.kept.Kept.{Kept}
 
 -- ---- which entries wait
 
--- for an entry that isn't there, no file is needed
+-- no file is needed for an entry that does not exist
 abbrev pub no_needs : List RoleState
 no_needs = Unneeded ∷ Unneeded ∷ Unneeded ∷ Unneeded ∷ Unneeded ∷ []
 
--- how it stands with the roles of the entry with this number, by what is known of the entries
+-- the states of the roles of the entry with this number, from what is known about the entries
 abbrev pub roles_at : ℕ → List Known → List RoleState
 roles_at n bounds = slice_index_or (map role_states bounds) n no_needs
 
@@ -32,11 +32,11 @@ pub record WaitsAgree (bounds : List Known) (waits : Waits) : Type 0 where
 
 -- ---- which operations there are
 
--- the height of an entry, and what it gives
+-- the height of an entry, and its operations
 abbrev pub Gift : Type 0
 Gift = ℕ × List (HashValue × PlainOperation)
 
--- of each entry, by what is known of it; there are as many of both, so the second case never comes
+-- those of each entry, from what is known about it; both lists are equally long, so the second case never occurs
 abbrev pub gifts : List Entry → List Known → List Gift
 gifts [] bounds = []
 gifts (entry ∷ entries) [] = []
@@ -46,11 +46,11 @@ gifts (entry ∷ entries) (bound ∷ bounds) = (entry.height, given bound) ∷ g
 abbrev pub anchored_at : ℕ → ℕ → PlainOperation → Anchored
 anchored_at number height operation = record { place = number; height = height; operation = operation }
 
--- the operation for a suffix that the entry with this number gives
+-- the operation of the entry with this number for a suffix
 abbrev pub anchored_in : HashValue → ℕ → Gift → Option Anchored
 anchored_in suffix number gift = option_map (anchored_at number gift.0) (given_for suffix gift.1)
 
--- the operations for a suffix that entries give, the first of which has this number
+-- the operations of entries for a suffix; the first entry has this number
 abbrev pub operations_from : HashValue → ℕ → List Gift → List Anchored
 operations_from suffix number gifts = given_from (anchored_in suffix) number gifts
 
@@ -60,15 +60,15 @@ pub record StatesAgree (given : List Gift) (index : Operations) : Type 0 where
 
 -- ---- all of it
 
--- What is known of each entry is what the files make of it; entries wait, and identifiers have
--- operations, by what is known of the entries.
+-- What is known about each entry is all that the files give; entries wait, and identifiers have operations, according
+-- to it.
 pub record IsKept (observed : Observed) (kept : Kept) : Type 0 where
   pub same : kept.bounds.items ≡ map (known_of observed.schedule observed.files) observed.ledger
   pub waits : WaitsAgree kept.bounds.items kept.waiting
   pub schedule : kept.index.folder.schedule ≡ observed.schedule
   pub states : StatesAgree (gifts observed.ledger kept.bounds.items) kept.index
 
--- and nothing pends
+-- and no change is pending
 pub record IsObserved (observed : Observed) (kept : Kept) : Type 0 where
   pub is : IsKept observed kept
   pub none : kept.index.changes ≡ []

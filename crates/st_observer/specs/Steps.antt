@@ -1,4 +1,4 @@
--- The steps by which what is kept follows entries and files as they come and go. No public call speaks of
+-- The steps by which the stored data follows changes of entries and files. No contract of a public call mentions
 -- them.
 use Rattle.std.specs.Prelude.{◌≡◌, ℕ, ◌-◌, ◌<◌, ◌==◌, Bool, true, false, List, [], ◌∷◌, ◌++◌, length, map, reverse, slice_get, slice_index_or, slice_set, take, Option, Some}
 use Rattle.std.specs.List.{AllByRecursion, list_any, sum_by}
@@ -22,27 +22,27 @@ use Rattle.st_observer.specs.declared.kept.Kept.{Kept}
 
 -- ---- one entry
 
--- what an entry of this number and height gives stands at its place from now on
+-- the operations of an entry of this number and height are put at its place
 pub record PutsGiven (n height : ℕ) (given : List (HashValue × PlainOperation)) (old new : Operations) : Type 0 where
   pub schedule : new.folder.schedule ≡ old.folder.schedule
   pub operations : (suffix : HashValue) → operations_in suffix new ≡ with_given n height (given_for suffix given) (operations_in suffix old)
   pub changes : new.changes ≡ old.changes ++ reverse (at_place n (suffixes_given given))
 
--- an entry comes last, of which this is known
+-- an entry with this knowledge is appended
 pub record Pushes (n height : ℕ) (bound : Known) (before after : Kept) : Type 0 where
   pub bounds : after.bounds.items ≡ before.bounds.items ++ bound ∷ []
   pub waits : TurnsTo n (role_states bound) before.waiting after.waiting
   pub states : PutsGiven n height (given bound) before.index after.index
 
--- of an entry that isn't there, nothing is known
+-- nothing is known about an entry that does not exist
 abbrev pub unknown : Known
 unknown = record { context = record { count = 0; params = limits_of 1 }; core = part_is.Unneeded }
 
--- what is known of the entry with this number
+-- what is known about the entry with this number
 abbrev pub bound_at : ℕ → List Known → Known
 bound_at n bounds = slice_index_or bounds n unknown
 
--- an entry of this number and height is looked at again over these files
+-- an entry of this number and height is checked again over these files
 pub record Settles (files : Files) (n height : ℕ) (before after : Kept) : Type 0 where
   pub bounds : after.bounds.items ≡ slice_set before.bounds.items n (known_from files (bound_at n before.bounds.items))
   pub waits : TurnsTo n (role_states (known_from files (bound_at n before.bounds.items))) before.waiting after.waiting
@@ -50,7 +50,7 @@ pub record Settles (files : Files) (n height : ℕ) (before after : Kept) : Type
 
 -- ---- a file arrives
 
--- what has been seen, with these files
+-- the entries received, with these files
 abbrev pub over : Option ℕ → List Entry → Files → Observed
 over schedule ledger files = record { schedule = schedule; ledger = ledger; files = files }
 
@@ -58,13 +58,13 @@ over schedule ledger files = record { schedule = schedule; ledger = ledger; file
 abbrev pub is_among : List ℕ → ℕ → Bool
 is_among numbers n = list_any (λ m. m == n) numbers
 
--- These files make no more of an entry than what is known of it. (Whatever stands for an entry that isn't
--- there is never looked at.)
+-- These files add nothing to what is known about an entry. (The value for an entry that does not exist is never
+-- used.)
 abbrev pub IsSettled : Files → List Known → ℕ → Type 0
 IsSettled files bounds n = (d : Known) → n < length bounds → known_from files (slice_index_or bounds n d) ≡ slice_index_or bounds n d
 
--- What is kept agrees with itself, and the files make the same of it as of the entries. They make more
--- at most of the entries that are still to be looked at.
+-- The stored data is consistent, and the files add the same to it as to the entries. They add at most to entries that
+-- are still to be checked.
 pub record IsGoing (observed : Observed) (still : ℕ → Bool) (kept : Kept) : Type 0 where
   pub same : map (known_from observed.files) kept.bounds.items ≡ map (known_of observed.schedule observed.files) observed.ledger
   pub settled : (n : ℕ) → still n ≡ false → IsSettled observed.files kept.bounds.items n
@@ -72,31 +72,31 @@ pub record IsGoing (observed : Observed) (still : ℕ → Bool) (kept : Kept) : 
   pub schedule : kept.index.folder.schedule ≡ observed.schedule
   pub states : StatesAgree (gifts observed.ledger kept.bounds.items) kept.index
 
--- how many roles of these entries are decided
+-- the number of decided roles of these entries
 abbrev pub decided_of : List Known → ℕ
 decided_of bounds = sum_by decided_roles bounds
 
--- how many signed texts stand in their proof files
+-- the number of signed texts in their proof files
 abbrev pub opened_of : List Known → ℕ
 opened_of bounds = sum_by opened_proofs bounds
 
--- each of these files was read, and each signed text opened, and counted: what is known of the entries says more by
--- so many
+-- each of these files was read, each of these signed texts opened, and each counted: as many as the knowledge of the
+-- entries has grown by
 abbrev pub ReadOver : List Known → List Known → Counts → Counts → Type 0
 ReadOver before after old new = ReadExactly (decided_of after - decided_of before) (opened_of after - opened_of before) old new
 
--- at most so many as these files say more, and so many operations were applied
+-- at most as many as these files add, and at most this many operations were applied
 abbrev pub GrewOver : Files → List Known → ℕ → Counts → Counts → Type 0
 GrewOver files bounds applies old new =
     GrewAtMost (decided_of (map (known_from files) bounds) - decided_of bounds) (opened_of (map (known_from files) bounds) - opened_of bounds)
     applies old new
 
--- These names cover what each entry gives that passes a test by its number, at that number.
+-- These names cover the operations of each entry whose number passes a test, at that number.
 abbrev pub CoversWhere : (ℕ → Bool) → Observed → List (HashValue × ℕ) → Type 0
 CoversWhere test observed names = (n : ℕ) (entry : Entry) → Some entry ≡ slice_get observed.ledger n → test n ≡ true
     → AllByRecursion (λ suffix. Covers hash_cmp names (suffix, n)) (suffixes_given (gives_of observed.schedule observed.files entry))
 
--- ---- what pends is folded
+-- ---- pending changes are folded
 
 pub record Folds (before after : Kept) : Type 0 where
   pub bounds : after.bounds.items ≡ before.bounds.items
@@ -107,7 +107,7 @@ pub record Folds (before after : Kept) : Type 0 where
 
 -- ---- entries are cut
 
--- the entries before this number alone are kept
+-- only the entries before this number are kept
 pub record Cuts (n : ℕ) (before after : Kept) : Type 0 where
   pub bounds : after.bounds.items ≡ take n before.bounds.items
   pub waits : WaitsAgree after.bounds.items after.waiting

@@ -22,11 +22,11 @@ waiting_for uri waits = unwrap_or (lookup (same_hash uri) waits) []
 abbrev pub is_waiting : HashValue → ℕ → Waits → Bool
 is_waiting uri n waits = list_any (λ m. m == n) (waiting_for uri waits)
 
--- An entry waits for exactly the files that its roles miss, which stand so.
+-- An entry with these role states waits for exactly the files that its roles miss.
 abbrev pub WaitsBy : ℕ → List RoleState → Waits → Type 0
 WaitsBy n states waits = (uri : HashValue) → is_waiting uri n waits ≡ one_misses uri states
 
--- Now this entry waits for what its roles miss, which stand so, and every other entry for what it did.
+-- Now this entry waits for the files that its roles in these states miss, and every other entry waits as before.
 pub record TurnsTo (n : ℕ) (states : List RoleState) (old new : Waits) : Type 0 where
   pub own : WaitsBy n states new
   pub others : (uri : HashValue) (m : ℕ) → m ≢ n → is_waiting uri m new ≡ is_waiting uri m old
@@ -35,10 +35,10 @@ pub record TurnsTo (n : ℕ) (states : List RoleState) (old new : Waits) : Type 
 abbrev pub IsWaitedFor : HashValue → Waits → Type 0
 IsWaitedFor uri waits = (n : ℕ) × (is_waiting uri n waits ≡ true)
 
--- ---- what is kept
+-- ---- the stored form
 
--- Reading its text, at the version that knows both algorithms, gives the hash back. So two such hashes
--- with one text are equal.
+-- Reading its text, in the version with both algorithms, gives the hash back. So two such hashes with one text are
+-- equal.
 abbrev pub IsRead : HashValue → Type 0
 IsRead hash = hash_of_text_at 2 (hash_text hash) ≡ Some hash
 
@@ -46,7 +46,7 @@ IsRead hash = hash_of_text_at 2 (hash_text hash) ≡ Some hash
 abbrev pub AreRead : Waits → Type 0
 AreRead waits = (uri : HashValue) → IsWaitedFor uri waits → IsRead uri
 
--- a row of what is kept: the URI is read from its text, and some entry waits for its file
+-- a stored row: the URI is read from its text, and some entry waits for its file
 pub record IsRow (row : HashValue × BTreeSet ℕ) : Type 0 where
   pub read : IsRead row.0
   pub some : 1 ≤ length row.1.keys
@@ -79,7 +79,7 @@ text_cmp-partial = po text_cmp-total same_text-ties
 
 -- ---- the steps of a turn
 
--- Whether an entry waits for the files that these roles miss becomes this, and nothing else changes.
+-- Whether an entry waits for the files that these roles miss is set to this, and nothing else changes.
 pub record SetsMissed (states : List RoleState) (n : ℕ) (waits : Bool) (old new : Waits) : Type 0 where
   pub each : (uri : HashValue) (m : ℕ)
       → is_waiting uri m new ≡ (if one_misses uri states && (m == n) then waits else is_waiting uri m old)

@@ -1,4 +1,4 @@
--- The files that are wanted: those that some entry misses.
+-- The wanted files: those missing for some entry.
 use Rattle.std.specs.Prelude.{◌≡◌, ℕ, Bool, true, List, [], ◌∷◌, fold, Some}
 use Rattle.std.specs.BTreeSet.{insert_key}
 use Rattle.std.specs.Cmp.Lexicographic.{slice_cmp}
@@ -10,26 +10,26 @@ use Rattle.st_anchor.specs.declared.role_state.RoleState.TheVariants.{Unneeded, 
 use Rattle.st_hash.specs.Hash.{HashValue, hash_text, same_hash}
 use Rattle.st_observer.specs.Observed.{Observed, report, verdicts_on}
 
--- the file that a role misses
+-- the missing file of a role
 abbrev pub missed_in : RoleState → List HashValue
 missed_in Unneeded = []
 missed_in (Missing uri) = uri ∷ []
 missed_in (Rejected rule) = []
 missed_in Read = []
 
--- the role misses the file of this URI
+-- the file of this URI is missing for the role
 abbrev pub misses : HashValue → RoleState → Bool
 misses uri state = list_any (same_hash uri) (missed_in state)
 
--- one of these roles does
+-- it is missing for one of these roles
 abbrev pub one_misses : HashValue → List RoleState → Bool
 one_misses uri states = list_any (misses uri) states
 
--- the files that entries miss, in the order of entries and roles
+-- the missing files of entries, in the order of entries and roles
 abbrev pub missed_files : Observed → List HashValue
 missed_files observed = flat_map (λ entry. flat_map missed_in (verdicts_on observed.schedule observed.files entry)) observed.ledger
 
--- some role of some entry misses the file of this URI, as the entry's report says
+-- the file of this URI is missing for some role of some entry, by the entry's report
 pub record IsMissed (uri : HashValue) (observed : Observed) : Type 0 where
   pub number : ℕ
   pub states : List RoleState
@@ -44,7 +44,7 @@ text_cmp first second = slice_cmp nat_cmp (hash_text first) (hash_text second)
 abbrev pub ascending_once : List HashValue → List HashValue
 ascending_once uris = fold (insert_key text_cmp) [] uris
 
--- The URIs of the files that some entry misses, each once, ascending by the bytes of their texts.
+-- The URIs of the files missing for some entry, each once, ascending by the bytes of their texts.
 unfoldable pub wanted : Observed → List HashValue
 wanted observed = ascending_once (missed_files observed)
 

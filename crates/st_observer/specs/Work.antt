@@ -1,4 +1,4 @@
--- Bounds on the work that is counted while entries and files come and go.
+-- Bounds on the work counted during changes of entries and files.
 use Rattle.std.specs.Prelude.{◌≡◌, ℕ, ◌+◌, ◌≤◌, nat_le, Bool, not, if◌then◌else◌, List, [], ◌∷◌, ◌++◌, drop, filter, fold, length, map}
 use Rattle.std.specs.BTreeSet.{insert_key}
 use Rattle.std.specs.List.{flat_map, list_any, sum_by}
@@ -18,14 +18,14 @@ pub record NoneFell (old new : Counts) : Type 0 where
   pub proofs : old.proofs ≤ new.proofs
   pub applies : old.applies ≤ new.applies
 
--- at most so many files were read, signed texts opened and operations applied, and no count fell
+-- at most this many files were read, signed texts opened and operations applied, and no count fell
 pub record GrewAtMost (files proofs applies : ℕ) (old new : Counts) : Type 0 where
   pub least : NoneFell old new
   pub read : new.files ≤ old.files + files
   pub opened : new.proofs ≤ old.proofs + proofs
   pub applied : new.applies ≤ old.applies + applies
 
--- so many files were read and so many signed texts opened, each of which was counted
+-- exactly this many files were read and signed texts opened, each counted
 pub record ReadExactly (files proofs : ℕ) (old new : Counts) : Type 0 where
   pub read : new.files ≡ counted_more files old.files
   pub opened : new.proofs ≡ counted_more proofs old.proofs
@@ -36,11 +36,11 @@ pub record ReadsNothing (old new : Counts) : Type 0 where
   pub read : new.files ≡ old.files
   pub opened : new.proofs ≡ old.proofs
 
--- how many roles of the entries are decided: their files, or the entry's text, were read or rejected
+-- the number of decided roles of the entries: their files, or the entry's text, were read or rejected
 abbrev pub decided_in : Observed → ℕ
 decided_in observed = sum_by (λ entry. decided_roles (known_of observed.schedule observed.files entry)) observed.ledger
 
--- how many signed texts stand in the proof files of the entries that were read
+-- the number of signed texts in the proof files of the entries that were read
 abbrev pub opened_in : Observed → ℕ
 opened_in observed = sum_by (λ entry. opened_proofs (known_of observed.schedule observed.files entry)) observed.ledger
 
@@ -48,12 +48,12 @@ opened_in observed = sum_by (λ entry. opened_proofs (known_of observed.schedule
 abbrev pub from_place : ℕ → List Anchored → List Anchored
 from_place place operations = filter (λ anchored. nat_le place anchored.place) operations
 
--- What an identifier may cost where the entry at this place gives an operation for it: 7, and one for
--- each of its operations at that place or later.
+-- The cost of an identifier for which the entry at this place gives an operation: 7, and one for each of its
+-- operations at that place or later.
 abbrev pub suffix_cost : ℕ → Observed → HashValue → ℕ
 suffix_cost place observed suffix = 7 + length (from_place place (operations suffix observed))
 
--- what identifiers may cost, each with a place: this for each of them
+-- the cost of identifiers, each with a place: the sum of these
 abbrev pub named_cost : Observed → List (HashValue × ℕ) → ℕ
 named_cost observed names = sum_by (λ name. suffix_cost name.1 observed name.0) names
 
@@ -61,35 +61,35 @@ named_cost observed names = sum_by (λ name. suffix_cost name.1 observed name.0)
 abbrev pub suffixes_of : Observed → Entry → List HashValue
 suffixes_of observed entry = suffixes_given (gives_of observed.schedule observed.files entry)
 
--- what an entry may cost: this for each identifier for which it gives an operation
+-- the cost of an entry: the sum of this for each identifier for which it gives an operation
 abbrev pub entry_cost : ℕ → Entry → Observed → ℕ
 entry_cost place entry observed = sum_by (suffix_cost place observed) (suffixes_of observed entry)
 
--- ---- a file that entries missed
+-- ---- a file that was missing
 
--- some role of the entry misses this file
+-- this file is missing for some role of the entry
 abbrev pub is_missed_by : List ℕ → Observed → Entry → Bool
 is_missed_by file observed entry = one_misses (uri_of file) (verdicts_on observed.schedule observed.files entry)
 
--- the suffixes for which an entry gives operations once a file has come that it missed; none of one that didn't
+-- the suffixes for which an entry gives operations after its missing file was received; none if it didn't miss it
 abbrev pub late_in : List ℕ → Observed → Entry → List HashValue
 late_in file observed entry = if is_missed_by file observed entry then suffixes_of (arrived file observed) entry else []
 
--- Those of entries, the first of which stands at this place: each suffix once, at the place of the first entry
--- that gives for it.
+-- Those of entries, the first of which is at this place: each suffix once, at the place of the first entry that gives
+-- an operation for it.
 abbrev pub late_from : ℕ → List ℕ → Observed → List Entry → List (HashValue × ℕ)
 late_from place file observed [] = []
 late_from place file observed (entry ∷ entries) =
     map (λ suffix. (suffix, place)) (late_in file observed entry)
     ++ filter (λ later. not (list_any (same_hash later.0) (late_in file observed entry))) (late_from (place + 1) file observed entries)
 
--- The identifiers for which entries that missed a file give operations once it has come, by their suffixes, each
+-- The identifiers for which entries that missed a file give operations after it is received: by their suffixes, each
 -- once, with the place of the first such entry.
 abbrev pub late : List ℕ → Observed → List (HashValue × ℕ)
 late file observed = late_from 0 file observed observed.ledger
 
--- What a file may cost that comes: of each of these identifiers 7, and one for each of its operations at that
--- place or later.
+-- The cost of receiving a file: for each of these identifiers 7, and one for each of its operations at that place or
+-- later.
 abbrev pub arrival_cost : List ℕ → Observed → ℕ
 arrival_cost file observed = named_cost (arrived file observed) (late file observed)
 
@@ -99,7 +99,7 @@ arrival_cost file observed = named_cost (arrived file observed) (late file obser
 abbrev pub each_once : List HashValue → List HashValue
 each_once suffixes = fold (insert_key hash_cmp) [] suffixes
 
--- The identifiers that lose an operation where the first n entries are kept, by their suffixes, each once: those
--- for which the entries from there on give one.
+-- The identifiers that lose an operation if the first n entries are kept, by their suffixes, each once: those for
+-- which the entries from there on give one.
 abbrev pub losing : ℕ → Observed → List HashValue
 losing n observed = each_once (flat_map (suffixes_of observed) (drop n observed.ledger))

@@ -16,8 +16,8 @@ use st_hash::Hash;
 use st_ledger::Ledger;
 use std::alloc::Global;
 
-// A file of this URI has come: the entries that wait for it are looked at again, and no others. What they
-// give is applied once all of them have been looked at.
+// After a file of this URI is added: checks again only the entries that wait for it. Their
+// operations are applied after all of them were checked.
 pub fn settle_waiting(
     alloc: Global,
     kept: Boxed<Kept>,
@@ -35,7 +35,7 @@ pub fn settle_waiting(
         → GrewOver content.now kept.bounds.items (named_cost (over kept.index.folder.schedule ledger.now content.now) names) work.old work.new }
 {
     let entries = kept.get().waiting.entries(alloc, uri)?;
-    // Many files come before an entry names them.
+    // Many files arrive before an entry names them.
     if entries.len() == 0 {
         return Ok(kept);
     }
@@ -50,7 +50,7 @@ pub fn settle_waiting(
     Ok(later)
 }
 
-// The entries with these numbers are looked at again, and what they give is applied then.
+// Checks the entries with these numbers again, and then applies their operations.
 fn settle_those(
     alloc: Global,
     kept: Kept,
@@ -73,7 +73,7 @@ fn settle_those(
     Ok(kept)
 }
 
-// Looks at the entries with these numbers again.
+// Checks the entries with these numbers again.
 fn settle_entries(
     alloc: Global,
     start: Kept,
@@ -88,14 +88,14 @@ fn settle_entries(
     ensures state { IfOk result (IsGoing (over start.index.folder.schedule ledger.now content.now) (λ n. false)) }
     ensures exact { IfOk result (λ later. ReadOver start.bounds.items later.bounds.items work.old work.new) }
     ensures bound { GrewOver content.now start.bounds.items 0 work.old work.new }
-    // Names that cover what these entries give cover all that is changed.
+    // Names that cover the operations of these entries cover all changes.
     ensures changes { IfOk result (λ later. (names : List (HashValue × ℕ))
         → CoversWhere (is_among entries.now) (over start.index.folder.schedule ledger.now content.now) names
         → AllByRecursion (Covers hash_cmp names) later.index.changes) }
 {
     let mut going = start;
     'entries: for n in entries {
-        // An entry that waits is in the ledger.
+        // A waiting entry is in the ledger.
         let Some(entry) = ledger.entry(*n) else {
             continue;
         };

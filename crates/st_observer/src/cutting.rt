@@ -10,7 +10,7 @@ use st_base::WantOfMemory;
 use std::alloc::Global;
 
 impl Kept {
-    // Of the first `n` entries alone; there are `len`.
+    // Only the first `n` of `len` entries.
     pub fn cut(self, alloc: Global, n: u32, len: u32) -> Result<Kept, WantOfMemory>
         requires within { n ≤ len }
         requires number { len ≡ length self.bounds.items }
@@ -32,7 +32,7 @@ impl Kept {
     }
 }
 
-// Forgets the entries from this number on, the last of them first. They wait for nothing any longer.
+// Forgets the entries from this number on, the last one first. They no longer wait for any file.
 fn forget_from(
     alloc: Global,
     n: u32,
@@ -55,7 +55,7 @@ fn forget_from(
     Ok(())
 }
 
-// Takes the last entry away, and says how it stood with its roles.
+// Removes the last entry, and returns the states of its roles.
 fn take_last(bounds: &mut Vec<Bound>) -> [RoleState; 5]
     ensures roles { result ≡ roles_at (length bounds.old.items - 1) bounds.old.items }
     ensures rest { bounds.new.items ≡ take (length bounds.old.items - 1) bounds.old.items }

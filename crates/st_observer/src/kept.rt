@@ -23,9 +23,9 @@ use st_opindex::Index;
 use st_params::Schedule;
 use std::alloc::Global;
 
-// What is kept of the entries of a ledger: what is known of each, at its number; which of them wait for
-// which file; and the operations that they give, with the state of each identifier. What changes pends until
-// it is folded.
+// The data kept for the entries of a ledger: what is known about each, by its number; which of them
+// wait for which file; and the operations that they give, with the state of each identifier.
+// Changes are pending until they are folded.
 #[derive(Drop)]
 pub struct Kept {
     pub bounds: Vec<Bound>,
@@ -34,7 +34,7 @@ pub struct Kept {
 }
 
 impl Kept {
-    // Of no entries.
+    // For no entries.
     pub fn new(alloc: Global, schedule: Schedule) -> Result<Kept, WantOfMemory>
         ensures { IfOk result (IsObserved (nothing_yet schedule)) }
     {
@@ -48,7 +48,7 @@ impl Kept {
         })
     }
 
-    // With one entry more, of which this is known.
+    // With one more entry, with this knowledge.
     pub fn push(
         self,
         alloc: Global,
@@ -75,7 +75,7 @@ impl Kept {
         })
     }
 
-    // Looks at one entry again, over the files that have come.
+    // Checks one entry again, over the files received.
     pub fn settle(
         self,
         alloc: Global,
@@ -114,8 +114,8 @@ impl Kept {
         })
     }
 
-    // Folds what pends, and boxes all, so that an observer is small: each line of a node moves it several
-    // times.
+    // Folds the pending changes, and boxes the result, so that an observer is small: each line of a
+    // node moves it several times.
     pub fn fold(self, alloc: Global, work: &mut Work) -> Result<Boxed<Kept>, WantOfMemory>
         ensures step { IfOk result (Folds self) }
         ensures bound { (names : List (HashValue × ℕ)) → AllByRecursion (Covers hash_cmp names) self.index.changes
@@ -137,7 +137,7 @@ impl Kept {
     }
 }
 
-// What an entry of this number and height gives stands at its place from now on.
+// Puts the operations of an entry of this number and height at its place.
 fn put_given(
     alloc: Global,
     n: u32,
@@ -152,7 +152,7 @@ fn put_given(
     Ok(index)
 }
 
-// Takes out what is known of an entry. What is known of the last stands in its place until it is put back.
+// Takes out the knowledge of an entry. That of the last entry is at its place until it is put back.
 fn take_out(bounds: &mut Vec<Bound>, n: u32) -> Bound
     requires { n < length bounds.old.items }
     ensures value { result ≡ bound_at n bounds.old.items }
@@ -162,7 +162,7 @@ fn take_out(bounds: &mut Vec<Bound>, n: u32) -> Bound
     bounds.swap_remove(n as usize)
 }
 
-// Puts it back, as it is known now.
+// Puts it back, as known now.
 fn put_back(bounds: &mut Vec<Bound>, n: u32, bound: Bound) -> Result<(), WantOfMemory>
     requires { n ≤ length bounds.old.items }
     ensures { OnOk result ((all : List Known) (out : Known) → n < length all → bounds.old.items ≡ swap_remove all n out

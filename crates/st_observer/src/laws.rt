@@ -1,7 +1,7 @@
 ghost use Rattle.st_observer.specs.ObserverLaws.{AppendLeaves, ArrivalLeaves, CutLeaves, OperationsDecide};
 
-/// An identifier is what its own operations make of it. An entry that gives nothing for it, appended or
-/// cut away, and a file that no entry misses, change no answer for it.
+/// An identifier depends only on its own operations. Appending or cutting an entry that gives no
+/// operation for it, and a file that is missing for no entry, change no answer about it.
 pub fn isolation_law()
     ensures operations_decide { OperationsDecide }
     ensures append_leaves { AppendLeaves }

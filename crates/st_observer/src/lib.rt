@@ -1,7 +1,7 @@
-//! The observer: it keeps the ledger and the files that have come, what is known of each entry, which
-//! files are wanted, and of each identifier its operations and its state (DIF Sidetree v1.0.0). Each
-//! file is read once for an entry and a role, and a state is folded on from the last one kept before
-//! the place that changed.
+//! The observer: it keeps the ledger and the files received, what is known about each entry, which
+//! files are wanted, and the operations and the state of each identifier (DIF Sidetree v1.0.0).
+//! Each file is read once for an entry and a role, and a state is folded from the last stored one
+//! before the place that changed.
 #![tactic(auto)]
 
 mod arriving;

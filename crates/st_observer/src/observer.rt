@@ -30,9 +30,9 @@ use st_params::Schedule;
 use std::alloc::Global;
 use std::marker::Model;
 
-/// A ledger and the files that have come, under a schedule of limits, with what is known of each
-/// entry, which files are wanted, and the operations and the state of each identifier. Contracts see
-/// the schedule, the entries and the files; all else follows from them.
+/// A ledger and the files received, under a schedule of limits, with what is known about each
+/// entry, which files are wanted, and the operations and the state of each identifier. Contracts
+/// see the schedule, the entries and the files; all else follows from them.
 #[derive(Drop)]
 pub struct Observer {
     schedule: Schedule,
@@ -53,7 +53,7 @@ impl Model for Observer {
 }
 
 impl Observer {
-    /// An observer under this schedule of limits, before anything has come.
+    /// An observer under this schedule of limits, without entries and files.
     pub fn new(alloc: Global, schedule: Schedule) -> Result<Observer, WantOfMemory>
         ensures { IfOk result (λ observer. observer ≡ nothing_yet schedule) }
     {
@@ -66,32 +66,32 @@ impl Observer {
         })
     }
 
-    /// The schedule of limits that it was given.
+    /// The schedule of limits.
     pub fn schedule(&self) -> &Schedule
         ensures { result.now ≡ self.now.schedule }
     {
         &self.schedule
     }
 
-    /// The entries that have come.
+    /// The entries received.
     pub fn ledger(&self) -> &Ledger
         ensures { result.now ≡ self.now.ledger }
     {
         &self.ledger
     }
 
-    /// The files that have come.
+    /// The files received.
     pub fn content(&self) -> &Content
         ensures { result.now ≡ self.now.files }
     {
         &self.content
     }
 
-    /// Appends an entry, and gives its number. The files that have come are read for it at once, and
-    /// from then on it stands once under each URI that its roles miss.
+    /// Appends an entry, and returns its number. Its files that were received are read at once;
+    /// from then on it waits, once each, for the URIs of its missing files.
     ///
-    /// At most so many files are read as roles of the entry are decided, and so many signed texts
-    /// opened as stand in its proof files that are read. For each identifier for which it gives an
+    /// At most as many files are read as roles of the entry are decided, and as many signed texts
+    /// opened as its proof files that are read have. For each identifier for which it gives an
     /// operation at most 8 are applied.
     pub fn append(
         self,
@@ -134,7 +134,7 @@ impl Observer {
         Ok((observer, number))
     }
 
-    /// Keeps the first `n` entries alone, and gives how many were cut. The files stay, and none is
+    /// Keeps only the first `n` entries, and returns how many were cut. The files stay, and none is
     /// read. For each identifier that loses an operation at most 7 are applied.
     pub fn cut(
         self,
@@ -165,12 +165,12 @@ impl Observer {
         Ok((observer, removed))
     }
 
-    /// Takes a file in, and gives its URI. Only the entries that wait for it are looked at. `Had`
-    /// comes exactly where a file of this URI was there; then nothing changes.
+    /// Adds a file, and returns its URI. Only the entries that wait for it are checked. The result
+    /// has `Had` if and only if a file of this URI was there; then nothing changes.
     ///
-    /// At most so many files are read as roles are newly decided, and so many signed texts opened as
-    /// stand in proof files that are newly read. For each identifier for which entries that missed the
-    /// file give operations, at most 7 are applied, and one for each of its operations at the place of
+    /// At most as many files are read as roles are newly decided, and as many signed texts opened
+    /// as newly read proof files have. For each identifier for which entries that missed the file
+    /// give operations, at most 7 are applied, and one for each of its operations at the place of
     /// the first such entry or later.
     pub fn arrive(
         self,
@@ -181,7 +181,7 @@ impl Observer {
         ensures state { IfOk result (λ done. done.0 ≡ arrived bytes self) }
         ensures uri { IfOk result (λ done. done.1 ≡ uri_of bytes) }
         ensures had { IfOk result (λ done. (done.2 ≡ Put.Had) ↔ IsSome (file_at (uri_of bytes) self.files)) }
-        // Each role that is newly decided counts as one file.
+        // Each newly decided role counts as one file.
         ensures exact { OnOk result (ReadExactly
             (decided_in (arrived bytes self) - decided_in self)
             (opened_in (arrived bytes self) - opened_in self)
@@ -197,7 +197,7 @@ impl Observer {
         Ok((observer, uri, put))
     }
 
-    /// The same of a file whose URI is known, which isn't hashed again.
+    /// The same for a file whose URI is known, so it isn't hashed again.
     pub fn arrive_under(
         self,
         alloc: Global,
@@ -236,16 +236,16 @@ impl Observer {
         Ok((observer, put))
     }
 
-    /// The state of an identifier, by its suffix: its operations, resolved from nothing. It stands
-    /// here, and nothing is applied.
+    /// The state of an identifier, by its suffix: its operations, resolved from nothing. It is up
+    /// to date, so nothing is applied.
     pub fn state(&self, suffix: &Hash) -> &DidState
         ensures { result.now ≡ state_of suffix.now self.now }
     {
         self.kept.get().index.state(suffix)
     }
 
-    /// The operations of an identifier, by its suffix, in the order of the ledger. They share proofs
-    /// and deltas with those that are kept.
+    /// The operations of an identifier, by its suffix, in the order of the ledger. They share
+    /// proofs and deltas with the stored ones.
     pub fn items(&self, alloc: Global, suffix: &Hash) -> Result<List<Held>, WantOfMemory>
         ensures items { IfOk result (λ items. map plain_held items ≡ operations suffix.now self.now) }
         ensures ascend { PlacesAscend place_of (operations suffix.now self.now) }
@@ -254,18 +254,19 @@ impl Observer {
         Ok(items)
     }
 
-    /// The URIs of the files that some entry misses, each once, ascending by the bytes of their texts.
+    /// The URIs of the files missing for some entry, each once, ascending by the bytes of their
+    /// texts.
     pub fn wanted(&self, alloc: Global) -> Result<List<Hash>, WantOfMemory>
         ensures value { IfOk result (λ uris. uris ≡ wanted self.now) }
         ensures ordered { IfOk result (IsStrictlySortedBy text_cmp) }
-        // A URI is among them exactly where some role of some entry misses its file.
+        // A URI is among them if and only if its file is missing for some role of some entry.
         ensures missed { IfOk result (λ uris. (uri : HashValue) → IsTrue (list_any (same_hash uri) uris) ↔ IsMissed uri self.now) }
     {
         let uris = self.kept.get().waiting.uris(alloc)?;
         Ok(uris)
     }
 
-    /// Whether the file of this URI is wanted. It is looked up, and no list of those that are is made.
+    /// Whether the file of this URI is wanted. This is one lookup, without building the list.
     pub fn wants(&self, alloc: Global, uri: &Hash) -> Result<bool, WantOfMemory>
         ensures { IfOk result (λ found. found ≡ is_wanted uri.now self.now) }
     {
@@ -273,8 +274,8 @@ impl Observer {
         Ok(found)
     }
 
-    /// How it stands with the five roles of an entry, in their order. None comes exactly where there
-    /// is no entry with this number.
+    /// The states of the five roles of an entry, in their order; `None` if and only if there is no
+    /// entry with this number.
     pub fn report(&self, n: u32) -> Option<[RoleState; 5]>
         ensures { result ≡ report n self.now }
     {

@@ -5,7 +5,7 @@ ghost use Rattle.st_observer.specs.Kept.{no_needs};
 use st_anchor::{Bound, RoleState};
 use st_datafiles::Role;
 
-// How it stands with the five roles of an entry, in their order.
+// The states of the five roles of an entry, in their order.
 pub fn roles_of(bound: &Bound) -> [RoleState; 5]
     ensures { result ≡ role_states bound.now }
 {
@@ -18,7 +18,7 @@ pub fn roles_of(bound: &Bound) -> [RoleState; 5]
     ]
 }
 
-// How it stands with them where there is no entry.
+// The states of the roles if there is no entry.
 pub fn no_roles() -> [RoleState; 5]
     ensures { result ≡ no_needs }
 {

@@ -35,9 +35,9 @@ impl Copied for Held {
     }
 }
 
-// The entry of this place and height gives these operations. Each stands at the place from now on, and
-// replaces the one of its identifier that stood there. They are put from the last to the first: no suffix
-// stands twice among them, so their order does not matter.
+// Puts the operations of the entry of this place and height at its place; each replaces the one of
+// its identifier there. They are put from the last to the first: no suffix appears twice among
+// them, so their order does not matter.
 pub fn put_all(
     alloc: Global,
     index: Index<Hash, Steps>,

@@ -8,11 +8,11 @@ use st_ops::Operation;
 use st_params::Schedule;
 use std::alloc::Global;
 
-/// Folds operations, each beside the height of its entry, into the state of an identifier, one step of
-/// resolution an operation.
+/// Folds operations, each with the height of its entry, into the state of an identifier, one step
+/// of resolution per operation.
 #[derive(Drop)]
 pub struct Steps {
-    /// It gives the limits of a height.
+    /// Gives the limits of a height.
     pub schedule: Schedule,
 }
 
@@ -40,7 +40,7 @@ impl Folder for Steps {
         Ok(apply(alloc, state, &item.1, &params, work)?)
     }
 
-    // Many are kept, and few of them are looked at again.
+    // Many are stored, and few of them are used again.
     fn copy_state(&self, alloc: Global, state: &DidState) -> Result<DidState, WantOfMemory> {
         state.pack(alloc)
     }

@@ -17,8 +17,8 @@ use std::cmp::Ordering;
 use std::collections::{BTreeMap, BTreeSet};
 use std::marker::Model;
 
-/// The numbers of the entries that wait for a file, by its URI in the order of their texts. A URI for
-/// which no entry waits isn't kept.
+/// The numbers of the entries that wait for a file, by its URI, in the order of the URIs' texts.
+/// Only URIs for which an entry waits are stored.
 #[derive(Drop)]
 pub struct Waiting {
     files: Files,
@@ -37,7 +37,7 @@ impl Model for Waiting {
 }
 
 impl Waiting {
-    /// No entry waits. It takes no memory yet.
+    /// No entry waits. It allocates nothing.
     pub fn new(alloc: Global) -> Waiting
         ensures { (uri : HashValue) (n : ℕ) → is_waiting uri n result ≡ false }
     {
@@ -46,8 +46,8 @@ impl Waiting {
         }
     }
 
-    /// An entry whose roles stood as `before` says now stands as `after`: it waits for the files that
-    /// its roles miss now, and for no other.
+    /// Changes the states of an entry's roles from `before` to `after`: it then waits for exactly
+    /// the files missing in `after`.
     pub fn turn(
         &mut self,
         alloc: Global,
@@ -94,7 +94,7 @@ impl Waiting {
     }
 }
 
-// Whether the entry waits for the files that these roles miss becomes `waits`.
+// Sets whether the entry waits for the files that are missing for these roles.
 fn set_missed(
     alloc: Global,
     files: &mut Files,
@@ -112,7 +112,7 @@ fn set_missed(
     Ok(())
 }
 
-// The same for the file that one role misses, if it misses one.
+// The same for the missing file of one role, if any.
 fn set_for(
     alloc: Global,
     files: &mut Files,
@@ -130,8 +130,8 @@ fn set_for(
     Ok(())
 }
 
-// The same for the file of this URI. Its row is taken out, changed, and put back unless no entry is
-// left in it.
+// The same for the file of this URI. Its row is taken out, changed, and put back unless it is
+// empty.
 fn set(
     alloc: Global,
     files: &mut Files,

@@ -7,7 +7,7 @@ use Rattle.std.specs.List.Sorted.{IsNonDecreasingBy}
 use Rattle.st_base.proofs.Quantifiers.{each-weaker, each-filter, each-take, each-passes, filter_all, filter_none, any_none}
 use Rattle.st_opindex.specs.Items.{Held, Ascend, before, from, after, reaches}
 
--- what is below is at most
+-- less implies at most
 pub le_of_lt : (a b : ℕ) → a < b → a ≤ b
 le_of_lt a b lt = omega arith
 
@@ -27,14 +27,14 @@ module _ {Item : Type 0} where
   Ascend-take (suc n) [] ascends = tt
   Ascend-take (suc n) (held ∷ items) ascends = (each-take (λ later. held.0 < later.0) n items ascends.0, Ascend-take n items ascends.1)
 
-  -- what comes behind an item at this place or later stands later still
+  -- items after one at this place or later are later still
   pub later_all : (place : ℕ) (held : Held Item) (items : List (Held Item)) → place ≤ held.0
       → AllByRecursion (λ later. held.0 < later.0) items → AllByRecursion (λ later. place < later.0) items
   later_all place held items late all =
       each-weaker (λ later. held.0 < later.0) (λ later. place < later.0) (λ later lt. omega arith) items all
 
   module _ (place : ℕ) where
-    -- of items after this place, none is before it, and all are from it on and after it
+    -- if all items are after this place, none is before it, and all are from it on and after it
     pub none_before : (items : List (Held Item)) → AllByRecursion (λ held. place < held.0) items → before place items ≡ []
     none_before items all =
         filter_none (λ held. ltb held.0 place) items
@@ -68,7 +68,7 @@ module _ {Item : Type 0} where
           rw (le-ltb held.0 place le, le-leb place held.0 le, none_before items all, all_from items all) refl
     ]
 
-    -- where the first of these items from a place on stands at the place, those behind it come after
+    -- if the first of these items from a place on is at the place, the others are after it
     pub after_found : (held : Held Item) (items rest : List (Held Item)) → Ascend items → from place items ≡ held ∷ rest
         → held.0 ≡ place → after place items ≡ rest
     after_found held [] rest ascends starts is = cc
@@ -85,7 +85,7 @@ module _ {Item : Type 0} where
           rw (le-ltb place first.0 upto) (all_after items all ∙ sym (all_from items all) ∙ tail)
     ]
 
-    -- where no item stands at the place, those from it on come after it
+    -- if no item is at the place, those from it on are after it
     pub after_missing : (items : List (Held Item)) → Ascend items
         → ((held : Held Item) (rest : List (Held Item)) → from place items ≡ held ∷ rest → held.0 ≡ place → ⊥)
         → after place items ≡ from place items
@@ -106,11 +106,11 @@ module _ {Item : Type 0} where
 -- ---- the items before a place
 
 module _ {Item : Type 0} (place : ℕ) (items : List (Held Item)) where
-  -- once more cut they are the same
+  -- a second filter changes nothing
   pub before-before : before place (before place items) ≡ before place items
   before-before = filter_all (λ held. ltb held.0 place) (before place items) (each-passes (λ held. ltb held.0 place) items)
 
-  -- none of them stands at the place or later
+  -- none of them is at the place or later
   pub reaches-before : reaches place (before place items) ≡ false
   reaches-before =
       any_none (λ held. leb place held.0) (before place items)
@@ -120,7 +120,7 @@ module _ {Item : Type 0} (place : ℕ) (items : List (Held Item)) where
 -- ---- items by their place in the list
 
 module _ {Item : Type 0} where
-  -- an earlier item stands at an earlier place
+  -- an earlier item has an earlier place
   pub Ascend-apart : (items : List (Held Item)) → Ascend items → (i j : ℕ) (d : Held Item) → i < j → j < length items → (get_or items i d).0 < (get_or items j d).0
   Ascend-apart [] ascends i j d lt inside = absurd (omega arith)
   Ascend-apart (held ∷ items) ascends i zero d lt inside = absurd (omega arith)

@@ -13,7 +13,7 @@ use Rattle.st_opindex.proofs.Ascending.{before-before, reaches-before}
 -- the keys so far are cut, and now one key more
 module _ {K Item : Type 0} {cmp : K → K → Ordering} (order : IsTotalOrder cmp) {place : ℕ} {keys : List K} {old rows : ByKey K Item}
     (cut : AreCut cmp place keys old rows) (key : K) where
-  -- what reaches the place on the way did so at the start
+  -- a key that reaches the place now did so at the start
   pub reached_first : reaches place (items_at cmp key rows) ≡ true → reaches place (items_at cmp key old) ≡ true
   reached_first reached = elim (cases_Bool (list_any (λ taken. is_at (cmp taken) key) keys)) [
     | inl was ↦ absurd (false≢true (sym (reaches-before place (items_at cmp key old)) ∙ sym (ap (reaches place) (cut.each key ∙ rw was refl)) ∙ reached))
@@ -21,7 +21,7 @@ module _ {K Item : Type 0} {cmp : K → K → Ordering} (order : IsTotalOrder cm
   ]
 
   module _ (new : ByKey K Item) (cuts : ChangesAt cmp key (before place) rows new) where
-    -- one key more is cut
+    -- one more key is cut
     pub cut_more : AreCut cmp place (keys ++ key ∷ []) old new
     cut_more = record { each = each }
       where
@@ -42,7 +42,7 @@ module _ {K Item : Type 0} {cmp : K → K → Ordering} (order : IsTotalOrder cm
               ]
         ]
 
--- the keys of all that was placed late are cut
+-- the keys of all late entries are cut
 module _ {K Item : Type 0} {cmp : K → K → Ordering} {place : ℕ} {placed : List (ℕ × K)} {late : List K} {old new : ByKey K Item}
     (all : AllPlaced cmp placed old)
     (found : (at : ℕ) (key : K) → place ≤ at → IsPlaced cmp placed at key → list_any (λ taken. is_at (cmp taken) key) late ≡ true)
@@ -59,7 +59,7 @@ module _ {K Item : Type 0} {cmp : K → K → Ordering} {place : ℕ} {placed : 
         cut.each key ∙ rw missing (sym (filter_all (λ held. ltb held.0 place) (items_at cmp key old) early))
   ]
 
-  -- each item that stays is still placed
+  -- each remaining item still has its entry
   pub placed_cut : (below : List (ℕ × K)) → ((at : ℕ) (key : K) → at < place → IsPlaced cmp placed at key → IsPlaced cmp below at key) → AllPlaced cmp below new
   placed_cut below rest = record {
     each = λ key. rw (all_cut key)

@@ -1,4 +1,4 @@
--- Keys that were changed are folded one after another.
+-- Changed keys are folded one after another.
 use Rattle.std.proofs.Common.{◌==◌, ◌≡◌, ◌∙◌, ◌+◌, ◌<◌, ◌≤◌, ℕ, Bool, true, false, cond, leb, List, [], ◌∷◌, ◌++◌, ◌&&◌, length, min, sym, ap, refl, arith, Ordering, inl, inr}
 use Rattle.std.proofs.lemmas.Bool.{and_parts, cases_Bool, cases_lt, eqb-true, false≢true, leb-true, or_cases, or_left, or_right}
 use Rattle.std.proofs.lemmas.List.Sums.{sum_by-cons, sum_by-le-sum_by}
@@ -15,20 +15,20 @@ use Rattle.st_opindex.proofs.Keyed.{items_at-same, left_at-same}
 use Rattle.st_opindex.proofs.Owing.{from-falls}
 
 module _ {K State Item : Type 0} {cmp : K → K → Ordering} {entries : List (K × Row Item State)} where
-  -- where no change has to account for anything, nothing is left,
+  -- if no change is pending, nothing remains,
   pub nothing_left : AreOwed cmp [] entries → (key : K) → left_at cmp key entries ≡ 0
   nothing_left owed key = elim (cases_lt 0 (left_at cmp key entries)) [
     | inl some ↦ absurd (false≢true (owed.each key some).changed)
     | inr none ↦ omega (arith, none)
   ]
 
-  -- and the other way round
+  -- and conversely
   pub nothing_owed : ((key : K) → left_at cmp key entries ≡ 0) → AreOwed cmp [] entries
   nothing_owed none = record { each = λ key some. absurd (omega (arith, none key, some)) }
 
 -- ---- sums
 
--- where no term grows, and some term falls by this much, so does the sum
+-- if no term grows, and some term falls by this much, so does the sum
 sum_by-lt : {X : Type 0} (f g : X → ℕ) → ((x : X) → g x ≤ f x) → (some : X → Bool) (fall : ℕ) → ((x : X) → some x ≡ true → g x + fall ≤ f x)
     → (xs : List X) → list_any some xs ≡ true → sum_by g xs + fall ≤ sum_by f xs
 sum_by-lt f g fewer some fall apart [] any = absurd (false≢true any)
@@ -37,7 +37,7 @@ sum_by-lt f g fewer some fall apart (x ∷ xs) any = elim (or_cases (some x) (li
   | inr later ↦ omega (arith, sum_by-cons f x xs, sum_by-cons g x xs, fewer x, sum_by-lt f g fewer some fall apart xs later)
 ]
 
--- of some item that passes a test holds what holds of each
+-- a property of each item is one of some item that passes a test
 some_item : {X : Type 0} (P : X → Type 0) (test : X → Bool) (xs : List X) → AllByRecursion P xs → list_any test xs ≡ true → (x : X) × P x × (test x ≡ true)
 some_item P test [] all any = absurd (false≢true any)
 some_item P test (x ∷ xs) all any = elim (or_cases (test x) (list_any test xs) any) [
@@ -47,7 +47,7 @@ some_item P test (x ∷ xs) all any = elim (or_cases (test x) (list_any test xs)
 
 -- ---- on the way
 
--- of the keys of these changes nothing is left to be folded, and of any other as much as at first
+-- all items of the keys of these changes are folded, and of any other key as many as at first
 pub record IsFolding {K State Item : Type 0} (cmp : K → K → Ordering) (changes : List (K × ℕ)) (old now : List (K × Row Item State)) : Type 0 where
   pub left : (key : K) → left_at cmp key now ≡ cond (list_any (λ change. is_at (cmp change.0) key) changes) 0 (left_at cmp key old)
   pub items : (key : K) → items_at cmp key (seen_items now) ≡ items_at cmp key (seen_items old)
@@ -57,11 +57,11 @@ abbrev name_cost : {K Item : Type 0} → (K → K → Ordering) → ByKey K Item
 name_cost cmp items name = 7 + length (from name.1 (items_at cmp name.0 items))
 
 module _ {K State Item : Type 0} (cmp : K → K → Ordering) where
-  -- what names are still to pay for
+  -- what names still pay for
   abbrev pub owing : ByKey K Item → List (K × Row Item State) → List (K × ℕ) → ℕ
   owing items now names = sum_by (λ name. min (left_at cmp name.0 now) (name_cost cmp items name)) names
 
-  -- at most so many operations were applied as the names have paid for, and none was uncounted
+  -- at most as many operations were applied as the names have paid for, and each was counted
   pub record HasPaid (names : List (K × ℕ)) (old now : List (K × Row Item State)) (first work : Counts) : Type 0 where
     pub files : work.files ≡ first.files
     pub proofs : work.proofs ≡ first.proofs
@@ -92,7 +92,7 @@ module _ {K State Item : Type 0} {cmp : K → K → Ordering} where
 module _ {K State Item : Type 0} {cmp : K → K → Ordering} (order : IsTotalOrder cmp) {taken : List (K × ℕ)} {old now : List (K × Row Item State)}
     (folding : IsFolding cmp taken old now) (key : K) where
   module _ {all : List (K × ℕ)} (owed : AreOwed cmp all old) (names : List (K × ℕ)) (named : AllByRecursion (Covers cmp names) all) where
-    -- what is left of it was left at the start
+    -- its remaining items remained at the start
     left_first : 0 < left_at cmp key now → left_at cmp key now ≡ left_at cmp key old
     left_first some = elim (cases_Bool (list_any (λ change. is_at (cmp change.0) key) taken)) [
       | inl was ↦ let none : left_at cmp key now ≡ 0 = folding.left key ∙ rw was refl in absurd (omega (arith, none, some))
@@ -130,7 +130,7 @@ module _ {K State Item : Type 0} {cmp : K → K → Ordering} (order : IsTotalOr
     ]
 
     module _ {first work after : Counts} (paid : HasPaid cmp names old now first work) (step : AppliesAtMost (left_at cmp key now) work after) where
-      -- where memory is wanting on the way
+      -- if memory runs out on the way
       pub fold_stopped : AppliesAtMost (cover_cost cmp (seen_items old) names) first after
       fold_stopped = record {
         files = step.files ∙ paid.files;
@@ -139,7 +139,7 @@ module _ {K State Item : Type 0} {cmp : K → K → Ordering} (order : IsTotalOr
         applies = omega (arith, step.applies, paid.applies, pays (λ name. 0) (λ name. omega arith) (λ name same. refl));
       }
 
-      -- and where it is not
+      -- and if it doesn't
       pub fold_paid : (new : List (K × Row Item State)) → FoldsKey cmp key now new → HasPaid cmp names old new first after
       fold_paid new folds = record {
         files = step.files ∙ paid.files;
@@ -161,7 +161,7 @@ module _ {K State Item : Type 0} {cmp : K → K → Ordering} (order : IsTotalOr
             | inr apart ↦ let stays : left_at cmp name.0 new ≡ left_at cmp name.0 now = folds name.0 ∙ rw apart refl in omega (arith, stays)
           ]
 
-  -- one key more is folded
+  -- one more key is folded
   pub folding_more : (place : ℕ) (new : List (K × Row Item State)) → FoldsKey cmp key now new
       → ChangesAt cmp key (λ items. items) (seen_items now) (seen_items new)
       → IsFolding cmp (taken ++ (key, place) ∷ []) old new
@@ -190,7 +190,7 @@ module _ {K State Item : Type 0} {cmp : K → K → Ordering} (order : IsTotalOr
             ]
       ]
 
--- once the keys of all changes are folded, all keys are
+-- after the keys of all changes are folded, all keys are
 module _ {K State Item : Type 0} {cmp : K → K → Ordering} {all : List (K × ℕ)}
     {old now : List (K × Row Item State)} (owed : AreOwed cmp all old) (folding : IsFolding cmp all old now) where
   pub none_left : (key : K) → left_at cmp key now ≡ 0

@@ -1,4 +1,4 @@
--- States that are kept on the way through items.
+-- States stored while items are folded.
 use Rattle.std.proofs.Common.{◌≡◌, ◌∙◌, ℕ, ◌+◌, ◌-◌, ◌*◌, ◌/◌, ◌<◌, ◌≤◌, List, length, take, get_or, sym, ap, refl, arith, ⊎_elim, length-take, get_or-take}
 use Rattle.std.proofs.lemmas.Bool.{cases_lt}
 use Rattle.std.proofs.lemmas.List.{take-take, take_all}
@@ -6,12 +6,12 @@ use Rattle.st_opindex.specs.declared.row.Row.{Row}
 use Rattle.st_opindex.specs.Items.{Held, folded}
 use Rattle.st_opindex.specs.Kept.{IsKeptBefore, IsRow, Reached, left_of}
 
--- the first items are the same in a list that begins alike
+-- lists with a common prefix have the same first items
 take_alike : {X : Type 0} (items other : List X) (n at : ℕ) → n ≤ at → take at other ≡ take at items → take n items ≡ take n other
 take_alike items other n at within alike = sym (take-take n at items within) ∙ ap (take n) (sym alike) ∙ take-take n at other within
 
 module _ {State Item : Type 0} {next : State → Item → State} {start : State} where
-  -- what is kept is kept for a list that begins alike
+  -- the stored states are those of any list with the same prefix
   pub reached_alike : {items : List (Held Item)} {done : ℕ} {kept : List State} {last : State} (other : List (Held Item))
       → take done other ≡ take done items → Reached next start items done kept last → Reached next start other done kept last
   reached_alike {items} {done} other alike reached = record {
@@ -20,16 +20,16 @@ module _ {State Item : Type 0} {next : State → Item → State} {start : State}
     now = reached.now ∙ ap (folded next start) (take_alike items other done done (omega arith) alike);
   }
 
-  -- what a row keeps is kept for a list that begins like its items
+  -- the states of a row are those of any list with the same prefix
   pub row_alike : {row : Row Item State} → IsRow next start row → (other : List (Held Item)) (at : ℕ) → row.done ≤ at → take at other ≡ take at row.items.items
       → Reached next start other row.done row.kept.items row.last
   row_alike {row} is other at within alike = reached_alike other (sym (take_alike row.items.items other row.done at within alike)) is.reached
 
-  -- where all are folded, the last state of a row is what its items fold to
+  -- if all are folded, the last state of a row is the one its items fold to
   pub row_folds : {row : Row Item State} → IsRow next start row → left_of row ≡ 0 → row.last ≡ folded next start row.items.items
   row_folds {row} is none = is.reached.now ∙ ap (folded next start) (take_all row.done row.items.items (omega (arith, is.within, none)))
 
-  -- what a row keeps is kept before a place in a list that begins alike
+  -- the states of a row are stored before a place in any list with the same prefix
   pub kept_before : {row : Row Item State} → IsRow next start row
       → (other : List (Held Item)) (at : ℕ) → at ≤ row.done → take at other ≡ take at row.items.items → IsKeptBefore next start other at row.kept.items
   kept_before {row} is other at within alike = record {
@@ -38,7 +38,7 @@ module _ {State Item : Type 0} {next : State → Item → State} {start : State}
         ∙ ap (folded next start) (take_alike row.items.items other (8 * (i + 1)) at (omega (arith, below)) alike);
   }
 
-  -- the last of these states is what the items up to it reach
+  -- the last of these states is that of the items up to it
   pub reached_before : {items : List (Held Item)} {at : ℕ} {kept : List State} → IsKeptBefore next start items at kept
       → (states : ℕ) (last : State) → states ≤ at / 8
       → (length (take states kept) ≡ 0 → last ≡ start)

@@ -1,4 +1,4 @@
--- Rows by key, and what they are seen as.
+-- Rows by key, and what contracts see of them.
 use Rattle.std.proofs.Common.{◌≡◌, ◌∙◌, ◌⊎◌, ◌+◌, ◌≤◌, ℕ, Bool, true, false, cond, List, [], ◌∷◌, length, Option, Some, unwrap_or, sym, ap, refl, arith, Ordering, inl, inr}
 use Rattle.std.proofs.lemmas.Bool.{cases_Bool, cond_both}
 use Rattle.std.proofs.lemmas.Map.Made.{lookup-map_values}
@@ -23,17 +23,17 @@ cond-cond : {X : Type 0} (b : Bool) (x y z : X) → cond b x (cond b y z) ≡ co
 cond-cond true x y z = refl
 cond-cond false x y z = refl
 
--- a choice between what is the same where the test holds
+-- a choice between values that agree if the test holds
 cond_along : {X : Type 0} (b : Bool) (x y z : X) → (b ≡ true → x ≡ y) → cond b x z ≡ cond b y z
 cond_along true x y z same = same refl
 cond_along false x y z same = refl
 
--- a choice of what is there already
+-- a choice that changes nothing
 cond_itself : {X : Type 0} (b : Bool) (x z : X) → (b ≡ true → x ≡ z) → z ≡ cond b x z
 cond_itself true x z same = sym (same refl)
 cond_itself false x z same = refl
 
--- how many items of a row are left to be folded, where there is one
+-- how many items of a row, if any, remain to be folded
 abbrev pub left_in : {State Item : Type 0} → Option (Row Item State) → ℕ
 left_in row = unwrap_or (option_map left_of row) 0
 
@@ -43,17 +43,17 @@ module _ {K Item : Type 0} {cmp : K → K → Ordering} (order : IsTotalOrder cm
   items_at-same items same =
       ap (λ found. unwrap_or found []) (lookup_alike (is_at (cmp key)) (is_at (cmp other)) (λ k. (eq_by_cmp_equiv order).congr key other k same) items)
 
-  -- and as many of them are left to be folded
+  -- and as many of them remain to be folded
   pub left_at-same : {State : Type 0} (entries : List (K × Row Item State)) → is_at (cmp key) other ≡ true → left_at cmp key entries ≡ left_at cmp other entries
   left_at-same entries same =
       ap left_in (lookup_alike (is_at (cmp key)) (is_at (cmp other)) (λ k. (eq_by_cmp_equiv order).congr key other k same) entries)
 
--- the items that a row has, where there is one
+-- the items of a row, if any
 abbrev pub items_in : {State Item : Type 0} → Option (Row Item State) → List (Held Item)
 items_in row = unwrap_or (option_map (λ row. row.items.items) row) []
 
 module _ {K State Item : Type 0} (cmp : K → K → Ordering) (key : K) where
-  -- one key comes to have this row or none, and the others have what they had, as std's maps say it
+  -- one key now has this row or none, and the others are unchanged, in the form of std's maps
   pub record IsUpdated (row : Option (Row Item State)) (old new : List (K × Row Item State)) : Type 0 where
     pub each : (other : K) → lookup (is_at (cmp other)) new ≡ cond (is_at (cmp key) other) row (lookup (is_at (cmp other)) old)
 
@@ -64,7 +64,7 @@ module _ {K State Item : Type 0} (cmp : K → K → Ordering) (key : K) where
       ap (λ found. unwrap_or found []) (lookup-map_values (λ row. row.items.items) (is_at (cmp key)) entries) ∙ ap items_in (sym found)
 
 module _ {K State Item : Type 0} {cmp : K → K → Ordering} {key : K} where
-  -- rows of which none is changed
+  -- rows none of which is changed
   pub updated_by_itself : IsTotalOrder cmp → {row : Option (Row Item State)} {rows : List (K × Row Item State)} → row ≡ lookup (is_at (cmp key)) rows
       → IsUpdated cmp key row rows rows
   updated_by_itself order {row} {rows} found = record {
@@ -72,7 +72,7 @@ module _ {K State Item : Type 0} {cmp : K → K → Ordering} {key : K} where
         (λ same. found ∙ lookup_alike (is_at (cmp key)) (is_at (cmp other)) (λ k. (eq_by_cmp_equiv order).congr key other k same) rows);
   }
 
-  -- rows that are the same as changed ones
+  -- rows equal to changed ones
   pub updated_as : {row : Option (Row Item State)} {old written new : List (K × Row Item State)} → IsUpdated cmp key row old written → new ≡ written
       → IsUpdated cmp key row old new
   updated_as updates same = record { each = λ other. ap (lookup (is_at (cmp other))) same ∙ updates.each other }
@@ -87,11 +87,11 @@ module _ {K State Item : Type 0} {cmp : K → K → Ordering} {key : K} where
 
 module _ {K State Item : Type 0} {cmp : K → K → Ordering} {P : Row Item State → Type 0} {old : List (K × Row Item State)}
     (rows : EachRow cmp P old) where
-  -- the row that a look-up finds
+  -- the row that a lookup finds
   pub row_found : (key : K) (row : Row Item State) → Some row ≡ lookup (is_at (cmp key)) old → P row
   row_found key row found = MatchOption-at_some _ P row (sym found) (rows.each key)
 
-  -- rows of which one is changed
+  -- rows one of which is changed
   pub rows_updated : {key : K} {row : Option (Row Item State)} {new : List (K × Row Item State)} → IsUpdated cmp key row old new → IfSome row P
       → EachRow cmp P new
   rows_updated {key} {row} updates one = record {
@@ -121,7 +121,7 @@ module _ {K State Item : Type 0} {cmp : K → K → Ordering} {key : K} {row : O
       ∙ cond_along (is_at (cmp key) other) _ _ _
       (λ same. changed ∙ ap change (sym (seen_found cmp key old was found) ∙ items_at-same order key other (seen_items old) same))
 
-  -- and what is left of it to be folded is what is left of the row:
+  -- and its items to fold are those of the row:
   left_updated : (other : K) → left_at cmp other new ≡ cond (is_at (cmp key) other) (left_in row) (left_at cmp other old)
   left_updated other = ap left_in (updates.each other) ∙ inside (is_at (cmp key) other) (lookup (is_at (cmp other)) old)
     where
@@ -151,7 +151,7 @@ module _ {K State Item : Type 0} {cmp : K → K → Ordering} {key : K} {row : O
       own_items : items_at cmp key (seen_items new) ≡ items_in row
       own_items = seen_updated key ∙ rw itself refl
 
-  -- or as much as before, where the row is none that has something left, or the one that was there
+  -- or as many as before, if the row has none to fold, or is the one that was there
   pub left_none : IsTotalOrder cmp → {was : Option (Row Item State)} → was ≡ lookup (is_at (cmp key)) old → (row ≡ was) ⊎ (left_in row ≡ 0)
       → LeavesNoMore cmp old new
   left_none order {was} found none = record {

@@ -1,4 +1,4 @@
--- Items that are put into an index, or cut: what is left to be folded is accounted for.
+-- Items are put into an index or cut: pending changes allow those that remain to be folded.
 use Rattle.std.proofs.Common.{◌==◌, ◌≡◌, ◌∙◌, ◌+◌, ◌≤◌, ℕ, true, false, not, ltb, leb, List, [], ◌∷◌, ◌++◌, ◌&&◌, length, ap, refl, arith, Ordering, inl, inr}
 use Rattle.std.proofs.lemmas.Bool.{cases_Bool, cases_lt, eq-eqb, le-leb, le-ltb, leb-true, lt-leb, lt-ltb, ltb-true}
 use Rattle.std.proofs.lemmas.List.Elements.{filter-append}
@@ -26,7 +26,7 @@ module _ {Item : Type 0} where
         | inr le ↦ rw (le-ltb n place le, le-leb place n le) refl
       ]
 
-  -- no more stand from a later place on
+  -- a later place has no more items from it on
   pub from-falls : (place later : ℕ) (items : List (Held Item)) → place ≤ later → length (from later items) ≤ length (from place items)
   from-falls place later items le =
       omega (
@@ -47,7 +47,7 @@ module _ {Item : Type 0} where
       ]
     ]
 
-    -- a put leaves what stands before an earlier place,
+    -- a put keeps the items before an earlier place,
     before-put : (item : Item) (items : List (Held Item)) → before early (with_item place item items) ≡ before early items
     before-put item items =
         let back : before early (after place items) ≡ [] =
@@ -62,23 +62,23 @@ module _ {Item : Type 0} where
         no_more [] = refl
         no_more (held ∷ front) = ap (λ rest. held ∷ rest) (no_more front)
 
-    -- and the item comes to those from it on
+    -- and adds the item to those from it on
     from-put : (item : Item) (items : List (Held Item))
         → length (from early (with_item place item items)) + length items ≡ length (from early items) + length (with_item place item items)
     from-put item items =
         omega (arith, parts early items, parts early (with_item place item items), ap length (before-put item items))
 
-    -- a cut leaves as much, and takes its items from those from an earlier place on
+    -- a cut keeps those before an earlier place, and takes its items from those from it on
     from-cut : (items : List (Held Item))
         → length (from early (before place items)) + length items ≡ length (from early items) + length (before place items)
     from-cut items = omega (arith, parts early items, parts early (before place items), ap length (before-early items))
 
-  -- a change of the items at a place and later, which leaves those before it
+  -- a change of the items at a place and later that keeps those before it
   abbrev pub Counts : ℕ → (List (Held Item) → List (Held Item)) → Type 0
   Counts place change = (early : ℕ) → early ≤ place → (items : List (Held Item))
       → length (from early (change items)) + length items ≡ length (from early items) + length (change items)
 
-  -- a put is one, and a cut
+  -- a put is one, and so is a cut
   pub put_counts : (place : ℕ) (item : Item) → Counts place (with_item place item)
   put_counts place item early le items = from-put early place le item items
 
@@ -86,7 +86,7 @@ module _ {Item : Type 0} where
   cut_counts place early le items = from-cut early place le items
 
 module _ {K : Type 0} {cmp : K → K → Ordering} where
-  -- what is accounted for stays so after one change more
+  -- an allowance stays after one more change
   owed_still : {Item : Type 0} {changes : List (K × ℕ)} {key : K} {left : ℕ} {items : List (Held Item)} (change : K × ℕ)
       → IsOwed cmp changes key left items → IsOwed cmp (changes ++ change ∷ []) key left items
   owed_still {changes = changes} {key = key} change owed = record {
@@ -98,7 +98,7 @@ module _ {K : Type 0} {cmp : K → K → Ordering} where
   module _ {State Item : Type 0} (order : IsTotalOrder cmp) {changes : List (K × ℕ)} {old new : List (K × Row Item State)} (owed : AreOwed cmp changes old)
       (key : K) (place : ℕ) (change : List (Held Item) → List (Held Item)) (counts : Counts place change)
       (puts : ChangesAt cmp key change (seen_items old) (seen_items new)) (more : LeavesMore cmp key place old new) where
-    -- the change of this place accounts for what is left of its key,
+    -- the change of this place allows the remaining items of its key,
     here : (other : K) → is_at (cmp key) other ≡ true → left_at cmp other new ≤ 7 + length (from place (items_at cmp other (seen_items new)))
         → IsOwed cmp (changes ++ (key, place) ∷ []) other (left_at cmp other new) (items_at cmp other (seen_items new))
     here other same few = record {
@@ -107,7 +107,7 @@ module _ {K : Type 0} {cmp : K → K → Ordering} where
       few = few;
     }
 
-    -- or one that did so before
+    -- or an earlier change does
     own : (other : K) → is_at (cmp key) other ≡ true
         → IsOwed cmp (changes ++ (key, place) ∷ []) other (left_at cmp other new) (items_at cmp other (seen_items new))
     unfolding owed_still
@@ -146,7 +146,7 @@ module _ {K : Type 0} {cmp : K → K → Ordering} where
               ]
         ]
 
-    -- so after the change what is left is accounted for
+    -- so after the change the remaining items are allowed
     pub owed_more : AreOwed cmp (changes ++ (key, place) ∷ []) new
     owed_more = record {
       each = λ other some. elim (cases_Bool (is_at (cmp key) other)) [
@@ -158,7 +158,7 @@ module _ {K : Type 0} {cmp : K → K → Ordering} where
       ];
     }
 
-  -- and where nothing more is left, it stays so
+  -- and if no more remain, that stays
   pub owed_same : {State Item : Type 0} {changes : List (K × ℕ)} {old new : List (K × Row Item State)} → AreOwed cmp changes old → LeavesNoMore cmp old new
       → AreOwed cmp changes new
   owed_same owed leaves = record {

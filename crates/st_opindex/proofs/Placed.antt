@@ -1,4 +1,4 @@
--- What is placed, after a change.
+-- The entries of places, after a change.
 use Rattle.std.proofs.Common.{◌≡◌, ◌∙◌, ◌⊎◌, ◌<◌, ◌≤◌, ◌++◌, ℕ, Bool, true, false, cond, List, [], ◌∷◌, sym, ap, subst, refl, arith, Ordering, inl, inr}
 use Rattle.std.proofs.lemmas.Bool.{lt-ltb, le-ltb, eq-eqb, ne_eqb, false≢true, cases_Bool, cases_lt, cases_order}
 use Rattle.std.specs.BTreeMap.{is_at}
@@ -25,7 +25,7 @@ cond_true : (b c : Bool) → c ≡ true → cond b true c ≡ true
 cond_true true c is = refl
 cond_true false c is = is
 
--- an item that is put is placed, and the others stay so
+-- the item put has an entry, and the others keep theirs
 module _ {K Item : Type 0} {cmp : K → K → Ordering} {old : List (ℕ × K)} {items : ByKey K Item} (placed : AllPlaced cmp old items)
     (place : ℕ) (key : K) (item : Item) where
   pub placed_put : (put : ByKey K Item) → ChangesAt cmp key (with_item place item) items put
@@ -45,14 +45,14 @@ module _ {K Item : Type 0} {cmp : K → K → Ordering} {old : List (ℕ × K)} 
             | inr apart ↦ rw (changes other, apart) rest
           ]
 
--- where each key has the items that it had, they are placed as they were
+-- if each key has the same items, the entries are still complete
 pub placed_alike : {K Item : Type 0} {cmp : K → K → Ordering} {places : List (ℕ × K)} {old : ByKey K Item} → AllPlaced cmp places old
     → (new : ByKey K Item) → ((key : K) → items_at cmp key new ≡ items_at cmp key old) → AllPlaced cmp places new
 placed_alike placed new same = record { each = λ key. rw (same key) (placed.each key) }
 
--- ---- what is taken out from the end
+-- ---- entries taken from the end
 
--- what is placed equally stands at the same place, with an equal key
+-- equal entries have the same place and equal keys
 pub placed_same : {K : Type 0} (cmp : K → K → Ordering) (place at : ℕ) (key other : K) → is_at (placed_cmp cmp (place, key)) (at, other) ≡ true
     → (place ≡ at) × (is_at (cmp key) other ≡ true)
 placed_same cmp place at key other same = elim (cases_order place at) [
@@ -65,14 +65,14 @@ placed_same cmp place at key other same = elim (cases_order place at) [
   ]
 ]
 
--- nothing stands later than the last
+-- no entry is later than the last
 pub not_later : {K : Type 0} (cmp : K → K → Ordering) (place at : ℕ) (key other : K) → is_lt (placed_cmp cmp (place, key) (at, other)) ≡ false → at ≤ place
 not_later cmp place at key other least = elim (cases_lt place at) [
   | inl lt ↦ absurd (false≢true (sym least ∙ rw (lt-ltb place at lt) refl))
   | inr le ↦ le
 ]
 
--- on the way: what was placed is so still, or was taken, and then it stands at the place or later
+-- on the way: an entry is still there, or was taken, and then its place is this one or later
 pub record IsTakenApart {K : Type 0} (cmp : K → K → Ordering) (place : ℕ) (old now : List (ℕ × K)) (late : List K) : Type 0 where
   pub each : (at : ℕ) (key : K) → IsPlaced cmp old at key
       → IsPlaced cmp now at key ⊎ ((place ≤ at) × (list_any (λ taken. is_at (cmp taken) key) late ≡ true))
@@ -95,14 +95,14 @@ module _ {K : Type 0} {cmp : K → K → Ordering} {place : ℕ} {old now : List
     ];
   }
 
-  -- what stands before the place is not taken
+  -- entries before the place are not taken
   pub taken_rest : (at : ℕ) (key : K) → at < place → IsPlaced cmp old at key → IsPlaced cmp now at key
   taken_rest at key early was = elim (apart.each at key was) [
     | inl still ↦ still
     | inr taken ↦ absurd (below early taken.0)
   ]
 
-  -- where all that is left stands before the place, the others are taken
+  -- if all remaining entries are before the place, the others are taken
   pub taken_late : ((at : ℕ) (key : K) → IsPlaced cmp now at key → at < place)
       → (at : ℕ) (key : K) → place ≤ at → IsPlaced cmp old at key → list_any (λ taken. is_at (cmp taken) key) late ≡ true
   taken_late early at key le was = elim (apart.each at key was) [

@@ -1,4 +1,4 @@
--- Where a search among ascending items ends.
+-- The end of a search among ascending items.
 use Rattle.std.proofs.Common.{◌≡◌, ◌∙◌, ℕ, suc, ◌+◌, ◌<◌, ◌≤◌, true, ltb, leb, List, [], ◌∷◌, length, take, drop, get_or, set, insert, add-zero, drop-cons, length-append, length-drop, get_or-drop, sym, ap, refl, arith}
 use Rattle.std.proofs.lemmas.Bool.{true_from_ne_false}
 use Rattle.std.proofs.lemmas.List.{set_split, take_all, take_at}
@@ -14,19 +14,19 @@ module _ {Item : Type 0} {place : ℕ} {items : List (Held Item)} {at : ℕ} (sp
   split-within =
       omega (arith, splits.count, length-filter (λ held. ltb held.0 place) items, count_by-le-length (λ held. ltb held.0 place) items)
 
-  -- what stands in front of it is before the place
+  -- the items before it are before the place
   pub split-front : take at items ≡ before place items
   split-front = rw splits.count (take-before place items splits.ascends)
 
-  -- and what stands behind it is not
+  -- and those after it are not
   pub split-back : drop at items ≡ from place items
   split-back = rw splits.count (drop-before place items splits.ascends)
 
-  -- where all stand before the place, all stay
+  -- if all are before the place, all stay
   pub split-all : at ≡ length items → items ≡ before place items
   split-all full = sym (take_all (length items) items (omega arith)) ∙ ap (λ n. take n items) (sym full) ∙ split-front
 
-  -- where some do not, one stands at the place or later
+  -- if some are not, one is at the place or later
   pub split-reaches : at < length items → reaches place items ≡ true
   split-reaches more = true_from_ne_false (reaches place items) (λ none.
       let gone : drop at items ≡ [] = split-back ∙ filter_not_any (λ held. leb place held.0) items none in
@@ -55,10 +55,10 @@ module _ {Item : Type 0} {place : ℕ} {items : List (Held Item)} {at : ℕ} (sp
         missing held inside read found) in
         rw (split-front, split-back, none) refl
 
-    -- the items before the place stay where they were
+    -- the items before the place are unchanged
     pub split-alike : take at (with_item place item items) ≡ take at items
     split-alike = take_at (before place items) ((place, item) ∷ after place items) at (sym splits.count) ∙ sym split-front
 
-    -- so many stand before the place, and then those from it on
+    -- this many are before the place, and then those from it on
     pub split-length : length (with_item place item items) ≡ at + length (from place (with_item place item items))
     split-length = rw (from-with_item place item items) (length-append (before place items) ((place, item) ∷ after place items) ∙ rw (← splits.count) refl)

@@ -1,4 +1,4 @@
--- An item put at its place. For crates above: what a put leaves, and how many items its bound speaks of.
+-- An item put at its place. For crates above: the items after a put, and how many of them its bound counts.
 use Rattle.std.proofs.Common.{◌≡◌, ◌∙◌, ℕ, ◌<◌, true, false, ltb, leb, List, [], ◌∷◌, ap, arith, inl, inr}
 use Rattle.std.proofs.lemmas.Bool.{lt-ltb, le-ltb, le-leb, lt-leb, cases_lt, ltb-true}
 use Rattle.std.proofs.lemmas.List.Elements.{filter-append}
@@ -8,7 +8,7 @@ use Rattle.st_opindex.specs.Items.{Held, Ascend, before, from, after, with_item}
 use Rattle.st_opindex.proofs.Ascending.{le_of_lt, later_all, none_before, Ascend-filter}
 
 module _ {Item : Type 0} (place : ℕ) where
-  -- what comes from its place on is it and what comes after
+  -- the items from its place on are this one and those after it
   pub from-with_item : (item : Item) (items : List (Held Item)) → from place (with_item place item items) ≡ (place, item) ∷ after place items
   from-with_item item items =
       let front : from place (before place items) ≡ [] =
@@ -22,7 +22,7 @@ module _ {Item : Type 0} (place : ℕ) where
       filter-append (λ held. leb place held.0) (before place items) ((place, item) ∷ after place items)
       ∙ rw (front, le-leb place place (omega arith)) (ap (λ rest. (place, item) ∷ rest) back)
 
-  -- what holds of each item and of it holds of each
+  -- a property of each item and of this one is one of each
   pub each-with_item : (P : Held Item → Type 0) (item : Item) (items : List (Held Item)) → P (place, item) → AllByRecursion P items
       → AllByRecursion P (with_item place item items)
   each-with_item P item items one all =

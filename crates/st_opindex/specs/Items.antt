@@ -1,4 +1,4 @@
--- Items at places, and what they fold to.
+-- Items at places, and the state they fold to.
 use Rattle.std.specs.Prelude.{◌≡◌, ℕ, List, [], ◌∷◌, ◌++◌, Bool, ◌<◌, nat_lt, nat_le, length, filter, fold}
 use Rattle.std.specs.List.{AllByRecursion, list_any}
 
@@ -10,7 +10,7 @@ Held Item = ℕ × Item
 abbrev pub folded : {State Item : Type 0} → (State → Item → State) → State → List (Held Item) → State
 folded next start items = fold (λ state held. next state held.1) start items
 
--- the places ascend: each is below all that follow
+-- the places ascend strictly
 abbrev pub Ascend : {Item : Type 0} → List (Held Item) → Type 0
 Ascend [] = Unit {0}
 Ascend (held ∷ items) = AllByRecursion (λ later. held.0 < later.0) items × Ascend items
@@ -28,15 +28,15 @@ module _ {Item : Type 0} (place : ℕ) where
   abbrev pub after : List (Held Item) → List (Held Item)
   after items = filter (λ held. nat_lt place held.0) items
 
-  -- some item stands at this place or later
+  -- some item is at this place or later
   abbrev pub reaches : List (Held Item) → Bool
   reaches items = list_any (λ held. nat_le place held.0) items
 
-  -- the items with this one at its place, where it replaces the one that stood there
+  -- the items with this one at its place, replacing the one there, if any
   abbrev pub with_item : Item → List (Held Item) → List (Held Item)
   with_item item items = before items ++ (place, item) ∷ after items
 
-  -- the items ascend, and so many of them stand before this place
+  -- the items ascend, and this many of them are before this place
   pub record SplitsAt (items : List (Held Item)) (at : ℕ) : Type 0 where
     pub ascends : Ascend items
     pub count : at ≡ length (before items)

@@ -11,10 +11,10 @@ module _ {K : Type 0} (cmp : K → K → Ordering) where
   abbrev pub placed_cmp : ℕ × K → ℕ × K → Ordering
   placed_cmp first second = ordering_then (nat_cmp first.0 second.0) (cmp first.1 second.1)
 
-  -- this place of this key is among what is placed
+  -- the entries have this place of this key
   abbrev pub IsPlaced : List (ℕ × K) → ℕ → K → Type 0
   IsPlaced placed place key = IsTrue (list_any (is_at (placed_cmp (place, key))) placed)
 
--- each item of each key is among what is placed
+-- the entries have each item of each key
 pub record AllPlaced {K Item : Type 0} (cmp : K → K → Ordering) (placed : List (ℕ × K)) (items : ByKey K Item) : Type 0 where
   pub each : (key : K) → AllByRecursion (λ held. IsPlaced cmp placed held.0 key) (items_at cmp key items)

@@ -4,7 +4,7 @@ ghost use Rattle.st_base.specs.Work.{one_apply, AppliesAtMost};
 use st_base::{WantOfMemory, Work};
 use std::alloc::Global;
 
-/// A way to fold items into a state, one step an item.
+/// A fold of items into a state, one step per item.
 pub trait Folder: Drop {
     /// What is folded.
     type Item: Drop;
@@ -15,15 +15,15 @@ pub trait Folder: Drop {
     // The state before any item.
     ghost first: { Self → Self.State };
 
-    // The state after one item more.
+    // The state after one more item.
     ghost next: { Self → Self.State → Self.Item → Self.State };
 
     /// The state before any item, the same at each call.
     fn start(&self, alloc: Global) -> Result<Self::State, WantOfMemory>
         ensures { IfOk result (λ state. state ≡ first self.now) };
 
-    /// The state after one item more, which state and item alone decide. One operation is counted;
-    /// at want of memory at most one.
+    /// The state after one more item, a function of the state and the item. One operation is
+    /// counted; if it runs out of memory, at most one.
     fn step(
         &self,
         alloc: Global,

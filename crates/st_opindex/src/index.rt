@@ -12,9 +12,9 @@ use std::alloc::Global;
 use std::collections::{BTreeMap, BTreeSet};
 use std::marker::Model;
 
-/// Items by key and place, at most one at a place of a key, and for each key the state that its
-/// items fold to. Changes pend until they are settled: then the items of each key that was changed are
-/// folded once. Contracts see what folds the items, the items, and the changes that pend.
+/// Items by key and place, at most one at each place of a key, and for each key the state that its
+/// items fold to. Changes are pending until they are settled: `settle` then folds the items of each
+/// changed key once. Contracts see the folder, the items and the pending changes.
 #[derive(Drop)]
 pub struct Index<K: Copy + Ord, F: Folder> {
     folder: F,
@@ -24,10 +24,10 @@ pub struct Index<K: Copy + Ord, F: Folder> {
 
     rows: Rows<K, F>,
 
-    // The place of each item with its key, so that a cut finds the keys that lose one.
+    // The place of each item with its key, so that `cut` finds the keys that lose one.
     placed: BTreeSet<(u32, K)>,
 
-    // The key and the place of each change that pends.
+    // The key and the place of each pending change.
     changes: Vec<(K, u32)>,
 }
 
@@ -57,8 +57,8 @@ impl<K: Copy + Ord, F: Folder> Index<K, F> {
         })
     }
 
-    /// Inserts the item at this place of the key, or replaces the one there. Nothing is applied: the
-    /// change pends.
+    /// Inserts the item at this place of the key, or replaces the one there. Nothing is applied:
+    /// the change is pending.
     pub fn put(
         self,
         alloc: Global,
@@ -89,8 +89,8 @@ impl<K: Copy + Ord, F: Folder> Index<K, F> {
         })
     }
 
-    /// Drops all items at this place or later. Nothing is applied: a change of each key that loses one,
-    /// and keeps one, pends.
+    /// Drops all items at this place or later. Nothing is applied: for each key that loses an item
+    /// and keeps one, a change is pending.
     pub fn cut(self, alloc: Global, place: u32) -> Result<Index<K, F>, WantOfMemory>
         ensures folder { IfOk result (λ index. index.folder ≡ self.folder) }
         ensures items { IfOk result (λ index. (key : K) → items_at K.cmp key index.items ≡ before place (items_at K.cmp key self.items)) }
@@ -122,9 +122,10 @@ impl<K: Copy + Ord, F: Folder> Index<K, F> {
         })
     }
 
-    /// Folds the items of the keys that were changed, each key once. By any names that cover the changes,
-    /// each with its key and its place or one before: for each name at most 7 operations are applied, and
-    /// one for each of its items at its place or later.
+    /// Folds the items of the changed keys, each key once. The bound takes any list of names, each
+    /// a key and a place, such that each pending change has a name with its key and its place or an
+    /// earlier one. Each name costs at most 7 applied operations, and one for each of its key's
+    /// items at its place or later.
     pub fn settle(self, alloc: Global, work: &mut Work) -> Result<Index<K, F>, WantOfMemory>
         ensures folder { IfOk result (λ index. index.folder ≡ self.folder) }
         ensures items { IfOk result (λ index. (key : K) → items_at K.cmp key index.items ≡ items_at K.cmp key self.items) }
@@ -149,8 +150,7 @@ impl<K: Copy + Ord, F: Folder> Index<K, F> {
         })
     }
 
-    /// The state that the key's items fold to, in order of place, where no change pends. It stands in the
-    /// index.
+    /// The state that the key's items fold to, in order of place. No change may be pending.
     pub fn state(&self, key: &K) -> &F::State
         requires { self.now.changes ≡ [] }
         ensures { result.now ≡ folded (F.next self.now.folder) (F.first self.now.folder) (items_at K.cmp key.now self.now.items) }

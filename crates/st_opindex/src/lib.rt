@@ -1,6 +1,5 @@
-//! Items by key and place, each key with the state that its items fold to. The state stands in the
-//! index: once changes are settled it is up to date, by few steps for each key that was changed, and
-//! reading it takes none.
+//! Items by key and place, and for each key the state that its items fold to. After changes are
+//! settled, which takes few steps for each changed key, reading a state takes no step.
 #![tactic(auto)]
 
 mod folder;

@@ -7,7 +7,7 @@ use st_base::WantOfMemory;
 use std::alloc::Global;
 use std::collections::BTreeSet;
 
-// Takes out what stands at this place or later, and gives its keys.
+// Removes the entries at this place or later, and returns their keys.
 pub fn take_late<K: Copy + Ord>(
     alloc: Global,
     placed: &mut BTreeSet<(u32, K)>,

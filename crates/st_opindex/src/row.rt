@@ -7,12 +7,12 @@ use crate::folder::Folder;
 use st_base::{WantOfMemory, Work};
 use std::alloc::Global;
 
-// A state is kept after each so many items.
+// A state is stored after each run of this many items.
 const STRIDE: usize = 8;
 
-/// What stands for one key: its items in order of place, how many of the first of them are folded, the
-/// state after every eighth of these, and the state after all of these. It is changed where it stands: want
-/// of memory may leave it half changed, since the index that it belongs to is let go then.
+/// The row of one key: its items in order of place, how many of the first are folded, the state
+/// after every eighth of these, and the state after all of these. It is changed in place: running
+/// out of memory may leave it half changed, since its index is dropped then.
 #[derive(Drop)]
 pub struct Row<I, S> {
     pub items: Vec<(u32, I)>,
@@ -21,7 +21,7 @@ pub struct Row<I, S> {
     pub last: S,
 }
 
-// No items: the start. There is room for the one item that most keys have.
+// No items, in the start state. There is room for the one item that most keys have.
 pub fn empty_row<F: Folder>(
     alloc: Global,
     folder: &F,
@@ -38,8 +38,8 @@ pub fn empty_row<F: Folder>(
     })
 }
 
-// Inserts the item at its place, or replaces the one there. Where items were folded that stand there or
-// later, the row goes back to the last state that was kept before them. Nothing is applied.
+// Inserts the item at its place, or replaces the one there. If items at the place or later were
+// folded, the row returns to the last stored state before them. Nothing is applied.
 pub fn put_row<F: Folder>(
     alloc: Global,
     folder: &F,
@@ -58,7 +58,8 @@ pub fn put_row<F: Folder>(
     Ok(())
 }
 
-// Drops the items at this place or later, and says whether there were any. The row goes back likewise.
+// Drops the items at this place or later, and returns whether there were any. The row returns to an
+// earlier state likewise.
 pub fn cut_row<F: Folder>(
     alloc: Global,
     folder: &F,
@@ -81,7 +82,7 @@ pub fn cut_row<F: Folder>(
     Ok(true)
 }
 
-// How many items stand before this place.
+// How many items are before this place.
 fn count_before<I>(items: &[(u32, I)], place: u32) -> usize
     requires { Ascend items.now }
     ensures { SplitsAt place items.now result }
@@ -89,7 +90,7 @@ fn count_before<I>(items: &[(u32, I)], place: u32) -> usize
     items.partition_point(|held| held.0 < place)
 }
 
-// Puts the item at its place, before which so many stand.
+// Puts the item at its place, which has this many items before it.
 fn set_item<I: Drop>(
     items: &mut Vec<(u32, I)>,
     at: usize,
@@ -107,8 +108,8 @@ fn set_item<I: Drop>(
     Ok(())
 }
 
-// Where more than the first `at` items were folded, goes back to the last state that was kept before them.
-// What stands from there on is to be folded again.
+// If more than the first `at` items were folded, returns to the last stored state before them. The
+// items from there on must be folded again.
 fn go_back<F: Folder>(
     alloc: Global,
     folder: &F,
@@ -130,7 +131,7 @@ fn go_back<F: Folder>(
     Ok(())
 }
 
-// The last of these states, or the start where there is none.
+// The last of these states, or the start if there is none.
 fn last_kept<F: Folder>(
     alloc: Global,
     folder: &F,
@@ -145,7 +146,7 @@ fn last_kept<F: Folder>(
     }
 }
 
-// Folds the items that are not folded yet, and keeps the state after every eighth on the way.
+// Folds the items not yet folded, and stores the state after every eighth.
 pub fn fold_row<F: Folder>(
     alloc: Global,
     folder: &F,

@@ -13,11 +13,11 @@ use std::alloc::Global;
 use std::collections::BTreeMap;
 use std::collections::btree_map::Entry;
 
-/// The row of each key that has one, boxed, so that the tree moves keys and pointers where it makes room.
+/// The row of each key that has one, boxed, so that the tree moves only keys and pointers.
 pub type Rows<K, F> = BTreeMap<K, Boxed<Row<<F as Folder>::Item, <F as Folder>::State>>>;
 
-// Inserts the item at this place of the key, or replaces the one there. Nothing is applied. The map is
-// searched once, and a row that is there is changed where it stands.
+// Inserts the item at this place of the key, or replaces the one there. Nothing is applied. The map
+// is searched once, and an existing row is changed in place.
 pub fn put_item<K: Copy + Ord, F: Folder>(
     alloc: Global,
     folder: &F,
@@ -45,7 +45,7 @@ pub fn put_item<K: Copy + Ord, F: Folder>(
     }
 }
 
-// A row with this item alone, in a box of its own.
+// A new boxed row with only this item.
 fn first_row<F: Folder>(
     alloc: Global,
     folder: &F,
@@ -60,7 +60,7 @@ fn first_row<F: Folder>(
     Ok(row)
 }
 
-// Folds what is left to be folded of the keys of these changes.
+// Folds the remaining items of the keys of these changes.
 pub fn fold_keys<K: Copy + Ord, F: Folder>(
     alloc: Global,
     folder: &F,
@@ -82,7 +82,7 @@ pub fn fold_keys<K: Copy + Ord, F: Folder>(
     Ok(())
 }
 
-// Folds what is left to be folded of the key, in its row where that stands.
+// Folds the remaining items of the key in its row.
 fn fold_key<K: Copy + Ord, F: Folder>(
     alloc: Global,
     folder: &F,
@@ -103,8 +103,8 @@ fn fold_key<K: Copy + Ord, F: Folder>(
     Ok(())
 }
 
-// Drops the items of these keys at this place or later. The keys of which something is to be folded again
-// come to the changes.
+// Drops the items of these keys at this place or later. The keys with items to fold again are added
+// to the changes.
 pub fn cut_keys<K: Copy + Ord, F: Folder>(
     alloc: Global,
     folder: &F,
@@ -129,8 +129,8 @@ pub fn cut_keys<K: Copy + Ord, F: Folder>(
     Ok(())
 }
 
-// Drops the key's items at this place or later, and its row where none is left. Says whether something of
-// it is to be folded again.
+// Drops the key's items at this place or later, and its row if it has none left. Returns whether
+// items of it must be folded again.
 fn cut_key<K: Copy + Ord, F: Folder>(
     alloc: Global,
     folder: &F,

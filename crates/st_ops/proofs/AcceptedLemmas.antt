@@ -1,4 +1,4 @@
--- What stands behind an operation that a request asks for.
+-- A request is accepted only for such operations.
 use Rattle.std.proofs.Common.{◌≡◌, ℕ, List, codes, Option, Some, None, option_and_then, Ok, refl, ap, subst}
 use Rattle.std.specs.Prelude.{IsSome}
 use Rattle.std.specs.Result.{result_ok}
@@ -44,7 +44,7 @@ unfolding with_claim
 claim_is limits operation None is e = absurd (let none = rw is at e in cc)
 claim_is limits operation (Some claim) is e = refl
 
--- what is signed and asked for
+-- a signed operation that a request is accepted for
 pub signed_right : (limits : Limits) (request : Option Plain) (target : Target) (proof : Proof) (operation : PlainOperation)
     → SignedAsked limits request target proof operation → IsReadAt limits.version target.suffix → IsReadAt limits.version target.reveal
     → IsProved limits target (Some proof) operation
@@ -74,7 +74,7 @@ asked_accepted limits request operation (deactivate target proof form asked same
     subst (λ one. HasHashes one → IsAccepted limits one) same
     (λ are. signed_right limits request target proof _ asked (read_again _ _ _ are.0 read.suffix) (read_again _ _ _ are.1 read.reveal))
 
--- An operation that bytes ask for has what it has to have, where its hashes are such.
+-- The operation of accepted bytes satisfies the conditions, if its hashes satisfy theirs.
 pub accepted : (limits : Limits) (bytes : List ℕ) (operation : PlainOperation) → request_of limits bytes ≡ Ok operation → HasHashes operation
     → IsAccepted limits operation
 accepted limits bytes operation e are =

@@ -1,4 +1,4 @@
--- The text of an operation that may be asked for asks for it.
+-- The text of an accepted operation is a request for it.
 use Rattle.std.proofs.Common.{◌≡◌, ◌∙◌, ℕ, ◌≤◌, true, List, codes, Option, Some, None, Ok, refl, ap, arith}
 use Rattle.std.specs.Prelude.{is_some, IsSome}
 use Rattle.std.specs.Result.{result_map_both}
@@ -22,7 +22,7 @@ use Rattle.st_ops.specs.RequestText.{request_json, signed_json, IsDeltaWithin, I
 use Rattle.st_ops.specs.SignedPart.{proof_in, target_in}
 use Rattle.st_params.specs.Limits.{Limits}
 
--- ---- what the JSON of a request asks for
+-- ---- the operation of a request's JSON
 
 create_asks : (limits : Limits) (suffix_data : SuffixData) (delta : Plain)
     → IsReadAt limits.version suffix_data.delta_hash → IsReadAt limits.version suffix_data.recovery_commitment → is_some (members_in delta) ≡ true
@@ -74,14 +74,13 @@ deactivate_depth target proof = omega arith
 
 -- ---- the law
 
--- a value that is proper and not too deep is read again, and asks for what it asks for
+-- a value that is proper and not too deep is read again, as the same request
 text_asks : (limits : Limits) (operation : PlainOperation) → IsProper (request_json operation) → depth_of (request_json operation) ≤ 127
     → asked limits (request_json operation) ≡ Ok operation → IsReadAgain limits operation
 text_asks limits operation proper shallow asks =
     ap (λ answer. result_map_both (λ json. json) unread answer >>= asked limits) (reads_back (request_json operation) proper shallow) ∙ asks
 
--- An operation that may be asked for is asked for by its own text, where that is proper and its delta
--- does not nest too deep.
+-- The text of an accepted operation is a request for it, if it is proper and the delta does not nest too deep.
 pub accepted_again : (limits : Limits) (operation : PlainOperation) → IsAccepted limits operation → IsProper (request_json operation)
     → IsDeltaWithin 125 operation → IsReadAgain limits operation
 accepted_again limits (creating suffix_data None) right proper within = absurd cc

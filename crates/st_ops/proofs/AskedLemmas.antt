@@ -1,4 +1,4 @@
--- What is known of an operation that a request asks for, and of the request.
+-- Properties of a request and of its operation.
 use Rattle.std.proofs.Common.{◌≡◌, ◌≢◌, ◌∙◌, ℕ, Bool, true, false, Option, Some, None, List, codes, Ok, Err, inl, inr, refl, sym, ap, subst, option_and_then}
 use Rattle.std.specs.Prelude.{IsSome, is_some}
 use Rattle.std.specs.List.{flat_map}
@@ -24,18 +24,18 @@ use Rattle.st_ops.specs.declared.refused.RequestRefused.TheVariants.{BadForm, Ba
 use Rattle.st_params.specs.Limits.{Limits}
 use Rattle.st_ops.proofs.StepLemmas.{held, taken, was_given, was_there, went_on}
 
--- a create, and the request that asks for it
+-- a create and its request
 pub record CreateAsked (limits : Limits) (request : Option Plain) (suffix_data : SuffixData) : Type 0 where
   pub form : is_create_form request ≡ true
   pub named : suffix_data_of limits.version (member_in (codes "suffixData") request) ≡ Some suffix_data
 
--- what is signed, and the request that asks for it
+-- a signed operation and its request
 pub record SignedAsked (limits : Limits) (request : Option Plain) (target : Target) (proof : Proof) (operation : PlainOperation) : Type 0 where
   pub named : target_in limits.version request ≡ Some target
   pub proved : proof_in limits.max_signed request ≡ Some proof
   pub claimed : with_claim limits operation ≡ Ok operation
 
--- An operation that is asked for, by its kind.
+-- The operation of a request, by its kind.
 pub data Asked (limits : Limits) (request : Option Plain) (operation : PlainOperation) : Type 0 where
   create : (suffix_data : SuffixData) → CreateAsked limits request suffix_data
       → creating suffix_data (member_in (codes "delta") request) ≡ operation → Asked limits request operation
@@ -119,7 +119,7 @@ asked_is limits request operation e =
 
 -- ---- complete
 
--- an object is there
+-- the value is an object
 there_is : (there : Option Plain) → is_some (option_and_then members_in there) ≡ true → IsSome there
 there_is None e = cc
 there_is (Some value) e = refl
@@ -132,7 +132,7 @@ pub delta_of_change : (request : Option Plain) → is_change_form request ≡ tr
 unfolding is_change_form
 delta_of_change request e = (and_parts _ _ (and_parts _ _ e).1).1
 
--- what is asked for has its proof and its delta, where its kind has them
+-- the operation of a request has its proof and its delta, if its kind has them
 pub complete_is : (limits : Limits) (request : Option Plain) (operation : PlainOperation) → Asked limits request operation → IsComplete operation
 complete_is limits request operation (create suffix_data asked same) =
     subst IsComplete same (there_is (member_in (codes "delta") request) (delta_of_create request asked.form))
@@ -142,16 +142,16 @@ complete_is limits request operation (recover target proof form asked same) =
     subst IsComplete same (refl, there_is (member_in (codes "delta") request) (delta_of_change request form))
 complete_is limits request operation (deactivate target proof form asked same) = subst IsComplete same refl
 
--- the JSON of a request that asks for an operation
+-- the JSON of a request for an operation
 pub request_is : (limits : Limits) (bytes : List ℕ) (operation : PlainOperation) → request_of limits bytes ≡ Ok operation
     → (request : Plain) × (json_of bytes ≡ Ok request) × (asked limits request ≡ Ok operation)
 request_is limits bytes operation e =
     let read = went_on _ (asked limits) operation e in
     (read.0, was_given unread (json_of bytes) read.0 read.1, read.2)
 
--- ---- a type in which something is escaped
+-- ---- a type with escaped bytes
 
--- it is no word in which nothing is
+-- it is not a word without escaped bytes
 unnamed : (kind word : List ℕ) → flat_map escape word ≡ word → (flat_map escape kind ≢ kind) → (b : Bool) → is_name kind word ≡ b → is_name kind word ≡ false
 unnamed kind word bare escaped true is =
     absurd (escaped (subst (λ t. flat_map escape t ≡ t) (sym (same_from_is_name kind word is)) bare))
@@ -167,7 +167,7 @@ by_kind : (limits : Limits) (request : Option Plain) (there : Option (List ℕ))
 by_kind limits request None escaped = refl
 by_kind limits request (Some kind) escaped = escaped_kind limits request kind (escaped kind refl)
 
--- with such a type, or none, nothing is asked for
+-- with such a type, or none, there is no operation
 pub no_kind : (limits : Limits) (request : Plain)
     → ((kind : List ℕ) → text_at (codes "type") (Some request) ≡ Some kind → flat_map escape kind ≢ kind) → asked limits request ≡ Err BadForm
 unfolding asked

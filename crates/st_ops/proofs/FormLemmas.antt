@@ -1,4 +1,4 @@
--- A request that is signed has its signed text.
+-- A signed request has its signed text.
 use Rattle.std.proofs.Common.{◌≡◌, true, Option, codes}
 use Rattle.std.specs.Prelude.{is_some}
 use Rattle.std.proofs.lemmas.Bool.{and_parts}

@@ -25,7 +25,7 @@ of_version : (version : ℕ) (text : List ℕ) (hash : HashValue) → hash_of_te
 of_version version text hash e = λ first.
     of_sha256 (bytes_of_text text) hash (subst (λ v. hash_of_text_at v text ≡ Some hash) first e)
 
--- a hash that was read somewhere is read from its own text
+-- a hash that was read is read from its own text
 text_again : (version : ℕ) (text : Option (List ℕ)) (hash : HashValue) → IsHash hash → option_and_then (hash_of_text_at version) text ≡ Some hash
     → IsReadAt version hash
 text_again version None hash is e = absurd cc

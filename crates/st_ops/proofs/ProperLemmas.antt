@@ -1,4 +1,4 @@
--- What is read from a proper request makes a proper request again.
+-- The parts of a proper request make a proper request again.
 use Rattle.std.proofs.Common.{◌≡◌, ℕ, true, List, codes, Option, Some, None, option_and_then, inl, inr, refl, subst}
 use Rattle.std.specs.Str.{IsUtf8}
 use Rattle.std.proofs.lemmas.Option.{same_Some}
@@ -38,7 +38,7 @@ inside_proper name (whole z) p proper e = absurd cc
 inside_proper name (text t) p proper e = absurd cc
 inside_proper name (list ps) p proper e = absurd cc
 
--- the texts in what is there are UTF-8, if there is anything
+-- the texts of a value are UTF-8, if it is present
 abbrev pub IsProperThere : Option Plain → Type 0
 IsProperThere there = (p : Plain) → there ≡ Some p → IsProper p
 
@@ -67,7 +67,7 @@ pub hash_has_text : (version : ℕ) (there : Option Plain) (hash : HashValue) �
 hash_has_text version there hash proper e =
     hash_there version (option_and_then text_in there) hash (λ bytes. text_utf8 there bytes proper) e
 
--- ---- requests that are made of proper values
+-- ---- requests built from proper values
 
 utf8 : (literal : List ℕ) → (scalars literal ≡ true) × (encodes literal ≡ literal) → IsUtf8 literal
 utf8 literal is = (literal, is)

@@ -32,12 +32,12 @@ change_made : (type : List ℕ) (target : Target) (proof : Proof) (delta : Optio
 change_made type target proof None object proper others = others
 change_made type target proof (Some delta) object proper others = change_proper type target proof delta others (proper delta refl)
 
--- it may be asked for, by a proper request
+-- a proper request is accepted for it
 record IsProperAgain (limits : Limits) (operation : PlainOperation) : Type 0 where
   right : IsAccepted limits operation
   proper : IsProper (request_json operation)
 
--- what is signed, read from a proper request
+-- a signed operation read from a proper request
 record SignedTexts (version : ℕ) (target : Target) (proof : Proof) : Type 0 where
   suffix : HasText version target.suffix
   reveal : HasText version target.reveal
@@ -90,7 +90,7 @@ proper_again limits request operation proper (deactivate target proof form asked
       proper = signed_made limits.version (codes "deactivate") target proof deactivate_utf8 texts;
     })
 
--- an operation that a proper request asks for is asked for by its own text
+-- the text of an operation that a proper request is accepted for is a request for it
 pub read_asks_again : (limits : Limits) (request : Plain) (operation : PlainOperation) → IsProper request → asked limits request ≡ Ok operation
     → IsDeltaWithin 125 operation → IsReadAgain limits operation
 read_asks_again limits request operation proper e within =

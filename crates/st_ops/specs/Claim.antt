@@ -1,5 +1,5 @@
--- What operations claim, after DIF Sidetree v1.0.0, "Update", "Recover" and "Deactivate", where the data that
--- each signs is described; the rules are this project's own.
+-- The claims of operations, after DIF Sidetree v1.0.0, "Update", "Recover" and "Deactivate", which describe the
+-- signed data; the rules are this project's own.
 use Rattle.std.specs.Prelude.{ℕ, Bool, ◌&&◌, List, [], ◌∷◌, codes, is_some, Option, Some, None}
 use Rattle.st_base.specs.Options.{◌>>=◌, ◌>>◌}
 use Rattle.st_plain.specs.Plain.{Plain}
@@ -14,11 +14,11 @@ use Rattle.st_ops.specs.declared.claim.Claim.{Claim}
 use Rattle.st_ops.specs.declared.claim.Claim.TheVariants.{Update, Recover, Deactivate}
 use Rattle.st_params.specs.Limits.{Limits}
 
--- the key's reveal value by the algorithm of this one is this one
+-- the key's reveal value, by the algorithm of this one, is this one
 abbrev pub is_revealed : HashValue → Jwk → Bool
 is_revealed reveal key = same_hash (reveal_of_with reveal.code key) reveal
 
--- an object with the key of this name, and no members but that and these
+-- an object with the key of this name, and no members except that and these
 abbrev pub is_payload_of : List ℕ → List (List ℕ) → Plain → Bool
 is_payload_of key others payload = is_object_of (key ∷ others) (Some payload) && is_some (member_in key (Some payload))
 
@@ -52,7 +52,7 @@ revealed reveal proof = do
   is_revealed reveal found.key
   Some found.payload
 
--- what the payload claims, where there is a proof whose key has the reveal value of the target
+-- the claim of the payload, if there is a proof whose key has the reveal value of the target
 abbrev pub claim_under : Target → Option Proof → (Plain → Option Claim) → Option Claim
 claim_under target proof claimed = do
   payload ← revealed target.reveal proof

@@ -7,7 +7,7 @@ use Rattle.st_jws.specs.declared.jwk.Jwk.{Jwk}
 use Rattle.st_ops.specs.Operation.{Proof}
 use Rattle.st_plain.specs.PlainCodes.{coded_bytes, coded_plain}
 
--- a proof by the triple of its fields
+-- a proof as the triple of its fields
 abbrev pub coded_proof : Coded Proof
 coded_proof =
     code_by (List ℕ × (Plain × Jwk)) (coded× coded_bytes (coded× coded_plain jwk.the_row.coded))
@@ -15,6 +15,6 @@ coded_proof =
     (λ fields. record { text = fields.0; payload = fields.1.0; key = fields.1.1 })
     (λ _. refl)
 
--- a list of proofs, of which some may not be there
+-- a list of proofs, some of which may be missing
 abbrev pub coded_proofs : Coded (List (Option Proof))
 coded_proofs = coded_list (coded_option coded_proof)

@@ -16,19 +16,19 @@ pub record Proof : Type 0 where
   pub payload : Plain
   pub key : Jwk
 
--- an operation: a create has suffix data, each other one a target, which is its suffix and its reveal
--- value, and a proof where its signed text could be opened; a delta stands there where one is known
+-- an operation: a create has suffix data, any other a target, which is its suffix and its reveal value, and a proof
+-- if its signed text could be opened; a delta, if one is known
 pub data PlainOperation : Type 0 where
   creating : SuffixData → Option Plain → PlainOperation
   updating : Target → Option Proof → Option Plain → PlainOperation
   recovering : Target → Option Proof → Option Plain → PlainOperation
   deactivating : Target → Option Proof → PlainOperation
 
--- the proof that a `Signed` is
+-- the proof of a `Signed`
 abbrev pub plain_proof : Signed → Proof
 plain_proof signed = record { text = signed.text; payload = signed.payload; key = signed.key }
 
--- the plain operation that an `Operation` stands for
+-- the plain operation of an `Operation`
 abbrev pub plain_operation : Operation → PlainOperation
 plain_operation (Create suffix_data delta) = creating suffix_data delta
 plain_operation (Update suffix reveal proof delta) =
@@ -38,7 +38,7 @@ plain_operation (Recover suffix reveal proof delta) =
 plain_operation (Deactivate suffix reveal proof) =
     deactivating (record { suffix = suffix; reveal = reveal }) (option_map plain_proof proof)
 
--- the suffix of the identifier that it is for
+-- the suffix of its identifier
 abbrev pub suffix_of : PlainOperation → HashValue
 suffix_of (creating suffix_data delta) = suffix_of_data suffix_data
 suffix_of (updating target proof delta) = target.suffix

@@ -1,5 +1,5 @@
--- What requests ask for, after DIF Sidetree v1.0.0, "Create", "Update", "Recover" and "Deactivate" of "DID
--- Operations"; the rules are this project's own. `None` is a value that isn't there.
+-- The operations of requests, after DIF Sidetree v1.0.0, "Create", "Update", "Recover" and "Deactivate" of "DID
+-- Operations"; the rules are this project's own. `None` is a missing value.
 use Rattle.std.specs.Prelude.{ℕ, List, codes, if◌then◌else◌, IsSome, Option, Some, None, Result, Ok, Err}
 use Rattle.std.specs.Option.{ok_or}
 use Rattle.std.specs.Result.{result_map_both}
@@ -21,7 +21,7 @@ use Rattle.st_params.specs.Limits.{Limits}
 
 -- ---- by kind: first its form, then its hash texts, then its signed text
 
--- the operation, where it has a claim
+-- the operation, if it has a claim
 unfoldable pub with_claim : Limits → PlainOperation → Result PlainOperation RequestRefused
 with_claim limits operation = do
   claim ← ok_or (claim_of limits operation) BadProof
@@ -33,13 +33,13 @@ create_of limits suffix_data delta = do
   hashes ← ok_or (suffix_data_of limits.version suffix_data) BadHash
   Ok (creating hashes delta)
 
--- the create that a request asks for (after DIF Sidetree v1.0.0, "Create")
+-- the create of a request (after DIF Sidetree v1.0.0, "Create")
 abbrev pub create_asked : Limits → Option Plain → Result PlainOperation RequestRefused
 create_asked limits request = do
   holds_or (is_create_form request) BadForm
   create_of limits (member_in (codes "suffixData") request) (member_in (codes "delta") request)
 
--- the update that a request asks for ("Update")
+-- the update of a request ("Update")
 abbrev pub update_asked : Limits → Option Plain → Result PlainOperation RequestRefused
 update_asked limits request = do
   holds_or (is_change_form request) BadForm
@@ -47,7 +47,7 @@ update_asked limits request = do
   proof ← ok_or (proof_in limits.max_signed request) BadProof
   with_claim limits (updating target (Some proof) (member_in (codes "delta") request))
 
--- the recover that a request asks for ("Recover")
+-- the recover of a request ("Recover")
 abbrev pub recover_asked : Limits → Option Plain → Result PlainOperation RequestRefused
 recover_asked limits request = do
   holds_or (is_change_form request) BadForm
@@ -55,7 +55,7 @@ recover_asked limits request = do
   proof ← ok_or (proof_in limits.max_signed request) BadProof
   with_claim limits (recovering target (Some proof) (member_in (codes "delta") request))
 
--- the deactivate that a request asks for ("Deactivate")
+-- the deactivate of a request ("Deactivate")
 abbrev pub deactivate_asked : Limits → Option Plain → Result PlainOperation RequestRefused
 deactivate_asked limits request = do
   holds_or (is_deactivate_form request) BadForm
@@ -63,9 +63,9 @@ deactivate_asked limits request = do
   proof ← ok_or (proof_in limits.max_signed request) BadProof
   with_claim limits (deactivating target (Some proof))
 
--- ---- by the kind that its `type` names
+-- ---- by `type`
 
--- the operation that a request of this type asks for
+-- the operation of a request of this type
 abbrev pub asked_by_type : List ℕ → Limits → Option Plain → Result PlainOperation RequestRefused
 asked_by_type type limits request =
     if is_name type (codes "create") then create_asked limits request else
@@ -74,39 +74,39 @@ asked_by_type type limits request =
     if is_name type (codes "deactivate") then deactivate_asked limits request else
     Err BadForm
 
--- the operation that a JSON value asks for
+-- the operation of a request as a JSON value
 unfoldable pub asked : Limits → Plain → Result PlainOperation RequestRefused
 asked limits request = do
   type ← ok_or (text_at (codes "type") (Some request)) BadForm
   asked_by_type type limits (Some request)
 
--- ---- of bytes
+-- ---- from bytes
 
--- why a request is refused whose bytes are no JSON with whole numbers
+-- the refusal of a request whose bytes are not JSON with whole numbers
 abbrev pub unread : ReadRefused → RequestRefused
 unread reading.NotJson = NotJson
 unread reading.NotWhole = NotWhole
 unread reading.WantOfMemory = WantOfMemory
 
--- the JSON with whole numbers that bytes are, or why they are none
+-- the JSON with whole numbers of bytes, or why they are not
 abbrev pub request_json_of : List ℕ → Result Plain RequestRefused
 request_json_of bytes = result_map_both (λ json. json) unread (json_of bytes)
 
--- The operation that bytes ask for at these limits, or the first of these for which they are no
--- request: NotJson, NotWhole, BadForm, BadHash, BadProof.
+-- The operation of a request in bytes at these limits, or the first of these that refuses it: NotJson, NotWhole,
+-- BadForm, BadHash, BadProof.
 abbrev pub request_of : Limits → List ℕ → Result PlainOperation RequestRefused
 request_of limits bytes = do
   request ← request_json_of bytes
   asked limits request
 
--- the refusal that an error is
+-- the refusal of an error, if it is one
 abbrev pub refusal_of : RequestRefused → Option RequestRefused
 refusal_of WantOfMemory = None
 refusal_of refusal = Some refusal
 
 -- ---- what each request has
 
--- the proof and the delta are there, where the kind has them
+-- the proof and the delta are there, if the kind has them
 abbrev pub IsComplete : PlainOperation → Type 0
 IsComplete (creating suffix_data delta) = IsSome delta
 IsComplete (updating target proof delta) = IsSome proof × IsSome delta

@@ -1,5 +1,5 @@
--- The forms of requests, after DIF Sidetree v1.0.0, "DID Operations"; the rules are this project's own: which
--- members a request of each kind has, and what stands there. `None` is a value that isn't there.
+-- The forms of requests, after DIF Sidetree v1.0.0, "DID Operations"; the rules are this project's own: the members
+-- of a request of each kind, and their values. `None` is a missing value.
 use Rattle.std.specs.Prelude.{Bool, ◌&&◌, [], ◌∷◌, codes, is_some, Option}
 use Rattle.st_plain.specs.Plain.{Plain}
 use Rattle.st_plain.specs.Shapes.{is_object_of, member_in, object_at, text_at}
@@ -10,7 +10,7 @@ is_suffix_data_form there =
     is_object_of (codes "deltaHash" ∷ codes "recoveryCommitment" ∷ []) there
     && (is_some (text_at (codes "deltaHash") there) && is_some (text_at (codes "recoveryCommitment") there))
 
--- the texts of an operation that is signed
+-- the texts of a signed operation
 unfoldable pub has_signed_texts : Option Plain → Bool
 has_signed_texts request =
     is_some (text_at (codes "didSuffix") request)

@@ -15,20 +15,20 @@ use Rattle.st_params.specs.Limits.{Limits}
 abbrev pub proof_json : Proof → Plain
 proof_json proof = text proof.text
 
--- its type, and what an operation that is signed names
+-- its type, and the target of a signed operation
 abbrev pub named_members : List ℕ → Target → List (List ℕ × Option Plain)
 named_members type target =
     (codes "type", Some (text type))
     ∷ (codes "didSuffix", Some (hash_json target.suffix))
     ∷ (codes "revealValue", Some (hash_json target.reveal)) ∷ []
 
--- the request of this type for an operation that is signed
+-- the request of this type for a signed operation
 abbrev pub signed_json : List ℕ → Target → Option Proof → Option Plain → Plain
 signed_json type target proof delta = object_of_some
     (named_members type target ++ (codes "signedData", option_map proof_json proof) ∷ (codes "delta", delta) ∷ [])
 
--- The request for an operation: its type, what it names, and its proof and its delta, where they are
--- there (after DIF Sidetree v1.0.0, "DID Operations").
+-- The request for an operation: its type, what it names, and its proof and its delta, if any (after DIF Sidetree
+-- v1.0.0, "DID Operations").
 abbrev pub request_json : PlainOperation → Plain
 request_json (creating suffix_data delta) = object_of_some
     ((codes "type", Some (text (codes "create")))
@@ -38,7 +38,7 @@ request_json (updating target proof delta) = signed_json (codes "update") target
 request_json (recovering target proof delta) = signed_json (codes "recover") target proof delta
 request_json (deactivating target proof) = signed_json (codes "deactivate") target proof None
 
--- the canonical text of it
+-- its canonical text
 abbrev pub request_text : PlainOperation → List ℕ
 request_text operation = canonical (request_json operation)
 
@@ -48,13 +48,13 @@ request_text operation = canonical (request_json operation)
 abbrev pub IsReadAgain : Limits → PlainOperation → Type 0
 IsReadAgain limits operation = request_of limits (request_text operation) ≡ Ok operation
 
--- the delta, where there is one
+-- the delta, if there is one
 abbrev pub delta_there : PlainOperation → Option Plain
 delta_there (creating suffix_data delta) = delta
 delta_there (updating target proof delta) = delta
 delta_there (recovering target proof delta) = delta
 delta_there (deactivating target proof) = None
 
--- the delta nests at most so deep
+-- the delta nests at most this deep
 abbrev pub IsDeltaWithin : ℕ → PlainOperation → Type 0
 IsDeltaWithin most operation = IfSome (delta_there operation) (λ delta. depth_of delta ≤ most)

@@ -1,6 +1,6 @@
 use st_hash::Hash;
 
-/// What the signed text of an operation claims beside its key.
+/// The claim of an operation's signed text, besides its key.
 #[derive(Clone, Copy, Debug, PartialEq, Eq)]
 pub enum Claim {
     /// The hash of the delta of an update.
@@ -12,6 +12,6 @@ pub enum Claim {
         recovery_commitment: Hash,
         delta_hash: Hash,
     },
-    /// That the identifier ends.
+    /// The end of the identifier.
     Deactivate,
 }

@@ -13,11 +13,11 @@ use st_jws::{Jwk, Signed, reveal_with};
 use st_params::Params;
 use std::alloc::Global;
 
-/// What the signed text of an operation claims at these limits.
+/// The claim of an operation's signed text at these limits.
 ///
-/// None comes exactly for a create, and where there is no proof, the reveal value of its key is not
-/// that of the operation, its payload has not exactly the members of the kind with hash texts of the
-/// version, or a deactivate names another suffix.
+/// `None` if and only if the operation is a create, has no proof, its proof's key has another
+/// reveal value, its payload is not made of exactly the members of the kind with hash texts of the
+/// version, or it is a deactivate that names another suffix.
 pub fn claim_of(
     alloc: Global,
     operation: &Operation,
@@ -47,7 +47,7 @@ pub fn claim_of(
     }
 }
 
-// The payload of a proof whose key has this reveal value.
+// The payload of the proof, if its key has this reveal value.
 fn revealed(
     alloc: Global,
     reveal: &Hash,

@@ -4,14 +4,14 @@ ghost use Rattle.st_ops.specs.RequestForm.{has_signed_texts, is_change_form, is_
 
 use st_scan::Scanned;
 
-/// What stands in a create.
+/// The parts of a create.
 #[derive(Drop)]
 pub(crate) struct CreateParts<'a> {
     pub(crate) suffix_data: Scanned<'a>,
     pub(crate) delta: Scanned<'a>,
 }
 
-/// The parts of a create, where these are its members: its `type`, suffix data of two texts, and a
+/// The parts of a create, if these are its members: its `type`, suffix data of two texts, and a
 /// delta, which is an object.
 #[tactic(auto, unfolding(crate::specs::RequestForm::is_create_form, crate::specs::RequestForm::is_suffix_data_form))]
 pub(crate) fn create_parts<'a>(request: &Scanned<'a>) -> Option<CreateParts<'a>>
@@ -33,8 +33,8 @@ pub(crate) fn create_parts<'a>(request: &Scanned<'a>) -> Option<CreateParts<'a>>
     Some(CreateParts { suffix_data, delta })
 }
 
-/// The parts of a create whose members come in the order of canonical texts, in one walk. Where there are
-/// none, the request is looked at member by member.
+/// The parts of a create whose members are in the order of canonical texts, in one walk. Without
+/// them, the caller checks the request member by member.
 #[tactic(auto, unfolding(crate::specs::RequestForm::is_create_form))]
 pub(crate) fn parts_in_turn<'a>(request: &Scanned<'a>) -> Option<CreateParts<'a>>
     ensures kind { IfSome result (λ _. text_at (codes "type") (Some request.now) ≡ Some (codes "create")) }
@@ -65,8 +65,8 @@ fn is_suffix_data_form(value: &Scanned<'_>) -> bool
     }
 }
 
-/// Whether these are the members of an update or of a recover: its `type`, the texts of what is
-/// signed, and a delta, which is an object.
+/// Whether these are the members of an update or of a recover: its `type`, the texts of a signed
+/// operation, and a delta, which is an object.
 #[tactic(auto, unfolding(crate::specs::RequestForm::is_change_form))]
 pub(crate) fn is_change_form(request: &Scanned<'_>) -> bool
     ensures { result ≡ is_change_form (Some request.now) }
@@ -76,7 +76,7 @@ pub(crate) fn is_change_form(request: &Scanned<'_>) -> bool
         && has_object(request, "delta")
 }
 
-/// Whether these are the members of a deactivate: its `type`, and the texts of what is signed.
+/// Whether these are the members of a deactivate: its `type`, and the texts of a signed operation.
 #[tactic(auto, unfolding(crate::specs::RequestForm::is_deactivate_form))]
 pub(crate) fn is_deactivate_form(request: &Scanned<'_>) -> bool
     ensures { result ≡ is_deactivate_form (Some request.now) }

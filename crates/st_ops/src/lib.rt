@@ -1,5 +1,5 @@
-//! Operations on identifiers, after DIF Sidetree v1.0.0, "DID Operations": what they are, what they claim,
-//! and the requests that ask for them. The rules are this project's own.
+//! Operations on identifiers, after DIF Sidetree v1.0.0, "DID Operations": their kinds, their
+//! claims, and the requests for them. The rules are this project's own.
 #![tactic(auto)]
 
 mod claim;

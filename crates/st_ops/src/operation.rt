@@ -8,31 +8,32 @@ use st_indexfiles::{SuffixData, suffix_of};
 use st_jws::Signed;
 use std::alloc::Global;
 
-/// An operation on an identifier (after DIF Sidetree v1.0.0, "DID Operations"). A proof is the signed text of
-/// the operation, where that could be opened; a delta is the value that stands beside it, whatever it
-/// is, where one does.
+/// An operation on an identifier (after DIF Sidetree v1.0.0, "DID Operations"). The proof is the
+/// operation's signed text, if that could be opened; the delta is the value given with the
+/// operation, if any, of any kind.
 #[derive(Drop)]
 pub enum Operation {
-    /// It makes an identifier, whose suffix is that of the suffix data.
+    /// Creates an identifier, whose suffix is that of the suffix data.
     Create {
         suffix_data: SuffixData,
         delta: Option<PackedJson>,
     },
-    /// It changes the document under the update commitment that the reveal value meets.
+    /// Changes the document, under the update commitment that the reveal value meets.
     Update {
         suffix: Hash,
         reveal: Hash,
         proof: Option<Shared<Signed>>,
         delta: Option<PackedJson>,
     },
-    /// It begins the document anew, under the recovery commitment that the reveal value meets.
+    /// Starts the document again from empty, under the recovery commitment that the reveal value
+    /// meets.
     Recover {
         suffix: Hash,
         reveal: Hash,
         proof: Option<Shared<Signed>>,
         delta: Option<PackedJson>,
     },
-    /// It ends the identifier, under the recovery commitment that the reveal value meets.
+    /// Ends the identifier, under the recovery commitment that the reveal value meets.
     Deactivate {
         suffix: Hash,
         reveal: Hash,
@@ -92,8 +93,8 @@ fn copy_some<T: Copied>(alloc: Global, there: &Option<T>) -> Result<Option<T>, W
     }
 }
 
-/// The suffix of the identifier that the operation is for: that of the suffix data of a create, and
-/// else the one that it names.
+/// The suffix of the operation's identifier: that of the suffix data of a create, and the named one
+/// of any other operation.
 pub fn suffix(alloc: Global, operation: &Operation) -> Result<Hash, WantOfMemory>
     ensures { IfOk result (λ suffix. suffix ≡ suffix_of (plain_operation operation.now)) }
 {

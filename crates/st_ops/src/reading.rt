@@ -31,11 +31,10 @@ const RECOVER: &[u8] = b"recover";
 
 const DEACTIVATE: &[u8] = b"deactivate";
 
-/// The operation that the bytes ask for at these limits. Where its signed text is opened, that counts
-/// as one proof.
+/// The operation of a request at these limits. Opening its signed text counts as one proof.
 ///
-/// Each refusal but `WantOfMemory` comes exactly where it is the first in the order of
-/// `RequestRefused` that holds.
+/// A refusal other than `WantOfMemory` is returned if and only if it is the first, in the order of
+/// `RequestRefused`, that holds.
 pub fn read_request(
     alloc: Global,
     bytes: &[u8],
@@ -44,11 +43,12 @@ pub fn read_request(
 ) -> Result<Operation, RequestRefused>
     ensures value { GivesAs plain_operation refusal_of (request_of params.now bytes.now) result }
     ensures counted { ProofsAtMost 1 work.old work.new }
-    // It is counted exactly where the request came so far.
+    // It is counted if and only if the signed text was opened.
     ensures exact { CountsOpening result work.old work.new }
-    // The proof and the delta are there, where the kind has them.
+    // The proof and the delta are there, if the kind has them.
     ensures complete { IfOk result (λ operation. IsComplete (plain_operation operation)) }
-    // What `write_request` writes of it is read again, where the delta does not nest too deep for that.
+    // The text that `write_request` writes for it is read again, if the delta does not nest too
+    // deep.
     ensures again { IfOk result (λ operation. IsDeltaWithin 125 (plain_operation operation)
         → IsReadAgain params.now (plain_operation operation)) }
 {
@@ -60,7 +60,7 @@ pub fn read_request(
     }
 }
 
-// By the type of the request. Creates, which most requests are, are found in one walk.
+// By the type of the request. Creates, which are most requests, are recognized in one walk.
 #[tactic(auto, unfolding(crate::specs::Request::asked))]
 fn asked(
     alloc: Global,
@@ -91,7 +91,7 @@ fn asked(
     }
 }
 
-// The text of the type, where nothing in it is escaped, as nothing is in a type that there is.
+// The text of the type, if none of its bytes is escaped; no valid type has escaped bytes.
 fn kind_in<'a>(request: &Scanned<'a>) -> Option<&'a [u8]>
     ensures some { IfSome result (λ kind. text_at (codes "type") (Some request.now) ≡ Some kind.now) }
     ensures none { IfNone result ((kind : List ℕ) → text_at (codes "type") (Some request.now) ≡ Some kind → flat_map escape kind ≢ kind) }

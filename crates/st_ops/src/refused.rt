@@ -1,26 +1,26 @@
 use st_base::WantOfMemory;
 use thiserror::Error;
 
-/// Why bytes are no request: the first of these that holds, in this order.
+/// Why bytes are not a request: the first of these that holds, in this order.
 #[derive(Clone, Copy, Debug, Drop, PartialEq, Eq, Error)]
 pub enum RequestRefused {
-    /// The bytes are no JSON.
+    /// The bytes are not JSON.
     #[error("not JSON")]
     NotJson,
     /// A number in them is not whole.
     #[error("a number is not whole")]
     NotWhole,
-    /// They are no object with exactly the members of the kind that its `type` names, each a text or
-    /// an object as it has to be.
+    /// They are not an object with exactly the members of the kind named by `type`, each a text or
+    /// an object as required.
     #[error("not the form of a request")]
     BadForm,
-    /// A text that has to be a hash text of the version is none.
+    /// A text that must be a hash text of the version is none.
     #[error("not a hash text")]
     BadHash,
     /// The signed text does not open, or the operation has no claim.
     #[error("not a proof of the operation")]
     BadProof,
-    /// Memory could not be had.
+    /// Out of memory.
     #[error("out of memory")]
     WantOfMemory,
 }

@@ -10,7 +10,7 @@ use st_jws::{Signed, SignedRefused, open_signed};
 use st_scan::Scanned;
 use std::alloc::Global;
 
-/// What a request names: the suffix and the reveal value whose hash texts of the version stand in it.
+/// The target of a request: the suffix and the reveal value in its hash texts of the version.
 #[tactic(auto, unfolding(crate::specs::SignedPart::target_in))]
 pub(crate) fn target_in(request: &Scanned<'_>, version: u8) -> Option<Target>
     requires first { 1 ≤ version }
@@ -22,9 +22,9 @@ pub(crate) fn target_in(request: &Scanned<'_>, version: u8) -> Option<Target>
     Some(Target { suffix, reveal })
 }
 
-/// The proof whose signed text of at most `limit` bytes stands in a request. It counts as one proof.
+/// The proof of a request whose signed text has at most `limit` bytes. It counts as one proof.
 ///
-/// None comes exactly where the text does not open.
+/// `None` if and only if the text does not open.
 #[tactic(auto, unfolding(crate::specs::SignedPart::proof_in))]
 pub(crate) fn proof_in(
     alloc: Global,

@@ -18,12 +18,12 @@ use st_indexfiles::{SuffixData, hash_json};
 use st_jws::Signed;
 use std::alloc::Global;
 
-/// The canonical text of the request for an operation, which has its proof and its delta where its
+/// The canonical text of the request for an operation, which has its proof and its delta if its
 /// kind has them.
 pub fn write_request(alloc: Global, operation: &Operation) -> Result<Bytes, WantOfMemory>
     requires { IsComplete (plain_operation operation.now) }
     ensures text { IfOk result (λ text. text ≡ request_text (plain_operation operation.now)) }
-    // Whatever limits accept the operation read it again, where its delta does not nest too deep.
+    // All limits that accept the operation read it again, if its delta does not nest too deep.
     ensures read { IfOk result (λ text. (limits : Limits) (bytes : List ℕ)
         → request_of limits bytes ≡ Ok (plain_operation operation.now)
         → IsDeltaWithin 125 (plain_operation operation.now)
@@ -34,8 +34,8 @@ pub fn write_request(alloc: Global, operation: &Operation) -> Result<Bytes, Want
     Ok(write(alloc, &request)?)
 }
 
-/// For proofs: the hashes of an operation have the values that hashes have, by which their texts are
-/// read again. Nothing is done.
+/// For proofs: the hashes of an operation satisfy the rules of hashes, so their texts are read
+/// again. Nothing is done.
 pub fn know_hashes(operation: &Operation)
     ensures { HasHashes (plain_operation operation.now) }
 {

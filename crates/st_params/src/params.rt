@@ -44,14 +44,14 @@ impl Params {
         self.version
     }
 
-    /// How many operations a batch may declare.
+    /// The largest number of operations that a batch may declare.
     pub fn max_operations(&self) -> u32
         ensures { result ≡ self.now.max_operations }
     {
         if self.version == 1 { 1_000 } else { 5_000 }
     }
 
-    /// How many bytes a core index file or a provisional index file may have.
+    /// The largest size of a core or provisional index file, in bytes.
     pub fn max_index(&self) -> usize
         ensures { result ≡ self.now.max_index }
     {
@@ -59,7 +59,7 @@ impl Params {
         1_000_000
     }
 
-    /// How many bytes a core proof file or a provisional proof file may have.
+    /// The largest size of a core or provisional proof file, in bytes.
     pub fn max_proofs(&self) -> usize
         ensures { result ≡ self.now.max_proofs }
     {
@@ -67,7 +67,7 @@ impl Params {
         16_000_000
     }
 
-    /// How many bytes a chunk file may have.
+    /// The largest size of a chunk file, in bytes.
     pub fn max_chunk(&self) -> usize
         ensures { result ≡ self.now.max_chunk }
     {
@@ -75,14 +75,14 @@ impl Params {
         10_000_000
     }
 
-    /// How many bytes the canonical text of a delta may have.
+    /// The largest size of a delta's canonical text, in bytes.
     pub fn max_delta(&self) -> u64
         ensures { result ≡ self.now.max_delta }
     {
         if self.version == 1 { 1_000 } else { 2_000 }
     }
 
-    /// How many bytes a signed text may have.
+    /// The largest size of a signed text, in bytes.
     pub fn max_signed(&self) -> usize
         ensures { result ≡ self.now.max_signed }
     {
@@ -90,7 +90,7 @@ impl Params {
         13_000
     }
 
-    /// How many bytes a writer's lock id may have.
+    /// The largest size of a writer's lock id, in bytes.
     pub fn max_lock_id(&self) -> usize
         ensures { result ≡ self.now.max_lock_id }
     {
@@ -98,7 +98,7 @@ impl Params {
         200
     }
 
-    /// How many bytes the canonical text of a document may have.
+    /// The largest size of a document's canonical text, in bytes.
     pub fn max_document(&self) -> u64
         ensures { result ≡ self.now.max_document }
     {
@@ -106,7 +106,7 @@ impl Params {
         16_384
     }
 
-    /// How deep a document may nest.
+    /// The largest nesting depth of a document.
     pub fn max_depth(&self) -> u64
         ensures { result ≡ self.now.max_depth }
     {

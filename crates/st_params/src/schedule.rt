@@ -6,8 +6,7 @@ use st_base::{Copied, WantOfMemory};
 use std::alloc::Global;
 use std::marker::Model;
 
-/// Which version stands at a height. Contracts see the height from which on version 2 stands, where
-/// it does at all.
+/// The version at each height. Contracts see the height from which version 2 applies, if any.
 #[derive(Clone, Copy, Debug, PartialEq, Eq)]
 pub struct Schedule {
     second: Option<u32>,
@@ -31,7 +30,7 @@ impl Schedule {
         Schedule { second: None }
     }
 
-    /// Version 2 at every height from this one on, and version 1 below.
+    /// Version 2 from this height on, and version 1 below.
     pub fn with_second(height: u32) -> Schedule
         ensures { result ≡ Some height }
     {

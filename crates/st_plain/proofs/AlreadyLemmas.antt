@@ -1,4 +1,4 @@
--- A text that is canonical already, gone through from the front.
+-- A text that is already canonical, scanned from the front.
 use Rattle.std.proofs.Common.{◌≡◌, ◌∙◌, ℕ, ◌-◌, ◌<◌, ◌≤◌, Bool, true, List, [], ◌∷◌, ◌++◌, Option, Some, None, option_map, is_some, Ok, IfSome, refl, sym, ap, arith}
 use Rattle.std.proofs.Common.{append_assoc}
 use Rattle.std.specs.List.{flat_map}
@@ -57,9 +57,9 @@ pub number_in_front : (bytes digits rest : List ℕ) (z : ℤ) → IsWhole z →
 number_in_front bytes digits rest z proper parted is =
     record { is = whole z; proper = proper; shallow = omega arith; spelled = parted ∙ ap (λ them. them ++ rest) is }
 
--- ---- a text, a run and an escaped byte at a time
+-- ---- a text, by runs and escaped bytes
 
--- so far this word was gone through
+-- the text was scanned up to here
 pub record TextGoesOn (bytes rest : List ℕ) : Type 0 where
   pub word : List ℕ
   pub utf8 : IsUtf8 word
@@ -133,7 +133,7 @@ object_in_front depth bytes inside rest deep begins members =
 
 -- ---- items
 
--- whatever items come next, and the bracket that closes them, are the last ones of the list that began with the text
+-- any items that follow, with the closing bracket, are the last ones of the list that began with the text
 abbrev pub ItemsGoOn : ℕ → List ℕ → Bool → List ℕ → Type 0
 ItemsGoOn depth bytes due rest =
     (ps : Items) (behind : List ℕ) → ItemsAreProper ps → items_nest ps ≤ depth → rest ≡ canonical_items due ps ++ 93 ∷ behind
@@ -158,7 +158,7 @@ items_end depth bytes rest behind due go closes = go no_items behind tt (omega a
 
 -- ---- members
 
--- the same of members whose names are above the last one
+-- the same for members whose names are above the last one
 abbrev pub MembersGoOn : ℕ → List ℕ → Option (List ℕ) → List ℕ → Type 0
 MembersGoOn depth bytes last rest =
     (ms : Members) (behind : List ℕ) → MembersAreProper ms → IfSome last (λ name. AllAbove name ms) → members_nest ms ≤ depth

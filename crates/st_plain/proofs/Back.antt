@@ -1,4 +1,4 @@
--- What was written is read again, and no two values have one text.
+-- Canonical text reads back as its value, and no two values have the same text.
 use Rattle.std.proofs.Common.{◌≡◌, ℕ, ◌≤◌, List, [], Option, Some, None, option_map, option_and_then, if◌then◌else◌, Result, Ok, refl, sym, ap, ◌∙◌}
 use Rattle.std.proofs.Common.{append-nil, arith}
 use Rattle.std.specs.Prelude.{ℤ, pos, negsuc, nat_le, max, ok_or}
@@ -116,7 +116,7 @@ back_within_outline p h shallow =
 pub reads_back : (p : Plain) → IsProper p → depth_of p ≤ 127 → json_of (canonical p) ≡ Ok p
 reads_back p h shallow = back_within_outline p h (omega (arith, depth-outline p))
 
--- whatever the text is read as, however deep it nests, is the value
+-- whatever value the text is read as, however deep it nests, is this one
 from_tokens : (p : Plain) (found : Option (Json × List Token)) → IsProper p
     → ((x : Json × List Token) → found ≡ Some x → Some x ≡ Some (outline (data_of p), []))
     → (q : Plain) → json_of_data (option_and_then of_json (option_and_then (λ r. if_last r.0 r.1) found)) ≡ Ok q → q ≡ p

@@ -1,4 +1,4 @@
--- The canonical text is the compact text of `serde_json`, so its tokens are those of the value.
+-- The canonical text is the compact text of `serde_json`, so it has the tokens of the value.
 use Rattle.std.proofs.Common.{◌≡◌, ℕ, ◌≤◌, List, [], ◌∷◌, ◌++◌, Bool, true, false, refl, sym, ap, ◌∙◌, append_assoc, arith}
 use Rattle.std.specs.Prelude.{ℤ, pos, negsuc}
 use Rattle.std.specs.Fmt.{signed_decimal}

@@ -1,4 +1,4 @@
--- A plain value as `serde_json` has it, the members in the order of their names.
+-- A plain value as `serde_json` has it, its members in the order of their names.
 use Rattle.serde_json.specs.Data as data'
 use Rattle.serde_json.specs.Find.{of_integer}
 use Rattle.st_plain.specs.Plain.{Plain, null, boolean, whole, text, list, object, Items, no_items, item, Members, no_members, member}

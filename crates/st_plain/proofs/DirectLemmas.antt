@@ -1,4 +1,4 @@
--- JSON that is read over its tokens: a value, and items and members one after another.
+-- JSON that is read from its tokens: a value, and items and members one after another.
 use Rattle.std.proofs.Common.{◌≡◌, ℕ, ◌-◌, ◌<◌, ◌≤◌, List, [], ◌∷◌, ◌++◌, length, Option, Some, None, option_map, option_and_then, Ok}
 use Rattle.std.proofs.Common.{refl, sym, ap, ◌∙◌}
 use Rattle.std.specs.Prelude.{unwrap_or}
@@ -19,7 +19,7 @@ use Rattle.st_plain.proofs.Outcomes.{json_of-utf8}
 abbrev pub Tokens : Type 0
 Tokens = List Token
 
--- ---- what was read, under a function
+-- ---- the value read, under a function
 
 pub with_rest : {A B : Type 0} (f : A → B) (r : Tokens) (x : Option A)
     → option_map (λ b. (b, r)) (option_map f x) ≡ parse_map f (option_map (λ a. (a, r)) x)

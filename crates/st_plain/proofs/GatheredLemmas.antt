@@ -1,4 +1,4 @@
--- Members that are gathered by name as they come, in whatever order and more than once.
+-- Members collected by name, in any order and with repeats.
 use Rattle.std.proofs.Common.{◌≡◌, ℕ, List, [], ◌∷◌, ◌++◌, length, map, Bool, true, false, Option, Some, None, option_map, option_and_then}
 use Rattle.std.proofs.Common.{Ordering, Less, Equal, Greater, nat_cmp, is_eq, IfSome, refl, sym, ap, ap₂, ◌∙◌, subst, append_assoc, length-append}
 use Rattle.std.specs.Prelude.{⊤, ◌&&◌, is_some, reverse, take}
@@ -28,7 +28,7 @@ use Rattle.st_plain.proofs.Order.{by_order, name_total, greater_from_less, less_
 use Rattle.st_plain.proofs.RewritingLemmas.{IsLast, after, after_more, after_true, next_last, placed_last}
 use Rattle.st_plain.proofs.Sorting.{all_placed, ascend_placed}
 
--- ---- a name that goes in among others
+-- ---- a name inserted among others
 
 module _ {X : Type 0} where
   abbrev with_name : List ℕ → X → List (List ℕ × X) → List (List ℕ × X)
@@ -41,7 +41,7 @@ module _ {X : Type 0} where
   again_at k x y e es Equal is own ih = simp (is, own) refl
   again_at k x y e es Greater is own ih = simp is (ap (λ l. e ∷ l) ih)
 
-  -- the value that comes later stays
+  -- the later value stays
   again : (k : List ℕ) (x y : X) (es : List (List ℕ × X)) → with_name k y (with_name k x es) ≡ with_name k y es
   again k x y [] = rw (tied_itself name_total k) refl
   again k x y (e ∷ es) = again_at k x y e es (name_cmp k e.0) refl (tied_itself name_total k) (again k x y es)
@@ -136,12 +136,12 @@ module _ (k : List ℕ) (d : data'.Data) where
       (λ is. h)
       (λ is. (above_put l ds (nat_list_cmp_total.antisymm l k ∙ ap ordering_reverse is) h.0, ascend_put ds h.1))
 
--- ---- data as what is gathered of them
+-- ---- data by what is collected from it
 
 abbrev Outcomes : Type 0
 Outcomes = List (List ℕ × Option Plain)
 
--- the value of each name, where it is whole, in the order of names
+-- the value of each name, if it is whole, in the order of names
 abbrev outcomes : data'.Members → Outcomes
 outcomes data'.no_members = []
 outcomes (data'.member k d ds) = with_name k (whole_value d) (outcomes ds)
@@ -160,7 +160,7 @@ outcomes_put k d (data'.member l e ds) u h =
     let apart = never_tied k l Greater u h.0 is greater_apart in
     ap (with_name l y) (outcomes_put k d ds u h.1) ∙ sym (swapped_by k l x y (outcomes ds) (name_cmp k l) refl apart))
 
--- ---- all members, where all are whole
+-- ---- all members, if all are whole
 
 abbrev all_whole : Outcomes → Option Members
 all_whole [] = Some no_members
@@ -217,7 +217,7 @@ whole_members_are (data'.member k d ds) u h =
     ap (λ rest. option_and_then (λ p. option_map (put k p) rest) (whole_value d)) (whole_members_are ds u.1 h.1)
     ∙ sym (all_whole_with k (whole_value d) (outcomes ds) (apart_from_above k ds u.0 u.1 h.0))
 
--- ---- what is proper
+-- ---- proper values
 
 abbrev AreProper : Outcomes → Type 0
 AreProper es = AllByRecursion (λ e. IsUtf8 e.0 × IfSome e.1 IsProper) es
@@ -249,9 +249,9 @@ unfolding IsStrictlySortedBy
 all_proper [] s h = tt
 all_proper (e ∷ es) s h = proper_with e.0 e.1 (all_whole es) h.0.0 h.0.1 (all_above e.0 es s.0) (all_proper es s.1 h.1)
 
--- ---- members as they come
+-- ---- members in the order of the input
 
--- a name, the value where it is whole, and the text of the member
+-- a name, the value if it is whole, and the text of the member
 abbrev pub Coming : Type 0
 Coming = List (List ℕ × (Option Plain × List ℕ))
 
@@ -264,7 +264,7 @@ spelled_of e = (e.0, e.1.1)
 abbrev pub texts_of : Coming → List (List ℕ)
 texts_of es = map (λ e. e.1.1) es
 
--- in the order of their names, of several with one name the last alone
+-- in the order of their names, only the last of several with one name
 abbrev pub settled : Coming → Coming
 settled come = in_order (reverse come)
 
@@ -305,9 +305,9 @@ with_proper : {P : Type 0} (proper : P → Type 0) (text : P → List ℕ) (ther
 with_proper proper text None t p h = h
 with_proper proper text (Some q) t p h = (p, h.1)
 
--- ---- what is gathered of data
+-- ---- what is collected from data
 
--- the last name is above all others, where names ascend, and they are in order
+-- the last name is above all others if names ascend, and they are sorted
 abbrev pub AreUp : Option (List ℕ) → Coming → Type 0
 AreUp last come = IsLast last come × (settled come ≡ come)
 
@@ -460,11 +460,11 @@ module _ (ds : data'.Members) (front text : List ℕ) (places : List (ℕ × ℕ
             (all_spelled false es are.spelled),
       )
 
-  -- as they came
+  -- in the order of the input
   pub came_up : up ≡ true → IsWritten MembersAreProper (canonical_members false) (whole_members ds) front text
   came_up is = went_out text (are.is ∙ ap (λ es. front ++ joined false (texts_of es)) (sym (are.rising is).1))
 
-  -- put in order
+  -- sorted
   pub were_put : (out : List ℕ) (from : ℕ) → from ≡ length front
       → out ≡ take from text ++ joined false (map (λ e. e.1) (entries_in text places))
       → IsWritten MembersAreProper (canonical_members false) (whole_members ds) front out

@@ -1,4 +1,4 @@
--- Members that stand in a text: what is read there, their order, and that both stay while the text grows.
+-- Members in a text: their names, their order, and that both stay while the text grows.
 use Rattle.std.proofs.Common.{◌≡◌, ℕ, ◌+◌, ◌-◌, ◌*◌, ◌/◌, ◌%◌, ◌<◌, ◌≤◌, ◌==◌, ◌⊎◌, inl, inr, nat_lt, cond, Bool, true, false, List, [], ◌∷◌, ◌++◌, drop, length, map}
 use Rattle.std.proofs.Common.{Some, None, is_eq, refl, sym, ap, ap₂, ◌∙◌, subst, arith, append_assoc}
 use Rattle.std.specs.Prelude.{take}
@@ -129,7 +129,7 @@ entry_held text place held =
     ap₂ (λ name bytes. (name, bytes)) (name_held text place held)
     (ap (take (place.1 - place.0)) (behind_held text place held) ∙ take_at all held.rest (place.1 - place.0) size)
 
--- ---- the order of names that a text holds
+-- ---- the order of the names in a text
 
 abbrev pub IsNamed : List ℕ → ℕ × ℕ → Type 0
 IsNamed text place = IsUtf8 (name_at text place.0)
@@ -142,7 +142,7 @@ pub held_order : (text : List ℕ) (first second : ℕ × ℕ) → IsHeld text f
 held_order text first second a b =
     sym (names_ranked (name_at text first.0) (name_at text second.0) (named_held text first a) (named_held text second b))
 
--- members that go out once, and the first of each name
+-- the members that are written, and the first of each name
 module _ (text : List ℕ) where
   once_at : (again : Bool) (p : ℕ × ℕ) (ls ms : List (List ℕ)) (fs gs : List (List ℕ × List ℕ)) → ls ≡ map (λ e. e.1) fs → ms ≡ map (λ e. e.1) gs
       → cond again ls (between text p ∷ ms) ≡ map (λ e. e.1) (cond again fs (entry_at text p ∷ gs))
@@ -163,7 +163,7 @@ module _ (text : List ℕ) where
   once_held [] held = refl
   once_held (p ∷ ps) held = ap (λ l. between text p ∷ l) (once_after p ps held.0 held.1)
 
--- ---- a text that grows
+-- ---- a text that is appended to
 
 module _ (old new more : List ℕ) (grown : new ≡ old ++ more) where
   held_stays : (place : ℕ × ℕ) → IsHeld old place → IsHeld new place

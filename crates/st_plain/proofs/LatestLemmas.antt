@@ -1,4 +1,4 @@
--- Pairs in the order of their names, of several with one name the first alone: so a stable sort gives them.
+-- Pairs in the order of their names, only the first of several with one name: a stable sort yields them.
 use Rattle.std.proofs.Common.{◌≡◌, ℕ, Bool, true, false, cond, List, [], ◌∷◌, map, Some, None, Less, Equal, is_eq, not, refl, sym, ap, ap₂, ◌∙◌, ◌⊎◌, inl, inr}
 use Rattle.std.specs.Prelude.{◌&&◌}
 use Rattle.std.specs.List.{filter, AllByRecursion}
@@ -34,7 +34,7 @@ module _ {X : Type 0} where
   firsts_are [] up = refl
   firsts_are (e ∷ es) up = sym (first_placed e es up.0 up.1)
 
-  -- ---- of the pairs that tie the first goes out alone
+  -- ---- of pairs that tie only the first is written
 
   abbrev alone : List (List ℕ × X) → List (List ℕ × X)
   alone [] = []
@@ -106,13 +106,13 @@ module _ {X : Type 0} where
       one_list (in_order es) (in_order fs) (ascending (in_order es) (ascend_in_order es)) (ascend_in_order fs)
       (λ x. one_of_ties x es ∙ ap alone (same x) ∙ sym (one_of_ties x fs))
 
--- ---- things that have names, in an order that is that of their names
+-- ---- things with names, in the order of their names
 
 module _ {A : Type 0} (name : A → List ℕ) (Held : A → Type 0) where
   moved : (k l : List ℕ) → name_cmp k l ≡ Equal → (xs : List A) → filter (tied_with name k) xs ≡ filter (tied_with name l) xs
   moved k l tied xs = λ i. filter (λ x. is_eq (name_total.congr k l (name x) tied i)) xs
 
-  -- none ties with a name, or one does
+  -- no name ties with this one, or one does
   abbrev Found : List ℕ → List A → Type 0
   Found k xs = (filter (tied_with name k) xs ≡ []) ⊎ ((x : A) × Held x × (name_cmp k (name x) ≡ Equal))
 

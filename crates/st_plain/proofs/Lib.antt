@@ -1,4 +1,4 @@
--- Private: what the answers of this crate cite.
+-- Private: lemmas that this crate's proofs cite.
 mod AlreadyLemmas
 mod Compact
 mod Data
@@ -11,10 +11,9 @@ mod RespellingLemmas
 mod RewritingLemmas
 mod RunLemmas
 mod StopLanes
--- For the crates above.
--- a canonical text is read again, and no two values have one text
+-- For the crates above. canonical text reads back as its value, and no two values have the same text
 pub mod Back
--- data that is read over tokens
+-- data that is read from tokens
 pub mod DirectLemmas
 -- names as a canonical text escapes them, read back
 pub mod HeldLemmas
@@ -24,23 +23,23 @@ pub mod ItemLemmas
 pub mod ListedLemmas
 -- bits for the bytes of a text, sixteen at a time
 pub mod MarkLanes
--- what is found by name after a put or a removal
+-- lookups by name after a put or a removal
 pub mod Named
--- how deep what was read nests, and that its text is read again
+-- the nesting depth of values that were read, and that their text is read again
 pub mod NestsLemmas
--- what is read back of an object whose members were listed, of a list and of a text
+-- lookups in an object of listed members, in a list and in a text
 pub mod ObjectLemmas
 -- names that are literals
 pub mod OnLiterals
 -- the order of names, and the test of a name
 pub mod Order
--- what bytes are as JSON, from what `serde_json` says of them
+-- bytes as JSON, by what `serde_json` makes of them
 pub mod Outcomes
 -- a text compared with a word
 pub mod QuotedLemmas
--- proper values that do not nest too deep to be read again, and what is made of such
+-- proper values shallow enough to be read again, and values built from them
 pub mod ReadableLemmas
--- what may stand behind a scalar
+-- bytes that may follow a scalar
 pub mod ScalarLemmas
 -- pairs in the order of their names
 pub mod Sorting

@@ -1,4 +1,4 @@
--- The canonical text of an object whose members were listed.
+-- The canonical text of an object given by a list of members.
 use Rattle.std.proofs.Common.{◌≡◌, ◌∙◌, ℕ, Bool, true, false, List, [], ◌∷◌, ◌++◌, Option, Some, None, Ordering, Less, Equal, Greater, refl, ap, append_assoc}
 use Rattle.std.specs.Prelude.{◌||◌, is_some}
 use Rattle.std.proofs.lemmas.Bool.{and_parts}
@@ -10,13 +10,13 @@ use Rattle.st_plain.specs.Names.{name_cmp}
 use Rattle.st_plain.specs.Objects.{object_of_some, put_some, with_some}
 use Rattle.st_plain.specs.Plain.{Plain, Members, member}
 
--- what is below all is below the first and below the rest
+-- a name below all is below the first and below the rest
 below_parts : (o : Ordering) (rest : Bool) → match_ordering o rest false false ≡ true → (o ≡ Less) × (rest ≡ true)
 below_parts Less rest is = (refl, is)
 below_parts Equal rest is = absurd (cc)
 below_parts Greater rest is = absurd (cc)
 
--- a name that is below all goes in first
+-- a name below all is inserted first
 put-below : (name : List ℕ) (p : Plain) (pairs : List (List ℕ × Option Plain)) → is_below name pairs ≡ true
     → put name p (members_some pairs) ≡ member name p (members_some pairs)
 put-below name p [] below = refl
@@ -46,7 +46,7 @@ put_some-first name n None v pairs less below = refl
 put_some-first name n (Some p) None pairs less below = put-below name p pairs below
 put_some-first name n (Some p) (Some q) pairs less below = rw less refl
 
--- a member goes in where the order has it
+-- a member is inserted at its place in the order
 put_some-fits : (name : List ℕ) (o : Option Plain) (pairs : List (List ℕ × Option Plain)) → fits name pairs ≡ true
     → put_some name o (members_some pairs) ≡ members_some (inserted name o pairs)
 unfolding put_some
@@ -92,7 +92,7 @@ text-before ((n, None) ∷ before) comes name value behind rest last always = te
 text-before ((n, Some p) ∷ before) comes name value behind rest last always =
     simp append_assoc (rw (text-before before true name value behind rest last always) refl)
 
--- The text of an object one of whose listed members is always there. Both premises are `refl` at literals.
+-- The text of an object with one listed member that is always there. Both premises are `refl` at literals.
 pub canonical-listed : (pairs before : List (List ℕ × Option Plain)) (name : List ℕ) (value : Plain)
     (behind : List (List ℕ × Option Plain)) → all_fit pairs [] ≡ true
     → sorted_among pairs [] ≡ before ++ (name, Some value) ∷ behind
@@ -102,7 +102,7 @@ canonical-listed pairs before name value behind fit sorted =
     ap (λ ms. 123 ∷ (canonical_members false ms ++ 125 ∷ [])) (with_some-fits pairs [] fit ∙ ap members_some sorted)
     ∙ ap (λ text. 123 ∷ text) (text-before before false name value behind (125 ∷ []) last (text-always name value behind (125 ∷ [])))
 
--- ---- members that may all be left out
+-- ---- members that are all optional
 
 text-there : (due : Bool) (name : List ℕ) (there : Option Plain) (others : Members)
     → canonical_members due (some_first name there others) ≡ member_text due name there ++ canonical_members (due || is_some there) others
@@ -116,7 +116,7 @@ text-each due [] = refl
 text-each due (pair ∷ pairs) =
     text-there due pair.0 pair.1 (members_some pairs) ∙ ap (λ text. member_text due pair.0 pair.1 ++ text) (text-each (due || is_some pair.1) pairs)
 
--- The text of an object of which each member may be left out. Both premises are `refl` at literals.
+-- The text of an object whose members are all optional. Both premises are `refl` at literals.
 pub canonical-sorted : (pairs sorted : List (List ℕ × Option Plain)) → all_fit pairs [] ≡ true → sorted_among pairs [] ≡ sorted
     → canonical (object_of_some pairs) ≡ 123 ∷ (members_text false sorted ++ 125 ∷ [])
 canonical-sorted pairs sorted fit is =

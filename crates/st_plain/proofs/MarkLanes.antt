@@ -1,4 +1,4 @@
--- Bytes of a text that are looked at in one step, for quotation marks and backslashes.
+-- Bytes of a text that are searched in one step for quotation marks and backslashes.
 use Rattle.std.proofs.Common.{◌≡◌, ◌∙◌, ℕ, suc, ◌+◌, ◌*◌, ◌%◌, ◌^◌, ◌<◌, ◌≤◌, Bool, true, false, not, cond, List, [], ◌∷◌, length, drop, map, replicate, bit_or, refl, sym, ap, arith, inl, inr, Some}
 use Rattle.std.specs.List.{prefix_len}
 use Rattle.std.specs.Prelude.{◌==◌, ◌||◌, slice_index}

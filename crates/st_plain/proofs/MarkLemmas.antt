@@ -1,4 +1,4 @@
--- Inside a text, what stands before the first quotation mark or backslash is passed at once.
+-- Inside a text, the bytes before the first quotation mark or backslash are skipped at once.
 use Rattle.std.proofs.Common.{◌≡◌, ◌∙◌, ℕ, zero, suc, ◌+◌, ◌<◌, ◌≤◌, Bool, true, false, List, [], ◌∷◌, length, drop, Some, None, refl, ap, arith}
 use Rattle.std.proofs.Common.{add-one, drop-cons}
 use Rattle.std.specs.Prelude.{◌==◌, ◌||◌, slice_index}
@@ -11,7 +11,7 @@ neither : (x y : Bool) → (x || y) ≡ false → (x ≡ false) × (y ≡ false)
 neither true y e = cc
 neither false y e = (refl, e)
 
--- a byte that is no mark is passed
+-- a byte that is no mark is skipped
 past_byte : (b : ℕ) (bs : List ℕ) → is_byte2 34 92 b ≡ false → behind_text false (b ∷ bs) ≡ behind_text false bs
 unfolding behind_text
 past_byte b bs other =
@@ -25,7 +25,7 @@ past_bytes (suc at) [] within others = refl
 past_bytes (suc at) (b ∷ bs) within others =
     past_byte b bs (others 0 (omega arith)) ∙ past_bytes at bs (omega (arith, within)) (λ k below. others (suc k) (omega (arith, below)))
 
--- what the search finds is the next mark
+-- the search finds the next mark
 pub found_mark : (bytes : List ℕ) (at : ℕ) → IsFirstByte (is_byte2 34 92) bytes (Some at)
     → IsNextMark bytes (slice_index bytes at) (drop (at + 1) bytes)
 found_mark bytes at first =
@@ -45,7 +45,7 @@ no_mark bytes none =
     past_bytes (length bytes) bytes (omega arith) (λ k below. false_from_ne_true _ (none k (omega arith) below))
     ∙ ap (behind_text false) (drop_all (length bytes) bytes (omega arith))
 
--- the byte behind a backslash ends no text
+-- the byte after a backslash ends no text
 pub past_backslash : (mark : ℕ) (behind : List ℕ) → (mark == 34 || mark == 92) ≡ true → (mark == 34) ≡ false
     → behind_text false (mark ∷ behind) ≡ behind_text false (behind_first behind)
 unfolding behind_text

@@ -1,4 +1,4 @@
--- What an object has by name once a member was put or removed, over plain values.
+-- Lookups by name in an object after a member is put or removed, over plain values.
 use Rattle.std.proofs.Common.{◌≡◌, ℕ, true, false, not, cond, List, Some, None, Equal, refl, sym, ap, ◌∙◌}
 use Rattle.std.proofs.lemmas.Bool.{not-true}
 use Rattle.std.specs.Prelude.{◌&&◌}
@@ -10,7 +10,7 @@ use Rattle.st_plain.specs.Names.{name_cmp, is_name}
 use Rattle.st_plain.specs.Plain.{Plain, Members, no_members, member}
 use Rattle.st_plain.proofs.Order.{by_order, same_from_tied, same_from_is_name, is_name_from_same, not_name_from_apart, not_name_from_greater}
 
--- the member that was put is found
+-- the member put is found
 pub member_at-put_same : (name : List ℕ) (p : Plain) (ms : Members) → member_at name (put name p ms) ≡ Some p
 member_at-put_same name p no_members = rw (is_name_from_same name name refl) refl
 member_at-put_same name p (member n q ms) =
@@ -19,7 +19,7 @@ member_at-put_same name p (member n q ms) =
     (λ is. rw (is_name_from_same name name refl) refl)
     (λ is. rw (not_name_from_greater name n is) (member_at-put_same name p ms))
 
--- a name that ties with the one put is the one put
+-- a name that ties with the one put equals it
 other_name : (other name n : List ℕ) → IsUtf8 other → IsUtf8 name → is_name other name ≡ false
     → name_cmp name n ≡ Equal → is_name other n ≡ false
 other_name other name n u v differ tied = not_name_from_apart other n (λ same.
@@ -38,7 +38,7 @@ member_at-put_other other name p (member n q ms) u v differ =
     (λ is. rw (differ, other_name other name n u v differ is) refl)
     (λ is. ap (cond (is_name other n) (Some q)) (member_at-put_other other name p ms u v differ))
 
--- the same at two names of ASCII, which computes where they are literals
+-- the same for two ASCII names; it computes if they are literals
 pub member_at-put_literal : (other name : List ℕ) (p : Plain) (ms : Members)
     → (are_ascii other && (are_ascii name && not (is_name other name))) ≡ true
     → member_at other (put name p ms) ≡ member_at other ms
@@ -48,7 +48,7 @@ member_at-put_literal other name p ms apart =
     let v = IsUtf8-are_ascii name (first_so (are_ascii name) (not (is_name other name)) rest) in
     member_at-put_other other name p ms u v (not-true (is_name other name) (second_so (are_ascii name) (not (is_name other name)) rest))
 
--- the member that was removed is gone
+-- the member removed is gone
 pub member_at-without_same : (name : List ℕ) (ms : Members) → member_at name (without name ms) ≡ None
 member_at-without_same name no_members = refl
 member_at-without_same name (member n q ms) =
@@ -78,5 +78,5 @@ others_stay_put name p ms v = λ other u apart. member_at-put_other other name p
 pub others_stay_without : (name : List ℕ) (ms : Members) → OthersStay name ms (without name ms)
 others_stay_without name ms = λ other u apart. member_at-without_other other name ms (not_name_from_apart other name apart)
 
--- each name is found as the members say, once one was put or removed
+-- each name is found as before, after a put or a removal
 pub ruleset by_name = (member_at-put_same, member_at-put_literal, member_at-without_same, member_at-without_other)

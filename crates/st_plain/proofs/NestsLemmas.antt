@@ -1,4 +1,5 @@
--- What was read nests no deeper than a reader goes, so its canonical text is read again, and so is each part's.
+-- A value that was read nests no deeper than the reader allows, so its canonical text and that of each part are read
+-- again.
 use Rattle.std.proofs.Common.{◌≡◌, ℕ, ◌≤◌, max, List, Option, Some, None, option_map, option_and_then, Ok, IfSome, refl, sym, ap, ◌∙◌, subst, arith}
 use Rattle.std.proofs.Common.{if◌then◌else◌}
 use Rattle.std.specs.Prelude.{suc, pos, negsuc, Bool, true, false}
@@ -49,7 +50,7 @@ mutual
 pub back_within : (p : Plain) → IsProper p → nests p ≤ 127 → json_of (canonical p) ≡ Ok p
 back_within p proper within = back_within_outline p proper (omega (arith, outline_nests p, within))
 
--- ---- what is whole nests no deeper than the data that it is of
+-- ---- a whole value nests no deeper than its data
 
 chained : {A B : Type 0} (P : A → Type 0) (Q : B → Type 0) (f : A → Option B) (there : Option A) → IfSome there P
     → ((a : A) → P a → IfSome (f a) Q) → IfSome (option_and_then f there) Q
@@ -99,7 +100,7 @@ mutual
       (λ qs. Some (put k p qs)) (whole_members ms) (members_within ms)
       (λ qs all. put_within k p qs (max (data'.depth d) (data'.members_depth ms)) (omega (arith, one)) (omega (arith, all))))
 
--- ---- data nests no deeper than the JSON that it is of
+-- ---- data nests no deeper than its JSON
 
 data_put_within : (k : List ℕ) (d : Data) (ds : data'.Members) (n : ℕ) → data'.depth d ≤ n → data'.members_depth ds ≤ n
     → data'.members_depth (data'.put k d ds) ≤ n
@@ -150,7 +151,7 @@ nests_of_tokens depth old new j d p is there all =
     let last = subst (λ o. IfSome o (λ q. nests q ≤ data'.depth d)) all (whole_within d) in
     omega (arith, deep, within, last)
 
--- ---- what was read
+-- ---- values that were read
 
 of_data : (bytes : List ℕ) (utf8 : Bool) (p : Plain) → json_of_data (if utf8 then read bytes else None) ≡ Ok p
     → (d : Data) × (read bytes ≡ Some d) × (whole_value d ≡ Some p)
@@ -167,7 +168,7 @@ nests_of_read bytes p gives =
     let within = subst (λ o. IfSome o (λ q. nests q ≤ data'.depth made.0)) made.2 (whole_within made.0) in
     omega (arith, deep, within)
 
--- the canonical text of what was read is read again as that
+-- the canonical text of a value that was read is read as that value
 pub read_again : (bytes written : List ℕ) (p : Plain) → IsProper p → json_of bytes ≡ Ok p → written ≡ canonical p
     → IsReadAgain written × (json_of bytes ≡ Ok (value_read (json_of written)))
 read_again bytes written p proper is same =

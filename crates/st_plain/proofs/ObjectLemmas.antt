@@ -1,4 +1,4 @@
--- What is read back of an object whose members were listed.
+-- Lookups in an object given by a list of members.
 use Rattle.std.specs.Prelude.{◌&&◌, is_some}
 use Rattle.std.proofs.Common.{◌≡◌, ◌∙◌, ℕ, Bool, true, false, cond, not, List, [], ◌∷◌, Option, Some, None, Result, Ok, Err, Less, Equal}
 use Rattle.std.proofs.Common.{Greater, option_and_then, refl, sym, ap, subst}
@@ -19,27 +19,27 @@ use Rattle.st_plain.proofs.ItemLemmas.{entries-items_of}
 use Rattle.st_plain.proofs.Named.{member_at-put_same, member_at-put_literal}
 use Rattle.st_plain.proofs.Order.{same_from_is_name}
 
--- ---- lists and objects that are left out where they are empty
+-- ---- lists and objects that are left out if they are empty
 
--- the entries of a list that was written are these
+-- the entries of a list written from these are these
 pub entries_in-some_list : (entries : List Plain) → entries_in (some_list entries) ≡ entries
 unfolding some_list
 entries_in-some_list [] = refl
 entries_in-some_list (entry ∷ entries) = entries-items_of (entry ∷ entries)
 
--- the members of an object that was written are these
+-- the members of an object written from these are these
 pub member_in-some_object : (name : List ℕ) (ms : Members) → member_in name (some_object ms) ≡ member_at name ms
 unfolding some_object
 member_in-some_object name no_members = refl
 member_in-some_object name (member n p ms) = refl
 
--- ---- members that may be left out
+-- ---- optional members
 
--- two names of ASCII that differ, which computes where they are literals
+-- two different ASCII names; it computes if they are literals
 abbrev pub is_apart : List ℕ → List ℕ → Bool
 is_apart other name = are_ascii other && (are_ascii name && not (is_name other name))
 
--- the member is there exactly where it has a value
+-- the member is there if and only if it has a value
 pub member_at-put_some_same : (name : List ℕ) (value : Option Plain) (ms : Members) → member_at name ms ≡ None
     → member_at name (put_some name value ms) ≡ value
 unfolding put_some
@@ -53,7 +53,7 @@ unfolding put_some
 member_at-put_some_literal other name None ms apart = refl
 member_at-put_some_literal other name (Some p) ms apart = member_at-put_literal other name p ms apart
 
--- a member goes in among members of these names
+-- a member is inserted among members of these names
 has_only-put : (names : List (List ℕ)) (name : List ℕ) (p : Plain) (ms : Members) → list_any (is_name name) names ≡ true
     → has_only names ms ≡ true → has_only names (put name p ms) ≡ true
 has_only-put names name p no_members among only = rw among refl
@@ -73,7 +73,7 @@ has_only-put_some names name (Some p) ms among only = has_only-put names name p 
 
 -- ---- an object of listed members
 
--- names of ASCII that all differ, which computes where they are literals
+-- ASCII names that all differ; it computes if they are literals
 abbrev pub are_apart : List (List ℕ) → Bool
 are_apart [] = true
 are_apart (name ∷ names) = are_ascii name && (list_all (is_apart name) names && are_apart names)
@@ -85,7 +85,7 @@ listed_beside name (pair ∷ pairs) ms apart =
     let parts = and_parts (is_apart name pair.0) (list_all (is_apart name) (keys_of pairs)) apart in
     listed_beside name pairs (put_some pair.0 pair.1 ms) parts.1 ∙ member_at-put_some_literal name pair.0 pair.1 ms parts.0
 
--- the value that is listed under a name, where it has one
+-- the value listed under a name, if any
 abbrev pub value_listed : List ℕ → List (List ℕ × Option Plain) → Option Plain
 value_listed name pairs = option_and_then (λ value. value) (lookup (is_name name) pairs)
 
@@ -104,8 +104,7 @@ listed_at name (pair ∷ pairs) ms ascii apart none =
           listed_at name pairs (put_some pair.0 pair.1 ms) ascii later.1 (member_at-put_some_literal name pair.0 pair.1 ms beside ∙ none)
     ] refl
 
--- An object of listed members has under each name what was listed there. The premise is `refl` at
--- literals.
+-- An object of listed members has the listed value under each name. The premise is `refl` at literals.
 pub member_at-some_listed : (name : List ℕ) (pairs : List (List ℕ × Option Plain))
     → (are_ascii name && are_apart (keys_of pairs)) ≡ true → member_at name (some_listed pairs) ≡ value_listed name pairs
 member_at-some_listed name pairs named =
@@ -125,14 +124,14 @@ pub has_only-some_listed : (names : List (List ℕ)) (pairs : List (List ℕ × 
     → list_all (λ name. list_any (is_name name) names) (keys_of pairs) ≡ true → has_only names (some_listed pairs) ≡ true
 has_only-some_listed names pairs among = only_listed names pairs no_members among refl
 
--- ---- what was written
+-- ---- values that were written
 
 one_json : (reading : Result Plain ReadRefused) (p : Plain) → is_some (result_ok reading) ≡ true
     → ((q : Plain) → reading ≡ Ok q → q ≡ p) → result_ok reading ≡ Some p
 one_json (Ok q) p some same = ap Some (same q refl)
 one_json (Err e) p some same = cc
 
--- a text that is JSON, and is read as no other value than this
+-- a text that is JSON and can be read only as this value
 pub json_in-written : (file : List ℕ) (p : Plain) → is_some (json_in file) ≡ true → ((q : Plain) → json_of file ≡ Ok q → q ≡ p)
     → json_in file ≡ Some p
 json_in-written file p some same = one_json (json_of file) p some same

@@ -1,4 +1,4 @@
--- The order of names is total, and tells different names of UTF-8 apart.
+-- The order of names is total, and different names of UTF-8 never tie.
 use Rattle.std.proofs.Common.{◌≡◌, ℕ, ◌+◌, ◌-◌, ◌/◌, ◌%◌, ◌≤◌, ◌<◌, Bool, true, false, cond, List, [], ◌∷◌, ◌++◌, Ordering, Less, Equal, Greater}
 use Rattle.std.proofs.Common.{is_eq, refl, sym, ap, ◌∙◌, arith, inl, inr}
 use Rattle.std.specs.Prelude.{nat_lt, ◌⊎◌}
@@ -25,7 +25,7 @@ greater_from_less a b lt = name_total.antisymm b a ∙ ap ordering_reverse lt
 pub less_from_greater : (a b : List ℕ) → name_cmp a b ≡ Greater → name_cmp b a ≡ Less
 less_from_greater a b gt = name_total.antisymm b a ∙ ap ordering_reverse gt
 
--- what holds of each of three ways that an order tells, holds of the one that it takes
+-- a property of the results of all three cases holds for the result of the case taken
 pub by_order : {A : Type 0} (P : A → Type 0) (o : Ordering) (a b c : A) → (o ≡ Less → P a) → (o ≡ Equal → P b) → (o ≡ Greater → P c)
     → P (match_ordering o a b c)
 by_order P Less a b c less equal greater = less refl
@@ -35,7 +35,7 @@ by_order P Greater a b c less equal greater = greater refl
 pub tied_from_same : (a b : List ℕ) → a ≡ b → name_cmp a b ≡ Equal
 tied_from_same a b same = ap (name_cmp a) (sym same) ∙ tied_itself name_total a
 
--- ---- the units of a text tell the text
+-- ---- different texts have different units
 
 abbrev pair_of : ℕ → List ℕ
 pair_of c = (55296 + (c - 65536) / 1024) ∷ (56320 + (c - 65536) % 1024) ∷ []
@@ -113,7 +113,7 @@ not_name_from_apart a b apart = by (is_name a b) refl
     by true e = absurd (apart (same_from_is_name a b e))
     by false e = e
 
--- names that one is above the other are not the same
+-- names of which one is above the other differ
 pub not_name_from_less : (a b : List ℕ) → name_cmp a b ≡ Less → is_name a b ≡ false
 not_name_from_less a b lt = not_name_from_apart a b (λ same. let tied = tied_from_same a b same in cc)
 

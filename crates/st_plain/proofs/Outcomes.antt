@@ -1,4 +1,4 @@
--- What bytes are as JSON, from what `serde_json` says of them.
+-- Bytes as JSON, by what `serde_json` makes of them.
 use Rattle.std.proofs.Common.{◌≡◌, ℕ, List, Bool, true, false, Option, Some, None, Ok, Err, if◌then◌else◌, refl, ap}
 use Rattle.std.specs.Prelude.{ok_or}
 use Rattle.std.proofs.lemmas.Str.{IsUtf8-from_is_utf8, is_utf8-from_IsUtf8}
@@ -18,7 +18,7 @@ refused_at bytes false is none = refl
 pub refused : (bytes : List ℕ) → (IsUtf8 bytes → read bytes ≡ None) → json_of bytes ≡ Err NotJson
 refused bytes none = refused_at bytes (is_utf8 bytes) refl none
 
--- a value that was given is that of whole numbers
+-- a value that is returned has whole numbers
 pub whole_from : {P : Type 0} (o : Option P) (p : P) → ok_or o NotWhole ≡ Ok p → o ≡ Some p
 whole_from None p h = cc
 whole_from (Some q) p h = cc

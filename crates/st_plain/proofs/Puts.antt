@@ -1,4 +1,4 @@
--- Members that are put one after another, in whatever order.
+-- Members put one after another, in any order.
 use Rattle.std.proofs.Common.{◌≡◌, ℕ, List, Option, Some, None, option_map, option_and_then, Ordering, Less, Equal, Greater, nat_cmp, is_eq, refl, sym, ap, ◌∙◌}
 use Rattle.std.specs.Ordering.{match_ordering, ordering_reverse}
 use Rattle.std.specs.Cmp.Lexicographic.{slice_cmp}
@@ -12,7 +12,7 @@ use Rattle.st_plain.specs.Proper.{AllAbove, MembersAreProper}
 use Rattle.st_plain.specs.Reading.{whole_value, whole_members}
 use Rattle.st_plain.proofs.Order.{by_order, name_total, greater_from_less, less_from_greater, tied_from_same}
 
--- ---- two puts at different names may change places
+-- ---- two puts at different names commute
 
 swap_at : (k l m : List ℕ) (p q r : Plain) (f : Members) (a b : Ordering) → name_cmp k l ≡ Less
     → name_cmp l k ≡ Greater → name_cmp k m ≡ a → name_cmp l m ≡ b
@@ -66,7 +66,7 @@ put_inside k l p None o apart = refl
 put_inside k l p (Some q) None apart = refl
 put_inside k l p (Some q) (Some f) apart = ap Some (sym (swapped k l p q f apart))
 
--- a member that goes in among the data goes in among what that is
+-- a member inserted among the data is inserted in the plain value too
 whole_put_at : (k l : List ℕ) (d e : data'.Data) (p : Plain) (ds : data'.Members) (o : Ordering)
     → slice_cmp nat_cmp k l ≡ o → whole_value d ≡ Some p
     → (name_cmp k l ≡ Equal → ⊥) → whole_members (data'.put k d ds) ≡ option_map (put k p) (whole_members ds)

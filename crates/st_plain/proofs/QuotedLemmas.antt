@@ -1,4 +1,4 @@
--- A text as JSON writes it, compared with a word byte by byte.
+-- A JSON string compared with a word byte by byte.
 use Rattle.std.proofs.Common.{◌≡◌, ◌∙◌, ◌↔◌, ℕ, Bool, true, false, List, [], ◌∷◌, ◌++◌, length, take, drop, refl, ap, sym, append_assoc}
 use Rattle.std.specs.Prelude.{bytes_eq, IsTrue}
 use Rattle.std.specs.List.{flat_map}
@@ -11,7 +11,7 @@ use Rattle.st_plain.specs.Names.{is_name}
 use Rattle.st_plain.specs.Plain.{text}
 use Rattle.st_plain.proofs.Back.{same_value}
 
--- ---- a front
+-- ---- a prefix
 
 pub front_there : (bytes front behind : List ℕ) → bytes_eq (take (length front) bytes) front ≡ true → behind ≡ drop (length front) bytes
     → bytes ≡ front ++ behind
@@ -29,7 +29,7 @@ front_absent bytes front apart behind parts =
 
 -- ---- byte by byte
 
--- what is left of a text is what is left of the word, as JSON writes it
+-- the rest of the text is the rest of the word as a JSON string
 abbrev pub IsRest : List ℕ → List ℕ → Type 0
 IsRest rest word = rest ≡ flat_map escape word ++ 34 ∷ []
 
@@ -44,7 +44,7 @@ module _ (all : Type 0) (rest behind word : List ℕ) (b : ℕ) (words : List �
     λ same. so_far.1 (parts ∙ ap (λ bytes. escape b ++ bytes) same ∙ sym regroup),
   )
 
--- what stands in front of the first byte that is escaped is passed at once
+-- the bytes before the first escaped one are skipped at once
 pub first_run : (bytes inside run rest word others : List ℕ) → bytes ≡ 34 ∷ inside → inside ≡ run ++ rest
     → flat_map escape word ≡ run ++ flat_map escape others → (bytes ≡ quoted word) ↔ IsRest rest others
 first_run bytes inside run rest word others opened parts escaped =

@@ -37,7 +37,8 @@ same_front (a ∷ front) x y = same_first a a (front ++ x) (front ++ y) refl ∙
 
 -- ---- characters
 
--- how many bytes it takes, those of three told apart by the surrogates, in the order of UTF-16
+-- how many bytes it takes in UTF-8, in the order of UTF-16; characters of three bytes are on both sides of the
+-- surrogates
 data Kind (c : ℕ) : Type 0 where
   one : c < 128 → Kind c
   two : 128 ≤ c → c < 2048 → Kind c
@@ -55,7 +56,7 @@ kind_of c is = at (nat_lt c 128) (nat_lt c 2048) (nat_lt c 65536) refl refl refl
     at false false true a b e (inr range) = high range.0 (grind (arith, nat_tests))
     at false false false a b e (inr range) = four (grind (arith, nat_tests)) range.1
 
--- the number that tells its place
+-- the number that gives its place in the order
 abbrev place : (c : ℕ) → Kind c → ℕ
 place c (one a) = c
 place c (two a b) = c

@@ -1,5 +1,5 @@
--- Values that are proper and not too deep, of which the canonical text is read again: objects of listed
--- members, lists and objects that may be left out.
+-- Values that are proper and shallow enough for their canonical text to be read again: objects of listed members,
+-- optional lists and objects.
 use Rattle.std.proofs.Common.{◌≡◌, ◌∙◌, ℕ, ◌+◌, ◌≤◌, List, [], ◌∷◌, Option, Some, None, Less, Equal, Greater, refl, ap, arith}
 use Rattle.std.specs.Prelude.{IfSome}
 use Rattle.std.specs.List.{AllByRecursion}
@@ -18,15 +18,15 @@ use Rattle.st_plain.specs.Shapes.{json_in}
 use Rattle.st_plain.proofs.Back.{reads_back}
 use Rattle.st_plain.proofs.Order.{less_from_greater, name_total}
 
--- a proper value that nests at most so deep
+-- a proper value that nests at most this deep
 abbrev pub IsReadable : ℕ → Plain → Type 0
 IsReadable most p = IsProper p × (depth_of p ≤ most)
 
--- the same of what is there
+-- the same for an optional value
 abbrev pub IsReadableThere : ℕ → Option Plain → Type 0
 IsReadableThere most there = IfSome there (IsReadable most)
 
--- and of each value among members
+-- the same for each value among members
 abbrev pub MembersAreReadable : ℕ → Members → Type 0
 MembersAreReadable most ms = MembersAreProper ms × (members_depth ms ≤ most)
 
@@ -37,7 +37,7 @@ json_again p readable = ap result_ok (reads_back p readable.0 readable.1)
 pub deeper : (few many : ℕ) (p : Plain) → few ≤ many → IsReadable few p → IsReadable many p
 deeper few many p within readable = (readable.0, omega (arith, readable.1))
 
--- ---- members that are put
+-- ---- members put
 
 above_put : (below name : List ℕ) (p : Plain) (ms : Members) → name_cmp below name ≡ Less → AllAbove below ms → AllAbove below (put name p ms)
 above_put below name p no_members less above = (less, tt)
@@ -76,7 +76,7 @@ put_depth most name p (member n q ms) within others =
       | Greater ↦ omega (arith, put_depth most name p ms within later)
     ]
 
--- members that may be left out, each with a name in UTF-8
+-- optional members, each with a name in UTF-8
 abbrev pub PairsAreReadable : ℕ → List (List ℕ × Option Plain) → Type 0
 PairsAreReadable most pairs = AllByRecursion (λ pair. IsUtf8 pair.0 × IsReadableThere most pair.1) pairs
 
@@ -93,11 +93,11 @@ with_some_readable most [] ms all others = others
 with_some_readable most (pair ∷ pairs) ms all others =
     with_some_readable most pairs (put_some pair.0 pair.1 ms) all.1 (put_some_readable most pair.0 pair.1 ms all.0.0 all.0.1 others)
 
--- listed members are readable where each value is
+-- listed members are readable if each value is
 pub listed_readable : (most : ℕ) (pairs : List (List ℕ × Option Plain)) → PairsAreReadable most pairs → MembersAreReadable most (some_listed pairs)
 listed_readable most pairs all = with_some_readable most pairs no_members all (tt, omega arith)
 
--- ---- values that are made of others
+-- ---- values built from others
 
 pub object_readable : (most : ℕ) (ms : Members) → MembersAreReadable most ms → IsReadable (most + 1) (object ms)
 object_readable most ms all = (all.0, omega (arith, all.1))

@@ -1,4 +1,4 @@
--- Data that is read over its tokens, and its canonical text, which goes out an item at a time.
+-- Data that is read from its tokens, and its canonical text, written an item at a time.
 use Rattle.std.proofs.Common.{◌≡◌, ℕ, ℤ, zero, suc, ◌-◌, ◌<◌, ◌≤◌, List, [], ◌∷◌, ◌++◌, length, Bool, true, false, Option, Some, None, option_map}
 use Rattle.std.proofs.Common.{option_and_then, IfErr, Result, Ok, Err, refl, sym, ap, ap₂, ◌∙◌, subst, append_assoc}
 use Rattle.std.specs.Prelude.{ok_or}
@@ -31,7 +31,7 @@ use Rattle.st_plain.proofs.Texts.{IsUtf8-canonical}
 
 -- ---- a value
 
--- what was read, or nothing, as it is converted
+-- the value read, if any, after conversion
 array_read : (read : Option (json.Items × Tokens)) → converted of_json (parse_map json.array read) ≡ parse_map data'.array (converted of_items read)
 array_read None = refl
 array_read (Some p) = with_rest data'.array p.1 (of_items p.0)
@@ -174,7 +174,7 @@ item_refused p (suc n) ts ds going e =
 
 -- ---- the text of items
 
--- the plain values, where all are whole
+-- the plain values, if all are whole
 abbrev pub wholes : List Data → Option (List Plain)
 wholes [] = Some []
 wholes (d ∷ ds) = option_and_then (λ p. option_map (λ ps. p ∷ ps) (wholes ds)) (whole_value d)
@@ -194,7 +194,7 @@ whole_items_are [] = refl
 whole_items_are (d ∷ ds) =
     ap (λ rest. option_and_then (λ p. option_map (item p) rest) (whole_value d)) (whole_items_are ds) ∙ first_whole (whole_value d) (wholes ds)
 
--- one more behind the others
+-- one more after the others
 abbrev with_last : Option Plain → Option (List Plain) → Option (List Plain)
 with_last there rest = option_and_then (λ ps. option_map (λ p. ps ++ p ∷ []) there) rest
 
@@ -228,7 +228,7 @@ text_more b (q ∷ ps) p =
     ∙ sym (ap (λ text. comma b ++ text) (append_assoc (canonical q) (canonical_items true (items_of ps)) (comma true ++ canonical p)))
     ∙ sym (append_assoc (comma b) (canonical q ++ canonical_items true (items_of ps)) (comma true ++ canonical p))
 
--- These items are proper, and whether a comma stands before what comes next.
+-- These items are proper, and `c` says whether a comma precedes the next one.
 abbrev pub ItemsStand : Bool → List Plain → Type 0
 ItemsStand c ps = ItemsAreProper (items_of ps) × (c ≡ after false ps)
 
@@ -250,7 +250,7 @@ module _ (before out first last : List ℕ) (c : Bool) (one : first ≡ out ++ c
     ap₂ (λ x y. x ++ (comma c ++ y)) h.1 g.1 ∙ ap (λ d. items_text ps ++ (comma d ++ canonical p)) h.0.1 ∙ sym (text_more false ps p),
   )
 
-  -- where a comma and the next item went out
+  -- a comma and the next item were written
   pub items_written_more : (ds : List Data) (d : Data) → IsWritten (ItemsStand c) items_text (wholes ds) before out
       → IsWritten IsProper canonical (whole_value d) first last → IsWritten (ItemsStand true) items_text (wholes (ds ++ d ∷ [])) before last
   items_written_more ds d h g =
@@ -304,7 +304,7 @@ module _ (old : data'.Members) (p : Parse json.Json) where
       → converted (λ ms. of_members ms old) (members p n ts) ≡ Some (old, r)
   members_data_over n ts r enough e = ap (converted (λ ms. of_members ms old)) (members_end p n ts r enough e)
 
--- ---- a refusal that is handed on
+-- ---- a refusal that is passed on
 
 said_further : (X Y : Type 0) (refused : ReadRefused) → IsNoJson X refused → (X → Y) → IsNoJson Y refused
 said_further X Y NotJson h further = further h
@@ -317,7 +317,7 @@ handed_on {A} X Y result refused is h further = subst (λ (r : Result A ReadRefu
 
 -- ---- the whole text
 
--- what the value of a text and the tokens behind it are as data
+-- the data of a text: its value, if no tokens remain
 abbrev data_at_end : Option (json.Json × Tokens) → Option Data
 data_at_end there = option_and_then of_json (option_and_then (λ p. json.if_last p.0 p.1) there)
 
@@ -327,20 +327,20 @@ text_is_data bytes d utf8 e =
     let all = was_read of_json (value 127 (tokens bytes)) d [] e in
     json_of-utf8 bytes utf8 ∙ ap json_of_data (ap data_at_end all.is ∙ all.gives)
 
--- no number in it is not whole
+-- every number in it is whole
 pub text_is_whole : (bytes out : List ℕ) (there : Option Plain) → json_of bytes ≡ ok_or there NotWhole → IsWritten IsProper canonical there [] out
     → HasNoMark out → IsReadAgain out × (json_of bytes ≡ Ok (value_read (json_of out)))
 text_is_whole bytes out None read h none = absurd (h.2 (subst HasNoMark h.1 none))
 text_is_whole bytes out (Some p) read h none = read_again bytes out p h.2.0 read (h.1 ∙ h.2.1)
 
--- one is
+-- a number is not whole
 pub text_is_not_whole : (bytes out : List ℕ) (there : Option Plain) → json_of bytes ≡ ok_or there NotWhole → IsWritten IsProper canonical there [] out
     → (HasNoMark out → ⊥) → json_of bytes ≡ Err NotWhole
 text_is_not_whole bytes out None read h some = read
 text_is_not_whole bytes out (Some p) read h some =
     absurd (some (subst HasNoMark (sym (h.1 ∙ h.2.1)) (no_mark (canonical p) (IsUtf8-canonical p h.2.0))))
 
--- what comes next, where no number in it is not whole
+-- the next value, if every number in it is whole
 pub is_next : (depth : ℕ) (old new : Tokens) (before behind : List ℕ) (next : IsRespelled depth old new before behind) → HasNoMark behind
     → IsNext depth old new before behind
 is_next depth old new before behind next none =

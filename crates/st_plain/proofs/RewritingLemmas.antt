@@ -1,4 +1,4 @@
--- Canonical text that goes out an item or a member at a time, each behind those before it.
+-- Canonical text that is written an item or a member at a time, each after those before it.
 use Rattle.std.proofs.Common.{◌≡◌, ℕ, List, [], ◌∷◌, ◌++◌, Bool, true, false, Option, Some, None, option_map, Less, IfSome, refl, ap, ◌∙◌}
 use Rattle.std.proofs.lemmas.List.{append_assoc}
 use Rattle.std.specs.List.{AllByRecursion}
@@ -7,7 +7,7 @@ use Rattle.st_plain.specs.InOrder.{placed}
 use Rattle.st_plain.specs.Names.{name_cmp}
 use Rattle.st_plain.proofs.Order.{greater_from_less, name_total}
 
--- whether a comma stands before what comes behind these, where one stands before the first of them
+-- whether a comma precedes the element after these, if one precedes the first of them
 abbrev pub after : {X : Type 0} → Bool → List X → Bool
 after b [] = b
 after b (x ∷ xs) = true
@@ -37,7 +37,7 @@ in_brackets before inside one two three left right first second third =
 abbrev pub AreBelow : {X : Type 0} → List ℕ → List (List ℕ × X) → Type 0
 AreBelow k pairs = AllByRecursion (λ n. name_cmp n k ≡ Less) (keys_of pairs)
 
--- what is above the last name, where there is one, is above all
+-- a name above the last one, if any, is above all
 abbrev pub IsLast : {X : Type 0} → Option (List ℕ) → List (List ℕ × X) → Type 0
 IsLast last pairs = (k : List ℕ) → IfSome last (λ name. name_cmp name k ≡ Less) → AreBelow k pairs
 

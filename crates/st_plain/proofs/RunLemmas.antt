@@ -1,4 +1,4 @@
--- Bytes of a text that are written as they are.
+-- Bytes of a text that need no escape.
 use Rattle.std.proofs.Common.{◌≡◌, ℕ, inl, inr, ◌≤◌, List, ◌++◌, true, length, take, drop, sym, ap, ◌∙◌, arith, get_or-take}
 use Rattle.std.specs.List.{flat_map}
 use Rattle.std.proofs.lemmas.Bool.{cases_lt}
@@ -10,7 +10,7 @@ use Rattle.json.proofs.Printed.Plain.{escape_on_plain}
 use Rattle.st_plain.specs.Canonical.{escape}
 use Rattle.st_plain.proofs.Compact.{same_escapes}
 
--- a front without a byte that is escaped
+-- a prefix without an escaped byte
 pub plain_front : (xs : List ℕ) (n : ℕ) → n ≤ length xs → PlainBetween xs 0 n → flat_map escape (take n xs) ≡ take n xs
 plain_front xs n within plain =
     let long = length-take-le n xs within in
@@ -18,7 +18,7 @@ plain_front xs n within plain =
     ∙ plain k low (omega (arith, long)) in
     same_escapes (take n xs) ∙ escape_on_plain true (take n xs) front
 
--- the front as it is, and the rest escaped
+-- the prefix unchanged, and the rest escaped
 pub run_first : (xs : List ℕ) (n : ℕ) → n ≤ length xs → PlainBetween xs 0 n
     → flat_map escape xs ≡ take n xs ++ flat_map escape (drop n xs)
 run_first xs n within plain =

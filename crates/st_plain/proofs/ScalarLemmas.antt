@@ -1,4 +1,4 @@
--- Numbers and words end before what may stand behind a value, and have no mark in them.
+-- Numbers and literals end before a byte that may follow a value, and contain no mark.
 use Rattle.std.proofs.Common.{◌≡◌, ◌∙◌, ℕ, suc, ◌+◌, ◌<◌, ◌≤◌, ◌/◌, ◌%◌, ◌^◌, Bool, true, false, not, List, [], ◌∷◌, ◌++◌, length, codes, refl, arith}
 use Rattle.std.proofs.Common.{length-append}
 use Rattle.std.specs.Prelude.{ℤ, pos, negsuc, ◌&&◌, ◌==◌}
@@ -12,11 +12,11 @@ use Rattle.std.proofs.lemmas.List.Folds.{list_all-append}
 use Rattle.st_plain.specs.Plain.{IsWhole}
 use Rattle.st_plain.specs.Walk.{outside, opens, closes, follows, can_follow, behind_brackets, behind_scalar, behind_value}
 
--- neither a mark nor what may stand behind a value
+-- neither a mark nor a byte that may follow a value
 abbrev pub is_inner : ℕ → Bool
 is_inner b = not (b == 34) && (not (opens b) && not (follows b))
 
--- something, of inner bytes alone
+-- some bytes, all inner
 pub record IsScalar (bytes : List ℕ) : Type 0 where
   pub inner : list_all is_inner bytes ≡ true
   pub some : 0 < length bytes
@@ -55,7 +55,7 @@ scalar_whole (negsuc n) whole =
     let digits = scalar_decimal (suc n) (omega (arith, ints, whole.0)) in
     record { inner = both_true _ _ (is_inner-digit 45 (omega arith) (omega arith)) digits.inner; some = omega arith }
 
--- ---- words
+-- ---- literals
 
 pub scalar_null : IsScalar (codes "null")
 scalar_null = record { inner = refl; some = omega arith }
@@ -105,7 +105,7 @@ behind_value-scalar (b ∷ bytes) rest scalar follow =
     let parts = and_parts (is_inner b) (list_all is_inner bytes) scalar.inner in
     rw (not_quote b parts.0, not_opens b parts.0) (behind_inner (b ∷ bytes) rest scalar.inner follow)
 
--- among brackets nothing of them counts
+-- among brackets inner bytes do not count
 brackets_inner : (depth : ℕ) (bytes rest : List ℕ) → list_all is_inner bytes ≡ true
     → behind_brackets depth outside (bytes ++ rest) ≡ behind_brackets depth outside rest
 unfolding behind_brackets

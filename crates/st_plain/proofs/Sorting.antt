@@ -1,4 +1,4 @@
--- Pairs in the order of their names: there is one such list, so a stable sort gives it.
+-- Pairs in the order of their names: there is one such list, so a stable sort yields it.
 use Rattle.std.proofs.Common.{◌≡◌, ℕ, suc, ◌+◌, ◌<◌, Bool, true, false, not, cond, List, [], ◌∷◌, length, get_or, Ordering, Less, Equal, Greater}
 use Rattle.std.proofs.Common.{is_eq, refl, sym, ap, ◌∙◌, subst, arith}
 use Rattle.std.specs.Prelude.{◌&&◌}
@@ -35,12 +35,12 @@ pub all_above_tied : (x y : List ℕ) → name_cmp x y ≡ Equal → (ks : List 
 all_above_tied x y tied [] all = tt
 all_above_tied x y tied (k ∷ ks) all = (name_total.congr x y k tied ∙ all.0, all_above_tied x y tied ks all.1)
 
--- ---- what a sort gives
+-- ---- the result of a sort
 module _ {A : Type 0} (lt : A → A → Bool) where
   abbrev pub NoneBelow : A → List A → Type 0
   NoneBelow y = AllByRecursion (λ z. lt z y ≡ false)
 
-  -- nothing is below what stands before it
+  -- nothing is below an element before it
   abbrev pub NeverFall : List A → Type 0
   NeverFall [] = Unit {0}
   NeverFall (y ∷ ys) = NoneBelow y ys × NeverFall ys
@@ -61,9 +61,9 @@ module _ {A : Type 0} (lt : A → A → Bool) where
     never_fall order ys (rest_sorted y ys sorted),
   )
 
--- ---- things that have names
+-- ---- things with names
 module _ {A : Type 0} (name : A → List ℕ) where
-  -- it is named below the other
+  -- its name is below the other's
   abbrev pub below : A → A → Bool
   below x y = is_lt (name_cmp (name x) (name y))
 
@@ -80,7 +80,7 @@ module _ {X : Type 0} where
   abbrev pub name_of : List ℕ × X → List ℕ
   name_of pair = pair.0
 
-  -- the pair is named below the other
+  -- the pair's name is below the other's
   abbrev pub named_below : List ℕ × X → List ℕ × X → Bool
   named_below p q = is_lt (name_cmp p.0 q.0)
 
@@ -153,7 +153,7 @@ module _ {X : Type 0} where
       filter_placed x e (in_order es) (all_in_order (λ n. name_cmp e.0 n ≡ Equal → ⊥) es differ.0)
       ∙ ap (λ l. cond (tie x e) (e ∷ l) l) (filter_in_order x es differ.1)
 
-  -- ---- only one list has given ties, and ascends
+  -- ---- only one ascending list has given ties
   first_ties : (y : List ℕ × X) (ys : List (List ℕ × X)) → filter (tie y) (y ∷ ys) ≡ y ∷ filter (tie y) ys
   first_ties y ys = rw (tied_itself name_total y.0) refl
 
@@ -207,7 +207,7 @@ module _ {X : Type 0} where
         cc
   ] refl
 
-  -- ---- what a stable sort gives
+  -- ---- the result of a stable sort
   pub in_order_from_sort : (es ys : List (List ℕ × X)) → NamesDiffer es → IsSortedBy named_below ys
       → IsStableBy named_below es ys → ys ≡ in_order es
   in_order_from_sort es ys differ sorted stable =

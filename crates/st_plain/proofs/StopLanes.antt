@@ -1,4 +1,4 @@
--- Bytes of a text that are looked at in one step, for those that are escaped.
+-- Bytes of a text that are searched in one step for bytes to escape.
 use Rattle.std.proofs.Common.{◌≡◌, ◌∙◌, ℕ, ◌+◌, ◌%◌, ◌^◌, ◌≤◌, Bool, true, false, not, cond, List, [], ◌∷◌, length, map, replicate, bit_or, refl, ap, arith}
 use Rattle.std.specs.List.{prefix_len}
 use Rattle.std.specs.Prelude.{◌==◌, ◌||◌, nat_lt}
@@ -36,11 +36,11 @@ lanes_stop step n long few =
     ∙ ap (λ them. mask_l them % 2 ^ 64) (each step)
     ∙ mask_l-mod (map is_stop step) 64 (omega (arith, length-map step is_stop, long, few))
 
--- where no bit is set, all of a step is plain
+-- if no bit is set, no byte of the step is escaped
 pub all_plain : (bytes : List ℕ) (at n : ℕ) → at + n ≤ length bytes → mask_l (map is_stop (chunk at n bytes)) ≡ 0 → PlainBetween bytes at (at + n)
 all_plain bytes at n room none = λ k low high. ap not (none_from_empty_mask is_stop bytes at n 0 room none k low high)
 
--- else what stands before the first that is set
+-- else the bytes before the first set bit
 pub first_plain : (bytes : List ℕ) (at n run : ℕ) → at + n ≤ length bytes → run ≡ prefix_len (λ x. not (is_stop x)) (chunk at n bytes)
     → PlainBetween bytes at (at + run)
 first_plain bytes at n run room counted = λ k low high. ap not (run_in_chunk_fails is_stop bytes at n run 0 room counted k low high)

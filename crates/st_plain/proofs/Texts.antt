@@ -22,7 +22,7 @@ utf8_whole : (z : ℤ) → IsWhole z → IsUtf8 (signed_decimal z)
 utf8_whole (pos n) h = IsUtf8-from_ascii _ (IsAscii-signed (pos n) (omega (arith, ints, h.1)))
 utf8_whole (negsuc n) h = IsUtf8-from_ascii _ (IsAscii-signed (negsuc n) (omega (arith, ints, h.0)))
 
--- one ASCII byte before and one behind
+-- one ASCII byte before and one after
 between : (a b : ℕ) (t : List ℕ) → IsUtf8 (a ∷ []) → IsUtf8 (b ∷ []) → IsUtf8 t → IsUtf8 (a ∷ (t ++ b ∷ []))
 between a b t u v h = IsUtf8-append (a ∷ []) (t ++ b ∷ []) u (IsUtf8-append t (b ∷ []) h v)
 

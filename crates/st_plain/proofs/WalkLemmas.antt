@@ -1,4 +1,4 @@
--- A walk over the canonical text of a value passes exactly that.
+-- A walk over the canonical text of a value passes exactly that text.
 use Rattle.std.proofs.Common.{◌≡◌, ◌∙◌, ℕ, ◌+◌, ◌-◌, Bool, true, false, not, cond, List, [], ◌∷◌, ◌++◌, length, take, refl, ap, arith, append_assoc}
 use Rattle.std.proofs.Common.{length-append}
 use Rattle.std.proofs.Math.Seq.{take-append_seam}
@@ -13,7 +13,7 @@ use Rattle.st_plain.proofs.ScalarLemmas.{scalar_null, scalar_true, scalar_false,
 
 -- ---- texts
 
--- what a byte of a text is written as: itself, two bytes, or six
+-- how a text writes a byte: as itself, two bytes, or six
 pub data IsEscape : ℕ → List ℕ → Type 0 where
   bare : (b : ℕ) → (b == 34) ≡ false → (b == 92) ≡ false → IsEscape b (b ∷ [])
   short : (b c : ℕ) → IsEscape b (92 ∷ c ∷ [])
@@ -52,7 +52,7 @@ behind_text-text (b ∷ t) rest =
     ∙ past_escape b (escape b) (flat_map escape t ++ 34 ∷ rest) (escape_is b)
     ∙ behind_text-text t rest
 
--- among brackets a text is passed as by itself
+-- among brackets a text is skipped as by itself
 pub brackets_behind_text : (depth : ℕ) (escaped : Bool) (bytes : List ℕ)
     → behind_brackets depth (in_text escaped) bytes ≡ behind_brackets depth outside (behind_text escaped bytes)
 unfolding behind_brackets behind_text
@@ -64,7 +64,7 @@ brackets_behind_text depth escaped (b ∷ bs) =
 
 -- ---- among brackets
 
--- a walk among brackets passes it, however deep, and is as deep behind it
+-- a walk among brackets passes it at any depth, and has the same depth after it
 abbrev IsPassed : List ℕ → Type 0
 IsPassed bytes = (depth : ℕ) (rest : List ℕ) → behind_brackets depth outside (bytes ++ rest) ≡ behind_brackets depth outside rest
 
@@ -149,7 +149,7 @@ behind_value-canonical (text t) rest proper follow =
 behind_value-canonical (list ps) rest proper follow = closed_list (canonical_items false ps) rest (passed_items false ps proper)
 behind_value-canonical (object ms) rest proper follow = closed_object (canonical_members false ms) rest (passed_members false ms proper)
 
--- what stands before the rest of a text that was found
+-- the text before a rest that was found
 pub cut_before : (all front rest found : List ℕ) → all ≡ front ++ rest → found ≡ rest → take (length all - length found) all ≡ front
 cut_before all front rest found parts same =
     let size : length all - length found ≡ length front = omega (arith, ap length parts, ap length same, length-append front rest) in

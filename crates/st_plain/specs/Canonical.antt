@@ -1,4 +1,4 @@
--- The canonical text of a plain value (RFC 8785), as bytes in UTF-8.
+-- The canonical text of a value (RFC 8785), in UTF-8.
 use Rattle.std.specs.Prelude.{ℕ, ◌+◌, ◌/◌, ◌%◌, List, [], ◌∷◌, ◌++◌, Bool, true, false, ◌==◌, nat_lt, if◌then◌else◌, codes}
 use Rattle.std.specs.Fmt.{signed_decimal}
 use Rattle.std.specs.List.{flat_map}
@@ -20,17 +20,17 @@ escape b = if b == 34 then codes "\\\"" else
     if nat_lt b 32 then codes "\\u00" ++ hex_digit (b / 16) ∷ hex_digit (b % 16) ∷ [] else
     b ∷ []
 
--- a text as JSON writes it, between quotation marks (RFC 8785, section 3.2.2.2)
+-- a string in JSON, between quotation marks (RFC 8785, section 3.2.2.2)
 abbrev pub quoted : List ℕ → List ℕ
 quoted t = 34 ∷ (flat_map escape t ++ 34 ∷ [])
 
--- a comma, where something stands before
+-- a comma, if something precedes
 abbrev pub comma : Bool → List ℕ
 comma false = []
 comma true = 44 ∷ []
 
--- No white space (section 3.2.1), whole numbers in decimal (section 3.2.2.3); the members of a
--- value stand in their order already (section 3.2.3).
+-- No white space (section 3.2.1), whole numbers in decimal (section 3.2.2.3); the members of a value are already in
+-- order (section 3.2.3).
 abbrev mutual
   pub canonical : Plain → List ℕ
   canonical null = codes "null"

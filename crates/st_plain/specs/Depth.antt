@@ -1,4 +1,4 @@
--- How deep a plain value nests: a scalar and what is empty have depth 1.
+-- How deep a plain value nests: a scalar, an empty list and an empty object have depth 1.
 use Rattle.std.specs.Prelude.{ℕ, ◌+◌, max, List}
 use Rattle.std.specs.List.{count_by}
 use Rattle.st_plain.specs.Plain.{Plain, null, boolean, whole, text, list, object, Items, no_items, item, Members, no_members, member}
@@ -21,7 +21,7 @@ abbrev mutual
   members_depth no_members = 0
   members_depth (member k p ms) = max (depth_of p) (members_depth ms)
 
--- How many lists and objects stand in one another in a plain value: none in a scalar.
+-- How many levels of lists and objects a plain value has: a scalar has none.
 abbrev mutual
   pub nests : Plain → ℕ
   nests null = 0
@@ -41,6 +41,6 @@ abbrev mutual
 
 -- ---- a bound by the text alone
 
--- how many brackets and braces that open stand in a text, those within its texts among them
+-- how many opening brackets and braces a text has, those inside its strings included
 abbrev pub opening_count : List ℕ → ℕ
 opening_count bytes = count_by opens bytes

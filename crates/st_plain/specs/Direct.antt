@@ -1,5 +1,4 @@
--- What the tokens of a text are as JSON with whole numbers: the data that `serde_json` makes of them, where
--- that is whole.
+-- The tokens of a text as JSON with whole numbers: the data that `serde_json` makes of them, if that is whole.
 use Rattle.std.specs.Prelude.{Option, option_and_then}
 use Rattle.json.specs.Json as json
 use Rattle.serde_json.specs.Read.{of_json, of_items}

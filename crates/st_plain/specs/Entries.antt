@@ -1,4 +1,4 @@
--- What stands inside a plain value.
+-- The parts of a plain value.
 use Rattle.std.specs.Prelude.{ℕ, List, [], ◌∷◌, Option, Some, None, option_map}
 use Rattle.st_plain.specs.Plain.{Plain, text, list, object, Items, no_items, item, Members, no_members, member}
 

@@ -1,4 +1,4 @@
--- A canonical text (RFC 8785) that stands in front of other text.
+-- A canonical text (RFC 8785) at the front of other text.
 use Rattle.std.specs.Prelude.{◌≡◌, ℕ, ◌≤◌, ◌<◌, List, ◌∷◌, ◌++◌, drop, false}
 use Rattle.std.specs.Str.{IsUtf8}
 use Rattle.st_plain.specs.Canonical.{canonical, canonical_items, canonical_members, escape, quoted}
@@ -7,7 +7,7 @@ use Rattle.st_plain.specs.Held.{name_in}
 use Rattle.st_plain.specs.Plain.{Plain, Items, Members}
 use Rattle.st_plain.specs.Proper.{IsProper, ItemsAreProper, MembersAreProper}
 
--- Lists and objects nest `depth` deep at most. The text is this, and what stands behind the value is the rest.
+-- Lists and objects nest at most `depth` deep. `text` is the whole, and `rest` what follows the value.
 module _ (depth : ℕ) (text rest : List ℕ) where
   -- a value
   pub record IsInFront : Type 0 where
@@ -42,6 +42,6 @@ pub record IsTextInFront (text rest : List ℕ) : Type 0 where
   pub utf8 : IsUtf8 word
   pub spelled : text ≡ quoted word ++ rest
 
--- the text that stands in front, behind its quotation mark
+-- the name of the first string, escaped in the text
 abbrev pub name_of : List ℕ → List ℕ
 name_of text = name_in (drop 1 text)

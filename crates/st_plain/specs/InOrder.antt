@@ -1,4 +1,4 @@
--- Pairs of a name and a value, brought into the order of their names.
+-- Pairs of a name and a value, sorted by name.
 use Rattle.std.specs.Prelude.{◌≡◌, ℕ, List, [], ◌∷◌, ⊤, Bool, false, if◌then◌else◌, Option, Some, None}
 use Rattle.std.specs.List.{AllByRecursion}
 use Rattle.std.specs.Map.{keys_of}
@@ -6,23 +6,22 @@ use Rattle.std.specs.Ordering.{is_eq, match_ordering}
 use Rattle.std.specs.declared.cmp.Ordering.TheVariants.{Equal}
 use Rattle.st_plain.specs.Names.{name_cmp}
 
--- the pairs with this one, where the order of names puts it
+-- the pairs with this one, at its place in the order of names
 abbrev pub placed : {X : Type 0} → List ℕ × X → List (List ℕ × X) → List (List ℕ × X)
 placed pair [] = pair ∷ []
 placed pair (e ∷ es) = match_ordering (name_cmp pair.0 e.0) (pair ∷ e ∷ es) (pair ∷ es) (e ∷ placed pair es)
 
--- the pairs in the order of their names; of several with one name, the first alone
+-- the pairs in the order of their names; only the first of several with one name
 abbrev pub in_order : {X : Type 0} → List (List ℕ × X) → List (List ℕ × X)
 in_order [] = []
 in_order (e ∷ es) = placed e (in_order es)
 
--- whether a name ties with the one that went out last, where one did
+-- whether a name ties with the previous one, if any
 abbrev pub is_same : Option (List ℕ) → List ℕ → Bool
 is_same None name = false
 is_same (Some last) name = is_eq (name_cmp last name)
 
--- Of pairs with one name that stand behind one another, the first alone. None is left of those that tie with the
--- name that went out last.
+-- The first alone of adjacent pairs with one name. Pairs that tie with the previous name are dropped.
 abbrev pub firsts : {X : Type 0} → Option (List ℕ) → List (List ℕ × X) → List (List ℕ × X)
 firsts last [] = []
 firsts last (e ∷ es) = if is_same last e.0 then firsts last es else e ∷ firsts (Some e.0) es
@@ -40,6 +39,6 @@ abbrev pub AreApart : List (List ℕ) → Type 0
 AreApart [] = ⊤
 AreApart (name ∷ names) = IsNew name names × AreApart names
 
--- no name comes twice
+-- all names differ
 abbrev pub NamesDiffer : {X : Type 0} → List (List ℕ × X) → Type 0
 NamesDiffer pairs = AreApart (keys_of pairs)

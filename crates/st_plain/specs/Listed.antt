@@ -1,18 +1,18 @@
--- The text of an object whose members were listed, in the order of their names.
+-- The text of an object that is given by a list of members, sorted by name.
 use Rattle.std.specs.Prelude.{ℕ, Bool, true, false, ◌&&◌, ◌||◌, List, [], ◌∷◌, ◌++◌, Option, Some, None, is_some}
 use Rattle.std.specs.Ordering.{match_ordering}
 use Rattle.st_plain.specs.Canonical.{canonical, comma, quoted}
 use Rattle.st_plain.specs.Names.{name_cmp}
 use Rattle.st_plain.specs.Plain.{Plain, Members, no_members, member}
 
--- the canonical text of what stands there between these texts, and nothing where there is nothing
+-- the canonical text of a value between these texts; empty if there is no value
 abbrev pub text_there : List ℕ → Option Plain → List ℕ → List ℕ
 text_there front None back = []
 text_there front (Some value) back = front ++ (canonical value ++ back)
 
 -- ---- members in the order of their names
 
--- a member, where it has a value, before others
+-- a member, if it has a value, before others
 abbrev pub some_first : List ℕ → Option Plain → Members → Members
 some_first name None others = others
 some_first name (Some value) others = member name value others
@@ -22,7 +22,7 @@ abbrev pub members_some : List (List ℕ × Option Plain) → Members
 members_some [] = no_members
 members_some (pair ∷ pairs) = some_first pair.0 pair.1 (members_some pairs)
 
--- the pairs with this one, where the order of names puts it
+-- the pairs with this one, at its place in the order of names
 abbrev pub inserted : List ℕ → Option Plain → List (List ℕ × Option Plain) → List (List ℕ × Option Plain)
 inserted name value [] = (name, value) ∷ []
 inserted name value (pair ∷ pairs) =
@@ -38,7 +38,7 @@ abbrev pub is_below : List ℕ → List (List ℕ × Option Plain) → Bool
 is_below name [] = true
 is_below name (pair ∷ pairs) = match_ordering (name_cmp name pair.0) (is_below name pairs) false false
 
--- the name is none of these, and those from the first above it on are all above it
+-- the name is none of these, and all from the first above it on are above it
 abbrev pub fits : List ℕ → List (List ℕ × Option Plain) → Bool
 fits name [] = true
 fits name (pair ∷ pairs) = match_ordering (name_cmp name pair.0) (is_below name pairs) false (fits name pairs)
@@ -53,22 +53,22 @@ all_fit (pair ∷ pairs) others = fits pair.0 others && all_fit pairs (inserted 
 abbrev pub name_text : List ℕ → List ℕ
 name_text name = quoted name ++ 58 ∷ []
 
--- the text of a member that may be left out, behind a comma where one is due
+-- the text of an optional member, after a comma if one is due
 abbrev pub member_text : Bool → List ℕ → Option Plain → List ℕ
 member_text due name None = []
 member_text due name (Some value) = comma due ++ (name_text name ++ canonical value)
 
--- such members one after another
+-- the same for members one after another
 abbrev pub members_text : Bool → List (List ℕ × Option Plain) → List ℕ
 members_text due [] = []
 members_text due (pair ∷ pairs) = member_text due pair.0 pair.1 ++ members_text (due || is_some pair.1) pairs
 
--- members that stand before another that is always there: a comma behind each
+-- members before one that is always there: a comma after each
 abbrev pub texts_before : List (List ℕ × Option Plain) → List ℕ → List ℕ
 texts_before [] rest = rest
 texts_before (pair ∷ pairs) rest = text_there (name_text pair.0) pair.1 (44 ∷ []) ++ texts_before pairs rest
 
--- members that stand behind another that is always there: a comma before each
+-- members after one that is always there: a comma before each
 abbrev pub texts_behind : List (List ℕ × Option Plain) → List ℕ → List ℕ
 texts_behind [] rest = rest
 texts_behind (pair ∷ pairs) rest = text_there (44 ∷ name_text pair.0) pair.1 [] ++ texts_behind pairs rest

@@ -8,7 +8,7 @@ use Rattle.st_plain.specs.Plain.{Plain}
 abbrev pub size_of : Plain → ℕ
 size_of p = length (canonical p)
 
--- the value nests no deeper than this, and its canonical text is no longer than that
+-- the value nests at most this deep, and its canonical text is at most this long
 abbrev pub fits : ℕ → ℕ → Plain → Bool
 fits max_depth max_size p = nat_le (depth_of p) max_depth && nat_le (size_of p) max_size
 
@@ -18,14 +18,14 @@ is_equal p q = bytes_eq (canonical p) (canonical q)
 
 -- ---- counting
 
--- the number, or the greatest that 64 bits hold
+-- the number, or the largest that 64 bits hold
 abbrev pub saturated : ℕ → ℕ
 saturated n = min n (2 ^ 64 - 1)
 
--- what is left of the room for a text, where so many bytes go into it
+-- the room that remains after so many bytes of text
 abbrev pub less : ℕ → ℕ → Option ℕ
 less room size = if nat_le size room then Some (room - size) else None
 
--- the same, where what is written nests no deeper than it may
+-- the same, if the text nests no deeper than allowed
 abbrev pub room_after : ℕ → ℕ → ℕ → ℕ → Option ℕ
 room_after max_depth room depth size = if nat_le depth max_depth then less room size else None

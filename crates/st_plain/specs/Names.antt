@@ -13,7 +13,7 @@ use Rattle.std.specs.declared.cmp.Ordering.{Ordering}
 abbrev pub utf16_units : List ℕ → List ℕ
 utf16_units text = flat_map encode_utf16 (chars text)
 
--- Two names, compared code unit by code unit, a proper prefix first.
+-- Two names, compared code unit by code unit, a proper prefix is less.
 abbrev pub name_cmp : List ℕ → List ℕ → Ordering
 name_cmp first second = slice_cmp nat_cmp (utf16_units first) (utf16_units second)
 

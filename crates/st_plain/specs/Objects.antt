@@ -1,4 +1,4 @@
--- Objects, said by the list of their members in the order in which a person lists them.
+-- Objects, given by a list of members in any order.
 use Rattle.std.specs.Prelude.{ℕ, Bool, true, false, if◌then◌else◌, List, [], ◌∷◌, Option, Some, None}
 use Rattle.st_plain.specs.Entries.{items_of}
 use Rattle.st_plain.specs.Find.{put}
@@ -6,12 +6,12 @@ use Rattle.st_plain.specs.Plain.{Plain, list, object, Members, no_members, membe
 
 -- ---- members that are all there
 
--- these members, put one after another among the others
+-- the members with these put among them, one after another
 abbrev pub with_members : List (List ℕ × Plain) → Members → Members
 with_members [] others = others
 with_members (pair ∷ pairs) others = with_members pairs (put pair.0 pair.1 others)
 
--- these members, each where the order of names has it; of a name that is listed twice, the last
+-- these members, in the order of names; the last of several with one name
 abbrev pub members_listed : List (List ℕ × Plain) → Members
 members_listed pairs = with_members pairs no_members
 
@@ -19,9 +19,9 @@ members_listed pairs = with_members pairs no_members
 abbrev pub object_of : List (List ℕ × Plain) → Plain
 object_of pairs = object (members_listed pairs)
 
--- ---- members that may be left out
+-- ---- optional members
 
--- the members with this one, where there is a value for it
+-- the members with this one, if it has a value
 unfoldable pub put_some : List ℕ → Option Plain → Members → Members
 put_some name None others = others
 put_some name (Some value) others = put name value others
@@ -39,7 +39,7 @@ some_listed pairs = with_some pairs no_members
 abbrev pub object_of_some : List (List ℕ × Option Plain) → Plain
 object_of_some pairs = object (some_listed pairs)
 
--- a list, but for an empty one, which is left out
+-- a list, or nothing if it is empty
 unfoldable pub some_list : List Plain → Option Plain
 some_list [] = None
 some_list (entry ∷ entries) = Some (list (items_of (entry ∷ entries)))
@@ -49,6 +49,6 @@ abbrev pub is_empty : Members → Bool
 is_empty no_members = true
 is_empty (member name value others) = false
 
--- an object, but for an empty one
+-- an object, or nothing if it is empty
 unfoldable pub some_object : Members → Option Plain
 some_object members = if is_empty members then None else Some (object members)

@@ -1,8 +1,7 @@
--- What a JSON value with whole numbers is (RFC 8259, section 3). A text and a name are their bytes
--- in UTF-8.
+-- A JSON value with whole numbers (RFC 8259, section 3). Texts and names are lists of their bytes in UTF-8.
 use Rattle.std.specs.Prelude.{ℕ, ℤ, pos, negsuc, ◌≤ℤ◌, Bool, List}
 
--- from -(2^53 - 1) to 2^53 - 1, which every reader keeps (RFC 7493, section 2.2)
+-- from -(2^53 - 1) to 2^53 - 1, which every reader represents (RFC 7493, section 2.2)
 abbrev pub IsWhole : ℤ → Type 0
 IsWhole z = (negsuc 9007199254740990 ≤ℤ z) × (z ≤ℤ pos 9007199254740991)
 

@@ -1,4 +1,4 @@
--- How the logic stores plain JSON values: as trees of numbers, different ones differently.
+-- How the logic stores plain JSON values: as trees of numbers, a different one for each value.
 use Rattle.std.specs.Prelude.{◌≡◌, ℕ, List, refl}
 use Rattle.std.specs.Coded.{Coded, coded_bool, coded_list, coded_ℕ, coded_ℤ}
 use Rattle.std.proofs.Common.{ap}
@@ -9,7 +9,7 @@ use Rattle.st_plain.specs.Plain.{Plain, null, boolean, whole, text, list, object
 abbrev pub coded_bytes : Coded (List ℕ)
 coded_bytes = coded_list coded_ℕ
 
--- a value by its kind, and what that holds
+-- a value by its kind and content
 abbrev mutual
   code_plain : Plain → Gv
   code_plain null = gnil

@@ -1,5 +1,5 @@
--- What holds of each plain value that a `Json` stands for: its texts are UTF-8, its numbers whole,
--- and at each level the names ascend.
+-- What holds of each plain value that a `Json` represents: its texts are UTF-8, its numbers whole, and at each level
+-- the names ascend.
 use Rattle.std.specs.Prelude.{◌≡◌, ℕ, List, ⊤}
 use Rattle.std.specs.Str.{IsUtf8}
 use Rattle.std.specs.declared.cmp.Ordering.TheVariants.{Less}

@@ -1,4 +1,4 @@
--- The canonical text of a value, which is read as this value again.
+-- The canonical text of a value, which is read as that value again.
 use Rattle.std.specs.Prelude.{◌≡◌, ℕ, List, Result, Ok, Err}
 use Rattle.st_plain.specs.Canonical.{canonical}
 use Rattle.st_plain.specs.Plain.{Plain, null}
@@ -11,7 +11,7 @@ abbrev pub value_read : Result Plain ReadRefused → Plain
 value_read (Ok value) = value
 value_read (Err refusal) = null
 
--- the text is the canonical text of a proper value, and is read as that
+-- the text is the canonical text of a proper value, and is read as that value
 abbrev pub IsReadAgain : List ℕ → Type 0
 IsReadAgain text =
     IsProper (value_read (json_of text))

@@ -1,4 +1,4 @@
--- What bytes are as JSON with whole numbers.
+-- Bytes as JSON with whole numbers.
 use Rattle.std.specs.Prelude.{ℕ, ℤ, pos, negsuc, List, if◌then◌else◌, nat_le, Option, Some, None, ok_or, Result, Err, IfSome, ◌≡◌, option_map, option_and_then}
 use Rattle.std.specs.Str.{is_utf8}
 use Rattle.serde_json.specs.Data as data'
@@ -13,13 +13,13 @@ abbrev pub whole_integer : ℤ → Option ℤ
 whole_integer (pos n) = if nat_le n 9007199254740991 then Some (pos n) else None
 whole_integer (negsuc n) = if nat_le n 9007199254740990 then Some (negsuc n) else None
 
--- a number that `serde_json` read as an integer of 64 bits, and not as a float
+-- a number that `serde_json` read as an integer of 64 bits, not as a float
 abbrev pub whole_number : data'.Num → Option ℤ
 whole_number (data'.unsigned n) = whole_integer (pos n)
 whole_number (data'.negative z) = whole_integer z
 whole_number (data'.float x) = None
 
--- The value, where it has no float; each member is put where the order of names has it.
+-- The value, if it has no float; each member is at its place in the order of names.
 abbrev mutual
   pub whole_value : data'.Data → Option Plain
   whole_value data'.null = Some null
@@ -41,21 +41,21 @@ abbrev mutual
 abbrev pub data_of_bytes : List ℕ → Option data'.Data
 data_of_bytes bytes = if is_utf8 bytes then read bytes else None
 
--- the same of what was read, or was not
+-- the same for the outcome of reading
 abbrev pub json_of_data : Option data'.Data → Result Plain ReadRefused
 json_of_data None = Err NotJson
 json_of_data (Some value) = ok_or (whole_value value) NotWhole
 
--- The JSON value with whole numbers that the bytes are, where they are JSON and each number is whole.
+-- The JSON value with whole numbers that the bytes are, if they are JSON and each number is whole.
 abbrev pub json_of : List ℕ → Result Plain ReadRefused
 json_of bytes = json_of_data (data_of_bytes bytes)
 
--- what a refusal says of the bytes: nothing, where memory was wanting
+-- what a refusal says about the bytes: nothing, if memory ran out
 abbrev pub refusal_of : ReadRefused → Option ReadRefused
 refusal_of NotJson = Some NotJson
 refusal_of NotWhole = Some NotWhole
 refusal_of WantOfMemory = None
 
--- A refusal of the bytes is what is said of them, unless memory was wanting.
+-- A refusal is the outcome defined for the bytes, unless memory ran out.
 abbrev pub Refuses : Result Plain ReadRefused → ReadRefused → Type 0
 Refuses says refused = IfSome (refusal_of refused) (λ refusal. says ≡ Err refusal)

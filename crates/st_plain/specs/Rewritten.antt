@@ -1,4 +1,4 @@
--- The canonical text (RFC 8785) of what comes next among the tokens of a text.
+-- The canonical text (RFC 8785) of the next value among the tokens of a text.
 use Rattle.std.specs.Prelude.{◌≡◌, ℕ, ◌≤◌, List, ◌++◌, Some}
 use Rattle.json.specs.Json.{value}
 use Rattle.json.specs.Token.{Token}
@@ -9,8 +9,8 @@ use Rattle.st_plain.specs.Direct.{whole_json}
 use Rattle.st_plain.specs.Plain.{Plain}
 use Rattle.st_plain.specs.Proper.{IsProper}
 
--- A value comes next, and its canonical text was added. Lists and objects may nest `depth` deep. The tokens are
--- these before it is read and those behind it, the bytes those before it was written and those after.
+-- The next value was read and its canonical text added. Lists and objects may nest `depth` deep. `old` and `new` are
+-- the tokens before and after reading, `before` and `after` the bytes before and after writing.
 pub record IsNext (depth : ℕ) (old new : List Token) (before after : List ℕ) : Type 0 where
   pub is : Plain
   pub read : converted whole_json (value depth old) ≡ Some (is, new)

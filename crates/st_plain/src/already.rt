@@ -17,7 +17,8 @@ use crate::whole::Whole;
 use itoa::Buffer;
 use std::cmp::Ordering;
 
-// Whether a text is canonical already (RFC 8785), so that it needn't be written anew. `false` says nothing.
+// Whether a text is already canonical (RFC 8785), so that it needn't be written again. `false`
+// promises nothing.
 pub(crate) fn is_canonical(text: &str) -> bool
     ensures { IsTrue result → IsReadAgain text.now }
 {
@@ -27,7 +28,7 @@ pub(crate) fn is_canonical(text: &str) -> bool
     }
 }
 
-// What stands behind the value in front, where that is seen to be canonical.
+// The text after its first value, if that value is seen to be canonical.
 #[cycle(behind_value)]
 fn behind_value(text: &str, depth: usize) -> Option<&str>
     ensures value { IfSome result (λ rest. IsInFront depth text.now rest.now) }
@@ -85,7 +86,7 @@ fn behind_members(text: &str, depth: usize) -> Option<&str>
     }
 }
 
-// Whether a name is above the one before it, where there is one. Both are given as they stand in the text.
+// Whether a name is above the previous one, if any. Both are escaped, as in the text.
 fn is_above(last: Option<&str>, name: &str) -> bool
     ensures { IsTrue result → IfSome last.entry (λ last. ranks_cmp (name_of last.now) (name_of name.now) ≡ Less) }
 {
@@ -96,7 +97,7 @@ fn is_above(last: Option<&str>, name: &str) -> bool
     }
 }
 
-// What stands behind the text in front.
+// The text after the first string.
 fn behind_text(text: &str) -> Option<&str>
     ensures text { IfSome result (λ rest. IsTextInFront text.now rest.now) }
     ensures shorter { IfSome result (λ rest. length rest.now < length text.now) }
@@ -111,7 +112,7 @@ fn behind_text(text: &str) -> Option<&str>
     }
 }
 
-// What stands before the first byte that is escaped, and what stands from there on.
+// The text before its first escaped byte, and the text from there on.
 #[inline]
 fn split_plain(text: &str) -> Option<(&str, &str)>
     ensures plain { IfSome result (λ parts. flat_map escape parts.0.now ≡ parts.0.now) }
@@ -125,8 +126,8 @@ fn split_plain(text: &str) -> Option<(&str, &str)>
     Some(text.split_at(length))
 }
 
-// What stands behind the byte in front, as a canonical text escapes it: which byte that is, is guessed and then
-// written.
+// The text after the first byte, if that is escaped as canonical text escapes it: the byte is
+// guessed and written again to compare.
 fn behind_escape(text: &str) -> Option<&str>
     ensures byte { IfSome result (λ rest. IsEscapeInFront text.now rest.now) }
     ensures shorter { IfSome result (λ rest. length rest.now < length text.now) }
@@ -143,7 +144,7 @@ fn behind_escape(text: &str) -> Option<&str>
     Some(text.split_at(at).1)
 }
 
-// What stands behind the word or the number in front.
+// The text after the first literal or number.
 fn behind_scalar(text: &str) -> Option<&str>
     ensures value { IfSome result (λ rest. IsInFront 0 text.now rest.now) }
     ensures shorter { IfSome result (λ rest. length rest.now < length text.now) }
@@ -188,7 +189,7 @@ fn behind_false(text: &str) -> Option<&str>
     Some(behind_byte(rest, b'e')?)
 }
 
-// The number is guessed, and then written.
+// The number is guessed and written again to compare.
 fn behind_number(text: &str) -> Option<&str>
     ensures value { IfSome result (λ rest. IsInFront 0 text.now rest.now) }
     ensures shorter { IfSome result (λ rest. length rest.now < length text.now) }
@@ -206,7 +207,7 @@ fn behind_number(text: &str) -> Option<&str>
     }
 }
 
-// How many digits stand in front, and minuses.
+// The length of the prefix of digits and minus signs.
 fn number_length(bytes: &[u8]) -> usize
     ensures { result ≤ length bytes.now }
 {
@@ -233,7 +234,7 @@ fn is_spelling(text: &str, value: i64) -> bool
     Buffer::new().format(value).as_bytes() == text.as_bytes()
 }
 
-// What stands behind the comma in front, where one is due.
+// The text after the first comma, if one is due.
 #[inline]
 fn behind_comma(text: &str, due: bool) -> Option<&str>
     ensures { IfSome result (λ rest. text.now ≡ comma due ++ rest.now) }
@@ -245,7 +246,7 @@ fn behind_comma(text: &str, due: bool) -> Option<&str>
     }
 }
 
-// What stands behind this byte, where it stands in front.
+// The text after this byte, if it is the first.
 #[inline]
 fn behind_byte(text: &str, byte: u8) -> Option<&str>
     ensures { IfSome result (λ rest. text.now ≡ byte ∷ rest.now) }

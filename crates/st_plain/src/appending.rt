@@ -6,7 +6,6 @@ use crate::whole::Whole;
 use itoa::Buffer;
 use std::alloc::AllocError;
 
-// Appends these bytes.
 pub(crate) fn push_all(out: &mut Vec<u8>, bytes: &[u8]) -> Result<(), AllocError>
     ensures ok { OnOk result (out.new.items ≡ out.old.items ++ bytes.now) }
     ensures err { OnErr result (out.new.items ≡ out.old.items) }
@@ -14,7 +13,7 @@ pub(crate) fn push_all(out: &mut Vec<u8>, bytes: &[u8]) -> Result<(), AllocError
     out.extend_from_slice(bytes)
 }
 
-// Appends the comma before what is not the first.
+// Appends the comma before an element that is not the first.
 pub(crate) fn append_comma(out: &mut Vec<u8>, comma: bool) -> Result<(), AllocError>
     ensures { OnOk result (out.new.items ≡ out.old.items ++ comma_text comma) }
 {

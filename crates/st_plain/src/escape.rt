@@ -17,8 +17,7 @@ pub fn append_text(out: &mut Vec<u8>, text: &str) -> Result<(), AllocError>
     push_all(out, b"\"")
 }
 
-/// Appends what stands between the quotes of a JSON string. What lies between two bytes that are escaped is
-/// put in at once.
+/// Appends the inside of a JSON string. The bytes between two escaped ones are copied at once.
 pub fn append_escaped(out: &mut Vec<u8>, bytes: &[u8]) -> Result<(), AllocError>
     ensures { OnOk result (out.new.items ≡ out.old.items ++ flat_map escape bytes.now) }
 {
@@ -33,7 +32,7 @@ pub fn append_escaped(out: &mut Vec<u8>, bytes: &[u8]) -> Result<(), AllocError>
     Ok(())
 }
 
-// Between two escapes there is often nothing.
+// Two escaped bytes are often adjacent.
 fn append_run(out: &mut Vec<u8>, run: &[u8]) -> Result<(), AllocError>
     ensures { OnOk result (out.new.items ≡ out.old.items ++ run.now) }
 {

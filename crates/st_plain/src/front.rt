@@ -1,9 +1,7 @@
 ghost use Rattle.std.specs.Prelude.{◌≡◌, ◌∷◌, false, IfNone, IfSome};
 ghost use Rattle.st_plain.specs.Walk.{behind_first, starts};
 
-// What stands in front of a text.
-
-/// What stands behind this bracket, where it stands in front.
+/// The text after this bracket, if it is the first byte.
 pub fn opened(text: &[u8], bracket: u8) -> Option<&[u8]>
     ensures none { IfNone result (starts bracket text.now ≡ false) }
     ensures some { IfSome result (λ left. text.now ≡ bracket ∷ left.now) }
@@ -14,7 +12,7 @@ pub fn opened(text: &[u8], bracket: u8) -> Option<&[u8]>
     }
 }
 
-/// Whether this byte stands in front.
+/// Whether this is the first byte.
 pub fn starts(text: &[u8], byte: u8) -> bool
     ensures { result ≡ starts byte text.now }
 {
@@ -24,7 +22,7 @@ pub fn starts(text: &[u8], byte: u8) -> bool
     }
 }
 
-/// What stands behind the first byte.
+/// The text without its first byte.
 pub fn behind_first(text: &[u8]) -> &[u8]
     ensures { result.now ≡ behind_first text.now }
 {

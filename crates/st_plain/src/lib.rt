@@ -1,5 +1,5 @@
-//! What a JSON value with whole numbers is, and its canonical text (RFC 8785): made of bytes of any spelling, and
-//! cut where a value ends.
+//! JSON values with whole numbers and their canonical text (RFC 8785): it is made from JSON of any
+//! spelling, and split where a value ends.
 #![tactic(auto)]
 
 mod already;

@@ -6,10 +6,11 @@ use crate::lanes::marks_of_16;
 use memchr::memchr2;
 use std::simd::prelude::*;
 
-// Names and most texts are short: so many steps of sixteen bytes are looked at before a longer search begins.
+// Names and most texts are short, so this many steps of sixteen bytes are tried before a longer
+// search starts.
 const NEAR: usize = 4;
 
-// The first quotation mark or backslash, and what stands behind it.
+// The first quotation mark or backslash, and the bytes after it.
 pub(crate) fn next_mark(bytes: &[u8]) -> Option<(u8, &[u8])>
     ensures some { IfSome result (λ found. IsNextMark bytes.now found.0 found.1.now) }
     ensures none { IfNone result (behind_text false bytes.now ≡ []) }

@@ -37,7 +37,7 @@ fn compare_bytes(first: &[u8], second: &[u8]) -> Ordering
     }
 }
 
-// Whether a name is above the one before it, where there is one.
+// Whether a name is above the previous one, if any.
 pub(crate) fn is_above(last: Option<&str>, name: &str) -> bool
     ensures { IsTrue result → IfSome last.entry (λ last. name_cmp last.now name.now ≡ Less) }
 {

@@ -5,8 +5,7 @@ ghost use Rattle.st_plain.specs.Reading.{whole_integer, whole_number};
 use crate::whole::Whole;
 use fast_float::Numeral;
 
-// The number that a number's text is: none where it is too large for a float, and within, none where it is
-// not whole.
+// The number in a numeral: `None` if it is too large for a float, `Some(None)` if it is not whole.
 pub(crate) fn number_in(text: &str) -> Option<Option<Whole>>
     ensures { result ≡ option_map whole_number (number_of text.now) }
 {
@@ -25,7 +24,7 @@ fn has_minus(bytes: &[u8]) -> bool
     !bytes.is_empty() && bytes[0] == b'-'
 }
 
-// The same behind a minus.
+// The number after a minus sign.
 fn number_below(numeral: &Numeral<'_>) -> Option<Option<Whole>>
     ensures { result ≡ option_map whole_number (number_from true numeral.now) }
 {
@@ -37,7 +36,7 @@ fn number_below(numeral: &Numeral<'_>) -> Option<Option<Whole>>
     float(true, numeral)
 }
 
-// The same behind none.
+// The number without a sign.
 fn number_from(numeral: &Numeral<'_>) -> Option<Option<Whole>>
     ensures { result ≡ option_map whole_number (number_from false numeral.now) }
 {

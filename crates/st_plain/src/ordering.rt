@@ -10,10 +10,11 @@ use crate::escape::append_text;
 use crate::ranks::{behind, compare_at};
 use std::alloc::{AllocError, Global};
 
-// The members of an object as they come, one behind another in a text: of each it is kept where it begins and ends.
+// The members of an object in the order of the input, one after another in a text: the start and
+// the end of each are kept.
 
-// Begins a member behind what a text has: its name and a colon. The text of its value comes next. It gives where
-// the member begins.
+// Begins a member at the end of the text, with its name and a colon; the caller appends the value.
+// Returns where the member begins.
 pub(crate) fn begin(text: &mut Vec<u8>, comma: bool, name: &str) -> Result<u32, AllocError>
     ensures text { OnOk result (text.new.items ≡ (text.old.items ++ comma_text comma) ++ (quoted name.now ++ 58 ∷ [])) }
     ensures place { IfOk result (λ place. place ≡ length (text.old.items ++ comma_text comma)) }
@@ -48,8 +49,7 @@ fn place_behind(text: &Vec<u8>) -> Result<u32, AllocError>
     }
 }
 
-// Brings the members that stand in a text from here on into the order of their names, of several with one name
-// the last alone.
+// Sorts the members in the text from here on by name, and keeps the last of several with one name.
 pub(crate) fn put_in_order(
     alloc: Global,
     text: &mut Vec<u8>,
@@ -67,7 +67,7 @@ pub(crate) fn put_in_order(
     Ok(push_all(text, ordered.as_slice())?)
 }
 
-// Brings the places into the order of their names, and of several with one name the last to the front.
+// Sorts the places by name; of several with one name the last is first.
 fn sort(text: &[u8], places: &mut Vec<(u32, u32)>) -> Result<(), AllocError>
     requires { AllByRecursion (IsHeld text.now) (reverse places.old.items) }
     ensures first { OnOk result (firsts None (map (entry_at text.now) places.new.items) ≡ entries_in text.now places.old.items) }
@@ -93,7 +93,7 @@ fn append_members(out: &mut Vec<u8>, text: &[u8], places: &[(u32, u32)]) -> Resu
     Ok(())
 }
 
-// Whether the name at a place is that of the member before it, where there is one.
+// Whether the name at a place equals that of the previous member, if any.
 fn is_again(text: &[u8], last: Option<u32>, place: u32) -> bool
     ensures { result ≡ is_again text.now last place }
 {

@@ -6,7 +6,7 @@ ghost use Rattle.st_plain.specs.Names.{is_name};
 use crate::front::opened;
 use crate::runs::split_run;
 
-/// Whether the text of a name is that of this one.
+/// Whether the canonical text of a name is that of this one.
 pub fn is_named(text: &[u8], name: &str) -> bool
     ensures asked { (word : List ℕ) → IsUtf8 word → text.now ≡ quoted word → result ≡ is_name name.now word }
     ensures among { (word : List ℕ) → IsUtf8 word → text.now ≡ quoted word → result ≡ is_name word name.now }
@@ -14,8 +14,8 @@ pub fn is_named(text: &[u8], name: &str) -> bool
     is_quoted(text, name.as_bytes())
 }
 
-/// Whether this is the word as JSON writes it. What stands in front of the first byte that is escaped is compared at
-/// once, what stands behind byte by byte, and none of it is written.
+/// Whether this is the word as a JSON string. The bytes before the first escaped one are compared
+/// at once, the rest byte by byte, and nothing is written.
 pub fn is_quoted(text: &[u8], word: &[u8]) -> bool
     ensures { IsTrue result ↔ (text.now ≡ quoted word.now) }
 {
@@ -41,7 +41,7 @@ fn is_closing(text: &[u8]) -> bool
     text.len() == 1 && text[0] == b'"'
 }
 
-// What stands behind the byte as JSON writes it in a text, where that stands in front.
+// The text after this byte in its escaped form, if that is its prefix.
 #[tactic(auto, unfolding(crate::specs::Canonical::escape))]
 pub(crate) fn strip_escaped(text: &[u8], byte: u8) -> Option<&[u8]>
     ensures some { IfSome result (λ behind. text.now ≡ escape byte ++ behind.now) }

@@ -3,9 +3,9 @@ ghost use Rattle.st_plain.specs.Held.{control_in, digit_of, escaped_in, meant, n
 
 use std::cmp::Ordering;
 
-// The order of the names that stand in a text at two places, each behind a quotation mark, by UTF-16 code units
-// (RFC 8785, section 3.2.3). It looks at no byte behind the first that differs, so a long name is no burden
-// where many are sorted.
+// The order of the names at two places of a text, each after a quotation mark, by UTF-16 code units
+// (RFC 8785, section 3.2.3). It reads no byte after the first that differs, so sorting many long
+// names stays cheap.
 #[tactic(auto, unfolding(crate::specs::Held::name_at))]
 pub(crate) fn compare_at(text: &[u8], first: u32, second: u32) -> Ordering
     ensures { result ≡ ranks_cmp (name_at text.now first) (name_at text.now second) }
@@ -16,7 +16,7 @@ pub(crate) fn compare_at(text: &[u8], first: u32, second: u32) -> Ordering
     )
 }
 
-// What stands from a place on.
+// The bytes from a place on.
 pub(crate) fn behind(bytes: &[u8], place: u32) -> &[u8]
     ensures { result.now ≡ drop place bytes.now }
 {
@@ -36,7 +36,7 @@ pub(crate) fn behind_mark(bytes: &[u8]) -> &[u8]
     }
 }
 
-// What two names begin with alike is passed at once.
+// The common prefix of the two names is skipped at once.
 pub(crate) fn compare_names(first: &[u8], second: &[u8]) -> Ordering
     ensures { result ≡ ranks_cmp (name_in first.now) (name_in second.now) }
 {
@@ -77,8 +77,8 @@ fn compare_behind(first: &[u8], second: &[u8]) -> Ordering
     }
 }
 
-/// The first byte of a name as a canonical text has it, and what stands behind. None comes at the quotation mark
-/// that ends it.
+/// The first byte of an escaped name, and the bytes after it; `None` at the quotation mark that
+/// ends it.
 #[inline]
 pub fn next_byte(bytes: &[u8]) -> Option<(u8, &[u8])>
     ensures none { IfNone result (name_in bytes.now ≡ []) }
@@ -93,7 +93,7 @@ pub fn next_byte(bytes: &[u8]) -> Option<(u8, &[u8])>
     }
 }
 
-// The same behind a backslash.
+// The same after a backslash.
 fn escaped_byte(bytes: &[u8]) -> Option<(u8, &[u8])>
     ensures none { IfNone result (escaped_in bytes.now ≡ []) }
     ensures some { IfSome result (λ next. escaped_in bytes.now ≡ next.0 ∷ name_in next.1.now) }
@@ -107,7 +107,7 @@ fn escaped_byte(bytes: &[u8]) -> Option<(u8, &[u8])>
     }
 }
 
-// The same behind a backslash and a `u`.
+// The same after `\u`.
 fn control_byte(bytes: &[u8]) -> Option<(u8, &[u8])>
     ensures none { IfNone result (control_in bytes.now ≡ []) }
     ensures some { IfSome result (λ next. control_in bytes.now ≡ next.0 ∷ name_in next.1.now) }
@@ -140,8 +140,8 @@ fn digit(byte: u8) -> u8
     if byte < 58 { byte % 16 } else { byte % 16 + 9 }
 }
 
-// Where a byte of UTF-8 stands in the order of UTF-16: one that begins a character of four bytes, which takes
-// two surrogates, before one that begins a character from U+E000 on.
+// The rank of a byte of UTF-8 in the order of UTF-16: the first byte of a four-byte character,
+// which takes two surrogates, is below that of a character from U+E000 on.
 #[inline]
 pub(crate) fn rank(byte: u8) -> u8
     ensures { result ≡ rank byte }

@@ -18,17 +18,17 @@ use json::{Reader, Scratch, Token};
 use memchr::memchr;
 use std::alloc::Global;
 
-/// How deep lists and objects may nest in a text that is read, as in `serde_json`.
+/// How deep lists and objects may nest in the input, as in `serde_json`.
 pub const MAX_DEPTH: usize = 127;
 
-// What goes out for a number that is not whole: a byte that is in no UTF-8.
+// Written for a number that is not whole: a byte that no UTF-8 has.
 const MARK: u8 = 255;
 
-/// The canonical text (RFC 8785) of the JSON that bytes of any spelling are. A member whose name stands twice
-/// has its last value.
+/// The canonical text (RFC 8785) of JSON of any spelling. A member that appears twice has its last
+/// value.
 ///
-/// `NotJson` comes exactly where `serde_json` refuses the bytes, `NotWhole` exactly where they are JSON with a
-/// number that no `Whole` holds or that is written as a float.
+/// The result is `NotJson` if and only if `serde_json` refuses the bytes, and `NotWhole` if and
+/// only if they are JSON with a number that no `Whole` holds or that is written as a float.
 pub fn canonical_text(alloc: Global, bytes: &[u8]) -> Result<Vec<u8>, ReadRefused>
     ensures value { IfOk result (λ text. json_of bytes.now ≡ Ok (value_read (json_of text.items))) }
     ensures refusal { IfErr result (Refuses (json_of bytes.now)) }
@@ -43,7 +43,7 @@ pub fn canonical_text(alloc: Global, bytes: &[u8]) -> Result<Vec<u8>, ReadRefuse
     respell_text(alloc, text)
 }
 
-// The same of a text, by its tokens.
+// The canonical text of a text, from its tokens.
 fn respell_text(alloc: Global, text: &str) -> Result<Vec<u8>, ReadRefused>
     ensures value { IfOk result (λ out. json_of text.now ≡ Ok (value_read (json_of out.items))) }
     ensures refusal { IfErr result (Refuses (json_of text.now)) }
@@ -65,7 +65,7 @@ fn respell_text(alloc: Global, text: &str) -> Result<Vec<u8>, ReadRefused>
     }
 }
 
-// Whether no mark stands in a text.
+// Whether a text has no mark.
 pub(crate) fn is_whole(text: &[u8]) -> bool
     ensures yes { result ≡ true → HasNoMark text.now }
     ensures no { result ≡ false → HasNoMark text.now → ⊥ }
@@ -73,8 +73,9 @@ pub(crate) fn is_whole(text: &[u8]) -> bool
     memchr(MARK, text).is_none()
 }
 
-// Appends the canonical text of the next value of a reader of tokens. For a number that is not whole a mark goes
-// out, so a member with one may still be replaced. Lists and objects may nest `depth` deep.
+// Appends the canonical text of the next value of a reader of tokens. A number that is not whole is
+// written as a mark, since a later member of the same name may replace it. Lists and objects may
+// nest `depth` deep.
 #[cycle(respell)]
 pub(crate) fn respell(
     alloc: Global,
@@ -114,7 +115,7 @@ pub(crate) fn respell(
     }
 }
 
-// The same of a number's text.
+// The same for a number's text.
 fn respell_number(alloc: Global, out: &mut Vec<u8>, text: &str) -> Result<(), ReadRefused>
     ensures number { OnOk result (IsNumberWritten text.now out.old.items out.new.items) }
     ensures none { IfErr result (IsNoJson (number_of text.now ≡ None)) }
@@ -146,7 +147,8 @@ fn respell_items(
     Ok(())
 }
 
-// Members go out as they come, and where their names do not ascend, are brought into order once all are there.
+// Members are written in the order of the input, and sorted at the end if their names do not
+// ascend.
 #[cycle(respell)]
 fn respell_members<'a>(
     alloc: Global,

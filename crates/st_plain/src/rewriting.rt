@@ -6,13 +6,13 @@ use crate::respelling::{is_whole, respell};
 use json::Reader;
 use std::alloc::{AllocError, AllocFailed, Global};
 
-/// Why the next value of a reader of tokens is not given.
+/// Why a reader of tokens has no next value.
 #[derive(Clone, Copy, Debug, PartialEq, Eq)]
 pub enum ReadStopped {
-    /// No value comes next, or it is no JSON, nests deeper than asked, or has a number that is not whole. No clause
-    /// says which.
+    /// No value is next, or it is not JSON, nests deeper than asked, or has a number that is not
+    /// whole. No clause says which.
     Left,
-    /// Memory could not be had.
+    /// Out of memory.
     WantOfMemory,
 }
 
@@ -38,9 +38,9 @@ impl<T: Drop> From<AllocFailed<T>> for ReadStopped {
     }
 }
 
-/// Appends the canonical text (RFC 8785) of the next value of a reader of tokens, and makes no tree of it.
-/// At most `depth` lists and objects may stand in one another; at 0 only a scalar is taken. Where it stops, `out` is
-/// of no use.
+/// Appends the canonical text (RFC 8785) of the next value of a reader of tokens, without building
+/// a tree. At most `depth` lists and objects may nest; at 0 only a scalar is accepted. If it fails,
+/// `out` is of no use.
 pub fn rewrite(
     alloc: Global,
     out: &mut Vec<u8>,

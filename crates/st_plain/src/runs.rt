@@ -8,7 +8,7 @@ ghost use Rattle.st_plain.specs.Canonical.{escape};
 use crate::lanes::stops_of_16;
 use std::simd::prelude::*;
 
-/// The bytes before the first that is escaped, and those from it on.
+/// The bytes before the first escaped one, and those from it on.
 pub fn split_run(bytes: &[u8]) -> (&[u8], &[u8])
     ensures escaped { flat_map escape bytes.now ≡ result.0.now ++ flat_map escape result.1.now }
     ensures shorter { length result.1.now ≤ length bytes.now }
@@ -17,8 +17,8 @@ pub fn split_run(bytes: &[u8]) -> (&[u8], &[u8])
     (&bytes[..at], &bytes[at..])
 }
 
-// How many bytes stand before the first that is escaped. Sixteen are looked at in one step, and the
-// last step may look at some again.
+// How many bytes precede the first escaped one. Each step looks at sixteen; the last step may look
+// at some again.
 pub(crate) fn run_length(bytes: &[u8]) -> usize
     ensures within { result ≤ length bytes.now }
     ensures plain { PlainBetween bytes.now 0 result }
@@ -37,7 +37,7 @@ pub(crate) fn run_length(bytes: &[u8]) -> usize
     }
 }
 
-// The same of fewer than sixteen: eight in one step, where there are as many.
+// The same for fewer than sixteen: eight in one step, if there are that many.
 fn short_run(bytes: &[u8]) -> usize
     requires { length bytes.now < 16 }
     ensures within { result ≤ length bytes.now }
@@ -53,7 +53,7 @@ fn short_run(bytes: &[u8]) -> usize
     }
 }
 
-// As many as stand before the first that is escaped, in whole steps.
+// How many bytes precede the first escaped one, in whole steps.
 fn long_run(bytes: &[u8]) -> usize
     ensures within { result ≤ length bytes.now }
     ensures plain { PlainBetween bytes.now 0 result }
@@ -69,7 +69,7 @@ fn long_run(bytes: &[u8]) -> usize
     at
 }
 
-// How many of the next sixteen stand before the first that is escaped.
+// How many of the next sixteen precede the first escaped one.
 fn near_run(bytes: &[u8], at: usize) -> usize
     requires { at + 16 ≤ length bytes.now }
     ensures few { result ≤ 16 }
@@ -83,7 +83,7 @@ fn near_run(bytes: &[u8], at: usize) -> usize
     }
 }
 
-// The place of the first byte that is escaped, or the end, where there is none before this place.
+// The place of the first escaped byte, or the end, if there is none before this place.
 fn run_from(bytes: &[u8], start: usize) -> usize
     requires within { start ≤ length bytes.now }
     requires plain { PlainBetween bytes.now 0 start }
@@ -97,7 +97,7 @@ fn run_from(bytes: &[u8], start: usize) -> usize
     at
 }
 
-// Whether none of so many bytes is escaped.
+// Whether none of these bytes is escaped.
 fn are_plain<const N: usize>(bytes: &[u8], at: usize) -> bool
     requires few { N ≤ 64 }
     requires within { at + N ≤ length bytes.now }

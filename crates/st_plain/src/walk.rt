@@ -4,7 +4,7 @@ ghost use Rattle.st_plain.specs.Walk.{Splits, outside, behind_brackets, behind_s
 use crate::front::behind_first;
 use crate::marks::next_mark;
 
-/// The canonical text in front, and what stands behind it.
+/// The first canonical value, and the text after it.
 pub fn split_value(text: &[u8]) -> (&[u8], &[u8])
     ensures { Splits text.now result.0.now result.1.now }
 {
@@ -28,7 +28,8 @@ fn behind_value(text: &[u8]) -> &[u8]
     }
 }
 
-// What stands behind the closing quotation mark, from behind the other. The byte behind a backslash is none.
+// The text after the closing quotation mark, from after the opening one. The byte after a backslash
+// does not close it.
 #[tactic(auto, unfolding(crate::specs::Walk::behind_text))]
 fn behind_text(bytes: &[u8]) -> &[u8]
     ensures value { result.now ≡ behind_text false bytes.now }
@@ -44,7 +45,7 @@ fn behind_text(bytes: &[u8]) -> &[u8]
     &[]
 }
 
-// What stands behind the bracket that closes the one before these bytes.
+// The text after the bracket that closes the one before these bytes.
 #[tactic(auto, using(crate::proofs::WalkLemmas::brackets_behind_text), unfolding(crate::specs::Walk::behind_brackets))]
 fn behind_brackets(bytes: &[u8]) -> &[u8]
     ensures value { result.now ≡ behind_brackets 0 outside bytes.now }
@@ -72,7 +73,7 @@ fn behind_brackets(bytes: &[u8]) -> &[u8]
     rest
 }
 
-// From the first byte on that may stand behind a value.
+// The text from the first byte on that may follow a value.
 #[tactic(auto, unfolding(crate::specs::Walk::behind_scalar))]
 fn behind_scalar(bytes: &[u8]) -> &[u8]
     ensures value { result.now ≡ behind_scalar bytes.now }

@@ -27,7 +27,7 @@ impl Model for Whole {
 }
 
 impl Whole {
-    /// The number, where it is in the range.
+    /// The number, if it is in the range.
     pub fn new(value: i64) -> Option<Whole>
         ensures { SomeIff result (IsWhole value) value }
     {

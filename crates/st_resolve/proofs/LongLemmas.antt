@@ -1,4 +1,4 @@
--- What a long form holds.
+-- The content of a long form.
 use Rattle.std.proofs.Common.{◌≡◌, ℕ, List, Bool, not, true, false, Some, Ok, Err, refl}
 use Rattle.std.specs.Prelude.{bytes_eq}
 use Rattle.st_plain.specs.Canonical.{canonical}
@@ -18,7 +18,7 @@ pub no_other : (same : Bool) → not same ≡ false → same ≡ true
 no_other true e = refl
 no_other false e = cc
 
--- what canonical bytes hold, by whether it makes the suffix
+-- canonical bytes, by whether they make the suffix
 module _ (version : ℕ) (suffix : HashValue) (held : List ℕ) (value : Plain) (long : PlainLong) (read : json_in held ≡ Some value)
     (said : long_in version value ≡ Some long) (spelled : bytes_eq held (canonical value) ≡ true) where
   pub long_differs : same_hash (suffix_of long.suffix_data) suffix ≡ false → long_of version suffix held ≡ Err SuffixDiffers

@@ -20,7 +20,7 @@ use Rattle.st_resolve.specs.Result.{canonical_id, deactivated_mark, metadata_of,
 use Rattle.st_resolve.specs.Services.{service_members, service_of}
 use Rattle.st_resolve.specs.Texts.{alone_text, back_text, described_text, front_text, metadata_text, method_metadata_text, method_text, references_text, said_text, service_text, value_text}
 
--- ---- lists that may be left out
+-- ---- optional lists
 
 pub none_there : (front : List ℕ) (entries : List Plain) (back : List ℕ) → is_some (some_list entries) ≡ false
     → text_there front (some_list entries) back ≡ []

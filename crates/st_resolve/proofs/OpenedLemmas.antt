@@ -1,4 +1,4 @@
--- Which states are opened without a count.
+-- The states that are opened without a count.
 use Rattle.std.proofs.Common.{◌≡◌, true, false, refl}
 use Rattle.std.proofs.lemmas.Bool.{false≢true}
 use Rattle.st_apply.specs.Seen.{State, absent, active, deactivated, is_active}

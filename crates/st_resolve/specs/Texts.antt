@@ -1,4 +1,4 @@
--- The canonical texts of the objects of a result, put together of what differs.
+-- The canonical texts of the objects of a result, built from the parts that differ.
 use Rattle.std.specs.Prelude.{ℕ, Bool, List, [], ◌++◌, codes, map, Some, option_map, Result, Ok}
 use Rattle.st_base.specs.Answers.{◌>>=◌}
 use Rattle.st_apply.specs.Seen.{State}
@@ -32,11 +32,11 @@ method_text did key =
     ++ (text_there (codes ",\"publicKeyJwk\":") (member_in (codes "publicKeyJwk") (Some key)) []
     ++ (text_there (codes ",\"type\":") (member_in (codes "type") (Some key)) [] ++ codes "}")))))
 
--- a list of references behind a front
+-- a list of references after a prefix
 abbrev pub references_text : List ℕ → List ℕ → List Plain → List ℕ → List ℕ
 references_text front purpose keys back = text_there front (some_list (references_for purpose keys)) back
 
--- what stands before the identifier
+-- the text before the identifier
 unfoldable pub front_text : PlainDocument → List ℕ
 front_text document =
     text_there (codes "\"alsoKnownAs\":") (some_list (map text document.names)) (codes ",")
@@ -45,7 +45,7 @@ front_text document =
     ++ (references_text (codes "\"capabilityDelegation\":") (codes "capabilityDelegation") document.keys (codes ",")
     ++ (references_text (codes "\"capabilityInvocation\":") (codes "capabilityInvocation") document.keys (codes ",")))))
 
--- what stands behind the identifier
+-- the text after the identifier
 unfoldable pub back_text : List ℕ → PlainDocument → List ℕ
 back_text did document =
     references_text (codes ",\"keyAgreement\":") (codes "keyAgreement") document.keys []

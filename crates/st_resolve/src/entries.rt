@@ -22,7 +22,7 @@ pub(crate) fn append_reference(
     out.push_all(alloc, b"\"")
 }
 
-// The id of a key or a service; of what has none, the empty text.
+// The id of a key or a service, or the empty text if it has none.
 fn id_of(entry: &Json) -> &str
     ensures { result.now ≡ id_of (plain entry.now) }
 {

@@ -14,7 +14,8 @@ use st_base::{Bytes, WantOfMemory};
 use st_canon::{Json, append, append_comma, append_text, append_there, entries_in};
 use std::alloc::Global;
 
-/// Appends the list of the keys as verification methods behind this front, and nothing where there is none.
+/// Appends the list of the keys as verification methods after this prefix, or nothing if there is
+/// none.
 #[tactic(auto, unfolding(st_plain::specs::Objects::some_list))]
 pub(crate) fn append_methods(
     alloc: Global,
@@ -79,7 +80,7 @@ fn append_method_parts(
     Ok(())
 }
 
-// Who controls the key: whom it names, or else the identifier.
+// The controller of the key: the one that it names, or else the identifier.
 #[tactic(auto, unfolding(crate::specs::Texts::value_text))]
 fn append_controller(
     alloc: Global,
@@ -95,8 +96,8 @@ fn append_controller(
     }
 }
 
-/// Appends the list of references to the keys that serve this purpose between these texts, and nothing where
-/// there is none.
+/// Appends the list of references to the keys that serve this purpose between these texts, or
+/// nothing if there is none.
 #[tactic(auto, using(crate::proofs::ObjectTexts::none_there))]
 pub(crate) fn append_references(
     alloc: Global,

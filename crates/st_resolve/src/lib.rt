@@ -1,4 +1,4 @@
-//! Identifiers in their short and their long form, and what resolving them results in.
+//! Identifiers in their short and their long form, and the results of resolving them.
 #![tactic(auto)]
 
 mod described;

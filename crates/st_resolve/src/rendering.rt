@@ -20,12 +20,13 @@ use std::alloc::Global;
 // Room that most texts do not outgrow, so that they are not moved while they are written.
 const USUAL: usize = 1_000;
 
-/// The canonical text of the result of resolving an identifier whose suffix has this state, by the limits
-/// of the newest version, written straight, with no tree of JSON. The state is opened, which counts what
-/// `DidState::open` counts. An identifier that no entry made is rendered from the create in its long form,
-/// which counts as one applied operation; a short form counts nothing then.
+/// The canonical text of the result of resolving an identifier whose suffix has this state, by the
+/// limits of the newest version, written directly, without a tree of JSON. The state is opened,
+/// which counts what `DidState::open` counts. If no entry created the identifier, it is rendered
+/// from the create in its long form, which counts as one applied operation; a short form then
+/// counts nothing.
 ///
-/// `NotFound` comes exactly where the state is absent and the identifier is a short form.
+/// The result is `NotFound` if and only if the state is absent and the identifier is a short form.
 #[tactic(auto, unfolding(crate::specs::Result::result_of), using(crate::proofs::OpenedLemmas::absent_idle, crate::proofs::OpenedLemmas::deactivated_idle))]
 pub fn render(
     alloc: Global,
@@ -37,8 +38,8 @@ pub fn render(
     ensures result { Gives refusal_of (text_of (result_of params.now (plain_did did.now) state.now)) result }
     ensures work { AppliesAtMost 1 work.old work.new }
 
-    // Of an identifier that no entry made, one operation is counted for a long form, and none for a short one.
-    // None is counted of one that is deactivated.
+    // If no entry created the identifier, one operation is counted for a long form, and none for a
+    // short one. None is counted if it is deactivated.
     ensures long { is_absent state.now ≡ true → IsSome did.now.long → OnOk result (work.new ≡ one_apply work.old) }
     ensures short { is_absent state.now ≡ true → did.now.long ≡ None → work.new ≡ work.old }
     ensures deactivated { is_deactivated state.now ≡ true → work.new ≡ work.old }
@@ -63,7 +64,7 @@ fn is_absent(state: &StateParts) -> bool
     }
 }
 
-// What the state holds that the create in a long form makes of none.
+// The parts of the state that the create in a long form makes from nothing.
 fn made_by(
     alloc: Global,
     long: &LongForm,
@@ -79,7 +80,7 @@ fn made_by(
     Ok(parts)
 }
 
-/// The canonical text of what a state says of an identifier, which is published or not.
+/// The canonical text of the result of an identifier in a state, which is published or not.
 pub(crate) fn written(
     alloc: Global,
     published: bool,

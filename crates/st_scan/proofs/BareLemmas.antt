@@ -1,4 +1,4 @@
--- A text is written as it is exactly where no backslash stands in what is written.
+-- A text is written unchanged if and only if its written form has no backslash.
 use Rattle.std.proofs.Common.{◌≡◌, ◌∙◌, ℕ, ◌+◌, ◌-◌, ◌<◌, ◌≤◌, Bool, true, false, List, [], ◌∷◌, ◌++◌, length, take, refl, ap, sym, arith, length-append}
 use Rattle.std.specs.Prelude.{◌==◌, ◌||◌}
 use Rattle.std.specs.List.{flat_map, list_any}
@@ -13,7 +13,7 @@ last_dropped bytes front b n size parts =
     let same : n ≡ length front = omega (arith, ap length parts, length-append front (b ∷ [])) in
     ap (λ m. take m bytes) same ∙ ap (take (length front)) parts ∙ take-append_seam front (b ∷ [])
 
--- what stands behind the first mark of a written text
+-- the rest of a written text after its first mark
 pub inside_of : (left word bytes : List ℕ) → bytes ≡ 34 ∷ left → bytes ≡ quoted word → left ≡ flat_map escape word ++ 34 ∷ []
 inside_of left word bytes parts is = cc
 

@@ -1,4 +1,4 @@
--- A value nests no deeper than its canonical text opens lists and objects.
+-- A value nests no deeper than the number of opening brackets and braces in its canonical text.
 use Rattle.std.proofs.Common.{◌≡◌, ◌∙◌, ℕ, ◌+◌, ◌≤◌, List, [], ◌∷◌, ◌++◌, arith, ap, sym, subst, drop}
 use Rattle.std.specs.Prelude.{Bool, true, false, cond}
 use Rattle.std.proofs.lemmas.List.Sums.{sum_by-append, sum_by-cons}
@@ -14,7 +14,7 @@ use Rattle.st_scan.specs.Standing.{IsText, value_of}
 joined : (xs ys : List ℕ) → opening_count (xs ++ ys) ≡ opening_count xs + opening_count ys
 joined xs ys = sum_by-append (λ byte. cond (opens byte) 1 0) xs ys
 
--- the next sixteen bytes, and those behind
+-- the next sixteen bytes, and the bytes after them
 pub counted_near : (xs : List ℕ) → count_by opens (chunk 0 16 xs) + opening_count (drop 16 xs) ≡ opening_count xs
 counted_near xs = sym (joined (chunk 0 16 xs) (drop 16 xs)) ∙ ap opening_count (sym (chunk-drop 0 16 xs))
 

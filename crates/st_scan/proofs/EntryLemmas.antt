@@ -1,4 +1,4 @@
--- The first of the entries that are left of a list.
+-- The first remaining entry of a list.
 use Rattle.std.proofs.Common.{◌≡◌, ◌∙◌, ℕ, true, false, List, [], ◌∷◌, ◌++◌, length, Option, Some, None, option_map, refl, ap, sym, subst, arith}
 use Rattle.std.proofs.Common.{append_assoc, length-append}
 use Rattle.std.specs.Prelude.{is_some, unwrap_or}
@@ -12,7 +12,7 @@ use Rattle.st_scan.proofs.FrontLemmas.{no_longer, not_closing, some_canonical}
 use Rattle.st_scan.proofs.KindLemmas.{is_list_here, list_kind}
 use Rattle.st_scan.proofs.ReadLemmas.{is_text, value_of-text}
 
--- what stands behind the first item of a list
+-- the text after the first item of a list
 abbrev items_behind : Items → List ℕ
 items_behind ps = canonical_items true ps ++ 93 ∷ []
 
@@ -104,7 +104,7 @@ no_items_in : (there : Option Items) → is_some there ≡ false → unwrap_or (
 no_items_in None none = refl
 no_items_in (Some ps) none = cc
 
--- what is no list has no entries
+-- a value that is no list has no entries
 pub no_list : (bytes : List ℕ) → IsText bytes → starts 91 bytes ≡ false → entries_in (Some (value_of bytes)) ≡ []
 no_list bytes is apart = no_items_in (items_in (value_of bytes)) (sym (list_kind bytes is) ∙ apart)
 

@@ -1,4 +1,4 @@
--- Where a canonical text begins, and what stands behind a comma.
+-- The first byte of a canonical text, and the text after a comma.
 use Rattle.std.proofs.Common.{◌≡◌, ℕ, ◌<◌, ◌≤◌, true, false, cond, List, [], ◌∷◌, ◌++◌, length, arith}
 use Rattle.std.specs.Prelude.{nat_eq}
 use Rattle.std.specs.List.{list_all}
@@ -26,7 +26,7 @@ not_closing_scalar : (bytes rest : List ℕ) → IsScalar bytes → starts 93 (b
 not_closing_scalar [] rest scalar = absurd (omega (arith, scalar.some))
 not_closing_scalar (b ∷ bytes) rest scalar = not_closing_list b (and_parts (is_inner b) (list_all is_inner bytes) scalar.inner).0
 
--- no value begins with a closing bracket
+-- no value starts with a closing bracket
 pub not_closing : (p : Plain) (rest : List ℕ) → IsProper p → starts 93 (canonical p ++ rest) ≡ true → ⊥
 not_closing null rest proper closing = cc
 not_closing (boolean true) rest proper closing = cc

@@ -1,4 +1,4 @@
--- The first byte of a canonical text tells its kind.
+-- The first byte of a canonical text determines its kind.
 use Rattle.std.proofs.Common.{◌≡◌, ◌∙◌, ℕ, true, false, List, [], ◌∷◌, refl, ap, sym}
 use Rattle.std.specs.Prelude.{is_some}
 use Rattle.std.specs.List.{list_all}

@@ -1,4 +1,4 @@
--- Private: what the answers of this crate cite.
+-- Private: lemmas that this crate's proofs cite.
 mod BareLemmas
 mod BracketLemmas
 mod ContentLemmas

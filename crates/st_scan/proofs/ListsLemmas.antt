@@ -1,4 +1,4 @@
--- Objects whose members are lists, looked at member by member.
+-- Objects whose members are lists, checked member by member.
 use Rattle.std.proofs.Common.{◌≡◌, ◌∙◌, ℕ, Bool, true, false, cond, List, [], ◌∷◌, Some, None, refl, ap, sym}
 use Rattle.std.specs.Prelude.{◌&&◌, ◌||◌, is_some}
 use Rattle.std.specs.List.{list_all, list_any}
@@ -12,17 +12,17 @@ use Rattle.st_plain.proofs.Order.{not_name_from_less, same_from_is_name}
 use Rattle.st_plain.proofs.QuotedLemmas.{name_turned}
 use Rattle.st_scan.specs.Lists.{only_lists}
 
--- under each of these names a list stands, or nothing
+-- each of these names has a list or no value
 abbrev pub are_lists : List (List ℕ) → Members → Bool
 are_lists names ms = list_all (λ name. is_list_if_there (member_at name ms)) names
 
--- no member below others has the name of one of them
+-- no member has the name of one before it
 absent : (n : List ℕ) (ms : Members) → AllAbove n ms → member_at n ms ≡ None
 absent n no_members above = refl
 absent n (member k p ms) above = rw (not_name_from_less n k above.0) (absent n ms above.1)
 
 module _ (n : List ℕ) (p : Plain) (ms : Members) where
-  -- a list in front changes nothing, where no other member has its name
+  -- a list as first member changes nothing, if no other member has its name
   one_list : (name : List ℕ) (t : Bool) → is_name name n ≡ t → is_some (items_in p) ≡ true → member_at n ms ≡ None
       → is_list_if_there (cond t (Some p) (member_at name ms)) ≡ is_list_if_there (member_at name ms)
   one_list name true same here alone = here ∙ sym (ap is_list_if_there (ap (λ m. member_at m ms) (same_from_is_name name n same) ∙ alone))
@@ -32,7 +32,7 @@ module _ (n : List ℕ) (p : Plain) (ms : Members) where
   list_here [] here alone = refl
   list_here (name ∷ names) here alone = rw (one_list name (is_name name n) refl here alone, list_here names here alone) refl
 
-  -- what is no list in front is found under its name
+  -- a first member that is no list is found under its name
   both_false : (s t : Bool) → t ≡ false → (s && t) ≡ false
   both_false true t none = none
   both_false false t none = refl

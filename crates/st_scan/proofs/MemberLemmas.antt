@@ -1,4 +1,4 @@
--- The first of the members that are left of an object.
+-- The first remaining member of an object.
 use Rattle.std.proofs.Common.{◌≡◌, ◌∙◌, ◌↔◌, ℕ, ◌<◌, Bool, true, false, List, [], ◌∷◌, ◌++◌, length, Option, Some, None, Less, refl, ap, sym, subst, arith}
 use Rattle.std.proofs.Common.{append_assoc, length-append}
 use Rattle.std.specs.Prelude.{is_some, unwrap_or, IsTrue}
@@ -20,7 +20,7 @@ use Rattle.st_scan.proofs.KindLemmas.{is_object_here, object_kind}
 use Rattle.st_scan.proofs.ListsLemmas.{only_lists-both}
 use Rattle.st_scan.proofs.ReadLemmas.{is_text, value_of-text}
 
--- what stands behind the first member of an object
+-- the text after the first member of an object
 abbrev members_behind : Members → List ℕ
 members_behind ms = canonical_members true ms ++ 125 ∷ []
 
@@ -39,7 +39,7 @@ members_left-object left ms is = ap (λ v. unwrap_or (members_in v) no_members) 
 same_member : (n : List ℕ) (p q : Plain) (ms ns : Members) → p ≡ q → ms ≡ ns → member n p ms ≡ member n q ns
 same_member n p q ms ns same others = cc
 
--- a name, and behind a colon a value, before the other members
+-- a name, a colon and a value, before the other members
 abbrev member_text : List ℕ → Plain → Members → List ℕ
 member_text n p ms = quoted n ++ 58 ∷ (canonical p ++ members_behind ms)
 
@@ -100,7 +100,7 @@ none_of left (member n p ms) is none =
 pub no_member : (left : List ℕ) → IsText (123 ∷ left) → starts 125 left ≡ true → members_left left ≡ no_members
 no_member left is none = let here = as_object left is in none_of left here.0 here.1 none
 
--- the value of an object's text is the object of the members behind its bracket
+-- the value of an object's text is the object of the members after its brace
 pub object_left : (left : List ℕ) → IsText (123 ∷ left) → value_of (123 ∷ left) ≡ object (members_left left)
 object_left left is =
     let here = as_object left is in
@@ -121,7 +121,7 @@ some_member : (left : List ℕ) → IsText (123 ∷ left) → starts 125 left �
     → (n : List ℕ) × (p : Plain) × (others : Members) × (members_left left ≡ member n p others)
 some_member left is some = let here = as_object left is in some_of left here.0 here.1 some
 
--- none is left exactly where the closing bracket stands in front
+-- no member remains if and only if the closing brace is next
 closed_by : (left : List ℕ) (closed : Bool) → IsText (123 ∷ left) → closed ≡ starts 125 left → members_left left ≡ no_members → closed ≡ true
 closed_by left true is test none = refl
 closed_by left false is test none =

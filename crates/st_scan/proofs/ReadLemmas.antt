@@ -1,4 +1,4 @@
--- From a text to the value that it is, and back.
+-- From a text to its value, and back.
 use Rattle.std.proofs.Common.{◌≡◌, ◌∙◌, ℕ, List, Ok, ap, sym, subst}
 use Rattle.st_plain.specs.Plain.{Plain}
 use Rattle.st_plain.specs.ReadAgain.{IsReadAgain, value_read}

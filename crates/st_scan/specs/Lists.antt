@@ -1,4 +1,4 @@
--- Objects whose members are lists, looked at member by member.
+-- Objects whose members are lists, checked member by member.
 use Rattle.std.specs.Prelude.{ℕ, Bool, true, ◌&&◌, List, is_some}
 use Rattle.std.specs.List.{list_any}
 use Rattle.st_plain.specs.Entries.{items_in}

@@ -5,7 +5,7 @@ ghost use Rattle.st_plain.specs.Canonical.{escape, quoted};
 use st_base::cut_at;
 use st_plain::opened;
 
-// What stands between the quotation marks of a text, where no byte of it is escaped.
+// The bytes between the quotation marks of a JSON string, if none of them is escaped.
 pub(crate) fn bare(text: &[u8]) -> Option<&[u8]>
     ensures some { IfSome result (λ bytes. (word : List ℕ) → text.now ≡ quoted word → bytes.now ≡ word) }
     ensures none { IfNone result ((word : List ℕ) → text.now ≡ quoted word → flat_map escape word ≢ word) }

@@ -7,9 +7,9 @@ ghost use Rattle.st_scan.specs.Standing.{IsText, value_of};
 
 use std::simd::prelude::*;
 
-// A value nests no deeper than its text opens lists and objects.
+// A value nests no deeper than the number of opening brackets and braces in its text.
 
-// How deep it may nest at most, by the brackets in its text. Those within its texts are counted too.
+// An upper bound of its depth, by the brackets in its text. Those inside its strings count too.
 pub(crate) fn depth_bound(text: &[u8]) -> usize
     requires { IsText text.now }
     ensures exact { result ≡ opening_count (canonical (value_of text.now)) + 1 }
@@ -18,7 +18,6 @@ pub(crate) fn depth_bound(text: &[u8]) -> usize
     opening_count(text).saturating_add(1)
 }
 
-// They are counted sixteen bytes a step.
 fn opening_count(text: &[u8]) -> usize
     ensures { result ≡ opening_count text.now }
 {
@@ -31,7 +30,6 @@ fn opening_count(text: &[u8]) -> usize
     count + short_count(rest)
 }
 
-// How many are among the next sixteen bytes.
 fn near_count(bytes: &[u8]) -> usize
     requires { 16 ≤ length bytes.now }
     ensures value { result + opening_count (drop 16 bytes.now) ≡ opening_count bytes.now }
@@ -40,7 +38,7 @@ fn near_count(bytes: &[u8]) -> usize
     openings_of_16(u8x16::from_slice(bytes))
 }
 
-// How many are brackets or braces that open.
+// How many are opening brackets or braces.
 fn openings_of_16(step: u8x16) -> usize
     ensures { result ≡ count_by opens step }
 {

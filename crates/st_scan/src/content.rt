@@ -16,7 +16,7 @@ use st_base::{Bytes, KeptText, Shared, Text, WantOfMemory};
 use st_plain::{behind_first, is_quoted, next_byte};
 use std::alloc::Global;
 
-// The bytes of the text, where JSON escapes none of them.
+// The bytes of the text, if JSON escapes none of them.
 pub(crate) fn bare_text(canonical: &[u8]) -> Option<&[u8]>
     requires { IsText canonical.now }
     ensures some { IfSome result (λ bytes. value_of canonical.now ≡ text bytes.now) }
@@ -42,7 +42,7 @@ pub(crate) fn is_text_of(canonical: &[u8], word: &str) -> bool
     is_quoted(canonical, word.as_bytes())
 }
 
-// The text that it is. What JSON escapes is read.
+// The text, if it is one. Escapes are decoded.
 pub(crate) fn text_of(alloc: Global, canonical: &[u8]) -> Result<Option<Text>, WantOfMemory>
     requires { IsText canonical.now }
     ensures { IfOk result (λ found. found ≡ text_in (value_of canonical.now)) }
@@ -58,8 +58,8 @@ pub(crate) fn text_of(alloc: Global, canonical: &[u8]) -> Result<Option<Text>, W
     Ok(Some(read_text(alloc, canonical)?))
 }
 
-// The same, which shares its bytes with the file where JSON escapes none of them and they stand there at this
-// offset.
+// The same, but it shares its bytes with the file if JSON escapes none of them and the file has
+// them at this offset.
 pub(crate) fn text_within(
     alloc: Global,
     canonical: &[u8],
@@ -80,7 +80,7 @@ pub(crate) fn text_within(
     }
 }
 
-// The same, where some of its bytes are escaped.
+// The same, if some of its bytes are escaped.
 fn read_text(alloc: Global, canonical: &[u8]) -> Result<Text, WantOfMemory>
     requires text { IsText canonical.now }
     requires kind { is_some (text_in (value_of canonical.now)) ≡ true }
@@ -92,7 +92,7 @@ fn read_text(alloc: Global, canonical: &[u8]) -> Result<Text, WantOfMemory>
     }
 }
 
-// The bytes of the text that stands in front of a quotation mark.
+// The decoded bytes of the string that ends at the first quotation mark.
 fn unescaped(alloc: Global, inside: &[u8]) -> Result<Vec<u8>, WantOfMemory>
     ensures { IfOk result (λ word. word.items ≡ name_in inside.now) }
 {

@@ -5,7 +5,7 @@ ghost use Rattle.st_scan.specs.Standing.{IsNextEntry, IsNextMember, IsText, entr
 
 use st_plain::{behind_first, split_value, starts};
 
-// The first of the entries that are left of a list, and those behind it.
+// The first remaining entry of a list, and the rest after it.
 pub(crate) fn next_entry(left: &[u8]) -> Option<(&[u8], &[u8])>
     requires { IsText (91 ∷ left.now) }
     ensures none { IfNone result (entries_left left.now ≡ []) }
@@ -18,7 +18,7 @@ pub(crate) fn next_entry(left: &[u8]) -> Option<(&[u8], &[u8])>
     Some((entry, behind_comma(rest)))
 }
 
-// The name and the value of the first of the members that are left of an object, and those behind it.
+// The name and the value of the first remaining member of an object, and the rest after it.
 pub(crate) fn next_member(left: &[u8]) -> Option<(&[u8], &[u8], &[u8])>
     requires { IsText (123 ∷ left.now) }
     ensures none { IfNone result (members_left left.now ≡ no_members) }

@@ -6,12 +6,11 @@ use crate::items;
 use crate::scanned::Scanned;
 use std::marker::Model;
 
-/// The entries of a list, as they stand in its canonical text, from one that is still to come. Contracts see
-/// those that are left.
+/// A cursor over the entries of a list in its canonical text. Contracts see the remaining entries.
 #[derive(Drop)]
 pub struct Entries<'a> {
-    // What stands behind the bracket of the list or behind a comma, so that with a bracket in front it is the
-    // canonical text of the list of those that are left.
+    // The text after the bracket of the list or after a comma: with a bracket in front it is the
+    // canonical text of the list of the remaining entries.
     left: &'a [u8],
 }
 
@@ -31,7 +30,7 @@ impl<'a> Model for Entries<'a> {
     ghost invariant = { λ entries. IsText (91 ∷ entries.left.now) };
 }
 
-/// The entries of the list that is there. Where there is nothing, or no list, there are none.
+/// The entries of a list. A missing value and any other kind have none.
 pub fn entries_in<'a>(there: Option<Scanned<'a>>) -> Entries<'a>
     ensures { result ≡ entries_in there.entry }
 {
@@ -45,7 +44,7 @@ pub fn entries_in<'a>(there: Option<Scanned<'a>>) -> Entries<'a>
     }
 }
 
-/// The one entry of a list that has no other.
+/// The entry of a list that has only one.
 pub fn only_of<'a>(entries: Entries<'a>) -> Option<Scanned<'a>>
     ensures { result ≡ only_of entries.entry }
 {
@@ -56,7 +55,7 @@ pub fn only_of<'a>(entries: Entries<'a>) -> Option<Scanned<'a>>
 }
 
 impl<'a> Entries<'a> {
-    /// The next one.
+    /// The next entry.
     pub fn next(&mut self) -> Option<Scanned<'a>>
         ensures none { IfNone result ((self.old ≡ []) × (self.new ≡ [])) }
         ensures some { IfSome result (λ entry. self.old ≡ entry ∷ self.new) }
@@ -70,14 +69,14 @@ impl<'a> Entries<'a> {
         }
     }
 
-    /// The same entries once more, to be gone through beside these.
+    /// A second cursor over the same entries.
     pub fn again(&self) -> Entries<'a>
         ensures { result ≡ self.now }
     {
         Entries { left: self.left }
     }
 
-    /// How many are left.
+    /// How many entries remain.
     pub fn count(&self) -> usize
         ensures { result ≡ length self.now }
     {

@@ -7,7 +7,7 @@ use st_plain::{opened, starts};
 
 const CLOSING: &[u8] = b"]";
 
-// What is left of an empty list.
+// The remaining text of an empty list.
 pub(crate) fn no_entries() -> &'static [u8]
     ensures value { entries_left result.now ≡ [] }
     ensures text { IsText (91 ∷ result.now) }
@@ -15,7 +15,7 @@ pub(crate) fn no_entries() -> &'static [u8]
     CLOSING
 }
 
-// What is left of the list that the text is, before its first entry. What is no list has none.
+// The remaining text of a list before its first entry. Any other value has no entries.
 pub(crate) fn left_of(text: &[u8]) -> &[u8]
     requires { IsText text.now }
     ensures value { entries_left result.now ≡ entries_in (Some (value_of text.now)) }
@@ -27,7 +27,7 @@ pub(crate) fn left_of(text: &[u8]) -> &[u8]
     }
 }
 
-// How many entries are left.
+// How many entries remain.
 pub(crate) fn count(left: &[u8]) -> usize
     requires { IsText (91 ∷ left.now) }
     ensures { result ≡ length (entries_left left.now) }
@@ -41,7 +41,7 @@ pub(crate) fn count(left: &[u8]) -> usize
     count
 }
 
-// The one entry that is left, where there is no other.
+// The remaining entry, if there is only one.
 pub(crate) fn only(left: &[u8]) -> Option<&[u8]>
     requires { IsText (91 ∷ left.now) }
     ensures some { IfSome result (λ text. only_of (entries_left left.now) ≡ Some (value_of text.now)) }

@@ -4,7 +4,7 @@ ghost use Rattle.st_scan.specs.Standing.{IsText, value_of};
 
 use st_plain::starts;
 
-// The first byte of a canonical text tells its kind.
+// The first byte of a canonical text determines its kind.
 
 #[tactic(auto, using(crate::proofs::KindLemmas::text_kind))]
 pub(crate) fn is_text(text: &[u8]) -> bool

@@ -1,5 +1,5 @@
-//! JSON values as they stand in their canonical text (RFC 8785): they are found by scanning that text, and
-//! no tree is made of them. What a reader of a file or of a request looks at takes no memory then but the text.
+//! JSON values in their canonical text (RFC 8785): they are found by scanning that text, without
+//! building a tree. A reader of a file or of a request needs no memory but the text.
 #![tactic(auto)]
 
 mod bare;

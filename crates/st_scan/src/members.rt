@@ -13,7 +13,7 @@ use crate::cursor::next_member;
 use crate::kind::is_list;
 use st_plain::{is_named, starts};
 
-// The value of the member of this name, where one of those that are left has it.
+// The value of the member of this name, if it is among the remaining ones.
 pub(crate) fn find<'a>(left: &'a [u8], name: &str) -> Option<&'a [u8]>
     requires { IsText (123 ∷ left.now) }
     ensures some { IfSome result (λ text. member_at name.now (members_left left.now) ≡ Some (value_of text.now)) }
@@ -30,7 +30,7 @@ pub(crate) fn find<'a>(left: &'a [u8], name: &str) -> Option<&'a [u8]>
     None
 }
 
-// The same, where there is no other member.
+// The same, if there is no other member.
 pub(crate) fn find_only<'a>(left: &'a [u8], name: &str) -> Option<&'a [u8]>
     requires { IsText (123 ∷ left.now) }
     ensures some { IfSome result (λ text. only_member name.now (Some (object (members_left left.now))) ≡ Some (value_of text.now)) }
@@ -49,7 +49,7 @@ pub(crate) fn find_only<'a>(left: &'a [u8], name: &str) -> Option<&'a [u8]>
     Some(value)
 }
 
-// The values of the next two members, where they have these names and none is behind them.
+// The values of the next two members, if they have these names and no other member follows.
 pub(crate) fn find_both<'a>(
     left: &'a [u8],
     first: &str,
@@ -70,7 +70,7 @@ pub(crate) fn find_both<'a>(
     }
 }
 
-// Whether each of the members that are left has one of these names.
+// Whether each remaining member has one of these names.
 pub(crate) fn have_only(left: &[u8], names: &[&str]) -> bool
     requires { IsText (123 ∷ left.now) }
     ensures { result ≡ has_only (map (λ n. n.now) names.now) (members_left left.now) }
@@ -85,7 +85,7 @@ pub(crate) fn have_only(left: &[u8], names: &[&str]) -> bool
     true
 }
 
-// The same, where each is a list too.
+// Whether each also is a list.
 #[tactic(auto, unfolding(crate::specs::Lists::only_lists))]
 pub(crate) fn have_only_lists(left: &[u8], names: &[&str]) -> bool
     requires { IsText (123 ∷ left.now) }

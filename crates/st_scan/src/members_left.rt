@@ -6,12 +6,12 @@ use crate::scanned::Scanned;
 use st_plain::{is_named, starts};
 use std::marker::Model;
 
-/// The members of an object, as they stand in its canonical text, in the order of their names (RFC 8785,
-/// section 3.2.3), from one that is still to come. Contracts see those that are left.
+/// A cursor over the members of an object in its canonical text, in the order of their names (RFC
+/// 8785, section 3.2.3). Contracts see the remaining members.
 #[derive(Drop)]
 pub struct Members<'a> {
-    // What stands behind the bracket of the object or behind a comma, so that with a bracket in front it is
-    // the canonical text of the object of those that are left.
+    // The text after the bracket of the object or after a comma: with a bracket in front it is the
+    // canonical text of the object of the remaining members.
     pub(crate) left: &'a [u8],
 }
 
@@ -31,8 +31,8 @@ impl<'a> Model for Members<'a> {
 }
 
 impl<'a> Members<'a> {
-    /// The value of the next member, where that has this name; those behind it are left then. Where it has
-    /// another, or none is left, nothing changes.
+    /// The value of the next member, if that has this name; the cursor then moves past it. If it
+    /// has another name, or no member remains, nothing changes.
     pub fn next_named(&mut self, name: &str) -> Option<Scanned<'a>>
         ensures some { IfSome result (λ value. self.old ≡ member name.now value self.new) }
         ensures none { IfNone result ((value : Plain) → (others : Members) → self.old ≢ member name.now value others) }
@@ -48,7 +48,7 @@ impl<'a> Members<'a> {
         Some(Scanned { text })
     }
 
-    /// Whether none is left.
+    /// Whether no member remains.
     pub fn is_empty(&self) -> bool
         ensures { IsTrue result ↔ (self.now ≡ no_members) }
     {

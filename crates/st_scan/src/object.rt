@@ -7,7 +7,7 @@ ghost use Rattle.st_scan.specs.Standing.{IsText, members_left, value_of};
 use crate::members::{find, find_both, find_only, have_only, have_only_lists};
 use st_plain::opened;
 
-// What stands behind the bracket of an object, where the text is that of one.
+// The text after the bracket of an object, if the text is one.
 pub(crate) fn members(text: &[u8]) -> Option<&[u8]>
     requires { IsText text.now }
     ensures value { option_map (λ left. members_left left.now) result ≡ members_in (value_of text.now) }
@@ -19,7 +19,7 @@ pub(crate) fn members(text: &[u8]) -> Option<&[u8]>
     }
 }
 
-// The text of the value of the member of this name, where the text is that of an object that has one.
+// The text of the value of the member of this name, if the text is an object that has one.
 pub(crate) fn member<'a>(text: &'a [u8], name: &str) -> Option<&'a [u8]>
     requires { IsText text.now }
     ensures value { option_map (λ found. value_of found.now) result ≡ member_in name.now (Some (value_of text.now)) }
@@ -34,7 +34,7 @@ pub(crate) fn member<'a>(text: &'a [u8], name: &str) -> Option<&'a [u8]>
     }
 }
 
-// The same, where there is no other member.
+// The same, if there is no other member.
 pub(crate) fn only_member<'a>(text: &'a [u8], name: &str) -> Option<&'a [u8]>
     requires { IsText text.now }
     ensures value { option_map (λ found. value_of found.now) result ≡ only_member name.now (Some (value_of text.now)) }
@@ -49,7 +49,8 @@ pub(crate) fn only_member<'a>(text: &'a [u8], name: &str) -> Option<&'a [u8]>
     }
 }
 
-// The texts of the values of the members of these names, where these are all and come in turn.
+// The texts of the values of the members of these names, if these are all the members, in this
+// order.
 pub(crate) fn both_in_turn<'a>(
     text: &'a [u8],
     first: &str,

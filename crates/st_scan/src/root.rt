@@ -34,11 +34,10 @@ impl Model for CanonicalText {
 }
 
 impl CanonicalText {
-    /// The canonical text of the JSON that bytes of any spelling are. A member whose name stands twice has
-    /// its last value.
+    /// The canonical text of JSON of any spelling. A member that appears twice has its last value.
     ///
-    /// `NotJson` comes exactly where the bytes are no JSON, `NotWhole` exactly where they are JSON with a
-    /// number that no `Whole` holds or that is written as a float.
+    /// The result is `NotJson` if and only if the bytes are not JSON, and `NotWhole` if and only if
+    /// they are JSON with a number that no `Whole` holds or that is written as a float.
     pub fn read(alloc: Global, bytes: &[u8]) -> Result<CanonicalText, ReadRefused>
         ensures value { GivesAs (λ text. text) refusal_of (json_of bytes.now) result }
         ensures proper { IfOk result (λ text. IsProper text) }
@@ -47,7 +46,7 @@ impl CanonicalText {
         Ok(CanonicalText { text })
     }
 
-    /// The same, where `None` comes exactly where the bytes are no JSON with whole numbers.
+    /// The same; `None` if and only if the bytes are not JSON with whole numbers.
     pub fn read_json(alloc: Global, bytes: &[u8]) -> Result<Option<CanonicalText>, WantOfMemory>
         ensures { IfOk result (λ found. found ≡ json_in bytes.now) }
     {
@@ -59,7 +58,7 @@ impl CanonicalText {
         }
     }
 
-    /// The value whose canonical text this is.
+    /// The value with this canonical text.
     #[tactic(auto, unfolding(crate::specs::Standing::value_of), using(crate::proofs::ReadLemmas::text_from_read))]
     pub fn again(text: Bytes) -> CanonicalText
         requires { IsReadAgain text }
@@ -75,7 +74,7 @@ impl CanonicalText {
         self.text.as_slice()
     }
 
-    /// The value, as it stands in the text.
+    /// The value, in the text.
     pub fn root(&self) -> Scanned<'_>
         ensures { result ≡ self.now }
     {

@@ -17,7 +17,7 @@ use st_base::{Bytes, KeptText, Shared, Text, WantOfMemory};
 use std::alloc::Global;
 use std::marker::Model;
 
-/// A JSON value, as it stands in its canonical text (RFC 8785). Contracts see the plain value.
+/// A JSON value in its canonical text (RFC 8785). Contracts see the plain value.
 #[derive(Drop)]
 pub struct Scanned<'a> {
     pub(crate) text: &'a [u8],
@@ -38,7 +38,7 @@ impl<'a> Model for Scanned<'a> {
 }
 
 impl<'a> Scanned<'a> {
-    /// The value whose canonical text this is.
+    /// The value with this canonical text.
     #[tactic(auto, unfolding(crate::specs::Standing::value_of), using(crate::proofs::ReadLemmas::text_from_read))]
     pub fn again(text: &'a [u8]) -> Scanned<'a>
         requires { IsReadAgain text.now }
@@ -68,15 +68,15 @@ impl<'a> Scanned<'a> {
         kind::is_object(self.text)
     }
 
-    /// The text that it is.
+    /// The text, if it is one.
     pub fn text(&self, alloc: Global) -> Result<Option<Text>, WantOfMemory>
         ensures { IfOk result (λ found. found ≡ text_in self.now) }
     {
         Ok(content::text_of(alloc, self.text)?)
     }
 
-    /// The text that it is. Where JSON escapes none of its bytes and they stand in the file at this offset, they
-    /// are shared with the file.
+    /// The text, if it is one. If JSON escapes none of its bytes and the file has them at this
+    /// offset, they are shared with the file.
     pub fn text_within(
         &self,
         alloc: Global,
@@ -88,7 +88,7 @@ impl<'a> Scanned<'a> {
         Ok(content::text_within(alloc, self.text, file, at)?)
     }
 
-    /// The bytes of the text that it is, where JSON escapes none of them.
+    /// The bytes of the text, if it is one and JSON escapes none of them.
     pub fn bare_text(&self) -> Option<&'a [u8]>
         ensures some { IfSome result (λ bytes. self.now ≡ text bytes.now) }
         ensures none { IfNone result ((bytes : List ℕ) → self.now ≡ text bytes → flat_map escape bytes ≢ bytes) }
@@ -106,7 +106,7 @@ impl<'a> Scanned<'a> {
         content::is_text_of(self.text, word)
     }
 
-    /// Its members, where it is an object.
+    /// Its members, if it is an object.
     pub fn members(&self) -> Option<Members<'a>>
         ensures { result ≡ members_in self.now }
     {
@@ -116,7 +116,7 @@ impl<'a> Scanned<'a> {
         }
     }
 
-    /// The value of the member of this name, where it is an object that has one.
+    /// The value of the member of this name, if it is an object that has one.
     pub fn member(&self, name: &str) -> Option<Scanned<'a>>
         ensures { result ≡ member_in name.now (Some self.now) }
     {
@@ -126,7 +126,7 @@ impl<'a> Scanned<'a> {
         }
     }
 
-    /// The value of the member of this name, where it is an object that has it and no other.
+    /// The value of the member of this name, if it is an object that has it and no other.
     pub fn only_member(&self, name: &str) -> Option<Scanned<'a>>
         ensures { result ≡ only_member name.now (Some self.now) }
     {
@@ -136,7 +136,7 @@ impl<'a> Scanned<'a> {
         }
     }
 
-    /// The values of the members of these names, where it is an object that has both and no other.
+    /// The values of the members of these names, if it is an object that has both and no other.
     pub fn both_members(&self, first: &str, second: &str) -> Option<(Scanned<'a>, Scanned<'a>)>
         ensures { result ≡ both_members first.now second.now (Some self.now) }
     {
@@ -172,7 +172,8 @@ impl<'a> Scanned<'a> {
         content::size(self.text)
     }
 
-    /// How deep it nests at most, where a scalar and what is empty have depth 1, by the brackets that stand in its text.
+    /// An upper bound of its depth, by the brackets in its text; a scalar, an empty list and an
+    /// empty object have depth 1.
     pub fn depth_bound(&self) -> usize
         ensures exact { result ≡ opening_count (canonical self.now) + 1 }
         ensures depth { depth_of self.now ≤ result }

@@ -7,7 +7,7 @@ use st_base::Bytes;
 use st_plain::{ReadRefused, canonical_text};
 use std::alloc::Global;
 
-// The canonical text of the JSON that bytes of any spelling are.
+// The canonical text of JSON of any spelling.
 #[tactic(auto, unfolding(crate::specs::Standing::value_of))]
 pub(crate) fn text_of(alloc: Global, bytes: &[u8]) -> Result<Bytes, ReadRefused>
     ensures value { GivesAs (λ text. value_of text) refusal_of (json_of bytes.now) result }

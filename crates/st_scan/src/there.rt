@@ -3,7 +3,8 @@ ghost use Rattle.st_scan.specs.ObjectsOfLists.{is_object_of_lists_if_there};
 
 use crate::scanned::Scanned;
 
-/// Whether an object is there whose members all have one of these names and are lists, or nothing.
+/// Whether the value is missing, or an object whose members all have one of these names and are
+/// lists.
 pub fn is_object_of_lists_if_there(there: Option<Scanned<'_>>, names: &[&str]) -> bool
     ensures { result ≡ is_object_of_lists_if_there (map (λ n. n.now) names.now) there.entry }
 {

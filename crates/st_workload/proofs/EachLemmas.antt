@@ -1,5 +1,5 @@
 -- Items by number.
---     each_more      one item more
+--     each_more      one more item
 --     each_at        the item with a number
 --     each_line      the line of a round among all that an identifier submits
 --     round_told     the lines of a round
@@ -25,7 +25,7 @@ each_line seed rounds round i inside =
     unwrap_or-slice_get (lines_of seed rounds i) round []
     ∙ each_at (λ round. submit_line seed round i) (rounds + 1) round [] inside
 
--- what is made of what is made of each
+-- a map after a map
 map_twice : {A B C : Type 0} (f : A → B) (g : B → C) (h : A → C) → ((a : A) → g (f a) ≡ h a) → (items : List A) → map g (map f items) ≡ map h items
 map_twice f g h same [] = refl
 map_twice f g h same (item ∷ items) = rw (same item, map_twice f g h same items) refl

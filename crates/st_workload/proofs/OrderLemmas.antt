@@ -1,6 +1,6 @@
 -- Turns.
 --     file_fed_is    a file that was taken out and fed
---     turn_next      one turn more
+--     turn_next      one more turn
 use Rattle.std.proofs.Common.{◌≡◌, ◌∙◌, ℕ, ◌+◌, List, [], ◌∷◌, ◌++◌, Some, unwrap_or, refl, sym, ap, add-one}
 use Rattle.std.specs.List.{remove, slice_get}
 use Rattle.st_workload.specs.Order.{file_fed, turn, turns}

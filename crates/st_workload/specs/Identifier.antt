@@ -1,7 +1,6 @@
--- The identifiers of a workload: the key of each, and what it asks for in each round. Identifier i has
--- stream i for its own. Of its words, 0 to 3 are the key's I, 4 to 11 the key's SEED, 12 to 15 the
--- recovery nonce and 16 to 19 the nonce for round 0; each round after that has five more words, of which
--- four are its nonce and one is w.
+-- The identifiers of a workload: the key of each, and its request in each round. Identifier i has its own stream i.
+-- Of its words, 0 to 3 are the key's I, 4 to 11 the key's SEED, 12 to 15 the recovery nonce and 16 to 19 the nonce
+-- for round 0; each round after that has five more words, of which four are its nonce and one is w.
 use Rattle.std.specs.Prelude.{ℕ, ◌+◌, ◌*◌, ◌-◌, ◌==◌, List, [], ◌∷◌, ◌++◌, codes, if◌then◌else◌, Some}
 use Rattle.std.specs.Fmt.{decimal}
 use Rattle.std.specs.Int.{w32, to_be_bytes}
@@ -30,11 +29,11 @@ use Rattle.st_ops.specs.RequestText.{request_text}
 unfoldable pub key : ℕ → ℕ → SecretKey
 key seed i = secret_key 3 5 (bytes seed i 0 16) (bytes seed i 4 32)
 
--- the key as a JWK, with the nonce that begins at this word
+-- the key as a JWK, with the nonce that starts at this word
 unfoldable pub jwk : ℕ → ℕ → ℕ → Jwk
 jwk seed i n = record { public = public_of (key seed i); nonce = Some (bytes seed i n 16) }
 
--- the word at which the nonce for a round begins
+-- the first word of the nonce for a round
 abbrev pub nonce_at : ℕ → ℕ
 nonce_at round = if round == 0 then 16 else 15 + 5 * round
 
@@ -48,7 +47,7 @@ update_jwk seed i round = jwk seed i (nonce_at round)
 
 -- ---- deltas
 
--- a delta with these patches, which commits to this key
+-- a delta with these patches and a commitment to this key
 unfoldable pub delta : List Plain → Jwk → Plain
 delta patches next = object_of
     ((codes "patches", list (items_of patches))
@@ -73,11 +72,11 @@ patch seed i round = object_of
 
 -- ---- round 0: a create without patches
 
--- the delta of the create, which commits to the key of round 0
+-- the delta of the create, with a commitment to the key of round 0
 abbrev pub create_delta : ℕ → ℕ → Plain
 create_delta seed i = delta [] (update_jwk seed i 0)
 
--- it commits to its delta and to the recovery key
+-- the commitments of the create: to its delta and to the recovery key
 unfoldable pub did_suffix_data : ℕ → ℕ → SuffixData
 did_suffix_data seed i = record {
   delta_hash = hash_of (canonical (create_delta seed i));
@@ -92,13 +91,13 @@ did_suffix seed i = suffix_of (did_suffix_data seed i)
 abbrev pub create : ℕ → ℕ → PlainOperation
 create seed i = creating (did_suffix_data seed i) (Some (create_delta seed i))
 
--- ---- each round after: an update that reveals the key of the round before, and commits to its own
+-- ---- each later round: an update that reveals the key of the previous round, and commits to its own
 
 -- the delta of the update of a round
 abbrev pub update_delta : ℕ → ℕ → ℕ → Plain
 update_delta seed i round = delta (patch seed i round ∷ []) (update_jwk seed i round)
 
--- what is signed: the revealed key, and the hash of the delta
+-- the signed payload: the revealed key, and the hash of the delta
 unfoldable pub payload : Jwk → Plain → Plain
 payload revealed delta = object_of
     ((codes "updateKey", jwk_json revealed)
@@ -123,7 +122,7 @@ update seed i round =
 
 -- ---- requests
 
--- what an identifier asks for in a round
+-- the request of an identifier in a round
 unfoldable pub request : ℕ → ℕ → ℕ → List ℕ
 request seed i round = request_text (if round == 0 then create seed i else update seed i round)
 

@@ -1,4 +1,4 @@
--- An identifier with all that it submits.
+-- An identifier with all its lines.
 use Rattle.std.specs.Prelude.{ℕ, ◌+◌, List, [], slice_get, unwrap_or}
 use Rattle.st_workload.specs.Identifier.{did_suffix, submit_line}
 use Rattle.st_workload.specs.Each.{each}

@@ -1,5 +1,5 @@
--- The random words of a workload: key streams of ChaCha with 8 rounds (RFC 8439, sections 2.1 to 2.3, but with a
--- block counter of 64 bits and a nonce of 64 bits, which is the number of the stream).
+-- The random words of a workload: key streams of ChaCha with 8 rounds (RFC 8439, sections 2.1 to 2.3, except that the
+-- block counter and the nonce have 64 bits each, and the nonce is the number of the stream).
 use Rattle.std.specs.Prelude.{ℕ, List, ◌++◌, replicate}
 use Rattle.std.specs.Int.{w64, to_le_bytes}
 use Rattle.rand_chacha.specs.ChaCha.{ChaCha, key_of, next_word}
@@ -17,6 +17,6 @@ words_from seed stream n = record { key = key_of (key_bytes seed); stream = stre
 unfoldable pub word : ℕ → ℕ → ℕ → ℕ
 word seed stream n = (next_word 4 (words_from seed stream n)).0
 
--- the first bytes, so many, of the words from this number on, each word in little-endian
+-- the first bytes of the words from this number on, each word in little-endian
 unfoldable pub bytes : ℕ → ℕ → ℕ → ℕ → List ℕ
 bytes seed stream n count = (fill_via_u32 (next_word 4) count (words_from seed stream n)).0

@@ -17,7 +17,7 @@ use st_indexfiles::hash_json;
 use st_jws::{Jwk, commitment};
 use std::alloc::Global;
 
-/// A delta with these patches, which commits to this key.
+/// A delta with these patches and a commitment to this key.
 pub(crate) fn delta(alloc: Global, patches: List<Json>, next: &Jwk) -> Result<Json, WantOfMemory>
     ensures { IfOk result (λ json. plain json ≡ delta (map plain patches) next.now) }
 {

@@ -15,17 +15,17 @@ use st_lms::{Secret, Signer};
 use st_vault::{Counter, Vault, format_vault};
 use std::alloc::Global;
 
-/// An identifier, and all that it asks for.
+/// An identifier, and all its requests.
 #[derive(Drop)]
 pub struct Identity {
     /// Its suffix.
     pub suffix: Hash,
-    /// The line that submits its request of each round, from round 0 on, in which it is created.
+    /// The lines that submit its requests, one for each round from round 0 on, which creates it.
     pub lines: List<Bytes>,
 }
 
-/// The identifiers with the numbers from 0 to `dids - 1`, each of which is updated in `rounds` rounds. For each
-/// it takes the time of a key, and of a signature for each update.
+/// The identifiers with the numbers from 0 to `dids - 1`, each updated in `rounds` rounds. Each
+/// takes the time of a key, and of a signature for each update.
 pub fn all_identities(
     alloc: Global,
     seed: u64,
@@ -84,7 +84,7 @@ fn create(
     Ok((suffix, line))
 }
 
-// Puts the lines of all updates behind that of the create.
+// Appends the lines of all updates to that of the create.
 fn push_updates<D: Disk>(
     alloc: Global,
     lines: &mut List<Bytes>,
@@ -114,7 +114,7 @@ fn push_updates<D: Disk>(
     Ok(())
 }
 
-// A vault of this key on a disk that holds nothing. The one fault of a disk in memory is want of memory.
+// A vault of this key on an empty disk. A disk in memory can only fail by running out of memory.
 fn new_vault<D: Disk>(disk: &mut D, secret: Secret) -> Result<Vault, WantOfMemory>
     ensures value { IfOk result (λ vault. vault ≡ new_vault secret) }
     ensures reads { IfOk result (ReadsAs (D.reads disk.new)) }
@@ -125,7 +125,7 @@ fn new_vault<D: Disk>(disk: &mut D, secret: Secret) -> Result<Vault, WantOfMemor
     }
 }
 
-// Spends the next counter. There are more counters than rounds, and the one fault is want of memory.
+// Spends the next counter. There are more counters than rounds, so this can only run out of memory.
 fn spend<D: Disk>(vault: Vault, disk: &mut D) -> Result<(Vault, Counter), WantOfMemory>
     requires { ReadsAs (D.reads disk.old) vault }
     ensures value { IfOk result (λ given. (given.0 ≡ vault_after vault) × (given.1 ≡ counter_of vault)) }

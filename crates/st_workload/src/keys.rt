@@ -6,7 +6,7 @@ use st_base::WantOfMemory;
 use st_jws::Jwk;
 use st_lms::{Secret, Signer};
 
-/// The key of an identifier. Both of its types are known, so it always comes.
+/// The key of an identifier. Both of its types are known, so making it can't fail.
 #[tactic(auto, unfolding(crate::specs::Identifier::key))]
 pub(crate) fn secret(seed: u64, number: u32) -> Result<Secret, WantOfMemory>
     ensures { IfOk result (λ secret. secret ≡ key seed number) }
@@ -34,7 +34,7 @@ pub(crate) fn update_jwk(signer: &Signer, seed: u64, number: u32, round: u32) ->
     jwk(signer, seed, number, nonce_at(round))
 }
 
-// The key as a JWK, with the nonce that begins at this word.
+// The key as a JWK, with the nonce that starts at this word.
 #[tactic(auto, unfolding(crate::specs::Identifier::jwk))]
 fn jwk(signer: &Signer, seed: u64, number: u32, n: u64) -> Jwk
     requires { signer.now ≡ key seed number }
@@ -46,7 +46,7 @@ fn jwk(signer: &Signer, seed: u64, number: u32, n: u64) -> Jwk
     }
 }
 
-// The word at which the nonce for a round begins.
+// The first word of the nonce for a round.
 fn nonce_at(round: u32) -> u64
     requires { round ≤ 30 }
     ensures { result ≡ nonce_at round }

@@ -1,6 +1,6 @@
-//! A workload that a seed makes: identifiers, each with a key of its own and with the requests that create it
-//! and update it round after round, and an order of events in which a node may get what is made of them. The
-//! same seed makes the same workload, byte for byte.
+//! A workload made from a seed: identifiers, each with its own key and with the requests that
+//! create it and update it in each round, and an order of events in which a node may receive the
+//! results. The same seed makes the same workload, byte for byte.
 #![tactic(auto)]
 
 mod deltas;

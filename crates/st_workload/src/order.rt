@@ -6,7 +6,7 @@ use itoa::Buffer;
 use st_base::{Bytes, List, WantOfMemory};
 use std::alloc::Global;
 
-// What was fed, the number of the batch whose anchor comes next, and the files that remain.
+// The lines fed so far, the number of the batch whose anchor is next, and the remaining files.
 #[derive(Drop)]
 pub struct Feed {
     pub lines: List<Bytes>,
@@ -14,9 +14,9 @@ pub struct Feed {
     pub files: List<Bytes>,
 }
 
-/// The lines of a second node: these lines of anchors in their order, and these of files in an order that the
-/// words of a stream give them, each once. Behind each anchor of a batch with an odd number come a line that
-/// takes it back, and the same anchor again.
+/// The lines of a second node: these lines of anchors in their order, and these of files in an
+/// order that the words of a stream give them, each once. The anchor of each batch with an odd
+/// number is rolled back at once, and fed again.
 #[tactic(auto, unfolding(crate::specs::Order::events))]
 pub fn events(
     alloc: Global,
@@ -84,7 +84,7 @@ fn feed_anchor(alloc: Global, anchors: &[Bytes], feed: Feed) -> Result<Feed, Wan
     })
 }
 
-// Puts the lines of an anchor behind the others: that of an odd number is taken back, and comes again.
+// Appends the lines of an anchor: one with an odd number is rolled back, and fed again.
 fn push_anchor(
     alloc: Global,
     lines: &mut List<Bytes>,
@@ -104,7 +104,7 @@ fn push_anchor(
     Ok(())
 }
 
-// The line that takes back the entries from this number on.
+// The line that rolls back the entries from this number on.
 fn rollback_line(alloc: Global, number: usize) -> Result<Bytes, WantOfMemory>
     ensures { IfOk result (λ line. line ≡ rollback_line number) }
 {
@@ -113,7 +113,7 @@ fn rollback_line(alloc: Global, number: usize) -> Result<Bytes, WantOfMemory>
     Ok(line)
 }
 
-// Takes the file that w chooses out of the list, and feeds it.
+// Removes the file that w chooses from the list, and feeds it.
 fn feed_file(alloc: Global, w: u32, feed: Feed) -> Result<Feed, WantOfMemory>
     requires { 0 < length feed.files }
     ensures { IfOk result (λ more. more ≡ file_fed (w / 2 % length feed.files) feed) }

@@ -35,7 +35,7 @@ pub(crate) fn create_delta(
     Ok(delta)
 }
 
-/// What its create commits to.
+/// The suffix data of its create.
 #[tactic(auto, unfolding(crate::specs::Identifier::did_suffix_data))]
 pub(crate) fn suffix_data(
     alloc: Global,
@@ -141,7 +141,7 @@ fn update(
     })
 }
 
-// What is signed: the revealed key, and the hash of the delta.
+// The signed payload: the revealed key, and the hash of the delta.
 fn payload(alloc: Global, revealed: &Jwk, delta: &Json) -> Result<Json, WantOfMemory>
     ensures { IfOk result (λ json. plain json ≡ payload revealed.now (plain delta.now)) }
 {

@@ -1,5 +1,5 @@
--- A `List` may hold the type that holds it, as a list of values inside a value: the shape of its
--- items, and that its memory and its codes go along with those of the items.
+-- A `List` may contain the type that contains it, as a list of values inside a value: the shape of its items, and how
+-- its memory and its codes follow from those of the items.
 use mathlib.Core.Path.{◌≡◌, refl, sym}
 use mathlib.Core.List as lists
 use mathlib.Core.Former.{Former, this, list, via, children}
@@ -36,7 +36,7 @@ the_items X items = items
 pub the_items_listed : (X : Type 0) (items : lists.List X) → listed _ (children (the_former this) X items) ≡ the_items X items
 the_items_listed X items = list-listed X items
 
--- inside it is a struct round a vector
+-- its representation: a struct with a vector
 abbrev inside : Former {0}
 inside = via (vec.the_former this Global) Inside (λ X held. held.items) (λ X items. record { items = items }) (λ X held. refl) (λ X items. refl)
 

@@ -5,7 +5,7 @@ use Rattle.st_plain.specs.Names.{is_name}
 use Rattle.st_canon.specs.View.{plain_members}
 use Rattle.st_canon.proofs.object.scanned.Given as goal
 
--- what is looked for in all is looked for in those that are left
+-- a lookup among all is a lookup among the remaining ones
 abbrev pub invariant-loop-other : goal.invariant-loop-other
 invariant-loop-other l =
     (member_at l.name (plain_members l.pairs) ≡ member_at l.name (plain_members (drop l.other-index l.pairs)))

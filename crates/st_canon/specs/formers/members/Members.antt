@@ -1,5 +1,5 @@
--- `Members` may hold the type that holds it, as an object of values inside a value: it is the list
--- of its pairs, whose values alone are held, and the order of the names is carried along.
+-- `Members` may contain the type that contains it, as an object of values inside a value. It is the list of its
+-- pairs: only their values are contained, and the order of the names is kept with it.
 use mathlib.Core.Path.{◌≡◌, refl, sym, ap, subst, ◌∙◌}
 use mathlib.Core.Former.{Former, Count, Row, this, const, pair, list, via, children, list_count, list_put}
 use Rattle.std.specs.Prelude.{ℕ, List, [], ◌∷◌, map, max}
@@ -29,7 +29,7 @@ use Rattle.st_canon.specs.declared.members.Members.TheView.{view, invariant}
 abbrev Name : Type 0
 Name = List ℕ
 
--- a name, which holds nothing, beside a value
+-- a name, which contains nothing, and a value
 abbrev named : Former {0} → Former {0}
 named value = pair (const Name) value
 
@@ -37,7 +37,7 @@ named value = pair (const Name) value
 abbrev with_value : {X Y : Type 0} → (X → Y) → Name × X → Name × Y
 with_value h member = (member.0, h member.1)
 
--- what members hold: a list of pairs of a name and a value
+-- the contents of members: a list of pairs of a name and a value
 abbrev pub the_former : Former {0} → Former {0}
 the_former value = list (named value)
 
@@ -67,7 +67,7 @@ pub the_items_listed : (X : Type 0) (members : List (Name × X)) → listed _ (c
 the_items_listed X [] = refl
 the_items_listed X (m ∷ ms) = ap (λ values. m.1 ∷ values) (the_items_listed X ms)
 
--- inside it is a struct round a vector of pairs
+-- its representation: a struct with a vector of pairs
 abbrev inside : Former {0}
 inside = via (vec.the_former (named this) Global) Inside (λ X held. held.pairs) (λ X pairs. record { pairs = pairs }) (λ X held. refl) (λ X pairs. refl)
 

@@ -5,7 +5,7 @@ use Rattle.st_plain.specs.Direct.{whole_json_items}
 use Rattle.st_plain.proofs.ItemLemmas.{items_after}
 use Rattle.st_datafiles.proofs.entries.pack_items.Given as goal
 
--- so many turns are enough for the tokens that are left
+-- this many turns suffice for the remaining tokens
 abbrev pub invariant-items : goal.invariant-items
 invariant-items l =
     (n : ℕ) × (length l.reader ≤ n)

@@ -1,4 +1,4 @@
--- Whatever asked for the operation, its own text asks for it again.
+-- If any bytes are a request for the operation, its own text is.
 use Rattle.std.proofs.Common.{◌∙◌, ap, subst}
 use Rattle.st_plain.specs.Canonical.{canonical}
 use Rattle.st_plain.specs.Proper.{IsProper}

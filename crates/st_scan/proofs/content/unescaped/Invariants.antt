@@ -2,7 +2,7 @@ use Rattle.std.proofs.Common.{◌≡◌, ◌++◌, length}
 use Rattle.st_plain.specs.Held.{name_in}
 use Rattle.st_scan.proofs.content.unescaped.Given as goal
 
--- what was unescaped stands before what is still to come
+-- the decoded bytes, and then the name in the rest
 abbrev pub invariant-bytes : goal.invariant-bytes
 invariant-bytes l = l.word.items ++ name_in l.rest ≡ name_in l.inside
 

@@ -3,7 +3,7 @@ use Rattle.st_hash.specs.Hash.{HashValue}
 use Rattle.st_observer.specs.States.{Operations, operations_at}
 use Rattle.st_observer.proofs.kept.Kept.new.Goals as goal
 
--- nothing stands where nothing was put
+-- an identifier without items has no operations
 none_at : (suffix : HashValue) → operations_at suffix [] ≡ []
 unfolding operations_at
 none_at suffix = refl
