@@ -1,4 +1,4 @@
--- The reference machine as others see it: it begins under version 1 of the limits at every height, and keeps a file as by
+-- The reference machine as a peer: it starts under version 1 of the limits at every height, and stores a file as by
 -- `content`.
 use Rattle.std.specs.Prelude.{None}
 use Rattle.st_exchange.specs.Peer.{Peer}
