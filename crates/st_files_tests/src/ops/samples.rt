@@ -1,4 +1,4 @@
-//! Requests in canonical spelling, which another program made and signed.
+//! Requests in canonical form, which another program made and signed.
 
 /// The request of this name, or an empty object.
 pub(super) fn request(name: &str) -> &'static str {
