@@ -144,7 +144,7 @@ fn what_is_not_whole_is_refused(rt: HostRuntime) -> Result<(), Fail> {
     each_is_refused(rt.alloc(), NOT_WHOLE, "not whole")
 }
 
-// Whether so many nested lists are read or refused.
+// Whether this many nested lists are read or refused.
 fn nested(alloc: Global, deep: usize) -> Result<&'static str, WantOfMemory> {
     let mut text = Bytes::new(alloc);
     for _ in 0..deep {
