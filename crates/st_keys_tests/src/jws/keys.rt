@@ -7,7 +7,7 @@ use st_jws::{BadJwk, Jwk, commitment, commitment_with, meets, reveal, reveal_wit
 use std::alloc::Global;
 use std::test::Fail;
 
-// What stands for `PUB` in the tables: the key of a signer in Python.
+// The value of `PUB` in the tables: the key of a signer in Python.
 const PUBLIC: &str = "AAAABQAAAAQAAQIDBAUGBwgJCgsMDQ4P99GZhaxRFDHM-2Y073OyPKnZ1Mf6yB1qQoylqzRU-Ds";
 
 // The JSON of keys, their reveal values and commitments, by SHA-256 and by SHA-512, from Python.
@@ -59,7 +59,7 @@ fn is_hash(alloc: Global, hash: &Hash, text: &str) -> bool {
     }
 }
 
-// Whether the key has this reveal value and this commitment, of which the first alone meets the second.
+// Whether the key has this reveal value and this commitment; only the first meets the second.
 fn gives(
     alloc: Global,
     key: &Jwk,
@@ -79,7 +79,7 @@ fn gives(
     )
 }
 
-// Whether the key of the line has the reveal value and the commitment beside it.
+// Whether the key of the line has the line's reveal value and commitment.
 fn has_hashes(alloc: Global, line: &str, code: u8) -> Result<bool, WantOfMemory>
     requires { IsCode code }
 {
