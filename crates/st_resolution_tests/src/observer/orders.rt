@@ -2,8 +2,8 @@
 use super::stories::first_other_under;
 use std::test::Fail;
 
-// The entry after its five files, and then before them in each of their hundred and twenty orders, which
-// another program listed.
+// The entry after its five files, and then before them in each of their hundred and twenty orders,
+// which another program listed.
 const ORDERS: &str = "new A B C D E +each
 new +each A B C D E
 new +each A B C E D
