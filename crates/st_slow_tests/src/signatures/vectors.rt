@@ -1,6 +1,7 @@
-//! Keys and signatures that Bouncy Castle 1.72 made, whose secret elements and randomizers also come
-//! from a seed as in appendix A of RFC 8554. Of each key the first line has the types, the identifier, the seed and
-//! the public key; each further line has the number of a one-time key, a message and the SHA-256 of its signature.
+//! Keys and signatures that Bouncy Castle 1.72 made, whose secret elements and randomizers are also
+//! derived from a seed as in appendix A of RFC 8554. For each key the first line has the types, the
+//! identifier, the seed and the public key; each further line has the number of a one-time key, a
+//! message and the SHA-256 of its signature.
 
 use super::signs_so;
 use std::test::Fail;
