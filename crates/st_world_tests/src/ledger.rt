@@ -76,7 +76,7 @@ fn heights_never_fall_and_a_cut_takes_them_back(rt: HostRuntime) -> Result<(), F
     Ok(())
 }
 
-// The version, the rule or the count, and the text, in which * stands for the URI and # for a hash text of
+// The version, the rule or the count, and the text, in which * is the URI and # a hash text of
 // SHA-512.
 const CASES: &str = "1 A1 
 1 A1 1
