@@ -42,8 +42,8 @@ use std::alloc::Global;
 /// - 5: the source gave more bytes than the limit. The replies to the whole lines before that limit
 ///   are written.
 /// - 6: out of memory. A prefix of the replies is written.
-/// - 7: the journal is damaged, and 8: it has more than 2^40 bytes. Nothing was read or written, and the
-///   disk is unchanged.
+/// - 7: the journal is damaged, and 8: it has more than 2^40 bytes. Nothing was read or written,
+///   and the disk is unchanged.
 ///
 /// Under every status except 0 the sink is finished only if it was before.
 ///

@@ -5,8 +5,8 @@ use st_io::{Pick, PlainSink, ScriptDisk, ScriptSource};
 use std::alloc::Global;
 use std::test::Fail;
 
-// A file, the same file again, which changes nothing, and another file. Python's hashlib and base64 computed the
-// URIs.
+// A file, the same file again, which changes nothing, and another file. Python's hashlib and base64
+// computed the URIs.
 const SESSION: &str = "content YWJj\ncontent YWJj\ncontent YWJk\n";
 
 const REPLIES: &str = "have EiC6eBa_jwHP6kFBQN5driIjsANho5YXepy0EP9h8gAVrQ

@@ -47,7 +47,6 @@ fn request_in(line: &str) -> Option<&str> {
     Some(request)
 }
 
-// The anchor string in a reply of the node.
 fn anchor_in(line: &str) -> Option<&str> {
     let rest = line.strip_prefix("batch ")?;
     let (anchor, _files) = rest.split_once(' ')?;
