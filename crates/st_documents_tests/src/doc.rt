@@ -32,7 +32,6 @@ fn framed(alloc: Global, frame: &str, text: &str) -> Option<Json> {
     }
 }
 
-// Whether the text is this word, and this number.
 fn is_numbered(text: &str, word: &str, at: usize) -> bool {
     match text.strip_prefix(word) {
         Some(number) => match read_number(number.as_bytes(), 1_000) {
@@ -43,7 +42,6 @@ fn is_numbered(text: &str, word: &str, at: usize) -> bool {
     }
 }
 
-// Whether this is the canonical text of the document.
 fn is_text(alloc: Global, document: &Document, text: &str) -> bool {
     match document.json(alloc) {
         Ok(json) => match write(alloc, &json) {

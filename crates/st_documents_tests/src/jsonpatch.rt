@@ -17,7 +17,6 @@ fn json(alloc: Global, text: &str) -> Option<Json> {
     read(alloc, text.as_bytes()).ok()
 }
 
-// Whether this is the canonical text of the value.
 fn is_text(alloc: Global, value: &Json, text: &str) -> bool {
     match write(alloc, value) {
         Ok(written) => written.as_slice() == text.as_bytes(),
@@ -25,7 +24,6 @@ fn is_text(alloc: Global, value: &Json, text: &str) -> bool {
     }
 }
 
-// Whether the text is `failed`, and this number.
 fn is_failed(text: &str, at: usize) -> bool {
     match text.strip_prefix("failed ") {
         Some(number) => match read_number(number.as_bytes(), 1_000) {

@@ -43,7 +43,6 @@ const ENTRIES: &str =
 /foo/0/0 = nothing
 /nope = nothing"#;
 
-// Whether the pointer has these tokens, each followed by a bar.
 fn are_tokens(pointer: &Pointer, text: &str) -> bool {
     let mut rest = text;
     for token in pointer.tokens() {
