@@ -54,7 +54,6 @@ fn new_buffer(alloc: Global) -> Result<Vec<u8>, WantOfMemory>
     Ok(buffer)
 }
 
-// The status of a run with this result.
 fn status(ending: Result<(), Stop>) -> u8
     ensures value { result ≡ status_of ending }
     ensures known { IsTrue (is_end result) }
