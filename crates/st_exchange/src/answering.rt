@@ -59,7 +59,6 @@ fn answered<W: Wants>(
     }
 }
 
-// A blob of the file of each of these URIs.
 fn blobs(alloc: Global, content: &Content, uris: &[Hash]) -> Result<List<Message>, WantOfMemory>
     ensures { IfOk result (λ blobs. blobs ≡ flat_map (blob_at content.now) (each_once uris.now)) }
 {
