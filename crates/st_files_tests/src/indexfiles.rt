@@ -51,13 +51,11 @@ fn case_of(line: &str) -> Option<(u32, u32, &str, &str)> {
     Some((version, count, answer, file))
 }
 
-// The canonical text of the value.
 fn text_of(alloc: Global, value: &Json) -> Option<CanonicalText> {
     let written = write(alloc, value).ok()?;
     CanonicalText::read_json(alloc, written.as_slice()).ok()?
 }
 
-// A list of one target.
 fn only(alloc: Global, target: Target) -> Option<List<Target>> {
     let mut targets = List::new(alloc);
     targets.push(alloc, target).ok()?;

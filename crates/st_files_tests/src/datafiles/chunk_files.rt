@@ -31,7 +31,6 @@ const CASES: &str = r#"1 K2 x
 2 read,{"a":1,"b":"x"},[2] {"deltas": [ {"a":1, "b":"\u0078"},[ 2 ] ] }
 2 read,{"a":1,"b":"x"},[2] {"deltas": [ {"b":"\u0078" , "a":1},[ 2 ] ] }"#;
 
-// Whether the deltas are these.
 fn are_shown(alloc: Global, deltas: &[PackedJson], texts: &str) -> Result<bool, WantOfMemory> {
     let mut shown = Bytes::new(alloc);
     for delta in deltas {
@@ -80,7 +79,6 @@ fn a_chunk_file_fails_its_first_rule(rt: HostRuntime) -> Result<(), Fail> {
     Ok(())
 }
 
-// This many spaces.
 fn spaces(alloc: Global, count: usize) -> Result<Bytes, WantOfMemory> {
     let bytes = vec![in alloc; b' '; count]?;
     Bytes::from_slice(alloc, bytes.as_slice())

@@ -100,7 +100,6 @@ fn a_provisional_proof_file_fails_its_first_rule(rt: HostRuntime) -> Result<(), 
     Ok(())
 }
 
-// The texts, one on each line.
 fn texts(alloc: Global, lines: &str) -> Result<List<KeptText>, WantOfMemory> {
     let mut texts = List::new(alloc);
     for line in lines.lines() {

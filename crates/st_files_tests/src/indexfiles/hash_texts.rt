@@ -23,7 +23,6 @@ true
 "EiC6eBa_jwHP6kFBQN5driIjsANho5YXepy0EP9h8gAVrQ\""
 ["EiC6eBa_jwHP6kFBQN5driIjsANho5YXepy0EP9h8gAVrQ"]"#;
 
-// Whether the canonical text of the value is this text in quotes.
 fn is_quoted(alloc: Global, value: &Json, text: &str) -> bool {
     match write(alloc, value) {
         Ok(written) => match format!(in alloc; "\"{text}\"") {
