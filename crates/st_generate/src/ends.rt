@@ -54,7 +54,6 @@ fn ask<N: Peer>(
     Ok(ask_line(alloc, line.as_slice(), ends, work)?)
 }
 
-// Asks both nodes this line.
 #[tactic(auto, unfolding(crate::specs::Summary::asked))]
 fn ask_line<N: Peer>(
     alloc: Global,

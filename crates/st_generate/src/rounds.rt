@@ -114,7 +114,6 @@ fn line_of(identity: &Identity, round: u32) -> &[u8]
     }
 }
 
-// The line of a batch's anchor.
 fn anchor_line(alloc: Global, round: u32, anchor: &[u8]) -> Result<Bytes, WantOfMemory>
     ensures { IfOk result (λ line. line ≡ anchor_line round anchor.now) }
 {
@@ -137,7 +136,6 @@ fn behind_one(line: &[u8]) -> &[u8]
     }
 }
 
-// The anchor string in the reply to a flush.
 #[tactic(auto, unfolding(crate::specs::Rounds::anchor_in))]
 fn anchor_in(reply: &[u8]) -> &[u8]
     ensures { result.now ≡ anchor_in reply.now }

@@ -18,7 +18,8 @@ use std::alloc::Global;
 /// that each end with a line feed. Everything is in memory, and the work of both nodes is counted
 /// there.
 ///
-/// It takes the time of a key for each identifier, of a signature for each update, and of two nodes.
+/// It takes the time of a key for each identifier, of a signature for each update, and of two
+/// nodes.
 #[tactic(auto, unfolding(crate::specs::Summary::summary))]
 pub fn generate<N: Peer>(alloc: Global, plan: Plan, work: &mut Work) -> Result<Bytes, WantOfMemory>
     requires { plan.rounds ≤ most_rounds }
