@@ -76,7 +76,6 @@ fn is_respelled(alloc: Global, text: &str, canonical: &str) -> bool {
     }
 }
 
-// The object of a text.
 fn object(alloc: Global, text: &str) -> Option<Object> {
     match read(alloc, text.as_bytes()) {
         Ok(Json::Object(object)) => Some(object),

@@ -19,12 +19,10 @@ q"|true
 text|"a\"],\\"
 other|"#;
 
-// Whether this is the canonical text of the value.
 fn is(value: &Scanned<'_>, text: &str) -> bool {
     value.as_slice() == text.as_bytes()
 }
 
-// Whether the file has this value for this name.
 fn has(file: &Scanned<'_>, name: &str, value: &str) -> bool {
     match file.member(name) {
         Some(found) => is(&found, value),

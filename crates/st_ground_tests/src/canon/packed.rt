@@ -18,7 +18,6 @@ fn nested(rt: &HostRuntime, levels: u32) -> Result<Json, Fail> {
     Ok(value)
 }
 
-// A copy of a packed value.
 fn packed_copy(rt: &HostRuntime, value: &Json) -> Result<PackedJson, Fail> {
     let packed = PackedJson::pack(rt.alloc(), value)?;
     Ok(packed.copy(rt.alloc())?)
