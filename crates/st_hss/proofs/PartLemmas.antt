@@ -71,7 +71,6 @@ least public message signature is =
     let cut = cut_of public message signature is in
     omega (arith, ap length cut.whole, length-parts (u32str 1) is.key_signature is.key_text is.message_signature, cut.a_long, cut.b_long, cut.c_long)
 
--- the parts of a signature hold
 pub parts_hold_of : (public : HssPublic) (message signature a b c d : List ℕ) → IsCut (signature_len public.top) signature a b c d
     → IsHssSignature public message signature
     → PartsHold public message a b c d

@@ -9,7 +9,8 @@ use st_lms::Signer;
 use st_vault::Vault;
 use std::alloc::Global;
 
-/// The top key and one lower key, each with all nodes of its tree, so that a signature computes no leaf.
+/// The top key and one lower key, each with all nodes of its tree, so that a signature computes no
+/// leaf.
 #[derive(Drop)]
 pub(crate) struct Trees {
     pub(crate) top: Signer,

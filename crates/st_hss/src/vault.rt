@@ -28,8 +28,8 @@ const TREE: u32 = 6;
 /// The number of counters of a vault of that type.
 const COUNTERS: u32 = LEAVES * LEAVES;
 
-/// A vault with 1,024 counters that signs with two levels. Its LMS key itself signs nothing here: its
-/// child 0 is the top key, and the children from 1 on are the lower keys.
+/// A vault with 1,024 counters that signs with two levels. Its LMS key itself signs nothing here:
+/// its child 0 is the top key, and the children from 1 on are the lower keys.
 ///
 /// After the first signature it stores the nodes of two trees of height 5, 2,016 bytes each, and
 /// the prefix of the signatures of one lower key, 1,352 to 8,744 bytes. Contracts see the vault.
