@@ -35,8 +35,8 @@ enum Slot {
 /// against other processes, and it is never one of the three standard streams, even if one of these
 /// was closed. It is synced, with its folder.
 ///
-/// A failure to open is a fault of that call. After such a failure, and after a sync that failed, every
-/// later call fails.
+/// A failure to open is a fault of that call. After such a failure, and after a sync that failed,
+/// every later call fails.
 #[derive(Drop)]
 pub struct FileDisk<'a, R> {
     rt: &'a R,
@@ -72,7 +72,6 @@ impl<'a, R: Files<File = File>> FileDisk<'a, R> {
     }
 }
 
-// Creates a file of that name, or opens the regular file that is there.
 fn make_or_open<R: Files<File = File>>(rt: &R, name: &str) -> io::Result<File> {
     match OpenOptions::new()
         .read(true)

@@ -37,7 +37,6 @@ impl Model for ScriptDisk {
     ghost view = { λ s. record { history = s.history; failing = s.failing; last = s.last; calls = s.calls; faults = s.faults } };
 }
 
-// Whether the call with this number fails.
 fn is_failing(failing: &[u64], last: u64, call: u64) -> bool
     ensures { IsTrue result ↔ Fails failing.now last call }
 {
