@@ -19,7 +19,6 @@ alike end told past old ready is = record {
   all = λ d image. let both = ready.images old is d image in same_found end old d (ready.gate old is) both.0 both.1;
 }
 
--- the image has the record as one more
 pub has_more : (old image body : List ℕ) (f : Found) → found old ≡ Some f → found image ≡ Some (put_last body f) → records image ≡ with_record body (records old)
 has_more old image body f is more = records_of image (put_last body f) more ∙ sym (ap (with_record body) (records_of old f is))
 
