@@ -49,7 +49,6 @@ impl<N, D> JournalLines<N, D> {
     }
 }
 
-// Records a line.
 fn record<D: Disk>(
     alloc: Global,
     disk: &mut D,

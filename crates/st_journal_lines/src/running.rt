@@ -41,7 +41,6 @@ pub fn run_journalled<N: Replayable, S: Source, K: Sink, D: Disk>(
     }
 }
 
-// The status of a run whose journal was refused for this cause.
 fn refusal_status(refused: JournalRefused) -> u8
     ensures { result ≡ status_of refused }
 {
