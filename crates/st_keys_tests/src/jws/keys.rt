@@ -19,7 +19,6 @@ const BY_SHA_512: &str =
     r#"{"alg":"LMS","kty":"LMS","pub":"PUB"} E0BUnuUvbC42BVmgAzvcYQoxTrL4piJuLm8AJboX27YFziwyAbPYB3hBuuKjRgproUP85WSZJerS47JWK33C-73f E0DlcPOZ301o2QniNOs2P7JNISXGUDwYLvRSnDQclli30FmHyRL5_65DyOr3V_uJxVfjWbMPsc_u59YqMMPMahXc
 {"alg":"LMS","kty":"LMS","nonce":"ZGVmZ2hpamtsbW5vcHFycw","pub":"PUB"} E0AaEPdZyzCDJLjc2_h8jWOcc85d7h5pFSpgtNr_czt3c0elL-ozyWxo_q2tgWd-M9UIoUzFkk0MVSa5qFrWWsK9 E0B5EkodZe1td1BQ4xe8GbZbEZmzuS6rgocM9gwswsceCaDl8pH6DdOv0cHuDqHnHYg1EiprwH11_ShtX13XtB8n"#;
 
-// The JSON value of a line of a table.
 fn json_of(alloc: Global, line: &str) -> Option<Json> {
     match line.replace(alloc, "PUB", PUBLIC) {
         Ok(text) => read(alloc, text.as_bytes()).ok(),

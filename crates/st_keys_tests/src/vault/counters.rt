@@ -141,7 +141,8 @@ fn a_counter_signs_with_a_signer_of_its_vault(rt: HostRuntime) -> Result<(), Fai
     Ok(())
 }
 
-// Identifier and seed are the SHA-256 of the key's identifier, the number, 0xfff0 or 0xfff1, and its seed.
+// Identifier and seed are the SHA-256 of the key's identifier, the number, 0xfff0 or 0xfff1, and
+// its seed.
 fn is_child(child: &Secret) -> bool {
     child.ots() == 2
         && child.tree() == 5
