@@ -12,8 +12,8 @@ use st_exchange::Peer;
 use std::alloc::Global;
 use std::marker::Model;
 
-/// Four nodes, and the messages between them. Contracts see the reference machines of the nodes, and the
-/// messages in the order in which they were sent.
+/// Four nodes, and the messages between them. Contracts see the reference machines of the nodes,
+/// and the messages in the order in which they were sent.
 #[derive(Drop)]
 pub struct Network<N> {
     pub(crate) nodes: List<N>,

@@ -156,7 +156,6 @@ fn asked<N: Peer>(alloc: Global, node: &N) -> Result<Bytes, WantOfMemory>
     encode(alloc, &message)
 }
 
-// The encoding of an offer.
 fn offered(alloc: Global, uri: Hash) -> Result<Bytes, WantOfMemory>
     ensures { IfOk result (λ bytes. bytes ≡ spelling (Have (uri ∷ []))) }
 {
