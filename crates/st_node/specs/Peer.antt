@@ -6,6 +6,7 @@ use Rattle.st_node.specs.Machine.{Machine, answered, answered_content, new_machi
 use Rattle.st_node.specs.Work.{files_due}
 use Rattle.st_observer.specs.Wanted.{wanted}
 
+-- the reference machine, by the answers to its lines
 abbrev pub node_peer : Peer Machine
 node_peer = record {
   start = new_machine None;

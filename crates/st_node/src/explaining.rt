@@ -102,7 +102,6 @@ fn push_count(text: &mut Vec<u8>, items: usize) -> Result<(), WantOfMemory>
     Ok(())
 }
 
-// Appends a line for each item to the text.
 fn push_items(
     text: &mut Vec<u8>,
     items: &[CertItem],
@@ -117,7 +116,6 @@ fn push_items(
     Ok(())
 }
 
-// Appends the line of an item to the text.
 fn push_item(text: &mut Vec<u8>, item: &CertItem, verdict: Verdict) -> Result<(), WantOfMemory>
     ensures { OnOk result (text.new.items ≡ text.old.items ++ item_line (anchored_item item.now) verdict) }
 {
@@ -130,7 +128,6 @@ fn push_item(text: &mut Vec<u8>, item: &CertItem, verdict: Verdict) -> Result<()
     Ok(())
 }
 
-// The word for the kind of an operation in replies.
 fn kind_word(operation: &Operation) -> &'static str
     ensures { result.now ≡ kind_word (plain_operation operation.now) }
 {
@@ -142,7 +139,6 @@ fn kind_word(operation: &Operation) -> &'static str
     }
 }
 
-// The word for a verdict in replies.
 fn verdict_word(verdict: Verdict) -> &'static str
     ensures { result.now ≡ verdict_word verdict }
 {

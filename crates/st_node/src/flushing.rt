@@ -32,7 +32,6 @@ fn push_batch(text: &mut Vec<u8>, anchor: &str, files: usize) -> Result<(), Want
     Ok(())
 }
 
-// Appends a line for each file to the text.
 fn push_files(alloc: Global, text: &mut Vec<u8>, files: &[BatchFile]) -> Result<(), WantOfMemory>
     ensures { OnOk result (text.new.items ≡ text.old.items ++ flat_map file_line files.now) }
 {
@@ -56,7 +55,6 @@ fn push_file(alloc: Global, text: &mut Vec<u8>, file: &BatchFile) -> Result<(), 
     Ok(())
 }
 
-// The word for the role of a file in replies.
 fn role_word(role: Role) -> &'static str
     ensures { result.now ≡ role_word role }
 {

@@ -24,8 +24,8 @@ use st_params::Schedule;
 use std::alloc::Global;
 use std::marker::Model;
 
-/// A node. Contracts see the reference machine: its schedule of limits, its ledger and its files, and
-/// the operations that wait for a batch.
+/// A node. Contracts see the reference machine: its schedule of limits, its ledger and its files,
+/// and the operations that wait for a batch.
 #[derive(Drop)]
 pub struct Node {
     pub(crate) observer: Observer,
@@ -219,7 +219,6 @@ impl Node {
         Ok((node, text))
     }
 
-    // `wanted`
     fn wanted(self, alloc: Global) -> Result<(Node, Bytes), WantOfMemory>
         ensures { IfOk result (AnswersWith (answered_wanted self)) }
     {
@@ -228,7 +227,6 @@ impl Node {
         Ok((self, text))
     }
 
-    // `report`
     fn report(self, alloc: Global, n: u32) -> Result<(Node, Bytes), WantOfMemory>
         ensures { IfOk result (AnswersWith (answered_report self n)) }
     {
@@ -239,7 +237,6 @@ impl Node {
         Ok((self, text))
     }
 
-    // `submit`
     fn submit(
         self,
         alloc: Global,
@@ -259,7 +256,6 @@ impl Node {
         Ok((node, text))
     }
 
-    // `flush`
     fn flush(self, alloc: Global, work: &mut Work) -> Result<(Node, Bytes), WantOfMemory>
         ensures answer { IfOk result (AnswersWith (answered_flush self)) }
         ensures takes { OnOk result (TakesSome self) }
