@@ -94,7 +94,6 @@ fn has_signed_texts(request: &Scanned<'_>) -> bool
         && has_text(request, "signedData")
 }
 
-// Whether the member of this name is a text.
 fn has_text(value: &Scanned<'_>, name: &str) -> bool
     ensures { result ≡ is_some (text_at name.now (Some value.now)) }
 {
@@ -104,7 +103,6 @@ fn has_text(value: &Scanned<'_>, name: &str) -> bool
     }
 }
 
-// Whether the member of this name is an object.
 fn has_object(value: &Scanned<'_>, name: &str) -> bool
     ensures { result ≡ is_some (object_at name.now (Some value.now)) }
 {
