@@ -89,7 +89,6 @@ refused line command
 refused line command
 ";
 
-// Four nodes.
 type Nodes = Network<Node>;
 
 // The nodes after a line, if it gives this reply.

@@ -161,7 +161,8 @@ fn each_line_has_its_reply(rt: HostRuntime) -> Result<(), Fail> {
     if let Some(line) = first_other(rt.alloc(), &mut work)? {
         return Err(Fail::from(line));
     }
-    // One file was read for the first entry whose anchor string passes, and three for that of the batch.
+    // One file was read for the first entry whose anchor string passes, and three for that of the
+    // batch.
     assert!(rt; work.files() == 4 && work.proofs() == 0);
     Ok(())
 }
