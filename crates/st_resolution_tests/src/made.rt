@@ -53,7 +53,6 @@ fn revealed(alloc: Global, name: &str) -> Option<Hash> {
     reveal(alloc, &key).ok()
 }
 
-// The text with the text of this hash at the word.
 fn with_hash(alloc: Global, text: &str, word: &str, hash: &Hash) -> Option<String> {
     let hash = hash_text(alloc, hash).ok()?;
     text.replace(alloc, word, hash.as_str()).ok()
@@ -73,7 +72,6 @@ pub(crate) fn packed(alloc: Global, text: &str) -> Option<PackedJson> {
     PackedJson::pack(alloc, &value).ok()
 }
 
-// The payload of a template.
 fn payload(alloc: Global, template: &str, name: &str, delta: &str) -> Option<PackedJson> {
     let key_text = key_text(alloc, name)?;
     let with_key = template.replace(alloc, "KEY", key_text.as_str()).ok()?;

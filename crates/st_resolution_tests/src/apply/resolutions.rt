@@ -96,13 +96,11 @@ fn are_shown(alloc: Global, parts: &StateParts, expected: &str) -> bool {
     }
 }
 
-// The state is the expected one.
 fn is_shown(rt: &HostRuntime, state: &DidState, expected: &str) -> Result<bool, WantOfMemory> {
     let parts = state.open(rt.alloc(), &mut Work::new(rt))?;
     Ok(are_shown(rt.alloc(), &parts, expected))
 }
 
-// The operations of these lines.
 fn operations(alloc: Global, lines: &str) -> Option<List<Operation>> {
     let mut operations = List::new(alloc);
     for line in lines.split(';') {

@@ -76,7 +76,6 @@ fn with_last(
     Ok(Certificate { verdicts, finish })
 }
 
-// The certificate with another state.
 fn with_finish(
     alloc: Global,
     certificate: &Certificate,

@@ -1,5 +1,5 @@
-//! Files of entries, and the anchor strings that name them. Their URIs, and the suffixes, were computed by
-//! another program.
+//! Files of entries, and the anchor strings that name them. Their URIs, and the suffixes, were
+//! computed by another program.
 
 // Suffixes by their names: those of the create, the recover, the deactivate and the update of one
 // entry are a to d, and a is that of every other create here except one, whose suffix is e. The

@@ -80,8 +80,8 @@ fn a_late_file_costs_the_steps_behind_it(rt: HostRuntime) -> Result<(), Fail> {
     }
 }
 
-// Files are wanted once each, in the order of the texts of their URIs, which is not that of their digests: at
-// first those of c, a, b. Entries may miss one file, in one role or another.
+// Files are wanted once each, in the order of the texts of their URIs, which is not that of their
+// digests: at first those of c, a, b. Entries may miss one file, in one role or another.
 const WANTED: &str =
     "new +a +b +c|wanted EiA0DEN7KpqCqnY7X31XwDQsWE1NIaGXlizxR6Cv7rq0BQ EiAAUzqJcUH1oAX88YG3M_a-4_OUzVijvEYeR6DUQngubQ EiAbaxD8caPNHUZ7vvhcTFW8spj_oQRUGz3FsTgMJTK96Q
 c|wanted EiAAUzqJcUH1oAX88YG3M_a-4_OUzVijvEYeR6DUQngubQ EiAbaxD8caPNHUZ7vvhcTFW8spj_oQRUGz3FsTgMJTK96Q|entry 2 C2 unneeded unneeded unneeded unneeded

@@ -37,7 +37,6 @@ fn reports_so(observer: &Observer, number_and_words: &str) -> bool {
     }
 }
 
-// The suffix of a name.
 fn suffix(name: &str) -> Option<Hash> {
     match found(SUFFIXES, name) {
         Some(text) => read_hash(text.as_bytes()).ok(),

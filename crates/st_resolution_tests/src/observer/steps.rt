@@ -41,7 +41,6 @@ fn is_known(step: &str) -> bool {
     }
 }
 
-// Whether each of these steps is one.
 pub(super) fn are_known(steps: &str) -> bool {
     for step in steps.split_whitespace() {
         if !is_known(step) {
@@ -109,7 +108,6 @@ fn stepped(alloc: Global, observer: Observer, step: &str, work: &mut Work) -> Op
     }
 }
 
-// The observer after these further steps.
 pub(super) fn after(
     alloc: Global,
     observer: Observer,

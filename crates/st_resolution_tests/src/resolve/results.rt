@@ -75,7 +75,6 @@ fn ended(alloc: Global, work: &mut Work) -> Option<DidState> {
     stepped(alloc, &state, &deactivate, work)
 }
 
-// The state of this name.
 fn state(alloc: Global, name: &str, work: &mut Work) -> Option<DidState> {
     match name {
         "created" => begun(alloc, hash(OF_ABC)?, None, work),
@@ -128,7 +127,6 @@ fn is_rendered(
     Some(is_result(alloc, answer, text, expected))
 }
 
-// Whether it is as the line says.
 pub(super) fn is_so(rt: &HostRuntime, line: &str) -> bool {
     let Some((state, counted, rest)) = three(line) else {
         return false;
