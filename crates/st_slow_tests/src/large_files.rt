@@ -6,7 +6,6 @@ use st_params::{Params, Schedule};
 use std::alloc::Global;
 use std::test::Fail;
 
-// This many spaces.
 fn spaces(alloc: Global, count: usize) -> Result<Shared<Bytes>, WantOfMemory> {
     let bytes = vec![in alloc; b' '; count]?;
     Shared::new(alloc, Bytes::from_slice(alloc, bytes.as_slice())?)

@@ -28,8 +28,8 @@ fn holds_turned(
     holds
 }
 
-/// Each field of the signature is damaged in turn: q, the LM-OTS type, the randomizer, the first and
-/// the last value, the LMS type, the path at both ends.
+/// Each field of the signature is damaged in turn: q, the LM-OTS type, the randomizer, the first
+/// and the last value, the LMS type, the path at both ends.
 fn no_damage_holds(public: &Public, message: &[u8], signature: &mut [u8], path_len: usize) -> bool
     requires { path_len ≤ 320 }
 {

@@ -118,7 +118,8 @@ fn digits_of_8_bits_in_a_tree_of_height_10(rt: HostRuntime) -> Result<(), Fail> 
     Ok(())
 }
 
-// The signing input of a payload, signed by a signer in Python whose signatures are those of Bouncy Castle.
+// The signing input of a payload, signed by a signer in Python whose signatures are those of Bouncy
+// Castle.
 #[test]
 fn a_payload_is_signed(rt: HostRuntime) -> Result<(), Fail> {
     assert!(rt;

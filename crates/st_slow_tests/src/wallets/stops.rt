@@ -94,7 +94,6 @@ fn above_counter(alloc: Global, reply: &Bytes, above: u32) -> Result<Option<u32>
     }
 }
 
-// The counter of the signature in a reply.
 fn counter_in(alloc: Global, reply: &Bytes) -> Result<Option<u32>, WantOfMemory> {
     let text = str::from_utf8(reply.as_slice()).unwrap_or("");
     match text.strip_prefix("hss ") {
