@@ -53,7 +53,6 @@ opened-by : (image : List ℕ) → opened image ≡ opened_kind image (kind_of i
 unfolding opened key_of
 opened-by image = refl
 
--- an image that opens as blank is blank
 pub opened-blank : (image : List ℕ) → opened image ≡ Err refused.Blank → kind_of image ≡ Blank
 opened-blank image is = by_kind (kind_of image) refl (sym (opened-by image) ∙ is)
   where
