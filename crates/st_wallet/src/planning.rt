@@ -63,7 +63,6 @@ pub(crate) fn plan_of(
     }
 }
 
-// The reply with the key that has this nonce.
 fn tell_nonce(alloc: Global, vault: &mut SigningVault, nonce: Nonce) -> Result<Bytes, WantOfMemory>
     ensures value { IfOk result (λ text. text ≡ key_reply (key_with (public_of vault.old.key) nonce)) }
     ensures same { vault.new ≡ vault.old }

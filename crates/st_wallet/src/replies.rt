@@ -72,7 +72,6 @@ fn tell_three(
     reply(alloc, word, words.as_slice())
 }
 
-// The canonical text of a key.
 fn key_text(alloc: Global, key: &Jwk) -> Result<Bytes, WantOfMemory>
     ensures { IfOk result (λ text. text ≡ canonical (jwk_json key.now)) }
 {

@@ -140,7 +140,8 @@ impl Wallet {
         // A line that leaves the machine unchanged leaves the disk unchanged.
         ensures untouched { (answered self line.now).next ≡ self → disk.new ≡ disk.old }
 
-        // The counter of the reply was not spent before, and is spent in every image when the reply is given.
+        // The counter of the reply was not spent before, and is spent in every image when the reply
+        // is given.
         ensures fresh { OnOk result (IfTold (D.reads disk.old) (λ image.
             IsCounterFresh (answered self line.now).counter image)) }
         ensures spent { OnOk result (IfTold (D.reads disk.old) (λ image.
@@ -207,7 +208,6 @@ impl Wallet {
     }
 }
 
-// A command over a blank disk.
 #[tactic(auto, using(crate::proofs::StepLemmas::keeps_standing, crate::proofs::StepLemmas::moments_standing))]
 fn carry_out_blank<D: Disk>(
     alloc: Global,
@@ -283,7 +283,6 @@ fn format<D: Disk>(
     }
 }
 
-// A command over a vault.
 #[tactic(auto, using(crate::proofs::StepLemmas::keeps_standing, crate::proofs::StepLemmas::moments_standing))]
 fn carry_out_over<D: Disk>(
     alloc: Global,
