@@ -55,7 +55,6 @@ module _ {D : Type 0} (store : Store D) (found : Found) (line : List ℕ) (a b :
       let same = same_found (store.reads a) (store.past a) found before told is_image is all in
       record { goes = left.goes; each = λ image since. ⊎_elim (λ was. inl (was ∙ sym same)) inr (left.each image since) }
 
-  -- it was answered
   pub ran_line : (next : Found) → IfTold (store.reads a) (λ image. IsSome (store.reads b))
       → IfTold (store.reads a) (λ image. next ≡ (answered found line).next)
       → IfTold (store.reads a) (λ image. IsCounterSpent (answered found line).counter (store.past b))
@@ -75,7 +74,6 @@ module _ {D : Type 0} (store : Store D) (found : Found) (line : List ℕ) (a b :
         subst (λ (f : Found). AllFound f (store.past b)) (told_of (next ≡ (answered found line).next) (store.reads a) t came) then;
   })
 
-  -- the wallet gave up at it
   pub gave_line : GaveUpOnDisk (spending wallet_spender) store found (tt, a) (line ∷ []) (tt, b)
   gave_line = gave_up_spending wallet_spender (record { effect = tt; stays = stays; moments = moments })
 
