@@ -27,7 +27,6 @@ fn after(
     Ok(bound)
 }
 
-// The state of a role, in a word.
 fn word(state: RoleState) -> &'static str {
     match state {
         RoleState::Unneeded => "unneeded",

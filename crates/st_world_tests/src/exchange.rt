@@ -144,7 +144,8 @@ fn uris(alloc: Global, texts: &str) -> Result<BTreeSet<Hash>, WantOfMemory> {
     Ok(uris)
 }
 
-// A list has at most 1,000 digests and a blob at most 16,000,000 bytes, and a node asks for at most 1,000 files.
+// A list has at most 1,000 digests and a blob at most 16,000,000 bytes, and a node asks for at most
+// 1,000 files.
 fn limits_hold(alloc: Global) -> Result<bool, WantOfMemory> {
     Ok(
         lists(alloc, b"\x01\x00\x00\x00\x00", 0)?

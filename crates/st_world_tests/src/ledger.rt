@@ -13,7 +13,6 @@ const URI: &str = "EiBEE2-jVbNnihFGrRb36GSelPtPwh_nfoMQwGD2HKr_ig";
 const SHA_512: &str =
     "E0DdrzWhk2F6usxBc0muIEExEub6TompfqIKnu7mS1XTmiGSmSonT8GoNro8I6P-671FTUQjZDzoDiqayU-lTKSf";
 
-// Whether an entry of this height is appended with this number.
 fn is_appended(
     alloc: Global,
     ledger: &mut Ledger,
