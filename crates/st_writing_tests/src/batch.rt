@@ -28,7 +28,6 @@ pub(crate) fn submit_all(
     answer
 }
 
-// An answer as a word.
 fn word_of(answer: Result<(), SubmitRefused>) -> &'static str {
     match answer {
         Ok(()) => "queued",
@@ -64,7 +63,6 @@ create create => already-queued 1 0
 create => queued 1 0
 deactivate update create recover => queued 4 3";
 
-// The first line with another result.
 fn first_wrong(rt: &HostRuntime) -> Result<Option<&'static str>, Fail> {
     for line in LINES.lines() {
         let (requests, wanted) = line.split_once(" => ").ok_or("no answer")?;

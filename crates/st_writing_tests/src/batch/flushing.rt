@@ -30,7 +30,6 @@ fn rest_after(
     }
 }
 
-// Whether there is nothing to flush.
 fn gives_nothing(alloc: Global, queue: Queue, params: &Params) -> bool {
     match queue.flush(alloc, params) {
         Err(FlushRefused::Nothing(queue)) => queue.len() == 0,
@@ -38,7 +37,6 @@ fn gives_nothing(alloc: Global, queue: Queue, params: &Params) -> bool {
     }
 }
 
-// Whether the file at this place has this role and length.
 fn is_file(batch: &Batch, at: usize, role: Role, length: usize) -> bool {
     match batch.files.get(at) {
         Some(file) => file.role == role && file.bytes.as_slice().len() == length,
@@ -46,7 +44,6 @@ fn is_file(batch: &Batch, at: usize, role: Role, length: usize) -> bool {
     }
 }
 
-// Whether a batch has this anchor string and this many files.
 fn is_batch(batch: &Batch, anchor: &str, files: usize) -> bool {
     batch.anchor.as_str() == anchor && batch.files.len() == files
 }
