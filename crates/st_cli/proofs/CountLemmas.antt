@@ -41,7 +41,7 @@ module _ (options : NodeOptions) (work counted : Counts) where
   pub from_beginning : (lines : List (List ℕ)) → DueOver (new_node options) lines work counted → Within lines
   from_beginning lines due = run_counts options.schedule lines work counted due
 
-  -- for any end of the run, the counters have executed the first lines of the bytes taken, or also the next one
+  -- for any end of the run, the counters are those after a prefix of the lines of the bytes taken
   of_first : {written : List ℕ} (lines : List (List ℕ)) → AnsweredFirst (node_course options work counted) written lines → Within lines
   of_first lines first = ⊎_elim
       (λ ran. subst Within first.all (within_more first.answered first.later (from_beginning first.answered ran.0)))
