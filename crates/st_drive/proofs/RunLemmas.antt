@@ -84,7 +84,7 @@ module _ {M C : Type 0} {means : Meaning M C} {cap : ℕ} (laws : Laws means cap
 
   -- ---- for whole lines
 
-  -- the context after executed lines and the rest
+  -- the context after some lines and the rest
   ends_more : {prompt : Type 0} {m n : M} {c d e : C} (ls answered later : List (List ℕ)) (w v : List ℕ) → Goes means m c ls w n d
       → EndsWithin (Ran prompt n d e v) (Gave prompt n d e v) answered later
       → EndsWithin (Ran prompt m c e (w ++ v)) (Gave prompt m c e (w ++ v)) (ls ++ answered) later

@@ -40,13 +40,13 @@ pub record Ends (io : Streams) (disk_failed : Type 0) (status : ℕ) : Type 0 wh
 
 -- ---- the lines that were answered
 
--- a run with these replies to lines, and with this property of the context after it executed lines; when replies are
--- written isn't said
+-- a run with these replies to lines, and with this property of the context after lines; when replies are written
+-- isn't said
 abbrev pub replying : (answers : List (List ℕ) → List ℕ) → (counts : List (List ℕ) → Type 0) → Course
 replying answers counts = record { told = ⊤; prompt = ⊥; answers = answers; ran_over = counts; gave_up_over = counts }
 
--- exactly these lines were answered: all the replies were written, if they are revealed, and the context has executed
--- all these lines
+-- exactly these lines were answered: all the replies were written, if they are revealed, and the context is the one
+-- after all these lines
 abbrev pub Answered : Course → (written : List ℕ) (lines : List (List ℕ)) → Type 0
 Answered course written lines = (course.told → written ≡ course.answers lines) × course.ran_over lines
 
@@ -58,8 +58,8 @@ pub record AnsweredFirst (course : Course) (written : List ℕ) (lines : List (L
   pub all : answered ++ later ≡ lines
   -- the written bytes are a prefix of the replies to the answered lines
   pub replies : course.told → Begins written (course.answers answered)
-  -- The context has executed the answered lines, or also the next one, if the machine gave up. If it is prompt, at
-  -- most the last of these has no written reply.
+  -- The context is the one after the answered lines, or after the next one too, if the machine gave up there. If it
+  -- is prompt, at most the last of these has no written reply.
   pub context : EndsWithin (CarriedOut course.told course.prompt course.answers written course.ran_over)
       (CarriedOut course.told course.prompt course.answers written course.gave_up_over) answered later
 
@@ -111,7 +111,7 @@ AnswersInput course limit io status = status ≡ 0 → IfSome io.had (λ input.
 -- All properties of a run that answers the lines of a source of at most `limit` bytes. If it uses no disk,
 -- `disk_failed` is ⊥, and status 4 never occurs.
 pub record AnswersLines (course : Course) (limit : ℕ) (io : Streams) (disk_failed : Type 0) (status : ℕ) : Type 0 where
-  -- the bytes taken and written, and the lines that the context has executed, by the status
+  -- the bytes taken and written, and the lines that the context follows, by the status
   pub table : RunTable course limit io status
   -- at status 0 the replies to the whole input are written
   pub done : course.told → AnswersInput course limit io status
