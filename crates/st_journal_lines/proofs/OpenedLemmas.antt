@@ -86,7 +86,7 @@ module _ {M C : Type 0} (answering : Answering M C) (m : M) where
       → opened image ≡ Err refusal → ⊥
   not_refused image n refusal gives is = gave_by (opened image) n refusal gives is
 
-  -- the context has executed at most the records
+  -- the context is the one after at most the records
   pub within_records : {cap : ℕ} {c d : C} (r : List (List ℕ)) → EffectLaws answering.effect cap → StayedOrWent answering m r c d
       → WentWithin answering m c d r
   within_records {c = c} {d = d} r laws stayed = ⊎_elim

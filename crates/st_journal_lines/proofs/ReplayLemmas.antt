@@ -76,7 +76,7 @@ module _ {M C : Type 0} {answering : Answering M C} {cap : ℕ} (laws : Answerin
     refused_as more DiskFault is = tt
     refused_as more WantOfMemory is = tt
 
-    -- the first records were executed, and then the next one was refused
+    -- the first records were replayed, and then the next one was refused
     pub first_within : (first : List (List ℕ)) × (end : ℕ) × StandFrom from first end image × StayedOrWent answering m first c d
     first_within = (
       so_far.done,
@@ -114,7 +114,7 @@ module _ {M C : Type 0} {answering : Answering M C} {cap : ℕ} (laws : Answerin
       laws.effect.gave_up_more m n c d e so_far.done (line ∷ []) so_far.context gave,
     )
 
--- a journal that was refused after its start was unchanged, so the executed records are in the old image
+-- a journal that was refused after its start was unchanged, so the replayed records are in the old image
 pub first_opened : {M C T : Type 0} (answering : Answering M C) (m : M) (c d : C) (result : Result T JournalRefused) (place left : ℕ) (told now : Option (List ℕ))
     (image : List ℕ) → told ≡ Some image → place ≡ 0 → IfErr result (λ refused. 0 < left) → (0 < left → now ≡ told)
     → IfTold now (λ x. OnErr result (WentOverFrom answering m place x c d)) → OnErr result (WentOverFirst answering m image c d)

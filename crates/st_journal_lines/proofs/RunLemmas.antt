@@ -107,7 +107,7 @@ module _ {M C : Type 0} (answering : Answering M C) where
       let to = turns.forward image here in
       (ready.images to.0 to.1 x left).1 ∙ to.2 ∙ is
 
-  -- the context has executed the records, up to the machine that they restore
+  -- the context is the one after the records, and the machine the one that they restore
   within_none : (m : M) (r : List (List ℕ)) {c d : C} → WentWithin answering m c d r → WentWithin answering m c d (r ++ [])
   within_none m r within = (within.0, subst (Begins within.0) (sym (append-nil r)) within.1, within.2)
 
@@ -193,7 +193,7 @@ module _ {M C : Type 0} (answering : Answering M C) where
 
   module _ {m : M} {limit : ℕ} {run : Outcome C} {refused : JournalRefused} (opens : OpensJournal answering m run.disk run.context run.context_now (Err refused))
       (unread : Unread run.io) (kept : run.io.source_kept × run.io.sink_kept) where
-    -- there is no machine, and the context has executed at most the records
+    -- there is no machine, and the context is the one after at most the records
     from_refused : {cap : ℕ} → EffectLaws answering.effect cap → IsUnread run.disk.failed run.status → IsTrue (is_end run.status)
         → {image : List ℕ} → run.disk.reads ≡ Some image → (r : List (List ℕ)) → opened image ≡ Ok r → RunFromRecords answering m limit run r
     from_refused effects late end {image} told r is =

@@ -65,7 +65,8 @@ pub record Idles {M C S : Type 0} (answering : Answering M C) (start : S → M) 
   pub stays : (m : M) (line : List ℕ) → good m → good (answering.next m line)
   pub idle : (m : M) (line : List ℕ) → good m → answering.changes m line ≡ false → answering.next m line ≡ m
 
--- The context has executed at most the first records of an image from this gate's place on, whatever follows them.
+-- The context is the one after at most the first records of an image from this gate's place on, whatever follows
+-- them.
 abbrev pub WentOverFrom : {M C : Type 0} → Answering M C → M → (place : ℕ) (image : List ℕ) → (c d : C) → Type 0
 WentOverFrom answering m place image c d =
     (first : List (List ℕ)) × (end : ℕ) × StandFrom place first end image × StayedOrWent answering m first c d

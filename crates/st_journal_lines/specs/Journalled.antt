@@ -42,14 +42,14 @@ KeepsLines answering m r lines written old new = KeepsRecords (plain_recorder an
 abbrev pub replies_by : {M C : Type 0} → Answering M C → M → List (List ℕ) → List ℕ
 replies_by answering m lines = replies (recording (plain_recorder answering)) m lines
 
--- the context has executed the first of these lines, or the machine gave up at the last of them
+-- the context is the one after a prefix of these lines, or the machine gave up at the last of them
 abbrev pub WentWithin : {M C : Type 0} → Answering M C → (m : M) (c d : C) (lines : List (List ℕ)) → Type 0
 WentWithin {M} answering m c d lines =
     (first : List (List ℕ)) × Begins first lines
     × (((n : M) × answering.effect.ran m c first n d) ⊎ answering.effect.gave_up m c first d)
 
--- The course of a run: it replies as the machine restored from m by the records r, and the context has executed the
--- records and the lines.
+-- The course of a run: it replies as the machine restored from m by the records r, and the context is the one after
+-- the records and the lines.
 abbrev pub journal_course : {M C : Type 0} → Answering M C → (m : M) (r : List (List ℕ)) (c d : C) → Course
 journal_course answering m r c d =
     replying (replies_by answering (behind answering m r)) (λ lines. WentWithin answering m c d (r ++ lines))
@@ -91,12 +91,12 @@ pub record OpensJournal {M C : Type 0} (answering : Answering M C) (m : M) (disk
   pub moments : IfTold disk.reads (λ old. Leaves (IsOldOrHas disk.before (records old)) disk.before disk.behind)
   pub synced : IfTold disk.reads (λ old. (image : List ℕ)
       → LeftSinceSync disk.behind disk.before.now image → records image ≡ records old)
-  -- the context has executed the records
+  -- the context is the one after the records
   pub ran : IfTold disk.reads (λ old. (r : List (List ℕ)) → opened old ≡ Ok r
       → IfOk result (λ lines. answering.effect.ran m c r lines.0 d))
   pub gave_up : IfTold disk.reads (λ old. (r : List (List ℕ)) → opened old ≡ Ok r
       → OnErr result (StayedOrWent answering m r c d))
-  -- of a refused journal at most its first records were executed, and of one that is too long none; the disk is
+  -- of a refused journal at most the first records were replayed, and of one that is too long none; the disk is
   -- unchanged
   pub within : IfTold disk.reads (λ old. OnErr result (WentOverFirst answering m old c d))
   pub unmoved : IfTold disk.reads (λ old. opened old ≡ Err TooLong → d ≡ c)
@@ -142,6 +142,6 @@ pub record RecordedRun {M C : Type 0} (answering : Answering M C) (m : M) (limit
   pub ends : JournalEnds limit run
   -- if the disk reveals its contents, and has records: what follows from them
   pub from : IfTold run.disk.reads (λ image. (r : List (List ℕ)) → opened image ≡ Ok r → RunFromRecords answering m limit run r)
-  -- of a damaged journal at most its first records were executed, and of one that is too long none, for any status
+  -- of a damaged journal at most the first records were replayed, and of one that is too long none, for any status
   pub within : IfTold run.disk.reads (λ image. opened image ≡ Err Damaged → WentOverFirst answering m image run.context run.context_now)
   pub unmoved : IfTold run.disk.reads (λ image. opened image ≡ Err TooLong → run.context_now ≡ run.context)
