@@ -25,7 +25,7 @@ fn holds_alone(public: &Public, signature: &[u8], longer: &[u8]) -> bool {
         && !verify(public, b"message", longer)
 }
 
-// q is 3, the LM-OTS type 4, the LMS type 5: each is replaced by one of the others.
+// q is 3, the LM-OTS type 4, the LMS type 5: changed to 32, 3 and 6 in turn.
 fn holds_with_its_types(public: &Public, signature: &mut [u8]) -> bool {
     !holds_turned(public, b"message", signature, 3, 3 ^ 32)
         && !holds_turned(public, b"message", signature, 7, 4 ^ 3)
