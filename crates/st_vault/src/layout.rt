@@ -7,7 +7,7 @@ pub(crate) const SHUT_GATE: u8 = 0;
 /// The start of the header: after the gate.
 pub(crate) const HEADER_AT: u64 = 1;
 
-/// The meaningful bytes of the header: two types, the identifier and the seed.
+/// The number of meaningful bytes of the header: two types, the identifier and the seed.
 pub(crate) const HEADER_LEN: usize = 56;
 
 /// The start of the map, which is the least size of a vault.
