@@ -33,8 +33,8 @@ pub(crate) fn create_parts<'a>(request: &Scanned<'a>) -> Option<CreateParts<'a>>
     Some(CreateParts { suffix_data, delta })
 }
 
-/// The parts of a create whose members are in the order of canonical texts, in one walk. Without
-/// them, the caller checks the request member by member.
+/// The parts of a create whose members are in the order of canonical texts, in one walk. For `None`
+/// the caller checks the request member by member.
 #[tactic(auto, unfolding(crate::specs::RequestForm::is_create_form))]
 pub(crate) fn parts_in_turn<'a>(request: &Scanned<'a>) -> Option<CreateParts<'a>>
     ensures kind { IfSome result (λ _. text_at (codes "type") (Some request.now) ≡ Some (codes "create")) }
