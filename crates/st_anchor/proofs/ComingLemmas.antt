@@ -15,7 +15,6 @@ use Rattle.st_anchor.specs.States.{role_state}
 use Rattle.st_anchor.specs.declared.role_state.RoleState.TheVariants.{Missing}
 use Rattle.st_anchor.proofs.KnownLemmas.{known_from-again, known_from-missing, known_from-rest}
 
--- two hashes are the same or not
 same_or : (first second : HashValue) (same : Bool) → same_hash first second ≡ same → (first ≡ second) ⊎ (first ≢ second)
 same_or first second true e = inl (same_hash-is first second e)
 same_or first second false e = inr (λ is.

@@ -54,7 +54,6 @@ fn next_there<'a>(bound: &Bound, content: &'a Content) -> Option<(Role, &'a Shar
     None
 }
 
-// The missing file of a role, if the content has it.
 fn file_for<'a>(bound: &Bound, content: &'a Content, role: Role) -> Option<&'a Shared<Bytes>>
     ensures found { IfSome result (λ file. HasCome content.now bound.now role file.now) }
     ensures not_found { IfNone result (MissesNone content.now bound.now role) }

@@ -6,7 +6,6 @@ use Rattle.st_apply.specs.Laws.{Leads, stays, goes}
 use Rattle.st_apply.specs.Resolution.{walk}
 
 module _ {Here : Type 0} (next : Here → Option Here) where
-  -- if there is no next, a walk stays
   pub walk_stays : (turns : ℕ) (here : Here) → next here ≡ None → walk next turns here ≡ here
   walk_stays zero here is = refl
   walk_stays (suc turns) here is = ap (λ o. option_map_or (walk next turns) o here) is

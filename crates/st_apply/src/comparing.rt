@@ -68,7 +68,6 @@ fn same_commitment(first: &Option<Hash>, second: &Option<Hash>) -> bool
     }
 }
 
-// Whether two documents are the same.
 fn same_document(first: &Document, second: &Document) -> bool
     ensures { IsTrue result ↔ (plain_document first.now ≡ plain_document second.now) }
 {

@@ -82,7 +82,6 @@ fn may_count(
     Ok(true)
 }
 
-// Whether it is a delta.
 fn is_one(alloc: Global, params: &Params, delta: &PackedJson) -> Result<bool, WantOfMemory>
     ensures { IfOk result (λ is. is ≡ is_some (result_ok (delta_of params.now delta.now))) }
 {
@@ -93,7 +92,6 @@ fn is_one(alloc: Global, params: &Params, delta: &PackedJson) -> Result<bool, Wa
     Ok(read.is_some())
 }
 
-// The value as a delta, if it is one.
 fn read(alloc: Global, params: &Params, delta: &PackedJson) -> Result<Option<Delta>, WantOfMemory>
     ensures { IfOk result (λ found. option_map plain_delta found ≡ result_ok (delta_of params.now delta.now)) }
 {

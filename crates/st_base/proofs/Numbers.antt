@@ -7,7 +7,6 @@ use Rattle.std.specs.Fmt.{decimal}
 use Rattle.std.specs.Str.Parse.{digits_value}
 use Rattle.st_base.specs.Words.{number_of}
 
--- the number of a decimal text
 pub number_of-decimal : (most number : ℕ) (text : List ℕ) → number ≤ most → number < 2 ^ 64 → text ≡ decimal number
     → number_of most text ≡ Some number
 number_of-decimal most number text small fits spelled =

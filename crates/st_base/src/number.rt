@@ -7,7 +7,7 @@ use itoa::Buffer;
 /// The number with this decimal text, if it is at most `most`.
 ///
 /// `None` if and only if there is no such number: a sign, a leading zero except in `0` itself, and
-/// any byte that is no digit are refused.
+/// any byte that is not a digit are refused.
 pub fn read_number(text: &[u8], most: u32) -> Option<u32>
     ensures value { result ≡ number_of most text.now }
     ensures spelled { IfSome result (λ number. (number ≤ most) × (text.now ≡ decimal number)) }

@@ -21,7 +21,6 @@ use Rattle.st_params.specs.Limits.{Limits}
 use Rattle.st_batch.specs.BatchFiles.{anchor_text}
 use Rattle.st_batch.proofs.KnownRuleLemmas.{none_failing}
 
--- digits are not dots
 digits_no_dot : (digits : List ℕ) → AllDigits 10 digits → HasNo dot digits
 digits_no_dot [] all = tt
 digits_no_dot (digit ∷ digits) all =

@@ -5,7 +5,6 @@ use Rattle.std.proofs.lemmas.List.{append-nil, map-append, take_more}
 use Rattle.std.proofs.lemmas.List.Elements.{filter_map-append}
 
 module _ {Item View Part : Type 0} (view : Item → View) (part : View → Option Part) where
-  -- the parts of the first items
   abbrev pub parts_of_first : ℕ → List Item → List Part
   parts_of_first at items = filter_map part (map view (take at items))
 

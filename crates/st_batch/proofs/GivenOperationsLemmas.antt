@@ -16,11 +16,9 @@ use Rattle.st_batch.specs.Groups.{is_create, is_deactivate, is_recover, is_updat
 use Rattle.st_batch.proofs.AgainEntryLemmas.{IsAgain, create_again, target_again}
 use Rattle.st_batch.proofs.ReadBackFitLemmas.{IsReady}
 
--- a ready operation of a kind
 abbrev pub IsOfKind : Limits → (PlainOperation → Bool) → PlainOperation → Type 0
 IsOfKind limits is_kind operation = IsReady limits operation × (is_kind operation ≡ true)
 
--- each of the operations is one
 abbrev pub AreOfKind : Limits → (PlainOperation → Bool) → List PlainOperation → Type 0
 AreOfKind limits is_kind operations = AllByRecursion (IsOfKind limits is_kind) operations
 
@@ -133,7 +131,6 @@ module _ (limits : Limits) where
   creates_back (recovering target proof delta ∷ more) rest all = absurd (let no = all.0.1 in cc)
   creates_back (deactivating target proof ∷ more) rest all = absurd (let no = all.0.1 in cc)
 
-  -- the proofs of signed texts
   abbrev pub opened : List PlainOperation → List (Option Proof)
   opened operations = map (proof_of limits.max_signed) (filter_map signed_text_in operations)
 

@@ -128,7 +128,6 @@ any_both : (xs ys : List PlainOperation) (m n : ℕ) → IsAnyBy xs m → IsAnyB
 any_both [] ys m n first second = any_more ys n (m + n) (omega (arith, first)) second
 any_both (x ∷ xs) ys m n first second = omega (arith, first)
 
--- whether there are operations of a kind
 pub any_kind : (is_kind : PlainOperation → Bool) (operations : List PlainOperation)
     → IsAnyBy (filter is_kind operations) (sum_by (of_kind is_kind index_size) operations)
 any_kind is_kind [] = refl
@@ -153,7 +152,6 @@ module _ (operations : List PlainOperation) where
       any_both (filter is_recover operations) (filter is_deactivate operations) (sum_of is_recover) (sum_of is_deactivate)
       (any_kind is_recover operations) (any_kind is_deactivate operations)
 
-  -- whether there are operations with a delta
   pub any_with_delta : IsAnyBy (with_delta (grouped operations)) (sum_of is_create + sum_of is_recover + sum_of is_update)
   unfolding grouped
   any_with_delta =

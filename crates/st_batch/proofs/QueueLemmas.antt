@@ -40,7 +40,6 @@ found_any suffix (entry ∷ entries) =
     first_found (same_hash suffix entry.0) (lookup (same_hash suffix) entries)
     (list_any (same_hash suffix) (map (λ one. one.0) entries)) entry.1 (found_any suffix entries)
 
--- a suffix is found if and only if an operation for it is queued
 pub found_queued : (suffix : HashValue) (entries : List Entry) → IsKept entries
     → is_some (lookup (same_hash suffix) entries) ≡ is_queued suffix (operations_of entries)
 found_queued suffix entries kept = found_any suffix entries ∙ ap (list_any (same_hash suffix)) kept.named

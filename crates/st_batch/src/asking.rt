@@ -43,7 +43,6 @@ pub(crate) fn ask(
     Ok(operation)
 }
 
-// Refuses an operation whose delta is not right.
 fn want_right_delta(
     alloc: Global,
     operation: &Operation,

@@ -90,7 +90,7 @@ fn append_members(alloc: Global, out: &mut Bytes, members: &Object) -> Result<()
     Ok(())
 }
 
-/// Appends the text of what may be there between these texts, and nothing where there is nothing.
+/// Appends the text of an optional value between these texts, or nothing if it is absent.
 pub fn append_there(
     alloc: Global,
     out: &mut Bytes,
@@ -110,7 +110,7 @@ pub fn append_there(
     }
 }
 
-/// Appends the comma before what is not the first.
+/// Appends the comma before an element that is not the first.
 pub fn append_comma(alloc: Global, out: &mut Bytes, comma: bool) -> Result<(), WantOfMemory>
     ensures { OnOk result (out.new ≡ out.old ++ comma_text comma) }
 {

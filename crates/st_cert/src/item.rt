@@ -5,7 +5,8 @@ use std::alloc::Global;
 /// An anchored operation.
 #[derive(Drop)]
 pub struct CertItem {
-    /// The number of its entry in the ledger, which is its place among the operations of its identifier.
+    /// The number of its entry in the ledger, which is its place among the operations of its
+    /// identifier.
     pub place: u32,
     /// The height of that entry, which determines the limits for the operation.
     pub height: u32,

@@ -1,4 +1,4 @@
--- What a run of a node has counted, by its table.
+-- The counts of a run of a node, from its table.
 use Rattle.std.proofs.Common.{◌≡◌, ◌∙◌, ⊎_elim, ℕ, ◌+◌, Option, Some, None, List, [], ◌∷◌, ◌++◌, refl, ap, sym, subst, arith, append_assoc, length-append}
 use Rattle.std.proofs.lemmas.List.Sums.{sum_by-append}
 use Rattle.std.specs.Prelude.{IfSome}
@@ -14,7 +14,7 @@ use Rattle.st_node.specs.Work.{DueOver, RunCounts, declared_count, entries_of, s
 use Rattle.st_cli.specs.declared.form.NodeOptions.{NodeOptions}
 use Rattle.st_cli.specs.Node.{InputCounts, LinesCount, new_node, node_course}
 
--- what is bounded over some lines is bounded over more
+-- a bound over some lines is one over more
 over_more : (schedule : Option ℕ) (machine : Machine) (lines more : List (List ℕ)) (old new : Counts)
     → RunCounts schedule (entries_of machine lines) (submitted_in lines) old new
     → RunCounts schedule (entries_of machine (lines ++ more)) (submitted_in (lines ++ more)) old new
@@ -30,18 +30,18 @@ over_more schedule machine lines more old new counts =
     subst (λ entries. RunCounts schedule entries submissions old new) (sym (entries-append machine lines more)) both
 
 module _ (options : NodeOptions) (work counted : Counts) where
-  -- the bound over these lines, from the beginning on
+  -- the bound over these lines, from the start
   abbrev Within : List (List ℕ) → Type 0
   Within lines = LinesCount options lines work counted
 
   pub within_more : (lines more : List (List ℕ)) → Within lines → Within (lines ++ more)
   within_more lines more within = over_more options.schedule (new_node options) lines more work counted within
 
-  -- in the beginning nothing is due
+  -- at the start nothing is due
   pub from_beginning : (lines : List (List ℕ)) → DueOver (new_node options) lines work counted → Within lines
   from_beginning lines due = run_counts options.schedule lines work counted due
 
-  -- however the run ended, the counters went over the first lines of what was taken, or also over the next one
+  -- for any end of the run, the counters are those after a prefix of the lines of the bytes taken
   of_first : {written : List ℕ} (lines : List (List ℕ)) → AnsweredFirst (node_course options work counted) written lines → Within lines
   of_first lines first = ⊎_elim
       (λ ran. subst Within first.all (within_more first.answered first.later (from_beginning first.answered ran.0)))
@@ -51,21 +51,21 @@ module _ (options : NodeOptions) (work counted : Counts) where
       (within_more over gave.1 (from_beginning over gave.3.0)))
       first.context
 
--- what was taken follows from what was there and what is left
+-- the bytes taken follow from the bytes before and the remaining ones
 taken_is : (input : List ℕ) (left : Option (List ℕ)) (taken other : List ℕ) → Consumes (Some input) left taken
     → Consumes (Some input) left other → taken ≡ other
 taken_is input None taken other takes takes_other = absurd takes
 taken_is input (Some rest) taken other takes takes_other =
     let cut = same_cut taken rest other rest (sym takes ∙ takes_other) refl in cut.front_is
 
--- so what holds of it holds of whatever was taken
+-- so a property of them holds for any bytes taken
 of_any_taken : (P : List ℕ → Type 0) (had left : Option (List ℕ)) (taken : List ℕ) → Consumes had left taken → P taken
     → IfSome had (λ input. (other : List ℕ) → Consumes (Some input) left other → P other)
 of_any_taken P None left taken takes holds = tt
 of_any_taken P (Some input) left taken takes holds =
     λ other takes_other. subst P (taken_is input left taken other takes takes_other) holds
 
--- what was counted is within the bound over what was taken, however the run ended
+-- the counts are within the bound over the bytes taken, for any end of the run
 pub counts_of_table : (options : NodeOptions) (work counted : Counts) {limit : ℕ} {io : Streams} {status : ℕ}
     → RunTable (node_course options work counted) limit io status
     → IfSome io.had (λ input. (taken : List ℕ) → Consumes (Some input) io.left taken

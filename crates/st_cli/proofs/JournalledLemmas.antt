@@ -1,4 +1,4 @@
--- A run of a node with a journal, in the words of the node.
+-- A run of a node with a journal, by the node's definitions.
 use Rattle.std.proofs.Common.{◌≡◌, ◌∙◌, inr, ⊎_elim, ◌++◌, ℕ, List, [], ◌∷◌, refl, ap, sym, subst}
 use Rattle.st_base.specs.Work.{Counts}
 use Rattle.st_drive.specs.Lines.{all_lines}
@@ -21,7 +21,7 @@ replies_are : (machine : Machine) (lines : List (List ℕ)) → replies_by node_
 replies_are machine [] = refl
 replies_are machine (line ∷ lines) = ap (λ more. (answered machine line).reply ++ more) (replies_are (answered machine line).next lines)
 
--- what was counted is within the bound over all lines
+-- the counts are within the bound over all lines
 counts_within : (options : NodeOptions) (work counted : Counts) (lines : List (List ℕ))
     → WentWithin node_answering (new_node options) work counted lines → LinesCount options lines work counted
 counts_within options work counted lines went =
@@ -29,7 +29,7 @@ counts_within options work counted lines went =
     from_beginning options work counted went.0 (⊎_elim (λ ran. ran.1.due) (λ gave. gave) went.2) in
     subst (λ ls. LinesCount options ls work counted) went.1.1 (within_more options work counted went.0 went.1.0 begun)
 
--- no more was counted than over the first records
+-- the counts are at most those over the first records
 pub first_count : (options : NodeOptions) (image : List ℕ) (work counted : Counts)
     → WentOverFirst node_answering (new_node options) image work counted → FirstRecordsCount options image work counted
 first_count options image work counted went = (
@@ -43,7 +43,7 @@ first_count options image work counted went = (
       went.3,
 )
 
--- what is promised of a disk that has the records r, from what is promised of any machine with a journal
+-- the properties if the disk has the records r, from those of any machine with a journal
 pub journal_from : {options : NodeOptions} {run : Run} (r : List (List ℕ))
     → RunFromRecords node_answering (new_node options) options.limit run r → JournalFrom options r run
 journal_from {options} {run} r from = record {

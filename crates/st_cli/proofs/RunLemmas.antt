@@ -1,9 +1,9 @@
--- What each command promises of a run, from what is promised of the machine that it runs.
+-- The properties of a run of each command, from those of the machine that it runs.
 --     promised_of      from the form that was read to the words
 --     node_lines       the lines that a node answers, from the ones over its course
---     begun_none       where there was no memory for a node
---     node_run         what a node promises
---     generate_ends    how a run of `generate` ends
+--     begun_none       if there was no memory for a node
+--     node_run         the properties of a node
+--     generate_ends    the end of a run of `generate`
 use Rattle.std.proofs.Common.{◌≡◌, ◌≢◌, ◌∙◌, ℕ, Option, Some, ap, refl, subst, sym, arith, IsTrue}
 use Rattle.std.specs.Prelude.{true}
 use Rattle.st_base.specs.Work.{Counts}
@@ -23,7 +23,7 @@ use Rattle.st_cli.specs.NodeLines.{node_meaning}
 use Rattle.st_cli.specs.Runs.{NodeRun, Promised, Run}
 use Rattle.st_cli.proofs.CountLemmas.{counts_of_table}
 
--- what is promised of the form that was read is promised of the words that it was read from
+-- the properties of a form that was read are those of the words
 pub promised_of : (run : Run) {read form : Form} {asked : Option Form} → read ≡ form → Some read ≡ asked
     → Promised (Some form) run → Promised asked run
 promised_of run is found holds = subst (λ asked. Promised asked run) (ap Some (sym is) ∙ found) holds
@@ -53,9 +53,9 @@ node_run {options} {run} lines disk = record {
   disk = disk;
 }
 
--- ---- how a run ends
+-- ---- the end of a run
 
--- what is written of a summary tells it
+-- the end of a run, from its status and the written summary
 pub generate_ends : {io : Streams} {failed : Type 0} (status : ℕ) → IsTrue (is_generate_end status) → (status ≡ 0 → io.is_finished ≡ true)
     → (status ≢ 0 → FinishesNothing io.was_finished io.is_finished) → (status ≡ 3 → io.write_failed) → Ends io failed status
 generate_ends status is finished unfinished write_fault = record {

@@ -1,5 +1,5 @@
--- A run of a node with a journal: the machine that its records bring back, what it means as a command, and what it
--- leaves of the disk.
+-- A run of a node with a journal: the machine that its records restore, its course as a command, and the images of
+-- its disk.
 use Rattle.std.specs.Prelude.{ℕ, List, ◌++◌}
 use Rattle.st_base.specs.Work.{Counts}
 use Rattle.st_drive.specs.Lines.{all_lines}
@@ -16,7 +16,7 @@ use Rattle.st_cli.specs.declared.form.NodeOptions.{NodeOptions}
 use Rattle.st_cli.specs.Node.{LinesCount, new_node}
 use Rattle.st_cli.specs.NodeLines.{RanLines}
 
--- a node as a machine that lines bring back: a line changes it where its reply says so
+-- a node as a machine that replay restores: a line changes it if its reply says so
 abbrev pub node_answering : Answering Machine Counts
 node_answering = record {
   reply = λ machine line. (answered machine line).reply;
@@ -28,26 +28,26 @@ node_answering = record {
   };
 }
 
--- the machine that these records bring back
+-- the machine that these records restore
 abbrev pub node_from : NodeOptions → (r : List (List ℕ)) → Machine
 node_from options r = after (new_node options) r
 
--- What such a node does over lines, from these counters of work to those: its replies, and a bound on the work, in which
--- the records count as the lines do.
+-- The course of such a node over lines, from these counters of work to those: its replies, and a bound on the work,
+-- in which the records count like lines.
 abbrev pub journal_course : NodeOptions → (r : List (List ℕ)) → (work counted : Counts) → Course
 journal_course options r work counted = replying (replies (node_from options r)) (λ lines. LinesCount options (r ++ lines) work counted)
 
--- the work is bounded by the first records of an image, whatever stands behind them
+-- the work is bounded by the first records of an image, whatever follows them
 abbrev pub FirstRecordsCount : NodeOptions → (image : List ℕ) → (work counted : Counts) → Type 0
 FirstRecordsCount options image work counted =
     (first : List (List ℕ)) × (end : ℕ) × StandFrom 0 first end image × LinesCount options first work counted
 
--- What the run leaves of its disk at each moment.
+-- The images of the run's disk at each moment.
 abbrev pub KeepsFirst : NodeOptions → (r : List (List ℕ)) → (input : List ℕ) → (old new : Past) → Type 0
 KeepsFirst options r input old new = KeepsFirstLines node_answering (node_from options r) r (all_lines input) old new
 
--- What the run leaves of its disk over an input at its end: the records r, and then those of the input's lines that change
--- the machine.
+-- The images of the run's disk over an input at its end: the records r, and then those of the input's lines that
+-- change the machine.
 abbrev pub KeepsRecords : NodeOptions → (r : List (List ℕ)) → (input written : List ℕ) → (old new : Past) → Type 0
 KeepsRecords options r input written old new =
     KeepsLines node_answering (node_from options r) r (all_lines input) written old new

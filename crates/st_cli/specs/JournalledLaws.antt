@@ -1,4 +1,4 @@
--- What is promised of a node as a machine that lines bring back.
+-- The laws of a node as a machine that replay restores.
 use Rattle.std.proofs.Common.{ap, arith}
 use Rattle.st_journal_lines.specs.Answering.{AnsweringLaws, Idles}
 use Rattle.st_node.proofs.ChangingLemmas.{changing_short}
@@ -28,7 +28,7 @@ answering_laws = record {
   gave_up_behind = λ m n c d line ran. ran.due;
 }
 
--- a line whose reply has not the form of a change leaves each machine that lines bring back
+-- a line whose reply does not have the form of a change leaves each machine that replay restores
 pub node_idles : Idles node_answering new_machine HasFew
 node_idles = record {
   starts = λ schedule. omega arith;

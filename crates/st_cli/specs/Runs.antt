@@ -1,4 +1,4 @@
--- What each command promises of a run: a record a command, over what the run saw and did.
+-- The properties of a run of each command: one record per command, over the inputs and outputs of the run.
 use Rattle.std.specs.Prelude.{◌≡◌, ◌⊎◌, ℕ, List, Some, None, Ok, Err, IsTrue, IfSome}
 use Rattle.std.specs.declared.option.Option.{Option}
 use Rattle.std.specs.Io.KnownBytes.{Appends, Consumes}
@@ -22,80 +22,80 @@ use Rattle.st_cli.specs.Form.{max_input}
 use Rattle.st_cli.specs.Journalled.{FirstRecordsCount, KeepsFirst, KeepsRecords, journal_course}
 use Rattle.st_cli.specs.Node.{InputCounts, node_course}
 
--- a run of the program: what it did to its source, its sink and its disk, and to the counters of work
+-- a run of the program: its source, its sink, its disk and the counters of work, before and after
 abbrev pub Run : Type 1
 Run = Outcome Counts
 
 -- ---- `node`: the lines of the source are answered as the reference machine answers them
 
--- what is promised of a run of `node` with these options
+-- the properties of a run of `node` with these options
 pub record NodeRun (options : NodeOptions) (run : Run) : Type 0 where
-  -- the lines of the source are answered; no disk is at work
+  -- the lines of the source are answered; no disk is used
   pub lines : AnswersLines (node_course options run.context run.context_now) options.limit run.io ⊥ run.status
-  -- whatever the status, the work that was counted is bounded by the anchors that were accepted in what was taken,
-  -- and by its `submit` lines
+  -- for any status, the work that was counted is bounded by the anchors that were accepted in the bytes taken, and by
+  -- their `submit` lines
   pub work : IfSome run.io.had (λ input. (taken : List ℕ) → Consumes (Some input) run.io.left taken
       → InputCounts options taken run.context run.context_now)
-  -- the disk is as it was
+  -- the disk is unchanged
   pub disk : run.disk.kept
 
--- ---- `node --journal`: the same, by the node that the records of the disk bring back
+-- ---- `node --journal`: the same, by the node that the records of the disk restore
 
--- what is promised of a disk that has the records r
+-- the properties if the disk has the records r
 pub record JournalFrom (options : NodeOptions) (r : List (List ℕ)) (run : Run) : Type 0 where
-  -- the lines of the source are answered; the bound on the work takes the records for lines too
+  -- the lines of the source are answered; the bound on the work counts the records as lines too
   pub lines : AnswersLines (journal_course options r run.context run.context_now) options.limit run.io run.disk.failed run.status
-  -- at each moment of the run a stop leaves an image of before, and from its first good sync on the records and behind
-  -- them those lines of a beginning of the input that change the node
+  -- at each moment of the run a stop leaves an earlier image, and from its first successful sync on the records
+  -- followed by those lines of a prefix of the input that change the node
   pub moments : (input : List ℕ) → run.io.had ≡ Some input → KeepsFirst options r input run.disk.before run.disk.behind
-  -- at its end, whatever the status, that beginning has each line of whose reply a byte was written, and at most one
-  -- line besides: so a stop leaves at most one record without its reply
+  -- at its end, for any status, that prefix has each line with a written byte of its reply, and at most one more
+  -- line: so a stop leaves at most one record without its reply
   pub records : (input written : List ℕ) → Tells run.io input written
       → KeepsRecords options r input written run.disk.before run.disk.behind
 
--- what is promised of a run of `node --journal` with these options
+-- the properties of a run of `node --journal` with these options
 pub record JournalRun (options : NodeOptions) (run : Run) : Type 0 where
-  -- how it ends: 7 where the journal is damaged and 8 where it is too long, and then nothing was touched
+  -- its end: 7 if the journal is damaged and 8 if it is too long, and then nothing was changed
   pub ends : JournalEnds options.limit run
-  -- where the disk tells what it reads as, and has records: what follows from them
+  -- if the disk reveals its contents, and has records: what follows from them
   pub from : IfTold run.disk.reads (λ image. (r : List (List ℕ)) → opened image ≡ Ok r → JournalFrom options r run)
-  -- over a damaged journal the work is bounded by the first records of the image, and over one that is too long none is
-  -- counted, whatever the status
+  -- over a damaged journal the work is bounded by the first records of the image, and over one that is too long none
+  -- is counted, for any status
   pub work : IfTold run.disk.reads (λ image. (opened image ≡ Err Damaged → FirstRecordsCount options image run.context run.context_now)
       × (opened image ≡ Err TooLong → run.context_now ≡ run.context))
 
 -- ---- `wallet` and `exchange`: the same, by the wallet of the disk, and by four nodes and the messages between them
 
--- what is promised of a run of `wallet`: no work is counted
+-- the properties of a run of `wallet`: no work is counted
 abbrev pub IsWalletRun : Run → Type 0
 IsWalletRun run = WalletRun max_input run.io run.disk run.status × (run.context_now ≡ run.context)
 
--- what is promised of a run of `exchange`: no disk is at work, and the disk is as it was
+-- the properties of a run of `exchange`: it uses no disk, and the disk is unchanged
 abbrev pub ExchangeRun : Run → Type 0
 ExchangeRun run = AnswersLines (exchange_course node_peer) max_input run.io ⊥ run.status × run.disk.kept
 
 -- ---- `generate`: the summary of a workload is written
 
--- what is promised of a run of `generate` by this plan
+-- the properties of a run of `generate` with this plan
 pub record GenerateRun (plan : Plan) (run : Run) : Type 0 where
-  -- at status 0 the whole of it is written
+  -- at status 0 the whole summary is written
   pub done : run.status ≡ 0 → Appends run.io.held run.io.holds (summary node_peer plan)
-  -- whatever the status, a beginning of it is
+  -- for any status, a prefix of it is
   pub front : WritesFront (summary node_peer plan) run.io.held run.io.holds
-  -- where memory runs out nothing is
+  -- if memory runs out, nothing is
   pub unwritten : run.status ≡ 6 → run.io.sink_kept
-  -- where the sink doesn't fail the whole of it is, unless memory runs out
+  -- if the sink doesn't fail, the whole summary is written, unless memory runs out
   pub complete : ¬ run.io.write_failed → (run.status ≡ 0) ⊎ (run.status ≡ 6)
   -- nothing is read
   pub source : run.io.source_kept
-  -- the disk is as it was
+  -- the disk is unchanged
   pub disk : run.disk.kept
   -- 0, 3 and 6 are the only statuses
   pub statuses : IsTrue (is_generate_end run.status)
 
--- ---- what the program promises
+-- ---- the properties of the program
 
--- words of no form: the status is 1, and nothing is touched
+-- invalid arguments: the status is 1, and nothing is changed
 pub record IsRefused (run : Run) : Type 0 where
   pub status : run.status ≡ 1
   pub source : run.io.source_kept
@@ -103,7 +103,7 @@ pub record IsRefused (run : Run) : Type 0 where
   pub disk : run.disk.kept
   pub work : run.context_now ≡ run.context
 
--- what is promised of a run, by what the words of the command line ask for
+-- the properties of a run, by the form of the command line
 abbrev pub Promised : Option Form → Run → Type 0
 Promised (Some (Node options)) run = NodeRun options run
 Promised (Some (Journalled options)) run = JournalRun options run

@@ -12,8 +12,9 @@ ghost use Rattle.st_vault.specs.Image.{IsSpent};
 use crate::node_lines::NodeLines;
 use st_node::Node;
 
-/// The node that the records of a journal and then the changing lines of more bring back is the one behind the records and
-/// all of those lines: what isn't recorded has changed nothing. So the next run is the node of a prefix of all commands.
+/// Replaying the records of a journal and then the changing lines among some more gives the node
+/// after the records and all of those lines: lines that aren't recorded changed nothing. So the
+/// next run starts with the node after a prefix of all commands.
 pub fn journal_law()
     ensures { (schedule : Option ℕ) (r lines : List (List ℕ))
         → behind node_answering (new_machine schedule) (r ++ changing (plain_recorder node_answering) (behind node_answering (new_machine schedule) r) lines)
@@ -22,15 +23,17 @@ pub fn journal_law()
     st_journal_lines::journal_law::<NodeLines>();
 }
 
-/// No counter of a wallet is released twice, over any list of runs and stops: where each of them promises
-/// what `WalletFrom` says under `runs`, and starts on an image that a stop of the one before may have left.
+/// No counter of a wallet is released twice, in any list of runs and stops, if each of them
+/// satisfies `runs` of `WalletFrom`, and starts on an image that a stop of the previous one may
+/// have left.
 pub fn counters_law()
     ensures { (image : List ℕ) (runs : List Run) → AreChained IsSpent image runs → NoneTwice (all_released runs) }
 {}
 
-/// Whatever lines have come to four nodes: a message that is delivered stores nothing but a file that its addressee
-/// wants and lacks, under its own URI, and changes nothing else in any node. So whatever is lost, repeated and
-/// reordered, and whatever bytes are injected, no node gets a file by a message that it doesn't want.
+/// For any lines of four nodes: a message that is delivered stores at most a file that its
+/// addressee wants and lacks, by its own URI, and changes nothing else in any node. So for any
+/// loss, repetition and reordering, and for any injected bytes, no node receives a file by a
+/// message that it doesn't want.
 pub fn exchange_law()
     ensures stores { StoresOnlyWanted node_peer }
     ensures four { AreFour node_peer }

@@ -14,8 +14,8 @@ use st_params::Schedule;
 use std::alloc::Global;
 use std::marker::Model;
 
-/// A node that is driven by lines. It looks at one byte more of a line than a line may have, by which
-/// it knows one that is too long.
+/// A node that is driven by lines. It reads one byte more of a line than a line may have, to
+/// recognize one that is too long.
 #[derive(Drop)]
 pub struct NodeLines {
     node: Node,

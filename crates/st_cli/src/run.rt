@@ -20,39 +20,39 @@ use st_node::Node;
 use st_wallet_lines::run_wallet;
 use std::alloc::Global;
 
-/// Does all that the program does with these words, and answers its status.
+/// Runs the program with these words, and returns its status.
 ///
-/// The words are `node`, `wallet`, `exchange` or `generate`. Each line of the source is answered to the
-/// sink, as the reference machine answers it, however the source cuts its bytes. At most 1,073,741,824
-/// bytes are answered. `generate` alone has no lines: it reads nothing.
+/// The words are `node`, `wallet`, `exchange` or `generate`. Each line of the source gets the reply
+/// of the reference machine in the sink, however the input is split into reads. At most
+/// 1,073,741,824 bytes are answered. Only `generate` has no lines: it reads nothing.
 ///
-/// Behind `node` may stand, in this order and each at most once, `--limit=N`, by which at most `N` bytes
-/// are answered; `--v2-at=H`, by which version 2 of the limits on files stands from height `H` on; and
-/// `--journal`. With that the disk is a journal: its records bring the node back before the first read,
-/// and each line that changes the node is recorded before its reply is written. `wallet` has its vault on
-/// the disk. `exchange` runs four nodes and the messages between them. Behind `generate` stand a seed, a
-/// number of identifiers and a number of rounds: it writes the summary of the workload that they make. All
-/// but the wallet and a node with a journal leave the disk alone. The statuses:
+/// The options of `node`, in this order and each at most once, are `--limit=N`: at most `N` bytes
+/// are answered; `--v2-at=H`: version 2 of the limits on files applies from height `H` on; and
+/// `--journal`: the disk is a journal, whose records restore the node before the first read, and
+/// each line that changes the node is recorded before its reply is written. `wallet` has its vault
+/// on the disk. `exchange` runs four nodes and the messages between them. `generate` takes a seed,
+/// a number of identifiers and a number of rounds: it writes the summary of their workload. All
+/// commands except the wallet and a node with a journal leave the disk unused. The statuses:
 ///
 /// - 0: the input was read to its end, all replies are written, and the sink is finished.
-/// - 1: the words are of no form; nothing was read or written.
-/// - 2: the source failed. The replies to the whole lines of what was read are written.
+/// - 1: the arguments are invalid; nothing was read or written.
+/// - 2: the source failed. The replies to the whole lines of the bytes read are written.
 /// - 3: the sink failed. A prefix of the replies is written.
 /// - 4: the disk failed. A prefix of the replies is written.
 /// - 5: the source gave more bytes than the limit. The replies to the whole lines before that limit
 ///   are written.
-/// - 6: memory could not be had. A prefix of the replies is written.
-/// - 7: the journal is damaged, and 8: it has more than 2^40 bytes. Nothing was read or written, and the
-///   disk is as it was.
+/// - 6: out of memory. A prefix of the replies is written.
+/// - 7: the journal is damaged, and 8: it has more than 2^40 bytes. Nothing was read or written,
+///   and the disk is unchanged.
 ///
-/// Under every status but 0 the sink is finished only where it was before.
+/// Under every status except 0 the sink is finished only if it was before.
 ///
-/// At most 24,000,001 bytes of a line are kept, which tells that it is too long, and the rest is
-/// skipped; that is a fact of the driver's `Progress`. Whatever the status, at most five files are
-/// read for each anchor that was accepted among the bytes taken, and at most as many signed texts
-/// opened as these declare operations, and one more for each `submit` line among those bytes. That a
+/// At most 24,000,001 bytes of a line are kept, to recognize that it is too long, and the rest is
+/// skipped; that is a fact of the driver's `Progress`. For any status, at most five files are read
+/// for each anchor that was accepted among the bytes taken, and at most as many signed texts opened
+/// as these declare operations, and one more for each `submit` line among those bytes. That a
 /// `resolve` counts no file and no signed text, and at most one applied operation, is a clause of
-/// `Node::answer`. The clauses on bytes and on the disk stand where source, sink and disk tell them.
+/// `Node::answer`. The clauses about bytes and the disk hold if source, sink and disk reveal them.
 pub fn run<S: Source, K: Sink, D: Disk>(
     alloc: Global,
     words: &[Text],
@@ -61,17 +61,18 @@ pub fn run<S: Source, K: Sink, D: Disk>(
     disk: &mut D,
     work: &mut Work,
 ) -> u8
-    // Words of no form, and only they, are refused.
+    // Invalid arguments, and only they, are refused.
     ensures words { (result ≡ 1) ↔ (form_of words.now ≡ None) }
 
-    // The sink is finished at status 0, and under every other only where it was before; a fault has its cause, and
-    // there is no other status.
+    // The sink is finished at status 0, and under every other only if it was before; a fault has
+    // its cause, and there is no other status.
     ensures ends { Ends (streams S.left S.faults source.old source.new K.written K.is_finished K.faults sink.old sink.new)
         (Rose (D.faults disk.old) (D.faults disk.new)) result }
     ensures statuses { IsTrue (is_status result) }
 
-    // What the command that the words ask for promises of this run: `NodeRun`, `JournalRun`, `IsWalletRun`,
-    // `ExchangeRun` or `GenerateRun` of `specs/Runs.antt`; words of no form leave all as it was, `IsRefused`.
+    // The properties of a run of the words' command: `NodeRun`, `JournalRun`, `IsWalletRun`,
+    // `ExchangeRun` or `GenerateRun` of `specs/Runs.antt`; invalid arguments leave everything
+    // unchanged, `IsRefused`.
     ensures promised { Promised (form_of words.now) (record {
       io = streams S.left S.faults source.old source.new K.written K.is_finished K.faults sink.old sink.new;
       disk = storage D.reads D.past D.faults disk.old disk.new;

@@ -18,10 +18,9 @@ const INSIDE: usize = MAX_DEPTH - 2;
 // Room that most entries do not outgrow.
 const USUAL: usize = 1_000;
 
-/// At most `most` entries of the list that is the only member, of this name, of the file's object.
-/// Each is packed when it is read, and shares its text with the file if that is canonical. `None`
-/// says nothing about the file: read it as a whole. It is also the result if there are more
-/// entries.
+/// The entries, at most `most`, of the list that is the only member, of this name, of the file's
+/// object. Each is packed when it is read, and shares its text with the file if that is canonical.
+/// `None` says nothing about the file: read it as a whole. It is returned for more entries too.
 pub(crate) fn read_entries(
     alloc: Global,
     file: &Shared<Bytes>,

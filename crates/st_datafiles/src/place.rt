@@ -32,7 +32,8 @@ impl Place {
         }
     }
 
-    /// The next signed text is the first of this kind. A kind without texts is left out of the file.
+    /// The next signed text is the first of this kind. A kind without texts is left out of the
+    /// file.
     pub fn open(&mut self, kind: &str) {
         let end = self.kind.saturating_add(kind.len());
         self.text = end.saturating_add(OPENED.len());

@@ -155,7 +155,6 @@ fn is_signed(entry: &Scanned<'_>) -> bool
     }
 }
 
-// The entries of one kind.
 fn proofs_of<'a>(file: &Scanned<'a>, kind: &str) -> Entries<'a>
     ensures { result ≡ proofs_of kind.now (Some file.now) }
 {

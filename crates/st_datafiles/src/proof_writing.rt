@@ -12,8 +12,8 @@ use st_base::{Bytes, KeptText, List, Text, WantOfMemory};
 use st_canon::{Json, Object, some_list, some_object, write};
 use std::alloc::Global;
 
-/// The canonical text of the core proof file of these signed texts. Empty lists are left out, and an
-/// `operations` without lists.
+/// The canonical text of the core proof file of these signed texts. Empty lists are left out, and
+/// an `operations` without lists.
 pub fn write_core_proof(alloc: Global, proofs: &CoreProofs) -> Result<Bytes, WantOfMemory>
     ensures text { IfOk result (λ text. text ≡ canonical (core_proof_json proofs.now)) }
     // If the text fails no rule, it is read as the same signed texts.
@@ -24,8 +24,8 @@ pub fn write_core_proof(alloc: Global, proofs: &CoreProofs) -> Result<Bytes, Wan
     Ok(write(alloc, &json)?)
 }
 
-/// The canonical text of the provisional proof file of these signed texts. Without texts `operations`
-/// is left out.
+/// The canonical text of the provisional proof file of these signed texts. Without texts
+/// `operations` is left out.
 pub fn write_provisional_proof(alloc: Global, proofs: &[KeptText]) -> Result<Bytes, WantOfMemory>
     ensures text { IfOk result (λ text. text ≡ canonical (provisional_proof_json proofs.now)) }
     // If the text fails no rule, it is read as the same signed texts.
@@ -64,7 +64,6 @@ fn proof_json(alloc: Global, operations: Object) -> Result<Json, WantOfMemory>
     Ok(Json::Object(file))
 }
 
-// The entries with these texts.
 fn signed_entries(alloc: Global, texts: &[KeptText]) -> Result<List<Json>, WantOfMemory>
     ensures { IfOk result (λ entries. map plain entries ≡ map signed_json texts.now) }
 {

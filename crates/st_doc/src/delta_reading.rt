@@ -134,7 +134,6 @@ fn hash_in(alloc: Global, value: &Scanned<'_>, version: u8) -> Result<Option<Has
     }
 }
 
-// Whether each of these is a patch.
 fn are_patches(alloc: Global, patches: Entries<'_>, params: &Params) -> Result<bool, WantOfMemory>
     ensures { IfOk result (λ are. are ≡ list_all (λ patch. is_some (patch_of params.now patch)) patches.entry) }
 {

@@ -73,7 +73,6 @@ fn replace_entry(alloc: Global, entry: &mut Json, new: &[Json]) -> Result<(), Wa
     Ok(())
 }
 
-// The entry of this id.
 fn entry_of<'a>(entries: &'a [Json], id: &str) -> Option<&'a Json>
     ensures { option_map plain (option_copied result) ≡ entry_of id.now (map plain entries.now) }
 {

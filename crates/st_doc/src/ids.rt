@@ -125,7 +125,6 @@ fn none_twice(alloc: Global, texts: &[&str]) -> Result<bool, WantOfMemory>
     Ok(different.len() == texts.len())
 }
 
-// The set of these texts.
 fn set_of<'a>(alloc: Global, texts: &[&'a str]) -> Result<BTreeSet<&'a str>, AllocError>
     ensures { IfOk result (IsFromIterResult ⟦<&'a str as Ord>⟧.cmp texts.now) }
 {

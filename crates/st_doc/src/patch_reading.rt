@@ -249,7 +249,6 @@ fn are_ids(texts: &[Text]) -> bool
     true
 }
 
-// The steps of these values, if each is one.
 fn each_step(alloc: Global, values: &[Json]) -> Result<Option<List<Step>>, WantOfMemory>
     ensures { IfOk result (λ steps. option_map (map plain_step) steps ≡ each_of (λ value. result_ok (step_of value)) (map plain values.now)) }
 {

@@ -24,7 +24,7 @@ fn json(alloc: Global, text: &str) -> Option<Json> {
     read(alloc, text.as_bytes()).ok()
 }
 
-// The JSON of the frame, with this in place of `%`.
+// The JSON of the frame, with this text in place of `%`.
 fn framed(alloc: Global, frame: &str, text: &str) -> Option<Json> {
     match frame.replace(alloc, "%", text) {
         Ok(whole) => json(alloc, whole.as_str()),
@@ -32,7 +32,6 @@ fn framed(alloc: Global, frame: &str, text: &str) -> Option<Json> {
     }
 }
 
-// Whether the text is this word, and this number.
 fn is_numbered(text: &str, word: &str, at: usize) -> bool {
     match text.strip_prefix(word) {
         Some(number) => match read_number(number.as_bytes(), 1_000) {
@@ -43,7 +42,6 @@ fn is_numbered(text: &str, word: &str, at: usize) -> bool {
     }
 }
 
-// Whether this is the canonical text of the document.
 fn is_text(alloc: Global, document: &Document, text: &str) -> bool {
     match document.json(alloc) {
         Ok(json) => match write(alloc, &json) {
@@ -54,7 +52,7 @@ fn is_text(alloc: Global, document: &Document, text: &str) -> bool {
     }
 }
 
-// Whether it is told in its text that it is a delta, where it is one.
+// Whether its text is recognized as a delta if and only if it is one.
 fn is_told(alloc: Global, value: &Json, params: &Params, is: bool) -> bool {
     let Ok(packed) = PackedJson::pack(alloc, value) else {
         return false;
@@ -68,7 +66,7 @@ fn is_told(alloc: Global, value: &Json, params: &Params, is: bool) -> bool {
     }
 }
 
-// Whether the value is taken so: `accepted`, or why it is no delta.
+// Whether this is the answer to the value: `accepted`, or why it is not a delta.
 fn is_taken(alloc: Global, value: Json, params: &Params, taken: &str) -> bool {
     if !is_told(alloc, &value, params, taken == "accepted") {
         return false;
@@ -82,7 +80,8 @@ fn is_taken(alloc: Global, value: Json, params: &Params, taken: &str) -> bool {
     }
 }
 
-// Whether the patches make this of the document: its canonical text, or the number of the patch that fails.
+// Whether this is the document after the patches: its canonical text, or the number of the patch
+// that fails.
 fn make(alloc: Global, document: Document, delta: Delta, params: &Params, made: &str) -> bool {
     match apply_all(alloc, document, delta, params) {
         Ok(document) => is_text(alloc, &document, made),
@@ -91,7 +90,7 @@ fn make(alloc: Global, document: Document, delta: Delta, params: &Params, made: 
     }
 }
 
-// The same of copies of both, after which both are what they were.
+// The same for copies of both, after which both are unchanged.
 fn copies_make(
     alloc: Global,
     document: &Document,
@@ -121,7 +120,7 @@ fn delta_makes(
     }
 }
 
-// Whether the patches make this of the document that the value is.
+// Whether this is the document of the value after the patches.
 fn patches_make(alloc: Global, value: &Json, patches: &str, params: &Params, made: &str) -> bool {
     match Document::read(alloc, value, params) {
         Ok(document) => match framed(alloc, PATCHES, patches) {

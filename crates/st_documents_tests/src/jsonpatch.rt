@@ -8,7 +8,7 @@ use st_jsonpatch::{Step, StepsRefused, apply_steps};
 use std::alloc::Global;
 use std::test::Fail;
 
-// The bounds on depth and size that a line has which names none.
+// The bounds on depth and size of a line that gives none.
 const DEPTH: u64 = 32;
 
 const SIZE: u64 = 16_384;
@@ -17,7 +17,6 @@ fn json(alloc: Global, text: &str) -> Option<Json> {
     read(alloc, text.as_bytes()).ok()
 }
 
-// Whether this is the canonical text of the value.
 fn is_text(alloc: Global, value: &Json, text: &str) -> bool {
     match write(alloc, value) {
         Ok(written) => written.as_slice() == text.as_bytes(),
@@ -25,7 +24,6 @@ fn is_text(alloc: Global, value: &Json, text: &str) -> bool {
     }
 }
 
-// Whether the text is `failed`, and this number.
 fn is_failed(text: &str, at: usize) -> bool {
     match text.strip_prefix("failed ") {
         Some(number) => match read_number(number.as_bytes(), 1_000) {
@@ -36,7 +34,7 @@ fn is_failed(text: &str, at: usize) -> bool {
     }
 }
 
-// Puts the steps that these values are behind those that are there, where each value is one.
+// Appends the steps of these values, if each value is one.
 fn push_each(alloc: Global, steps: &mut List<Step>, values: &[Json]) -> bool {
     for value in values {
         match Step::read(alloc, value) {
@@ -49,7 +47,7 @@ fn push_each(alloc: Global, steps: &mut List<Step>, values: &[Json]) -> bool {
     true
 }
 
-// The same of the values of a list, given by its text.
+// The same for the values of a list, given by its text.
 fn push_steps(alloc: Global, steps: &mut List<Step>, text: &str) -> bool {
     match json(alloc, text) {
         Some(value) => match value.as_list() {
@@ -60,7 +58,8 @@ fn push_steps(alloc: Global, steps: &mut List<Step>, text: &str) -> bool {
     }
 }
 
-// Whether the steps make this of the value: a canonical text, or the number of the step that fails.
+// Whether this is the value after the steps: a canonical text, or the number of the step that
+// fails.
 fn make(
     alloc: Global,
     value: &Json,
@@ -88,7 +87,7 @@ fn texts_make(alloc: Global, value: &str, steps: &str, made: &str) -> bool {
     }
 }
 
-// Whether it comes out as the line says: a value, steps and what they make of it, two spaces apart.
+// Whether the result is that of the line: a value, steps and their result, two spaces apart.
 fn comes_out(alloc: Global, line: &str) -> bool {
     match line.split_once("  ") {
         Some((value, rest)) => match rest.split_once("  ") {

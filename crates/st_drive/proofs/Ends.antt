@@ -18,7 +18,7 @@ use Rattle.st_drive.proofs.LineLemmas.{split_append, capped_append, capped_nil}
 use Rattle.st_drive.proofs.CutLemmas.{whole_cut, all_cut}
 use Rattle.st_drive.proofs.RunLemmas.{went_none, went_more, stopped_more, goes_stops, stops_longer}
 
--- a machine and its context, what the source has left, and what the sink holds
+-- a machine and its context, the rest of the source, and the bytes of the sink
 pub record Place (M C : Type 0) : Type 0 where
   pub machine : M
   pub context : C
@@ -29,8 +29,8 @@ pub record Place (M C : Type 0) : Type 0 where
 abbrev pub place : {M C : Type 0} → M → C → (left holds : Option (List ℕ)) → Place M C
 place m c left holds = record { machine = m; context = c; left = left; holds = holds }
 
--- What was taken from the start on is answered up to its last line feed, and the line is what stands behind it.
--- There is room for so many bytes more.
+-- The bytes taken from the start on are answered up to their last line feed, and `line` is the rest after it. There
+-- is room for `room` more bytes.
 pub record Taken {M C : Type 0} (means : Meaning M C) (cap limit room : ℕ) (line : List ℕ) (start now : Place M C) : Type 0 where
   pub taken : List ℕ
   pub takes : Consumes start.left now.left taken
@@ -38,7 +38,7 @@ pub record Taken {M C : Type 0} (means : Meaning M C) (cap limit room : ℕ) (li
   pub wrote : Wrote means cap start.machine start.context (capped cap taken).0 now.machine now.context start.holds now.holds
   pub budget : length taken + room ≡ limit
 
--- one read gave these bytes, the first of which there is room for, and at most one more
+-- one read returned these bytes, a prefix that fits the room, and at most one more
 pub record Read (room : ℕ) (left rest : Option (List ℕ)) (piece extra : List ℕ) : Type 0 where
   pub takes : Consumes left rest (piece ++ extra)
   pub fits : length piece ≤ room
@@ -52,11 +52,11 @@ pub if_some_map : {X : Type 0} {P Q : X → Type 0} (o : Option X) → IfSome o 
 if_some_map None p f = tt
 if_some_map (Some x) p f = f x p
 
--- these lines are the first of all lines of the bytes
+-- these lines are a prefix of all lines of the bytes
 abbrev pub AreFirst : List (List ℕ) → List ℕ → Type 0
 AreFirst lines bytes = (later : List (List ℕ)) × (lines ++ later ≡ all_lines bytes)
 
--- the lines of more bytes begin with the whole lines of these
+-- the whole lines of some bytes are a prefix of the lines of more
 pub whole_first : (bytes more : List ℕ) → AreFirst (whole_lines bytes) (bytes ++ more)
 whole_first bytes more =
     let e = split_append bytes more in
@@ -70,13 +70,13 @@ all_at_end bytes None end = tt
 all_at_end bytes (Some rest) end =
     ([], append-nil (all_lines bytes) ∙ ap all_lines (sym (ap (λ xs. bytes ++ xs) end ∙ append-nil bytes)))
 
--- a status of a run that was cut short: a fault of the sink or the device, or want of memory
+-- the status of a run that ended early: a fault of the sink or the device, or out of memory
 pub record IsCutShort (status : ℕ) : Type 0 where
   pub late : 3 ≤ status
   pub within : status ≡ 5 → ⊥
   pub is : (status ≡ 5) ⊎ (status ≡ 3) ⊎ (status ≡ 4) ⊎ (status ≡ 6)
 
--- a run that was stopped while it answered was
+-- a run that was stopped while it answered did
 cut_short : (rose device : Type 0) (stop : Stop) → IsAnswerStop rose device stop → IsCutShort (status_by stop)
 cut_short rose device ReadFault cause = absurd cause
 cut_short rose device WriteFault cause = search arith
@@ -84,7 +84,7 @@ cut_short rose device DeviceFault cause = search arith
 cut_short rose device OverLimit cause = absurd cause
 cut_short rose device WantOfMemory cause = search arith
 
--- the table of a run that was cut short
+-- the table of a run that ended early
 pub cut_table : {over : Course} {limit : ℕ} {io : Streams} {status : ℕ} (taken written : List ℕ) → IsCutShort status
     → Consumes io.had io.left taken → length taken ≤ limit + 1 → Appends io.held io.holds written → SoFar over io.left taken written
     → RunTable over limit io status
@@ -134,7 +134,7 @@ module _ {M C : Type 0} {means : Meaning M C} {cap : ℕ} (laws : Laws means cap
     budget = omega arith;
   }
 
-  -- the lines of what was taken and of a piece
+  -- the lines of the taken bytes and of a piece
   piece_lines : {limit room : ℕ} {line : List ℕ} {start now : Place M C} (t : Taken means cap limit room line start now) (piece : List ℕ)
       → capped cap (t.taken ++ piece) ≡ ((capped cap t.taken).0 ++ (capped cap (line ++ piece)).0, (capped cap (line ++ piece)).1)
   piece_lines t piece =
@@ -174,7 +174,7 @@ module _ {M C : Type 0} {means : Meaning M C} {cap : ℕ} (laws : Laws means cap
         budget = omega (arith, length-append t.taken piece);
       }
 
-  -- what was written of lines that went
+  -- the written replies of executed lines
   answered_of : {m n : M} {c d : C} {lines : List (List ℕ)} {written : List ℕ} → Goes means m c lines written n d
       → Answered (course means m c d) written lines
   answered_of {m} {n} {c} {d} {lines} {written} p = (
@@ -188,12 +188,12 @@ module _ {M C : Type 0} {means : Meaning M C} {cap : ℕ} (laws : Laws means cap
       → Answered (course means m c d) written (whole_lines bytes)
   answered_whole bytes short p = answered_of (p.of (whole_lines bytes) (whole_cut cap bytes short))
 
-  -- lines that it went over it has stopped behind
+  -- a run over executed lines is one stopped after them
   stopped_behind : {m n : M} {c d : C} {lines : List (List ℕ)} {written : List ℕ} → Goes means m c lines written n d
       → Stops means.prompt means m c lines written d
   stopped_behind {m} {n} {c} {d} {lines} {written} p = subst (λ ls. Stops means.prompt means m c ls written d) (append-nil lines) (goes_stops laws lines [] written p)
 
-  -- a run that stopped within the first lines answered the first ones of all
+  -- a run that stopped within a prefix of all lines answered a prefix of them
   answered_first : {m : M} {c d : C} {lines : List (List ℕ)} {written : List ℕ} (all : List (List ℕ))
       → Stops means.prompt means m c lines written d → (more : List (List ℕ)) × (lines ++ more ≡ all)
       → AnsweredFirst (course means m c d) written all
@@ -207,7 +207,7 @@ module _ {M C : Type 0} {means : Meaning M C} {cap : ℕ} (laws : Laws means cap
         context = longer.context;
       }
 
-  -- so much has come about where a run stopped within the first lines of what was taken
+  -- the properties of a run that stopped within a prefix of the lines taken
   comes_so_far : {m : M} {c d : C} {lines : List (List ℕ)} {written : List ℕ} (taken : List ℕ) (left : Option (List ℕ))
       → Stops means.prompt means m c lines written d → AreFirst lines taken → IfSome left (λ rest. AreFirst lines (taken ++ rest))
       → SoFar (course means m c d) left taken written
@@ -219,7 +219,7 @@ module _ {M C : Type 0} {means : Meaning M C} {cap : ℕ} (laws : Laws means cap
         (sym (append_assoc stops.answered stops.later more.0) ∙ ap (λ ls. ls ++ more.0) stops.all ∙ more.1) (stops.off told (stops.later ++ more.0)));
   }
 
-  -- the whole lines of what was taken were answered
+  -- the whole lines of the taken bytes were answered
   so_far_whole : {m n : M} {c d : C} {written : List ℕ} (bytes extra : List ℕ) (left : Option (List ℕ)) → length bytes < 2 ^ 62
       → GoesOverCut means cap m c (capped cap bytes).0 written n d
       → SoFar (course means m c d) left (bytes ++ extra) written
@@ -277,7 +277,7 @@ module _ {M C : Type 0} {means : Meaning M C} {cap : ℕ} (laws : Laws means cap
           (comes_so_far all io.left stops (first.0, first.1 ∙ ap all_lines (append_assoc t.taken piece extra))
           (if_some io.left (λ more. let found = whole_first bytes (extra ++ more) in (found.0, found.1 ∙ ap all_lines (assoc more)))))
 
-      -- one byte more than the limit came, and the lines before it were answered
+      -- one byte more than the limit was read, and the lines before it were answered
       pub table_over : {o : M} → limit < 2 ^ 62
           → Taken means cap limit room line (place m c io.had io.held) (place n d between holds) → Read room between io.left piece extra → length piece ≡ room → length extra ≡ 1
           → Wrote means cap n d (capped cap (line ++ piece)).0 o e holds io.holds → RunTable (course means m c e) limit io 5
@@ -310,7 +310,7 @@ module _ {M C : Type 0} {means : Meaning M C} {cap : ℕ} (laws : Laws means cap
                 (so_far_whole bytes extra io.left (omega arith) wrote.went);
           }
 
-  -- all lines of what was taken, the one without a line feed among them
+  -- all lines of the taken bytes, including the one without a line feed
   last_cut : {limit room : ℕ} {line : List ℕ} {start now : Place M C} (t : Taken means cap limit room line start now) → limit < 2 ^ 62
       → CutTo cap (all_lines t.taken) ((capped cap t.taken).0 ++ last_line line)
   last_cut t small =

@@ -1,4 +1,4 @@
--- Runs over a source and a sink that tell their bytes.
+-- Runs over a source and a sink that reveal their bytes.
 use Rattle.std.proofs.Common.{◌≡◌, ◌∙◌, ◌++◌, ℕ, List, [], Option, Some, None, ap, sym, subst, arith, length, length-append}
 use Rattle.std.proofs.lemmas.List.{nil_from_length}
 use Rattle.std.proofs.lemmas.Option.{same_Some}
@@ -17,7 +17,7 @@ of_source {over = over} (Some all) (Some rest) {taken = taken} {wrote = wrote} {
     let whole : taken ++ rest ≡ input = sym takes ∙ same_Some all input is in
     subst (λ b. AnsweredFirst over wrote (all_lines b)) whole so_far.of_all
 
--- what was written is what a sink that tells its bytes holds besides
+-- the written bytes are those that a sink has more than before, if it reveals its bytes
 wrote_is : {held holds : Option (List ℕ)} {wrote before written : List ℕ} → held ≡ Some before → holds ≡ Some (before ++ written)
     → Appends held holds wrote → wrote ≡ written
 wrote_is {held = None} was is writes = absurd (let none = was in cc)
@@ -29,16 +29,16 @@ wrote_is {held = Some old} {holds = Some new} {wrote = wrote} {before = before} 
     (same_cut old wrote old written both long).back_is
 
 module _ {over : Course} {limit : ℕ} {io : Streams} {status : ℕ} (table : RunTable over limit io status) where
-  -- of all lines of an input that the source tells the first were answered
+  -- a prefix of all lines of a revealed input was answered
   pub answered_source : {input : List ℕ} → io.had ≡ Some input → AnsweredFirst over table.written (all_lines input)
   answered_source is = of_source io.had io.left is table.took.takes table.so_far
 
-  -- the same, by what the sink holds
+  -- the same, by the bytes of the sink
   pub answered_input : {input written : List ℕ} → Tells io input written → AnsweredFirst over written (all_lines input)
   answered_input {input} tells =
       subst (λ w. AnsweredFirst over w (all_lines input)) (wrote_is tells.held_is tells.holds_is table.writes) (answered_source tells.had_is)
 
--- a sink that holds what it held got nothing
+-- a sink with the same bytes received nothing
 pub nothing_written : {io : Streams} {input written : List ℕ} → Tells io input written → io.holds ≡ io.held → written ≡ []
 nothing_written {io} {input} {written} tells same =
     let before = tells.held_before in

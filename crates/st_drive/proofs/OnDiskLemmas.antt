@@ -9,13 +9,14 @@ use Rattle.st_drive.specs.Tables.{AnsweredFirst}
 use Rattle.st_drive.specs.OnDisk.{Rules, replies, after, AllHold, HoldsEither, HoldsFirst, Went, GaveUp, Store, IsTold, disk_meaning, HasReleased, LeavesOnDisk, Opens, RunLeaves}
 use Rattle.st_drive.proofs.RunLemmas.{begins_trans}
 
--- ---- lists that begin others
+-- ---- prefixes of lists
 
 abbrev tail_of : {A : Type 0} → List A → List A
 tail_of [] = []
 tail_of (z ∷ zs) = zs
 
--- a list is cut in two, and round an item: the item is in the first part, or the first part begins what stands before it
+-- a list is split in two, and around an item: the item is in the first part, or the first part is a prefix of the
+-- items before it
 pub before_or_after : {A : Type 0} (first rest before : List A) (item : A) (later : List A) → first ++ rest ≡ before ++ item ∷ later
     → Begins (before ++ item ∷ []) first ⊎ Begins first before
 before_or_after [] rest before item later e = inr (before, refl)
@@ -30,18 +31,18 @@ before_or_after (x ∷ first) rest (y ∷ before) item later e =
 begins_length : {A : Type 0} (first all : List A) → Begins first all → length first ≤ length all
 begins_length first all b = omega (arith, ap length b.1, length-append first b.0)
 
--- what begins another and is no shorter is that
+-- a prefix of another list that is no shorter equals it
 begins_all : {A : Type 0} (first all : List A) → Begins first all → length all ≤ length first → all ≡ first
 begins_all first all b long =
     let none : b.0 ≡ [] = nil_from_length b.0 (omega (arith, ap length b.1, length-append first b.0)) in
     sym b.1 ∙ ap (λ xs. first ++ xs) none ∙ append-nil first
 
--- the lines that were answered and the next one are the first of all
+-- the answered lines and the next one are a prefix of all
 behind : (answered : List (List ℕ)) (line : List ℕ) (rest later lines : List (List ℕ)) → later ≡ line ∷ rest → answered ++ later ≡ lines
     → Begins (answered ++ line ∷ []) lines
 behind answered line rest later lines next all = (rest, append_assoc answered (line ∷ []) rest ∙ ap (λ xs. answered ++ xs) (sym next) ∙ all)
 
--- of lines and one more, those at which only the last may be missing begin with the others
+-- a prefix of some lines and one more that may only miss the last starts with the others
 nearly : (answered : List (List ℕ)) (line : List ℕ) (first : List (List ℕ)) → Begins first (answered ++ line ∷ [])
     → length (answered ++ line ∷ []) ≤ length first + 1 → Begins answered first
 nearly answered line first b long = ⊎_elim
@@ -88,11 +89,11 @@ module _ {M C K : Type 0} (rules : Rules M C K) where
       ap (λ xs. rules.reply m line ++ xs) (replies_more (rules.next m line) lines more)
       ∙ sym (append_assoc (rules.reply m line) (replies rules (rules.next m line) lines) (replies rules (after rules (rules.next m line) lines) more))
 
-  -- the first lines are replied to first
+  -- the replies to a prefix are a prefix of the replies
   pub replies_begin : (m : M) (first lines : List (List ℕ)) → Begins first lines → Begins (replies rules m first) (replies rules m lines)
   replies_begin m first lines b = (replies rules (after rules m first) b.0, sym (replies_more m first b.0) ∙ ap (replies rules m) b.1)
 
-  -- where all replies but the last are written, so it is with the first lines
+  -- if all replies except the last are written, this holds for a prefix of the lines
   pub nearly_first : (m : M) (written : List ℕ) (first lines : List (List ℕ)) → Begins first lines → NearlyReplied (replies rules m) written lines
       → NearlyReplied (replies rules m) written first
   nearly_first m written first lines b (inl all) =
@@ -110,7 +111,7 @@ module _ {M C K D : Type 0} (rules : Rules M C K) (store : Store D) where
 
   module _ {m : M} {c d : C × D} {written : List ℕ} {lines : List (List ℕ)} (told : IsTold store c.1)
       (first : AnsweredFirst (course (disk_meaning rules store) m c d) written lines) where
-    -- each line of whose reply a byte was written was answered
+    -- each line with a written byte of its reply was answered
     released : HasReleased rules m lines written first.answered
     released before line later e out = ⊎_elim
         (λ b. b)

@@ -1,4 +1,4 @@
--- A piece that is fed line by line, so that each reply is written before the next line is carried out.
+-- A piece that is fed line by line, so that each reply is written before the next line is executed.
 use Rattle.std.proofs.Common.{◌≡◌, ◌∙◌, ◌++◌, ◌+◌, ◌≤◌, ℕ, List, [], ◌∷◌, ap, sym, subst, arith, append_assoc, length}
 use Rattle.std.specs.declared.option.Option.{Option}
 use Rattle.st_base.specs.Words.{HasNo}
@@ -10,7 +10,7 @@ use Rattle.st_drive.proofs.Fed.{Pieces}
 use Rattle.st_drive.proofs.LineLemmas.{capped_append, capped_line, capped_open, open_append}
 use Rattle.st_drive.proofs.RunLemmas.{stopped_few, stopped_longer, stopped_slow}
 
--- the bytes of one line more
+-- the bytes of one more line
 pub pieces_more : {cap : ℕ} {all : List ℕ} {lines : List (List ℕ)} (pl line after rest : List ℕ) → Pieces cap all lines (pl ++ rest) → line ++ after ≡ rest
     → Pieces cap all (lines ++ (capped cap (pl ++ line)).0) ((capped cap (pl ++ line)).1 ++ after)
 pieces_more {cap} {all} {lines} pl line after rest pieces cut =
@@ -36,7 +36,7 @@ open_few cap pl rest none open_rest =
     let count = ap (λ p. length p.0) (capped_open cap (pl ++ rest) (open_append pl rest none open_rest)) in
     omega (arith, count)
 
--- how much more it may go on over, behind one line more
+-- how much further it may continue, after one more line
 pub fits_on : {M C : Type 0} {fits : M → C → ℕ → Type 0} {n o : M} {d e : C} (kept line rest after next more : ℕ) → FitsBeside fits n d (kept + line) o e next
     → line + after ≡ rest → Fewer fits → fits n d (kept + rest + more) → fits o e (next + after + more)
 fits_on {n = n} {o = o} {d = d} {e = e} kept line rest after next more then cut fewer f =
@@ -44,12 +44,12 @@ fits_on {n = n} {o = o} {d = d} {e = e} kept line rest after next more then cut 
     (then (after + more) (fewer n d (kept + rest + more) (kept + line + (after + more)) (omega (arith, cut)) f))
 
 module _ {M C : Type 0} {means : Meaning M C} {cap : ℕ} (laws : Laws means cap) where
-  -- within a line at most
+  -- within at most one line
   pub some_few : {prompt : Type 0} {m : M} {c d : C} {ls : List (List ℕ)} {held holds : Option (List ℕ)} → length ls ≤ 1
       → WroteSome ⊥ means cap m c ls d held holds → WroteSome prompt means cap m c ls d held holds
   some_few few some = record { written = some.written; stopped = stopped_few laws few some.stopped; writes = some.writes }
 
-  -- of a machine that isn't prompt
+  -- for a machine that isn't prompt
   pub some_slow : {prompt : Type 0} {m : M} {c d : C} {ls : List (List ℕ)} {held holds : Option (List ℕ)} → (prompt → ⊥)
       → WroteSome ⊥ means cap m c ls d held holds → WroteSome prompt means cap m c ls d held holds
   some_slow slow some = record { written = some.written; stopped = stopped_slow laws slow some.stopped; writes = some.writes }

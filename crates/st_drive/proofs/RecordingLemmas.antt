@@ -9,7 +9,7 @@ module _ {M C : Type 0} (recorder : Recorder M C) where
   abbrev rules : Rules M C (List (List ℕ))
   rules = recording recorder
 
-  -- what it keeps is what it kept, and then the changing lines
+  -- its state is the earlier one, and then the changing lines
   pub kept_is : (m : M) (r lines : List (List ℕ)) → kept rules m r lines ≡ r ++ changing recorder m lines
   kept_is m r [] = sym (append-nil r)
   kept_is m r (line ∷ lines) =
@@ -27,7 +27,7 @@ module _ {M C : Type 0} (recorder : Recorder M C) where
         each = λ image left. ⊎_elim inl (λ has. inr (has ∙ ap (λ t. Some (r ++ recorded t line)) (sym is))) (more.each image left);
       }
 
-  -- a changing line was recorded, as the journal's clauses say
+  -- a changing line was recorded, by the journal's clauses
   pub has_recorded : {D : Type 0} {store : Store D} {m n : M} {c d : C × D} {line : List ℕ} → HasRecorded recorder store m c line n d
       → RanOnDisk rules store m c (line ∷ []) n d
   has_recorded {D} {store} {m} {n} {c} {d} {line} p = record {

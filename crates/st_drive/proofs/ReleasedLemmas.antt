@@ -10,11 +10,11 @@ none_in q c = let lt = c.1 in absurd (omega arith)
 pub one_in : (x q : ℕ) → Contains (x ∷ []) q → x ≡ q
 one_in x q c = ⊎_elim (λ none. absurd (none_in q none)) (λ is. is) (Contains-push_cases [] x q c)
 
--- the first of a list, or one of the others
+-- the first item of a list, or one of the others
 first_or_other : (x q : ℕ) (xs : List ℕ) → Contains (x ∷ xs) q → (x ≡ q) ⊎ Contains xs q
 first_or_other x q xs c = ⊎_elim (λ first. inl (one_in x q first)) inr (Contains-append_cases (x ∷ []) xs q c)
 
--- ---- lists that ascend
+-- ---- ascending lists
 
 pub ascend_lower : (a b : ℕ) (qs : List ℕ) → a ≤ b → Ascend b qs → Ascend a qs
 ascend_lower a b [] le p = tt
@@ -34,7 +34,7 @@ none_twice least (q ∷ qs) p = (λ c. let above = at_least (q + 1) q qs p.1 c i
 -- ---- over runs
 
 module _ (spent : List ℕ → ℕ → Type 0) where
-  -- what is released in these runs was not spent in the image that they start on
+  -- numbers released in these runs were not spent in the image that they start on
   never_spent : (image : List ℕ) (runs : List Run) → AreChained spent image runs
       → (q : ℕ) → Contains (all_released runs) q → spent image q → ⊥
   never_spent image [] follow q c was = none_in q c

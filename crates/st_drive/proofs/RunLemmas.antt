@@ -12,28 +12,28 @@ begins_trans a b c p q = (p.0 ++ q.0, sym (append_assoc a p.0 q.0) ∙ ap (λ xs
 pub begins_behind : {A : Type 0} (a b c : List A) → Begins b c → Begins (a ++ b) (a ++ c)
 begins_behind a b c p = (p.0, append_assoc a b p.0 ∙ ap (λ xs. a ++ xs) p.1)
 
--- ---- where a run ended
+-- ---- the end of a run
 
--- with more lines behind
+-- with more lines after
 ends_longer : (ran gave : List (List ℕ) → Type 0) (answered later ks : List (List ℕ)) → EndsWithin ran gave answered later
     → EndsWithin ran gave answered (later ++ ks)
 ends_longer ran gave answered later ks (inl r) = inl r
 ends_longer ran gave answered later ks (inr r) = inr (r.0, r.1 ++ ks, ap (λ xs. xs ++ ks) r.2, r.3)
 
 module _ (ran gave over given : List (List ℕ) → Type 0) (answered later : List (List ℕ)) where
-  -- what holds of some lines holds of others
+  -- a property of some lines that implies one of others
   pub ends_map : ((ls : List (List ℕ)) → ran ls → over ls) → ((ls : List (List ℕ)) → gave ls → given ls) → EndsWithin ran gave answered later
       → EndsWithin over given answered later
   ends_map f g (inl r) = inl (f answered r)
   ends_map f g (inr r) = inr (r.0, r.1, r.2, g (answered ++ r.0 ∷ []) r.3)
 
-  -- with more lines in front
+  -- with more lines before
   ends_behind : (ls : List (List ℕ)) → ((ks : List (List ℕ)) → ran ks → over (ls ++ ks)) → ((ks : List (List ℕ)) → gave ks → given (ls ++ ks))
       → EndsWithin ran gave answered later → EndsWithin over given (ls ++ answered) later
   ends_behind ls f g (inl r) = inl (f answered r)
   ends_behind ls f g (inr r) = inr (r.0, r.1, r.2, subst given (sym (append_assoc ls answered (r.0 ∷ []))) (g (answered ++ r.0 ∷ []) r.3))
 
-  -- at most one line was carried out
+  -- at most one line was executed
   ends_few : length (answered ++ later) ≤ 1 → ((ls : List (List ℕ)) → length ls ≤ 1 → ran ls → over ls)
       → ((ls : List (List ℕ)) → length ls ≤ 1 → gave ls → given ls) → EndsWithin ran gave answered later → EndsWithin over given answered later
   ends_few few f g (inl r) = inl (f answered (omega (arith, few, length-append answered later)) r)
@@ -42,7 +42,7 @@ module _ (ran gave over given : List (List ℕ) → Type 0) (answered later : Li
       inr (r.0, r.1, r.2, g (answered ++ r.0 ∷ []) (omega (arith, few, next, length-append answered later, length-append answered (r.0 ∷ []))) r.3)
 
 module _ {M C : Type 0} {means : Meaning M C} {cap : ℕ} (laws : Laws means cap) where
-  -- what was carried out from m at c to d, of whose replies these are written
+  -- the lines executed from m at c to d, with these written replies
   abbrev Ran : Type 0 → (m : M) (c d : C) → List ℕ → List (List ℕ) → Type 0
   Ran prompt m c d written = CarriedOut (means.told c) prompt (means.answers m) written (RanOver means m c d)
 
@@ -51,20 +51,20 @@ module _ {M C : Type 0} {means : Meaning M C} {cap : ℕ} (laws : Laws means cap
 
   -- ---- the replies that are written
 
-  -- those to a line at most
+  -- those to at most one line
   nearly_few : (m : M) (written : List ℕ) (lines : List (List ℕ)) → length lines ≤ 1 → NearlyReplied (means.answers m) written lines
   nearly_few m written [] few = inl (written, ap (λ xs. xs ++ written) (laws.silent m))
   nearly_few m written (line ∷ []) few = inr ([], line, refl, (written, ap (λ xs. xs ++ written) (laws.silent m)))
   nearly_few m written (line ∷ next ∷ lines) few = absurd (omega arith)
 
-  -- all of those to lines that it went over
+  -- all replies to executed lines
   nearly_all : {m n : M} {c d : C} (ls : List (List ℕ)) (w : List ℕ) → Goes means m c ls w n d → means.told c → Begins (means.answers m ls) w
   nearly_all {m} {n} ls w p told = (
     [],
     append-nil (means.answers m ls) ∙ ap (means.answers m) (sym (append-nil ls)) ∙ p.on told [] ∙ ap (λ xs. w ++ xs) (laws.silent n) ∙ append-nil w,
   )
 
-  -- behind lines that it went over
+  -- after executed lines
   nearly_behind : {m n : M} {c d : C} (ls : List (List ℕ)) (w v : List ℕ) → Goes means m c ls w n d → means.told c
       → (lines : List (List ℕ)) → Begins (means.answers n lines) v → Begins (means.answers m (ls ++ lines)) (w ++ v)
   nearly_behind {m} {n} ls w v p told lines b = (
@@ -82,9 +82,9 @@ module _ {M C : Type 0} {means : Meaning M C} {cap : ℕ} (laws : Laws means cap
     nearly_behind ls w v p told r.0 r.3,
   )
 
-  -- ---- of whole lines
+  -- ---- for whole lines
 
-  -- where the context has gone, behind lines that it went over
+  -- the context after some lines and the rest
   ends_more : {prompt : Type 0} {m n : M} {c d e : C} (ls answered later : List (List ℕ)) (w v : List ℕ) → Goes means m c ls w n d
       → EndsWithin (Ran prompt n d e v) (Gave prompt n d e v) answered later
       → EndsWithin (Ran prompt m c e (w ++ v)) (Gave prompt m c e (w ++ v)) (ls ++ answered) later
@@ -144,7 +144,7 @@ module _ {M C : Type 0} {means : Meaning M C} {cap : ℕ} (laws : Laws means cap
     context = ends_longer (Ran prompt m c d w) (Gave prompt m c d w) p.answered p.later ks p.context;
   }
 
-  -- of what was written only a part is known
+  -- only a part of the written bytes is known
   stops_shorter : {m : M} {c d : C} {ls : List (List ℕ)} (w v : List ℕ) → Stops ⊥ means m c ls w d → Begins v w
       → Stops ⊥ means m c ls v d
   stops_shorter {m} {c} {d} w v p q = record {
@@ -156,7 +156,7 @@ module _ {M C : Type 0} {means : Meaning M C} {cap : ℕ} (laws : Laws means cap
         (λ ls r. (r.0, λ now. absurd now)) (λ ls r. (r.0, λ now. absurd now)) p.context;
   }
 
-  -- of a line at most
+  -- for at most one line
   stops_few : {prompt : Type 0} {m : M} {c d : C} {ls : List (List ℕ)} {w : List ℕ} → length ls ≤ 1 → Stops ⊥ means m c ls w d
       → Stops prompt means m c ls w d
   stops_few {prompt} {m} {c} {d} {ls} {w} few p = record {
@@ -168,7 +168,7 @@ module _ {M C : Type 0} {means : Meaning M C} {cap : ℕ} (laws : Laws means cap
         (λ ls short r. (r.0, λ now told. nearly_few m w ls short)) (λ ls short r. (r.0, λ now told. nearly_few m w ls short)) p.context;
   }
 
-  -- of a machine that isn't prompt
+  -- for a machine that isn't prompt
   stops_slow : {prompt : Type 0} {m : M} {c d : C} {ls : List (List ℕ)} {w : List ℕ} → (prompt → ⊥) → Stops ⊥ means m c ls w d
       → Stops prompt means m c ls w d
   stops_slow {prompt} {m} {c} {d} {ls} {w} slow p = record {
@@ -180,7 +180,7 @@ module _ {M C : Type 0} {means : Meaning M C} {cap : ℕ} (laws : Laws means cap
         (λ ls r. (r.0, λ now. absurd (slow now))) (λ ls r. (r.0, λ now. absurd (slow now))) p.context;
   }
 
-  -- ---- of all lines that are cut to the kept ones
+  -- ---- for all lines that are truncated to the kept ones
 
   goes_none : (m : M) (c : C) (lines : List (List ℕ)) → CutTo cap lines [] → Goes means m c lines [] m c
   goes_none m c [] cut = record { on = λ told more. refl; context = laws.ran_none m c }
@@ -221,7 +221,7 @@ module _ {M C : Type 0} {means : Meaning M C} {cap : ℕ} (laws : Laws means cap
       → StopsOverCut ⊥ means cap m c ls w d → Begins v w → StopsOverCut ⊥ means cap m c ls v d
   stopped_shorter {w = w} v p q = record { of = λ lines cut. stops_shorter w v (p.of lines cut) q }
 
-  -- within a line at most, and so at most one reply is missing
+  -- within at most one line, so at most one reply is missing
   pub stopped_few : {prompt : Type 0} {m : M} {c d : C} {ls : List (List ℕ)} {w : List ℕ} → length ls ≤ 1
       → StopsOverCut ⊥ means cap m c ls w d → StopsOverCut prompt means cap m c ls w d
   stopped_few {ls = ls} few p = record {

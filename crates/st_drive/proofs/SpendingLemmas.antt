@@ -1,4 +1,4 @@
--- Machines that spend a number on their disk before they give it out.
+-- Machines that spend a number on their disk before they release it.
 use Rattle.std.proofs.Common.{◌≡◌, ◌∙◌, ◌⊎◌, inl, inr, ⊎_elim, ◌++◌, ◌+◌, ◌-◌, ◌≤◌, ◌<◌, ℕ, zero, suc, List, [], ◌∷◌, Option, Some, None, refl, ap, sym, subst, arith, append_assoc, append-nil, length, length-append}
 use Rattle.std.specs.Prelude.{Contains}
 use Rattle.std.proofs.lemmas.List.Elements.{Contains-append_left, Contains-append_right, Contains-append_cases}
@@ -27,11 +27,11 @@ module _ {M C : Type 0} (spender : Spender M C) where
       → (image : List ℕ) → b.left_since a.now image → AllSpent spender.spent k image
   holds_on k a b stays all image left = λ q has. stays.stays q (λ y is. all y is q has) image left
 
-  -- what is spent in every image is so in every later one
+  -- numbers spent in every image are so in every later one
   all_after : (k : List ℕ) (a b : Past) → StaysSpent spender.spent a b → AllHold rules (inl k) a → AllHold rules (inl k) b
   all_after k a b stays all image is = holds_on k a b stays all image (b.earlier a.now b.now image stays.goes.later is)
 
-  -- what was spent stays so at each moment
+  -- spent numbers stay so at each moment
   either : (m : M) (line k : List ℕ) (a b : Past) → StaysSpent spender.spent a b → AllHold rules (inl k) a
       → Leaves (HoldsEither rules m (inl k) line) a b
   either m line k a b stays all = record { goes = stays.goes; each = λ image left. inl (holds_on k a b stays all image left) }
@@ -73,7 +73,7 @@ module _ {M C : Type 0} (spender : Spender M C) where
   gave_kept m line a b stays moments (inl k) all = line_gave rules m (inl k) line a b (either m line k a b stays all)
   gave_kept m line a b stays moments (inr before) all = line_gave rules m (inr before) line a b (moments before all)
 
-  -- what a step that replied is to a run
+  -- a step with a reply, as a step of a run
   pub has_spent : {D : Type 0} {store : Store D} {m n : M} {c d : C × D} {line : List ℕ} → HasSpent spender store m c line n d
       → RanOnDisk rules store m c (line ∷ []) n d
   has_spent {D} {store} {m} {n} {c} {d} {line} p = record {
@@ -83,7 +83,7 @@ module _ {M C : Type 0} (spender : Spender M C) where
     disk = λ told k. ran_kept m line (store.past c.1) (store.past d.1) (p.stays told) (p.given told) (p.moments told) (p.now told) k;
   }
 
-  -- what one that gave up is
+  -- and one that gave up
   pub gave_up_spending : {D : Type 0} {store : Store D} {m : M} {c d : C × D} {line : List ℕ} → GaveUpSpending spender store m c line d
       → GaveUpOnDisk rules store m c (line ∷ []) d
   gave_up_spending {D} {store} {m} {c} {d} {line} p = record {
@@ -91,9 +91,9 @@ module _ {M C : Type 0} (spender : Spender M C) where
     disk = λ told k. gave_kept m line (store.past c.1) (store.past d.1) (p.stays told) (p.moments told) k;
   }
 
-  -- ---- the numbers that are released
+  -- ---- released numbers
 
-  -- a released number is that of a line of whose reply a byte was written
+  -- a released number is that of a line with a written byte of its reply
   record IsReleased (m : M) (lines : List (List ℕ)) (n q : ℕ) : Type 0 where
     pub before : List (List ℕ)
     pub line : List ℕ
@@ -149,7 +149,7 @@ module _ {M C : Type 0} (spender : Spender M C) where
         after_one m line (released spender (spender.next m line) lines left) (spender.number m line) refl
         (released_ascend (spender.next m line) lines left)
 
-  -- ---- what it keeps over lines
+  -- ---- its state over lines
 
   kept_numbers_are : (m : M) (k : List ℕ) (lines : List (List ℕ)) → kept rules m (inl k) lines ≡ inl (k ++ numbers spender m lines)
   kept_numbers_are m k [] = ap (λ (xs : List ℕ). inl xs) (sym (append-nil k))
@@ -178,7 +178,7 @@ module _ {M C : Type 0} (spender : Spender M C) where
       ap (λ xs. listed (spender.number m line) ++ xs) (numbers_more (spender.next m line) lines more)
       ∙ sym (append_assoc (listed (spender.number m line)) (numbers spender (spender.next m line) lines) (numbers spender (after rules (spender.next m line) lines) more))
 
-  -- the number of a line is kept once that line is among the first
+  -- the number of a line is in the state if that line is in the prefix
   numbers_have : (m : M) (before : List (List ℕ)) (line : List ℕ) (first : List (List ℕ)) (q : ℕ) → Begins (before ++ line ∷ []) first
       → spender.number (after rules m before) line ≡ Some q → Contains (numbers spender m first) q
   numbers_have m before line first q has is =
@@ -197,7 +197,7 @@ module _ {M C : Type 0} (spender : Spender M C) where
     one_held : (q : ℕ) → SpentInAll spender.spent old q → AllHold rules (inl (q ∷ [])) old
     one_held q all image is = λ x has. subst (spender.spent image) (one_in q x has) (all image is)
 
-    -- what is spent in every image at the start is so at each moment
+    -- numbers spent in every image at the start are so at each moment
     pub stays_spent : (q : ℕ) → SpentInAll spender.spent old q → (image : List ℕ) → new.left_since old.now image → spender.spent image q
     stays_spent q all image left = ⊎_elim
         (λ was. all image was)
@@ -228,7 +228,7 @@ module _ {M C : Type 0} (spender : Spender M C) where
             durable = spent_at_end;
           }
 
-      -- so it is one of the runs over which no number is released twice
+      -- so it is one of the runs that release no number twice
       pub keeps_numbers : Only old image → (left : List ℕ) → Images new left
           → KeepsNumbers spender.spent (run_of spender m image lines written left)
       keeps_numbers only left is =
@@ -242,7 +242,7 @@ module _ {M C : Type 0} (spender : Spender M C) where
                 (new.earlier old.now new.now left goes.later is);
           }
 
-  -- the disk was opened at b, and of these lines the first were answered
+  -- the disk was opened at b, and a prefix of these lines was answered
   pub spending_leaves : {D : Type 0} (store : Store D) {m : M} {c d : C × D} {lines : List (List ℕ)} {written : List ℕ} (old : Past)
       → IsTold store c.1 → StaysSpent spender.spent old (store.past c.1)
       → AnsweredFirst (course (disk_meaning rules store) m c d) written lines
@@ -256,9 +256,9 @@ module _ {M C : Type 0} (spender : Spender M C) where
       → (k : List ℕ) → AllHold rules (inl k) old → RunLeaves rules m (inl k) lines [] old new
   spending_opened m lines old new stays k all = run_opens rules m (inl k) lines old new (spending_opens k old new stays all)
 
-  -- ---- whose image the disk has
+  -- ---- the machine of the disk's image
 
-  -- the disk was opened at b as that of m, and of these lines the first were answered
+  -- the disk was opened at b as that of m, and a prefix of these lines was answered
   pub standing_leaves : {D : Type 0} (store : Store D) {m : M} {c d : C × D} {lines : List (List ℕ)} {written : List ℕ} (old : Past)
       → IsTold store c.1 → Opens rules (inr m) old (store.past c.1) → AllStand spender m (store.past c.1)
       → AnsweredFirst (course (disk_meaning rules store) m c d) written lines → RunLeaves rules m (inr m) lines written old (store.past d.1)
@@ -291,7 +291,7 @@ module _ {M C : Type 0} (spender : Spender M C) where
     lowest_one m line None is = omega (arith, laws.stays m line is)
     lowest_one m line (Some q) is = let given = laws.given m line q is in omega (arith, given.0, given.1)
 
-    -- the lowest number counts those that were given
+    -- the lowest number rises by the count of numbers used
     lowest_behind : (m : M) (lines : List (List ℕ)) → lowest (after rules m lines) ≡ lowest m + length (numbers spender m lines)
     lowest_behind m [] = omega arith
     lowest_behind m (line ∷ lines) =
@@ -302,7 +302,7 @@ module _ {M C : Type 0} (spender : Spender M C) where
           length-append (listed (spender.number m line)) (numbers spender (spender.next m line) lines),
         )
 
-    -- a number comes with a byte at least
+    -- a reply with a number has at least one byte
     silent_one : (m : M) (line : List ℕ) (o : Option ℕ) → spender.number m line ≡ o → length (spender.reply m line) ≡ 0 → length (listed o) ≡ 0
     silent_one m line None is none = refl
     silent_one m line (Some q) is none = absurd (let given = laws.given m line q is in omega (arith, none, given.2))
@@ -359,7 +359,7 @@ module _ {M C : Type 0} (spender : Spender M C) where
     one_at_most m line None is = omega arith
     one_at_most m line (Some q) is = omega arith
 
-    -- of the first lines at most one number is not released
+    -- at most one number of a prefix of the lines is not released
     nearly_out : (m : M) (written : List ℕ) (first rest : List (List ℕ)) → NearlyReplied (replies rules m) written first
         → length (numbers spender m first) ≤ length (released spender m (first ++ rest) (length written)) + 1
     nearly_out m written first rest (inl all) =

@@ -1,9 +1,9 @@
 -- Tables of runs:
---     answers_of     all that is promised of a run, from its table and how it ends
---     ends_by        how it ends, from what a driver says of its faults
---     ends_weaker    where one disk failed another did
+--     answers_of     all properties of a run, from its table and its end
+--     ends_by        its end, by a driver's clauses about its faults
+--     ends_weaker    the same with a weaker fault of the disk
 --     not_begun      a run that ended before its first read
---     lines_by       a run over one course is one over another
+--     lines_by       a run with one course has another
 use Rattle.std.proofs.Common.{◌≡◌, ◌≢◌, ◌∙◌, ◌⊎◌, inl, inr, ◌++◌, ◌+◌, ◌≤◌, ℕ, List, [], ◌∷◌, Result, Ok, Err, length, refl, ap, sym, subst, arith, append-nil, length-append, IsTrue, IfSome, Some, None}
 use Rattle.std.proofs.KnownBytes.{Appends-nil, Consumes-nil}
 use Rattle.std.specs.Prelude.{true, OnOk, OnErr, IfErr}
@@ -22,7 +22,7 @@ use Rattle.st_drive.proofs.Ends.{if_some, if_some_map}
 
 -- ---- a whole input
 
--- a source that told its input and is at its end told what was taken
+-- if a source that revealed its input is at its end, the input is the bytes taken
 all_taken : (input taken : List ℕ) (left : Option (List ℕ)) → Consumes (Some input) left taken → IsAtEnd left
     → (left ≡ Some []) × (taken ≡ input)
 all_taken input taken None takes end = absurd takes
@@ -46,7 +46,7 @@ answers_input {over} {limit} {io} t told is =
     let end = t.took.done is in
     whole_input over.answers limit io.had io.left io.held io.holds t.took.taken t.written t.took.takes t.writes end.0 end.1 ((t.done is).0 told)
 
--- ---- where nothing fails
+-- ---- if nothing fails
 
 within_input : (input taken : List ℕ) (had left : Option (List ℕ)) (limit : ℕ) → had ≡ Some input → Consumes had left taken
     → length input ≤ limit → length taken ≡ limit + 1 → ⊥
@@ -58,7 +58,7 @@ within_input input taken had (Some rest) limit is takes fits over =
 end_is : (status : ℕ) → IsTrue (is_end status) → status ≢ 2 → status ≢ 3 → status ≢ 4 → status ≢ 5 → (status ≡ 0) ⊎ (status ≡ 6)
 end_is status is not_two not_three not_four not_five = search arith
 
--- where nothing fails and the input is within the limit, the limit isn't exceeded
+-- if nothing fails and the input is within the limit, the limit isn't exceeded
 pub not_over : {limit : ℕ} {io : Streams} {status : ℕ} → TakesBytes limit io.had io.left status → GoesWell limit io → status ≢ 5
 not_over {limit} {io} took well five = within_input well.input took.taken io.had io.left limit well.had took.takes well.fits (took.over five)
 
@@ -79,7 +79,7 @@ module _ {limit : ℕ} {io : Streams} {failed : Type 0} {status : ℕ} where
     statuses = is;
   }
 
--- how a run ends, from what a driver says of its faults
+-- the end of a run, by a driver's clauses about its faults
 pub ends_by : {T : Type 0} {io : Streams} {failed : Type 0} (result : Result T Stop) → OnOk result (io.is_finished ≡ true)
     → OnErr result (FinishesNothing io.was_finished io.is_finished) → IfErr result (IsRunStop io.read_failed io.write_failed failed)
     → Ends io failed (status_of result)
@@ -90,7 +90,7 @@ ends_by (Err DeviceFault) finished unfinished cause = search arith
 ends_by (Err OverLimit) finished unfinished cause = search arith
 ends_by (Err WantOfMemory) finished unfinished cause = search arith
 
--- all that is promised of a run that ended so
+-- all properties of a run with this result
 pub answers_by : {T : Type 0} {over : Course} {limit : ℕ} {io : Streams} {failed : Type 0} (result : Result T Stop) (status : ℕ)
     → status ≡ status_of result → IsTrue (is_end status) → RunTable over limit io (status_of result) → OnOk result (io.is_finished ≡ true)
     → OnErr result (FinishesNothing io.was_finished io.is_finished) → IfErr result (IsRunStop io.read_failed io.write_failed failed)
@@ -103,7 +103,7 @@ answers_by {over = over} {limit = limit} {io = io} {failed = failed} result stat
 pub rose_before : (a b c : ℕ) → a ≤ b → Rose b c → Rose a c
 rose_before a b c le rose = search arith
 
--- where one disk failed another did
+-- the same with a weaker fault of the disk
 pub ends_weaker : {io : Streams} {failed fails : Type 0} {status : ℕ} → (failed → fails) → Ends io failed status → Ends io fails status
 ends_weaker fault ends = record {
   finished = ends.finished;
@@ -115,7 +115,7 @@ ends_weaker fault ends = record {
 
 -- ---- nothing was read or written
 
--- a status of a run that ended so
+-- the status of a run that ended like this
 pub record IsUnread (failed : Type 0) (status : ℕ) : Type 0 where
   pub late : 3 ≤ status
   pub no_write : status ≡ 3 → ⊥
@@ -172,8 +172,8 @@ not_begun {io = io} is unread over none silent end = answers_of (record {
 
 -- ---- another course
 
--- what holds over one course holds over another: it replies alike, where that is told, is prompt there alone, and says
--- no more of the context
+-- a property with one course is one with another: it has the same replies, if these are revealed, is prompt only if
+-- that is, and says no more about the context
 pub record Follows (one other : Course) : Type 0 where
   pub told : other.told → one.told
   pub prompt : other.prompt → one.prompt
@@ -234,7 +234,7 @@ module _ {one other : Course} (follows : Follows one other) where
     so_far = so_far_by io.left t.took.taken t.written t.so_far;
   }
 
-  -- the disk that may have failed may be another too
+  -- the fault of the disk may be a weaker one too
   pub lines_by : {limit : ℕ} {io : Streams} {failed fails : Type 0} {status : ℕ} → (failed → fails)
       → AnswersLines one limit io failed status → AnswersLines other limit io fails status
   lines_by fault lines = answers_of (table_by lines.table) (ends_weaker fault lines.ends) lines.statuses

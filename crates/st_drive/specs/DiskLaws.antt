@@ -1,4 +1,5 @@
--- What machines on a disk do composes, and a line that is cut is answered as the whole: the laws of their meaning.
+-- The laws of the meaning of machines on a disk: effects compose, and a truncated line is answered like the whole
+-- one.
 use Rattle.std.proofs.Common.{◌≡◌, ◌∙◌, ◌⊎◌, inl, inr, ⊎_elim, ◌++◌, ◌<◌, ◌^◌, ℕ, List, [], ◌∷◌, refl, ap, sym, subst, arith, append_assoc, length, length-append, take}
 use Rattle.st_io.specs.Past.{Past, GoesOn}
 use Rattle.st_io.proofs.PastLemmas.{stands, goes_on}
@@ -6,7 +7,7 @@ use Rattle.st_drive.specs.Meaning.{Laws}
 use Rattle.st_drive.specs.Runs.{Begins}
 use Rattle.st_drive.specs.OnDisk.{Rules, replies, after, kept, AllHold, HoldsFirst, HoldsNearlyAll, Went, GaveUp, Store, RanOnDisk, GaveUpOnDisk, disk_meaning, RulesLaws}
 
--- ---- lists that begin others
+-- ---- prefixes of lists
 
 pub begins_more : {A : Type 0} (first lines more : List A) → Begins first lines → Begins first (lines ++ more)
 begins_more first lines more b = (b.0 ++ more, sym (append_assoc first b.0 more) ∙ ap (λ xs. xs ++ more) b.1)
@@ -22,14 +23,14 @@ head_or x (z ∷ zs) = z
 pub head_is : {A : Type 0} (x y : A) (xs ys : List A) → x ∷ xs ≡ y ∷ ys → x ≡ y
 head_is x y xs ys e = ap (head_or x) e
 
--- what begins one line is nothing or that line
+-- a prefix of one line is nothing or that line
 one_line : (line : List ℕ) (first rest : List (List ℕ)) → first ++ rest ≡ line ∷ [] → (first ≡ []) ⊎ (first ≡ line ∷ [])
 one_line line [] rest e = inl refl
 one_line line (x ∷ []) rest e = inr (ap (λ y. y ∷ []) (head_is x line rest [] e))
 one_line line (x ∷ y ∷ ys) rest e = absurd (let both = ap length e in omega arith)
 
 module _ {M C K : Type 0} (rules : Rules M C K) where
-  -- ---- over lines, and then over others
+  -- ---- over some lines, and then over others
 
   pub after_more : (m : M) (lines more : List (List ℕ)) → after rules m (lines ++ more) ≡ after rules (after rules m lines) more
   after_more m [] more = refl
@@ -39,7 +40,7 @@ module _ {M C K : Type 0} (rules : Rules M C K) where
   kept_more m k [] more = refl
   kept_more m k (line ∷ lines) more = kept_more (rules.next m line) (rules.keep m k line) lines more
 
-  -- ---- what images hold
+  -- ---- the contents of images
 
   holds_more : (m : M) (k : K) (lines more : List (List ℕ)) (image : List ℕ) → HoldsFirst rules m k lines image → HoldsFirst rules m k (lines ++ more) image
   holds_more m k lines more image h = (h.0, begins_more h.0 lines more h.1, h.2)
@@ -66,7 +67,7 @@ module _ {M C K : Type 0} (rules : Rules M C K) where
     now = all;
   }
 
-  -- images since the start of a run are those since then up to a moment, and those since that moment
+  -- images since the start of a run are those from then up to a moment, and those since that moment
   moments_on : (m : M) (k : K) (lines more : List (List ℕ)) (a b c : Past) → GoesOn a b → GoesOn b c
       → ((image : List ℕ) → b.left_since a.now image → HoldsFirst rules m k lines image)
       → ((image : List ℕ) → c.left_since b.now image → HoldsFirst rules (after rules m lines) (kept rules m k lines) more image)
@@ -92,7 +93,7 @@ module _ {M C K : Type 0} (rules : Rules M C K) where
     now = λ image is. nearly_after m k lines more image (q.now image is);
   }
 
-  -- ---- a line that is cut
+  -- ---- a truncated line
 
   module _ {cap : ℕ} (laws : RulesLaws rules cap) where
     cut_first : (m : M) (k : K) (line image : List ℕ) → length line < 2 ^ 62

@@ -1,37 +1,37 @@
--- Machines that work on a disk: what a stop may leave of it at each moment of a run, and what it holds at the
--- end. Such a machine is said by its rules alone: a reply, a next machine and what it keeps, for each line.
+-- Machines that work on a disk: the images that a stop may leave at each moment of a run, and those at the end. Such
+-- a machine is given only by its rules: a reply, a next machine and the state on the disk, for each line.
 use Rattle.std.specs.Prelude.{◌≡◌, ◌⊎◌, ◌+◌, ◌≤◌, ◌<◌, ◌^◌, ℕ, List, [], ◌∷◌, ◌++◌, length, take, IsSome, ⊤}
 use Rattle.std.specs.declared.option.Option.{Option}
 use Rattle.st_io.specs.Past.{Past, Images, GoesOn, LeftSinceSync}
 use Rattle.st_drive.specs.Meaning.{Meaning}
 use Rattle.st_drive.specs.Runs.{Begins, NearlyReplied}
 
--- What a machine of type M may do to its context of type C, whatever its disk tells, as a bound on the work
--- that is counted.
+-- The possible effects of a machine of type M on its context of type C, whatever its disk reveals, such as a bound on
+-- the work that is counted.
 pub record Effect (M C : Type 0) : Type 1 where
-  -- from this machine and context over these lines it may come to that machine and context
+  -- this machine and context may become that machine and context over these lines
   pub ran : M → C → List (List ℕ) → M → C → Type 0
-  -- from this machine and context it may give up at the last of these lines, and leave that context
+  -- this machine and context may give up at the last of these lines, and leave that context
   pub gave_up : M → C → List (List ℕ) → C → Type 0
 
--- a machine of whose context nothing is said
+-- a machine with any effect on its context
 abbrev pub any_effect : {M C : Type 0} → Effect M C
 any_effect = record { ran = λ m c lines n d. ⊤; gave_up = λ m c lines d. ⊤ }
 
--- the rules of a machine of type M with a context of type C, which keeps on its disk what is of type K
+-- the rules of a machine of type M with a context of type C, whose state on its disk is of type K
 pub record Rules (M C K : Type 0) : Type 1 where
-  -- what it replies to a line
+  -- its reply to a line
   pub reply : M → List ℕ → List ℕ
   -- the machine after a line
   pub next : M → List ℕ → M
-  -- what it keeps after a line, where it kept that before
+  -- the state on the disk after a line, from the one before
   pub keep : M → K → List ℕ → K
-  -- an image holds this, as records or as counters that are spent
+  -- an image has this state, such as records or spent counters
   pub holds : K → List ℕ → Type 0
-  -- what it may do to its context
+  -- the possible effects on its context
   pub effect : Effect M C
 
--- ---- what a machine does over lines
+-- ---- the effects of a machine over lines
 
 -- its replies to lines, joined
 abbrev pub replies : {M C K : Type 0} → Rules M C K → M → List (List ℕ) → List ℕ
@@ -43,61 +43,60 @@ abbrev pub after : {M C K : Type 0} → Rules M C K → M → List (List ℕ) �
 after rules m [] = m
 after rules m (line ∷ lines) = after rules (rules.next m line) lines
 
--- what it keeps after lines
+-- the state on the disk after lines
 abbrev pub kept : {M C K : Type 0} → Rules M C K → M → K → List (List ℕ) → K
 kept rules m k [] = k
 kept rules m k (line ∷ lines) = kept rules (rules.next m line) (rules.keep m k line) lines
 
--- ---- what a stop may leave
+-- ---- the images that a stop may leave
 
--- every image of now holds this
+-- every present image has this state
 abbrev pub AllHold : {M C K : Type 0} → Rules M C K → K → Past → Type 0
 AllHold rules k past = (image : List ℕ) → Images past image → rules.holds k image
 
--- an image holds what the machine keeps after some first lines of these
+-- an image has the state after a prefix of these lines
 abbrev pub HoldsFirst : {M C K : Type 0} → Rules M C K → M → K → List (List ℕ) → List ℕ → Type 0
 HoldsFirst rules m k lines image =
     (first : List (List ℕ)) × Begins first lines × rules.holds (kept rules m k first) image
 
--- the same, where only the last of the lines may be missing
+-- the same, if only the last of the lines may be missing
 abbrev pub HoldsNearlyAll : {M C K : Type 0} → Rules M C K → M → K → List (List ℕ) → List ℕ → Type 0
 HoldsNearlyAll rules m k lines image =
     (first : List (List ℕ)) × Begins first lines × (length lines ≤ length first + 1)
     × rules.holds (kept rules m k first) image
 
--- Over lines the disk went on from `old` to `new`. At each moment since, an image holds what the machine keeps
--- after some first lines; now it holds what the machine keeps after all.
+-- Over lines the disk continued from `old` to `new`. At each moment since, an image has the state after a prefix of
+-- the lines; now it has the state after all.
 pub record Went {M C K : Type 0} (rules : Rules M C K)
     (m : M) (k : K) (lines : List (List ℕ)) (old new : Past) : Type 0 where
   pub goes : GoesOn old new
   pub moments : (image : List ℕ) → new.left_since old.now image → HoldsFirst rules m k lines image
   pub now : AllHold rules (kept rules m k lines) new
 
--- The same, where the machine gave up at the last of the lines.
+-- The same, if the machine gave up at the last of the lines.
 pub record GaveUp {M C K : Type 0} (rules : Rules M C K)
     (m : M) (k : K) (lines : List (List ℕ)) (old new : Past) : Type 0 where
   pub goes : GoesOn old new
   pub moments : (image : List ℕ) → new.left_since old.now image → HoldsFirst rules m k lines image
   pub now : (image : List ℕ) → Images new image → HoldsNearlyAll rules m k lines image
 
--- an image holds what the machine kept before this line, or what it keeps after it
+-- an image has the state before this line, or the one after it
 abbrev pub HoldsEither : {M C K : Type 0} → Rules M C K → M → K → List ℕ → List ℕ → Type 0
 HoldsEither rules m k line image = rules.holds k image ⊎ rules.holds (rules.keep m k line) image
 
--- ---- its meaning to a run
+-- ---- its meaning for a run
 
--- a disk of type D, by what it reads as and what a stop may leave of it
+-- a disk of type D, by its contents and the images that a stop may leave
 pub record Store (D : Type 0) : Type 1 where
   pub reads : D → Option (List ℕ)
   pub past : D → Past
 
--- the disk tells what it reads as
+-- the disk reveals its contents
 abbrev pub IsTold : {D : Type 0} → Store D → D → Type 0
 IsTold store disk = IsSome (store.reads disk)
 
--- The context goes by the effect, on every disk. Where the disk tells what it reads as, it still does
--- afterwards, the machine comes to the one that the rules say, and what every image held before grows by the
--- rules.
+-- The context changes by the effect, on every disk. If the disk reveals its contents, it still does afterwards, the
+-- machine becomes the one of the rules, and the earlier state of every image changes by the rules.
 pub record RanOnDisk {M C K D : Type 0} (rules : Rules M C K) (store : Store D)
     (m : M) (c : C × D) (lines : List (List ℕ)) (n : M) (d : C × D) : Type 0 where
   pub effect : rules.effect.ran m c.0 lines n d.0
@@ -106,14 +105,14 @@ pub record RanOnDisk {M C K D : Type 0} (rules : Rules M C K) (store : Store D)
   pub disk : IsTold store c.1 → (k : K) → AllHold rules k (store.past c.1)
       → Went rules m k lines (store.past c.1) (store.past d.1)
 
--- the same, where the machine gave up at the last line
+-- the same, if the machine gave up at the last line
 pub record GaveUpOnDisk {M C K D : Type 0} (rules : Rules M C K) (store : Store D)
     (m : M) (c : C × D) (lines : List (List ℕ)) (d : C × D) : Type 0 where
   pub effect : rules.effect.gave_up m c.0 lines d.0
   pub disk : IsTold store c.1 → (k : K) → AllHold rules k (store.past c.1)
       → GaveUp rules m k lines (store.past c.1) (store.past d.1)
 
--- What a machine with these rules means to a run. It is prompt: what a line does to the disk stays there.
+-- The meaning of a machine with these rules for a run. It is prompt: the effect of a line on the disk is permanent.
 abbrev pub disk_meaning : {M C K D : Type 0} → Rules M C K → Store D → Meaning M (C × D)
 disk_meaning rules store = record {
   answers = replies rules;
@@ -123,7 +122,7 @@ disk_meaning rules store = record {
   prompt = ⊤;
 }
 
--- what is promised of an effect, as `Laws` promises it of a meaning
+-- the laws of an effect, like those of a meaning in `Laws`
 pub record EffectLaws {M C : Type 0} (effect : Effect M C) (cap : ℕ) : Type 0 where
   pub cut_ran : (m n : M) (c d : C) (line : List ℕ) → length line < 2 ^ 62
       → effect.ran m c (take cap line ∷ []) n d → effect.ran m c (line ∷ []) n d
@@ -144,10 +143,10 @@ any_effect_laws cap = record {
   gave_up_more = λ m n c d e lines more p q. tt;
 }
 
--- what is promised of rules that look at the first `cap` bytes of a line
+-- the laws of rules that read the first `cap` bytes of a line
 pub record RulesLaws {M C K : Type 0} (rules : Rules M C K) (cap : ℕ) : Type 0 where
   pub positive : 0 < cap
-  -- a line that is cut to its first `cap` bytes does the same
+  -- a line that is truncated to its first `cap` bytes has the same effect
   pub cut_reply : (m : M) (line : List ℕ) → length line < 2 ^ 62 → rules.reply m (take cap line) ≡ rules.reply m line
   pub cut_next : (m : M) (line : List ℕ) → length line < 2 ^ 62 → rules.next m (take cap line) ≡ rules.next m line
   pub cut_keep : (m : M) (k : K) (line : List ℕ) → length line < 2 ^ 62
@@ -156,19 +155,19 @@ pub record RulesLaws {M C K : Type 0} (rules : Rules M C K) (cap : ℕ) : Type 0
 
 -- ---- a whole run
 
--- So much was written that at least one byte of the reply to this line was, which stands behind these.
+-- At least one byte of the reply to this line, which follows these lines, was written.
 abbrev pub Released : {M C K : Type 0} → Rules M C K → M → (before : List (List ℕ)) → (written : List ℕ) → Type 0
 Released rules m before written = length (replies rules m before) < length written
 
--- each line of whose reply a byte was written is among these first lines
+-- each line with a written byte of its reply is in this prefix
 abbrev pub HasReleased : {M C K : Type 0} → Rules M C K → M
     → (lines : List (List ℕ)) → (written : List ℕ) → (first : List (List ℕ)) → Type 0
 HasReleased rules m lines written first =
     (before : List (List ℕ)) (line : List ℕ) (later : List (List ℕ)) → before ++ line ∷ later ≡ lines
     → Released rules m before written → Begins (before ++ line ∷ []) first
 
--- An image holds what the machine keeps after some first lines. These have each line of whose reply a byte was
--- written, and the replies to all of them are written, or to all but the last: a stop costs at most one.
+-- An image has the state after a prefix of the lines. That has each line with a written byte of its reply, and the
+-- replies to all of it are written, or to all except the last line: a stop loses at most one reply.
 pub record HoldsReplied {M C K : Type 0} (rules : Rules M C K)
     (m : M) (k : K) (lines : List (List ℕ)) (written image : List ℕ) : Type 0 where
   pub first : List (List ℕ)
@@ -177,27 +176,27 @@ pub record HoldsReplied {M C K : Type 0} (rules : Rules M C K)
   pub replied : NearlyReplied (replies rules m) written first
   pub holds : rules.holds (kept rules m k first) image
 
--- What a run over lines leaves of its disk, whatever ended it, at each moment since its start and at the end.
+-- The images of the disk of a run over lines, whatever ended it, at each moment since its start and at the end.
 pub record LeavesOnDisk {M C K : Type 0} (rules : Rules M C K)
     (m : M) (k : K) (lines : List (List ℕ)) (written : List ℕ) (old new : Past) : Type 0 where
   pub goes : GoesOn old new
   pub moments : (image : List ℕ) → new.left_since old.now image → HoldsFirst rules m k lines image
   pub end : (image : List ℕ) → Images new image → HoldsReplied rules m k lines written image
 
--- How a disk is opened where it holds k: at each moment an image is one of the start or holds k, and from the
--- first good sync on each holds k.
+-- Opening a disk with the state k: at each moment an image is one of the start or has the state k, and from the first
+-- successful sync on each has it.
 pub record Opens {M C K : Type 0} (rules : Rules M C K) (k : K) (old new : Past) : Type 0 where
   pub goes : GoesOn old new
   pub moments : (image : List ℕ) → new.left_since old.now image → Images old image ⊎ rules.holds k image
   pub synced : (image : List ℕ) → LeftSinceSync new old.now image → rules.holds k image
 
--- What a run leaves of its disk, from before it is opened, whatever ended it.
+-- The images of the disk of a run, from before it is opened, whatever ended the run.
 pub record RunLeaves {M C K : Type 0} (rules : Rules M C K)
     (m : M) (k : K) (lines : List (List ℕ)) (written : List ℕ) (old new : Past) : Type 0 where
   pub goes : GoesOn old new
-  -- at each moment an image is one of the start, or holds what the machine keeps after some first lines
+  -- at each moment an image is one of the start, or has the state after a prefix of the lines
   pub moments : (image : List ℕ) → new.left_since old.now image → Images old image ⊎ HoldsFirst rules m k lines image
-  -- from the first good sync on each holds that
+  -- from the first successful sync on each has that
   pub synced : (image : List ℕ) → LeftSinceSync new old.now image → HoldsFirst rules m k lines image
-  -- at the end too, with all lines of whose reply a byte was written, and at most one besides
+  -- at the end too, with all lines with a written byte of their reply, and at most one more
   pub end : (image : List ℕ) → Images new image → (Images old image × (written ≡ [])) ⊎ HoldsReplied rules m k lines written image

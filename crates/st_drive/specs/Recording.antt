@@ -1,4 +1,4 @@
--- Machines that record on their disk each line that changes them, before they reply to it, as a journal does.
+-- Machines that record on their disk each line that changes them, before they reply to it, for example in a journal.
 use Rattle.std.specs.Prelude.{◌≡◌, ◌⊎◌, ℕ, Bool, true, List, [], ◌∷◌, ◌++◌, Option, Some, if◌then◌else◌}
 use Rattle.st_io.specs.Past.{Past, Images, LeftSinceSync, Leaves}
 use Rattle.st_drive.specs.OnDisk.{Effect, Rules, AllHold, HasReleased, Store, IsTold, replies}
@@ -6,21 +6,21 @@ use Rattle.st_drive.specs.Runs.{Begins, NearlyReplied}
 
 -- a machine of type M with a context of type C that records lines
 pub record Recorder (M C : Type 0) : Type 1 where
-  -- what it replies to a line, and the machine after it
+  -- its reply to a line, and the machine after it
   pub reply : M → List ℕ → List ℕ
   pub next : M → List ℕ → M
   -- a line changes the machine, and is recorded
   pub changes : M → List ℕ → Bool
-  -- the records of an image, or none where it is damaged
+  -- the records of an image, or none if it is damaged
   pub records : List ℕ → Option (List (List ℕ))
-  -- what it may do to its context
+  -- the possible effects on its context
   pub effect : Effect M C
 
--- this line, where it is recorded
+-- this line, if it is recorded
 abbrev pub recorded : Bool → List ℕ → List (List ℕ)
 recorded changes line = if changes then line ∷ [] else []
 
--- its rules: it keeps the lines that changed it
+-- its rules: its state is the lines that changed it
 abbrev pub recording : {M C : Type 0} → Recorder M C → Rules M C (List (List ℕ))
 recording recorder = record {
   reply = recorder.reply;
@@ -30,7 +30,7 @@ recording recorder = record {
   effect = recorder.effect;
 }
 
--- those of these lines that change the machine, one after the other
+-- those of these lines that change the machine, one after another
 abbrev pub changing : {M C : Type 0} → Recorder M C → M → List (List ℕ) → List (List ℕ)
 changing recorder m [] = []
 changing recorder m (line ∷ lines) =
@@ -43,13 +43,13 @@ abbrev pub HasOneMore : {M C : Type 0} → Recorder M C → List (List ℕ) → 
 HasOneMore recorder r line image =
     (recorder.records image ≡ Some r) ⊎ (recorder.records image ≡ Some (r ++ line ∷ []))
 
--- the disk went on, and the line is recorded at each moment or not yet
+-- the disk continued, and at each moment the line is recorded or not yet
 abbrev pub LeavesOneMore : {M C : Type 0} → Recorder M C → List ℕ → (old new : Past) → Type 0
 LeavesOneMore recorder line old new =
     (r : List (List ℕ)) → AllHold (recording recorder) r old → Leaves (HasOneMore recorder r line) old new
 
--- The machine has replied to a line that changes it. Where the disk tells what it reads as, it still does, the
--- machine is the next one, and the line is recorded in every image.
+-- The machine has replied to a line that changes it. If the disk reveals its contents, it still does, the machine is
+-- the next one, and the line is recorded in every image.
 pub record HasRecorded {M C D : Type 0} (recorder : Recorder M C) (store : Store D)
     (m : M) (c : C × D) (line : List ℕ) (n : M) (d : C × D) : Type 0 where
   pub changes : recorder.changes m line ≡ true
@@ -74,8 +74,8 @@ abbrev pub HasPrefix : {M C : Type 0} → Recorder M C → M → (r lines : List
 HasPrefix recorder m r lines image =
     (prefix : List (List ℕ)) × Begins prefix lines × (recorder.records image ≡ Some (r ++ changing recorder m prefix))
 
--- The same of a prefix that has each line of whose reply a byte was written. All replies to the prefix are written,
--- or all but the last: a stop leaves at most one record without its reply.
+-- The same for a prefix that has each line with a written byte of its reply. All replies to the prefix are written,
+-- or all except the last: a stop leaves at most one record without its reply.
 pub record HasRepliedPrefix {M C : Type 0} (recorder : Recorder M C)
     (m : M) (r lines : List (List ℕ)) (written image : List ℕ) : Type 0 where
   pub prefix : List (List ℕ)
@@ -84,15 +84,14 @@ pub record HasRepliedPrefix {M C : Type 0} (recorder : Recorder M C)
   pub replied : NearlyReplied (replies (recording recorder) m) written prefix
   pub records_are : recorder.records image ≡ Some (r ++ changing recorder m prefix)
 
--- What a run of such a machine leaves of its disk at each moment, which begins as m with the records r.
+-- The images of the disk of a run of such a machine at each moment, which starts as m with the records r.
 pub record KeepsPrefixes {M C : Type 0} (recorder : Recorder M C) (m : M) (r lines : List (List ℕ)) (old new : Past) : Type 0 where
-  -- at each moment an image is one of those of the start, or has the records of a prefix
+  -- at each moment an image is one of the start, or has the records of a prefix
   pub moments : (image : List ℕ) → new.left_since old.now image → Images old image ⊎ HasPrefix recorder m r lines image
-  -- from the first good sync on each has the records of a prefix
+  -- from the first successful sync on each has the records of a prefix
   pub synced : (image : List ℕ) → LeftSinceSync new old.now image → HasPrefix recorder m r lines image
 
--- What it leaves at the end: an image is one of those of the start, where nothing was written, or has the records
--- of such a prefix.
+-- The images at the end: each is one of the start, if nothing was written, or has the records of such a prefix.
 abbrev pub KeepsRecords : {M C : Type 0} → Recorder M C → (m : M) (r lines : List (List ℕ)) (written : List ℕ) (old new : Past) → Type 0
 KeepsRecords recorder m r lines written old new =
     (image : List ℕ) → Images new image → (Images old image × (written ≡ [])) ⊎ HasRepliedPrefix recorder m r lines written image

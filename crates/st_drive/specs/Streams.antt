@@ -1,5 +1,5 @@
--- What a run has to do with the world: the source that it reads, the sink that it writes to and the disk that it works on,
--- each before the run and behind it. Bytes are None where they are not told.
+-- The surroundings of a run: the source that it reads, the sink that it writes to and the disk that it works on, each
+-- before the run and after it. Bytes are `None` if they are not revealed.
 use Rattle.std.specs.Prelude.{◌≡◌, ℕ, Bool, List, ◌++◌, ◌≤◌, length, Some}
 use Rattle.std.specs.declared.option.Option.{Option}
 use Rattle.st_io.specs.Causes.{Rose}
@@ -7,23 +7,23 @@ use Rattle.st_io.specs.Past.{Past}
 
 -- a source and a sink
 pub record Streams : Type 1 where
-  -- the bytes that the source had left, and has left
+  -- the remaining bytes of the source, before and after
   pub had : Option (List ℕ)
   pub left : Option (List ℕ)
-  -- the bytes that the sink held, and holds
+  -- the bytes of the sink, before and after
   pub held : Option (List ℕ)
   pub holds : Option (List ℕ)
-  -- the sink was finished, and is
+  -- whether the sink was finished, before and after
   pub was_finished : Bool
   pub is_finished : Bool
   -- the source failed in this run, and the sink did
   pub read_failed : Type 0
   pub write_failed : Type 0
-  -- the source is as it was, and the sink is
+  -- the source is unchanged, and the sink is
   pub source_kept : Type 0
   pub sink_kept : Type 0
 
--- any source and any sink, by what they tell
+-- any source and any sink, by what they reveal
 abbrev pub streams : {S K : Type 0} (left : S → Option (List ℕ)) (read_faults : S → ℕ) (source source_now : S)
     (written : K → Option (List ℕ)) (finished : K → Bool) (write_faults : K → ℕ) (sink sink_now : K) → Streams
 streams left read_faults source source_now written finished write_faults sink sink_now = record {
@@ -41,18 +41,18 @@ streams left read_faults source source_now written finished write_faults sink si
 
 -- a disk
 pub record Storage : Type 1 where
-  -- what it read as, and reads as
+  -- its contents, before and after
   pub reads : Option (List ℕ)
   pub reads_behind : Option (List ℕ)
-  -- what a stop may have left of it by then, and at each moment until behind the run
+  -- the images that a stop may have left by then, and at each moment until the end of the run
   pub before : Past
   pub behind : Past
   -- it failed in this run
   pub failed : Type 0
-  -- it is as it was
+  -- it is unchanged
   pub kept : Type 0
 
--- any disk, by what it tells
+-- any disk, by what it reveals
 abbrev pub storage : {D : Type 0} (reads : D → Option (List ℕ)) (past : D → Past) (faults : D → ℕ) (disk disk_now : D) → Storage
 storage reads past faults disk disk_now = record {
   reads = reads disk;
@@ -63,24 +63,24 @@ storage reads past faults disk disk_now = record {
   kept = disk_now ≡ disk;
 }
 
--- a run of a machine with a context of type C, as counters of work
+-- a run of a machine with a context of type C, such as counters of work
 pub record Outcome (C : Type 0) : Type 1 where
   pub io : Streams
   pub disk : Storage
-  -- the context before the run, and behind it
+  -- the context before the run, and after it
   pub context : C
   pub context_now : C
   -- how it ended
   pub status : ℕ
 
--- the source tells its input, and the sink what was written behind what it held
+-- the source reveals its input, and the sink the bytes written after its earlier ones
 pub record Tells (io : Streams) (input written : List ℕ) : Type 0 where
   pub held_before : List ℕ
   pub had_is : io.had ≡ Some input
   pub held_is : io.held ≡ Some held_before
   pub holds_is : io.holds ≡ Some (held_before ++ written)
 
--- the source tells its input, which is within the limit, and neither the source nor the sink failed
+-- the source reveals its input, which is within the limit, and neither the source nor the sink failed
 pub record GoesWell (limit : ℕ) (io : Streams) : Type 0 where
   pub input : List ℕ
   pub had : io.had ≡ Some input

@@ -29,7 +29,7 @@ pub record SpendsLess (m : ℕ) (c : Allowance × Unit {0}) (lines : List (List 
     (d : Allowance × Unit {0}) : Type 0 where
   pub spent : d.0.left + length lines ≡ c.0.left + 1
 
--- what the machine that numbers its replies means
+-- the meaning of the machine that numbers its replies
 abbrev pub numbered_meaning : Meaning ℕ (Allowance × Unit {0})
 numbered_meaning = record { answers = numbered; told = λ c. ⊤; ran = Spends; gave_up = SpendsLess; prompt = ⊥ }
 

@@ -17,7 +17,7 @@ use st_io::{Failed, Sink, Source};
 use std::alloc::Global;
 use std::mem::forget;
 
-// At most `want` bytes, to the front of the buffer.
+// Reads at most `want` bytes into the front of the buffer.
 fn read_some<S: Source>(source: &mut S, buffer: &mut [u8], want: usize) -> Result<usize, Failed>
     requires some { 0 < want }
     requires room { want ≤ length buffer.old }
@@ -34,7 +34,7 @@ fn read_some<S: Source>(source: &mut S, buffer: &mut [u8], want: usize) -> Resul
     }
 }
 
-// Answers the line that has no line feed, where it has a byte.
+// Answers the line without a line feed, if it has a byte.
 fn answer_last<M: Machine, K: Sink>(
     alloc: Global,
     progress: Progress<M>,
@@ -58,7 +58,7 @@ fn answer_last<M: Machine, K: Sink>(
     }
 }
 
-// Answers the line that has no line feed, where it has a byte, and finishes the sink.
+// Answers the line without a line feed, if it has a byte, and finishes the sink.
 fn end_run<M: Machine, K: Sink>(
     alloc: Global,
     progress: Progress<M>,
@@ -79,7 +79,7 @@ fn end_run<M: Machine, K: Sink>(
     match answer_last(alloc, progress, context, device, sink) {
         Err(stop) => Err(stop),
         Ok(machine) => {
-            // A run ends with its process, which gives all memory back at once.
+            // The process ends after a run, which frees all memory at once.
             forget(machine);
             match sink.finish() {
                 Ok(()) => Ok(()),
@@ -91,24 +91,25 @@ fn end_run<M: Machine, K: Sink>(
 
 /// Runs the machine over all lines of a source of at most `limit` bytes, and writes its replies.
 ///
-/// Each read's bytes are one call of `Progress::feed`, before the next read, so a line is answered
-/// and its reply written once its line feed was read. Of a prompt machine each reply is written before the
-/// next line is carried out, so whatever ends the run, at most one line was carried out whose reply isn't written. The last line is answered also at the end of
-/// the input, where it has a byte. Reads go through `buffer`, and at most `limit + 1` bytes are taken.
-/// The machine gets the first `CAP` bytes of a line; all clauses speak of the whole line.
+/// The bytes of each read are given to one call of `Progress::feed`, before the next read, so a
+/// line is answered and its reply written after its line feed was read. A prompt machine's reply is
+/// written before the next line is executed, so whatever ends the run, at most one executed line
+/// has an unwritten reply. At the end of the input the last line is answered too, if it has a byte.
+/// Reads go through `buffer`, and at most `limit + 1` bytes are taken. The machine gets the first
+/// `CAP` bytes of a line; all clauses are about the whole line.
 ///
-/// `Ok` comes at the end of the input, when all is answered and written and the sink was finished,
-/// once and as the last act; no other end finishes it. That no read stands between a line feed and
-/// its reply, and that the sink is finished once, are the code's form and no clause. `ReadFault`,
-/// `WriteFault` and `DeviceFault` come only where the count of faults of the source, the sink or the
-/// device rose. `OverLimit` comes exactly where `limit` bytes were taken and the source gave one more,
-/// unless a fault or want of memory ended the run; that byte isn't answered. Under `ReadFault` and
-/// `OverLimit` every whole line is answered and the replies are written; under `WriteFault`,
-/// `DeviceFault` and `WantOfMemory` a beginning of the replies is. Want of memory is free. What is said
-/// of replies stands where the machine's meaning tells them.
+/// The result is `Ok` at the end of the input, when everything is answered and written and the sink
+/// was finished, once and as the last step; no other end finishes it. That no read is between a
+/// line feed and its reply, and that the sink is finished once, follows from the code and is not a
+/// clause. `ReadFault`, `WriteFault` and `DeviceFault` are returned only if the count of faults of
+/// the source, the sink or the device rose. `OverLimit` is returned if and only if `limit` bytes
+/// were taken and the source gave one more, unless a fault ended the run or memory ran out; that
+/// byte isn't answered. Under `ReadFault` and `OverLimit` every whole line is answered and the
+/// replies are written; under `WriteFault`, `DeviceFault` and `WantOfMemory` a prefix of the
+/// replies is. It may run out of memory. Clauses about replies hold if the machine's meaning
+/// reveals them.
 ///
-/// At the end of the input the machine is let go with the process: its memory is not given back piece by
-/// piece.
+/// At the end of the input the machine is not dropped: its memory is freed with the process.
 pub fn drive<M: Machine, S: Source, K: Sink>(
     alloc: Global,
     buffer: &mut [u8],

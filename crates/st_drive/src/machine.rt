@@ -9,7 +9,7 @@ use thiserror::Error;
 /// Why a machine gives up at a line.
 #[derive(Clone, Copy, Debug, Drop, PartialEq, Eq, Error)]
 pub enum StepError {
-    /// Memory could not be had.
+    /// Out of memory.
     #[error("out of memory")]
     WantOfMemory,
     /// The device failed.
@@ -28,44 +28,46 @@ impl From<WantOfMemory> for StepError {
     }
 }
 
-/// What answers lines, one after the other.
+/// A machine that answers lines, one after another.
 ///
-/// Its meaning says what it replies and what it does to its context and device over whole lists of
-/// lines, and its laws tie the two together.
+/// Its meaning defines its replies and its effects on its context and device over whole lists of
+/// lines, and its laws relate the two.
 pub trait Machine: Sized + Drop {
-    /// What the machine works with and doesn't own, as a counter of work.
+    /// What the machine uses but doesn't own, such as a counter of work.
     type Context;
 
-    /// What it works on and doesn't own, as a disk. A machine without one has `()`.
+    /// What it works on but doesn't own, such as a disk. A machine without one has `()`.
     type Device;
 
-    /// What it replies to lines, and what it does to its context and its device over them.
+    /// Its replies to lines, and its effects on its context and its device over them.
     ghost meaning: { Meaning Self (Self.Context × Self.Device) };
 
-    /// How many bytes of a line it looks at.
+    /// How many bytes of a line it reads.
     ghost CAP: { ℕ };
 
-    /// How many bytes of a line it looks at: the others are skipped.
+    /// How many bytes of a line it reads: the others are skipped.
     const CAP: usize;
 
-    /// Each reply is written before the next line is carried out, so that a stop costs at most one line its reply.
+    /// Each reply is written before the next line is executed, so that after a stop at most one
+    /// executed line has no reply.
     ghost PROMPT: { Bool };
 
-    /// Each reply is written before the next line is carried out. Else replies are gathered, and many short ones
-    /// become one write.
+    /// Each reply is written before the next line is executed. Otherwise replies are buffered, so
+    /// that many short ones become one write.
     const PROMPT: bool;
 
-    /// The machine may go on with this context and this device over lines of so many bytes, with a
-    /// byte for the end of each.
+    /// The machine may continue with this context and this device over lines of this many bytes,
+    /// counting a byte for the end of each.
     ghost fits: { Self → Self.Context × Self.Device → ℕ → Type 0 };
 
     /// How often they have failed. It never falls, and stays at `u64::MAX`.
     ghost faults: { Self.Context × Self.Device → ℕ };
 
-    /// Answers one line with a reply, and goes on as the machine that is given back.
+    /// Answers one line with a reply, and returns the next machine.
     ///
-    /// `DeviceFault` comes only where the count of faults rose. Want of memory is free. The reply is
-    /// that of the meaning where that is told, as where the device tells what it reads as.
+    /// The result is `DeviceFault` only if the count of faults rose. It may run out of memory. The
+    /// reply is that of the meaning if that is revealed, for example if the device reveals its
+    /// contents.
     fn step(
         self,
         alloc: Global,
@@ -86,12 +88,12 @@ pub trait Machine: Sized + Drop {
         ensures cause { IsErrOf result StepError.DeviceFault
             → Rose (faults (context.old, device.old)) (faults (context.new, device.new)) };
 
-    /// It may go on over fewer bytes, where it may over more.
+    /// If it may continue over some bytes, it may over fewer.
     ghost fewer: { Fewer fits };
 
-    /// It is prompt where its meaning says so.
+    /// It is prompt if its meaning is.
     ghost prompt: { meaning.prompt → PROMPT ≡ true };
 
-    /// What it promises of its meaning.
+    /// The laws of its meaning.
     ghost laws: { Laws meaning CAP };
 }

@@ -35,7 +35,7 @@ fn answer_next<M: Machine>(
     Ok(next)
 }
 
-// Answers what no line feed ends, as a line where it has a byte.
+// Answers the bytes after the last line feed, as a line if there is one.
 fn answer_rest<M: Machine>(
     alloc: Global,
     machine: M,
@@ -62,11 +62,11 @@ fn answer_rest<M: Machine>(
     }
 }
 
-/// All that the machine replies to the lines of these bytes, in memory: the plain program beside
-/// `drive`. It cuts no line and has no limit.
+/// All replies of the machine to the lines of these bytes, in memory: the plain counterpart of
+/// `drive`. It truncates no line and has no limit.
 ///
-/// `DeviceFault` comes only where the device's count of faults rose. Want of memory is free. What is
-/// said of replies stands where the machine's meaning tells them.
+/// The result is `DeviceFault` only if the device's count of faults rose. It may run out of memory.
+/// Clauses about replies hold if the machine's meaning reveals them.
 pub fn answer_all<M: Machine>(
     alloc: Global,
     machine: M,

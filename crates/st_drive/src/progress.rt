@@ -13,7 +13,7 @@ use st_base::cut_at;
 use st_io::Sink;
 use std::alloc::Global;
 
-// Answers one line, and gathers the reply.
+// Answers one line, and buffers the reply.
 fn answer_line<M: Machine, K: Sink>(
     alloc: Global,
     machine: M,
@@ -41,7 +41,7 @@ fn answer_line<M: Machine, K: Sink>(
     }
 }
 
-// Answers the line that ends with `front`, and begins a new one.
+// Answers the line that ends with `front`, and starts a new one.
 fn end_line<M: Machine, K: Sink>(
     alloc: Global,
     machine: M,
@@ -64,7 +64,7 @@ fn end_line<M: Machine, K: Sink>(
         (M.faults (context.old, device.old), M.faults (context.new, device.new)) result }
 {
     if line.is_empty() {
-        // The line stands whole in the piece, so it isn't copied.
+        // The whole line is in the piece, so it isn't copied.
         let front = cut_front(M::CAP, front);
         return answer_line(alloc, machine, context, device, sink, gathered, front);
     }
@@ -76,20 +76,19 @@ fn end_line<M: Machine, K: Sink>(
     Ok(next)
 }
 
-/// A run that is under way: its machine, and the line that isn't whole yet, of which at most `CAP`
-/// bytes are kept.
+/// A run in progress: its machine, and the unfinished line, of which at most `CAP` bytes are kept.
 #[derive(Drop)]
 pub struct Progress<M: Machine> {
-    /// The machine, behind all lines that were whole.
+    /// The machine, after all whole lines.
     pub machine: M,
-    /// The first bytes of the line that isn't whole yet.
+    /// The first bytes of the unfinished line.
     pub line: Vec<u8>,
     pub ghost capped: { vec_len line ≤ M.CAP },
     pub ghost open: { HasNo 10 line.items } by { Prim.hlevel props },
 }
 
 impl<M: Machine> Progress<M> {
-    /// A run that has taken nothing. It takes no memory.
+    /// A run that has taken nothing. It allocates nothing.
     pub fn new(alloc: Global, machine: M) -> Self
         ensures machine { result.machine ≡ machine }
         ensures line { result.line.items ≡ [] }
@@ -100,7 +99,7 @@ impl<M: Machine> Progress<M> {
         }
     }
 
-    // Takes the next bytes, answers each line that is whole now, and gathers the replies.
+    // Takes the next bytes, answers each line that they complete, and buffers the replies.
     fn answer_lines<K: Sink>(
         self,
         alloc: Global,
@@ -142,7 +141,7 @@ impl<M: Machine> Progress<M> {
         Ok(Progress { machine, line })
     }
 
-    // Takes the next bytes, answers each line that is whole now, and then writes the replies.
+    // Takes the next bytes, answers each line that they complete, and then writes the replies.
     fn feed_at_once<K: Sink>(
         self,
         alloc: Global,
@@ -173,7 +172,7 @@ impl<M: Machine> Progress<M> {
         }
     }
 
-    // Takes the next bytes line by line, and writes each reply before the next line is carried out.
+    // Takes the next bytes line by line, and writes each reply before the next line is executed.
     fn feed_promptly<K: Sink>(
         self,
         alloc: Global,
@@ -208,14 +207,14 @@ impl<M: Machine> Progress<M> {
         }
     }
 
-    /// Takes the next bytes, answers each line that is whole now, and writes the replies.
+    /// Takes the next bytes, answers each line that they complete, and writes the replies.
     ///
-    /// When it answers `Ok`, the replies to all lines that these bytes end are written, and of the line
-    /// that they begin at most `CAP` bytes are kept. When it answers `Err`, a beginning of these replies
-    /// is written: where the machine gave up, that of all lines before, unless the sink fails too. A prompt
-    /// machine has carried out at most one line whose reply isn't written then.
-    /// `WriteFault` and `DeviceFault` come only where the count of faults of the sink or the device rose;
-    /// want of memory is free, and no other stop comes. The sink isn't finished.
+    /// If the result is `Ok`, the replies to all lines that these bytes complete are written, and
+    /// at most `CAP` bytes of the line that they start are kept. If it is `Err`, a prefix of these
+    /// replies is written: if the machine gave up, those to all earlier lines, unless the sink
+    /// fails too. At most one line that a prompt machine has executed then has an unwritten reply.
+    /// `WriteFault` and `DeviceFault` are returned only if the count of faults of the sink or the
+    /// device rose; it may run out of memory, and there is no other stop. The sink isn't finished.
     pub fn feed<K: Sink>(
         self,
         alloc: Global,

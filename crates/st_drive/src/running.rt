@@ -11,12 +11,12 @@ use st_base::WantOfMemory;
 use st_io::{Sink, Source};
 use std::alloc::Global;
 
-// How many bytes one read may give.
+// How many bytes one read may return.
 const PIECE: usize = 65_536;
 
-/// Runs a machine over a source of at most `limit` bytes, and answers the status of the run: 0 at the end of
-/// the input, 2 where the source failed, 3 where the sink did, 4 where the machine's device did, 5 where the
-/// source gave more bytes than the limit, 6 where memory could not be had. There is no other.
+/// Runs a machine over a source of at most `limit` bytes, and returns the status of the run: 0 at
+/// the end of the input, 2 if the source failed, 3 if the sink did, 4 if the machine's device did,
+/// 5 if the source gave more bytes than the limit, 6 if memory ran out. There is no other.
 pub fn run_machine<M: Machine, S: Source, K: Sink>(
     alloc: Global,
     limit: usize,
@@ -54,7 +54,6 @@ fn new_buffer(alloc: Global) -> Result<Vec<u8>, WantOfMemory>
     Ok(buffer)
 }
 
-// The status of a run that ended so.
 fn status(ending: Result<(), Stop>) -> u8
     ensures value { result ≡ status_of ending }
     ensures known { IsTrue (is_end result) }

@@ -1,4 +1,4 @@
--- Whether a URI is among others, as a set answers it:
+-- Whether a URI is among others, by a set:
 --     among_keys        a set, by its keys
 --     among_pushed      a set with one more
 use Rattle.std.proofs.Common.{◌≡◌, ◌∙◌, Bool, true, false, cond, List, [], ◌∷◌, ◌++◌, ap, sym, refl}

@@ -1,6 +1,6 @@
--- What is asked and what is answered keeps to the limits of messages, and has a spelling:
---     asked-is, asked-short          what a node asks for
---     answered-sent, answered-short  what it sends as an answer
+-- Requests and answers are within the limits of messages, and have an encoding:
+--     asked-is, asked-short          the request of a node
+--     answered-sent, answered-short  the messages of its answer
 use Rattle.std.proofs.Common.{◌≡◌, ◌≤◌, ℕ, nat_le, Bool, true, false, cond, List, [], ◌∷◌, length, take, filter, Option, Some, None, Result, Ok, Err, IfOk, subst, sym, refl, arith}
 use Rattle.std.proofs.lemmas.Bool.Decides.{nat_tests}
 use Rattle.std.proofs.lemmas.List.{length-take}
@@ -30,7 +30,7 @@ filtered-is test uris are = record {
   each = each-filter IsUri test uris are.each;
 }
 
--- what holds of each blob that is short, and of what asks for some of those that a `Have` lists, where it holds of that
+-- a property of each short blob and of requests: a request for some URIs of a `Have` has it if the `Have` does
 module _ (P : Message → Type 0) (blobs : (bytes : List ℕ) → length bytes ≤ longest_blob → P (Blob bytes))
     (fewer : (test : HashValue → Bool) (uris : List HashValue) → P (Have uris) → P (Want (filter test uris))) where
   blob-holds : (file : Option (List ℕ)) → AllByRecursion P (blob_of file)

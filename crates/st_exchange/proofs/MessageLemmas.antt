@@ -1,4 +1,4 @@
--- The spelling of a message is read again, and what is read was spelled so.
+-- The encoding of a message is decoded again, and a decoded message has that encoding.
 use Rattle.std.proofs.Common.{◌≡◌, ◌∙◌, ℕ, zero, suc, ◌+◌, ◌*◌, ◌-◌, ◌<◌, ◌≤◌, ◌^◌, ◌==◌, nat_le, inl, inr, Bool, true, false, cond, List, [], ◌∷◌, ◌++◌, length, take, drop, get_or, Option, Some, None, option_map, Result, Ok, Err, IfOk, ap, sym, subst, refl, append_assoc, length-append, arith}
 use Rattle.std.proofs.lemmas.Bool.{eqb-true, eq-eqb, cases_lt}
 use Rattle.std.proofs.lemmas.Bool.Decides.{nat_tests}
@@ -57,7 +57,7 @@ mapped f (Some x) y e = record { x = x; was = refl; is = cc }
 
 -- ---- URIs
 
--- what is left to be read begins with the next one
+-- the next one is the first of the rest
 pub uris_of-step : (count i : ℕ) (bytes : List ℕ) → i < count
     → uris_of (count - i) bytes ≡ record { code = 0x12; digest = take 32 bytes } ∷ uris_of (count - (i + 1)) (drop 32 bytes)
 uris_of-step count i bytes below =
@@ -97,7 +97,7 @@ digests-long : (uris : List HashValue) → AllByRecursion IsUri uris → length 
 digests-long [] each = refl
 digests-long (uri ∷ uris) each = omega (arith, length-append uri.digest (digests uris), each.0.long, digests-long uris each.1)
 
--- of bytes that are digests
+-- for bytes that are digests
 module _ (count : ℕ) (bytes : List ℕ) (long : length bytes ≡ 32 * suc count) where
   front_long : length (take 32 bytes) ≡ 32
   front_long = length-take-le 32 bytes (omega arith)
@@ -235,7 +235,7 @@ was_spelled : (bytes : List ℕ) (message : Message) → AreBytes bytes → mess
 was_spelled [] message small e = cc
 was_spelled (kind ∷ rest) message small e = first kind rest message (λ i. small (suc i)) (kind == 1) refl e
 
--- ---- what the reader answers
+-- ---- the decoder's answer
 
 found : {A : Type 0} (option : Option A) (x : A) → ok_or {E = Unit {0}} option tt ≡ Ok x → option ≡ Some x
 found None x e = cc

@@ -4,6 +4,6 @@ use Rattle.std.specs.BTreeSet.{BTreeSet, contains}
 use Rattle.st_exchange.specs.Answer.{is_among}
 use Rattle.st_hash.specs.Hash.{HashValue, hash_cmp}
 
--- the set has those of the list, and no other
+-- the set has exactly those of the list
 abbrev pub HasThose : List HashValue → BTreeSet HashValue → Type 0
 HasThose uris set = (uri : HashValue) → contains hash_cmp set uri ≡ is_among uris uri

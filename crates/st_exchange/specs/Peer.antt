@@ -1,5 +1,5 @@
--- A node as others see it: what a line leaves of it and its reply, what it is once it keeps a file, which files it has
--- and wants, and how many files it may still read.
+-- The public view of a node: the state after a line and the reply, the state after it keeps a file, the files that it
+-- has and wants, and the number of files it may still read.
 use Rattle.std.specs.Prelude.{◌≡◌, ℕ, true, if◌then◌else◌, List, None, bytes_eq, codes, length, take}
 use Rattle.st_content.specs.Files.{Files, file_at}
 use Rattle.st_exchange.specs.Answer.{is_among}
@@ -7,24 +7,24 @@ use Rattle.st_hash.specs.Hash.{HashValue}
 
 -- a node of type M
 pub record Peer (M : Type 0) : Type 0 where
-  -- before anything has come
+  -- before anything was received
   pub start : M
-  -- what a line leaves, and the reply to it
+  -- the state after a line, and the reply to it
   pub next : M → List ℕ → M
   pub reply : M → List ℕ → List ℕ
-  -- once it keeps a file
+  -- after it keeps a file
   pub stored : M → List ℕ → M
   -- the files that it has, and the URIs of those that it wants
   pub files : M → Files
   pub wanted : M → List HashValue
-  -- how many files it may still read for the anchors that it accepted
+  -- the number of files it may still read for the anchors that it accepted
   pub due : M → ℕ
 
--- how many anchors a reply says were accepted: one, or none
+-- the number of accepted anchors that a reply reports: one, or none
 abbrev pub anchors_told : List ℕ → ℕ
 anchors_told reply = if bytes_eq (codes "anchored ") (take (length (codes "anchored ")) reply) then 1 else 0
 
--- What is promised of a node: it has no file that it wants, and it may read none before anything has come.
+-- The laws of a node: it has no file that it wants, and it may read none before anything was received.
 pub record PeerLaws {M : Type 0} (peer : Peer M) : Type 0 where
   pub absent : (m : M) (uri : HashValue) → is_among (peer.wanted m) uri ≡ true → file_at uri (peer.files m) ≡ None
   pub none_due : peer.due peer.start ≡ 0

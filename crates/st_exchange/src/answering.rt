@@ -11,15 +11,16 @@ use st_content::Content;
 use st_hash::{Hash, uri_of};
 use std::alloc::Global;
 
-/// What a node with these files, which wants the files of these URIs, answers to the message.
+/// The answer to the message of a node with these files that wants the files of these URIs.
 ///
-/// To a `Want` it sends one `Blob` for each different URI of the list whose file it has, in the order of
-/// their first places, but for files of more than 16,000,000 bytes. To a `Have` it sends one `Want` of
-/// those of the list that it wants, in order and as often as they stand there, or nothing where it wants
-/// none. A `Blob` it keeps exactly where it wants the file. It sends and keeps nothing else.
+/// A `Want` is answered by one `Blob` for each different URI of the list whose file the node has,
+/// in the order of their first places, except for files of more than 16,000,000 bytes. A `Have` is
+/// answered by one `Want` of the listed URIs that the node wants, in order and with repeats, or by
+/// nothing if it wants none. A `Blob` is kept if and only if the node wants the file. Nothing else
+/// is sent or kept.
 ///
-/// Whether a file is wanted is asked once for each URI of a `Have`, once for a `Blob`, which is hashed once
-/// for that, and never for a `Want`. Who has a list of what is wanted makes a set of it.
+/// It asks whether a file is wanted once for each URI of a `Have`, once for a `Blob`, which is
+/// hashed once for that, and never for a `Want`. If the wanted URIs are a list, make a set of it.
 pub fn answer<W: Wants>(
     alloc: Global,
     content: &Content,
@@ -27,7 +28,7 @@ pub fn answer<W: Wants>(
     message: &Message,
 ) -> Result<Answer, WantOfMemory>
     ensures value { IfOk result (λ answer. answer ≡ answer_of content.now (W.wanted wanted.now) message.now) }
-    // What is sent keeps to the limits of a message, and has a spelling.
+    // The messages sent are within the limits, and have an encoding.
     ensures short { IsShort message.now → IfOk result (λ answer. AllByRecursion IsShort answer.send) }
     ensures sent { IsMessage message.now → IfOk result (λ answer. AllByRecursion IsMessage answer.send) }
 {
@@ -58,7 +59,6 @@ fn answered<W: Wants>(
     }
 }
 
-// A blob of the file of each of these URIs.
 fn blobs(alloc: Global, content: &Content, uris: &[Hash]) -> Result<List<Message>, WantOfMemory>
     ensures { IfOk result (λ blobs. blobs ≡ flat_map (blob_at content.now) (each_once uris.now)) }
 {
@@ -94,7 +94,7 @@ fn put_blob(
     blobs.push(alloc, Message::Blob(bytes.copy(alloc)?))
 }
 
-// One message that asks for those that are wanted.
+// One message that asks for the wanted ones.
 fn asked<W: Wants>(alloc: Global, wanted: &W, uris: &[Hash]) -> Result<List<Message>, WantOfMemory>
     ensures { IfOk result (λ asked. asked ≡ want_of (filter (is_among (W.wanted wanted.now)) uris.now)) }
 {
@@ -106,7 +106,7 @@ fn asked<W: Wants>(alloc: Global, wanted: &W, uris: &[Hash]) -> Result<List<Mess
     Ok(asked)
 }
 
-// The bytes, where their URI is wanted.
+// The bytes, if their URI is wanted.
 fn kept<W: Wants>(alloc: Global, wanted: &W, bytes: &Bytes) -> Result<Option<Bytes>, WantOfMemory>
     ensures { IfOk result (λ kept. kept ≡ kept_of (W.wanted wanted.now) bytes.now) }
 {

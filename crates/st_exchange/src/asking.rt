@@ -11,7 +11,7 @@ use st_hash::Hash;
 use std::alloc::Global;
 use std::collections::BTreeSet;
 
-/// What a node asks for that wants the files of these URIs: the first 1,000 of them.
+/// The request of a node that wants the files of these URIs: the first 1,000 of them.
 pub fn ask(alloc: Global, wanted: &[Hash]) -> Result<Message, WantOfMemory>
     ensures value { IfOk result (λ message. message ≡ ask_of wanted.now) }
     ensures short { IfOk result IsShort }
@@ -50,7 +50,7 @@ pub(crate) fn once(alloc: Global, uris: &[Hash]) -> Result<List<Hash>, WantOfMem
     Ok(once)
 }
 
-// Puts the URI behind those that were seen, unless it is one of them.
+// Appends the URI, unless it is there already.
 fn put_once(
     alloc: Global,
     once: &mut List<Hash>,

@@ -1,6 +1,6 @@
-//! What nodes say to each other about files: which they want, which they have, and the bytes of one; the
-//! one spelling of each message, and what a node answers to it. A file is sent only where it was asked for,
-//! and kept only where it is wanted.
+//! The messages of nodes about files: which they want, which they have, and the bytes of one; the
+//! only encoding of each message, and a node's answer to it. A file is sent only if it was asked
+//! for, and kept only if it is wanted.
 #![tactic(auto)]
 
 mod answering;

@@ -10,10 +10,10 @@ use std::alloc::Global;
 
 /// A node that answers lines, keeps files and wants others.
 pub trait Peer: Sized + Drop {
-    /// What it answers, keeps and wants.
+    /// Its answers, files and wanted URIs.
     ghost peer: { Means Self };
 
-    /// A node before anything has come.
+    /// A node without entries and files.
     fn start(alloc: Global) -> Result<Self, WantOfMemory>
         ensures { IfOk result (λ node. node ≡ peer.start) };
 
@@ -29,7 +29,7 @@ pub trait Peer: Sized + Drop {
     fn wants(&self, alloc: Global, uri: &Hash) -> Result<bool, WantOfMemory>
         ensures { IfOk result (λ found. found ≡ is_among (peer.wanted self.now) uri.now) };
 
-    /// Answers a line. For an anchor that it accepts it may read five files more.
+    /// Answers a line. For an anchor that it accepts it may read five more files.
     fn answer(
         self,
         alloc: Global,
@@ -41,7 +41,7 @@ pub trait Peer: Sized + Drop {
         ensures paid { IfOk result (λ done. work.new.files + peer.due done.0
             ≤ work.old.files + peer.due self + 5 * anchors_told (peer.reply self line.now)) };
 
-    /// Keeps a file, and gives its URI.
+    /// Keeps a file, and returns its URI.
     fn keep(
         self,
         alloc: Global,
@@ -51,6 +51,6 @@ pub trait Peer: Sized + Drop {
         ensures next { IfOk result (λ done. done.0 ≡ peer.stored self bytes) }
         ensures uri { IfOk result (λ done. done.1 ≡ uri_of bytes) };
 
-    /// What it promises.
+    /// Its laws.
     ghost laws: { PeerLaws peer };
 }

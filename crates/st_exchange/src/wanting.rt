@@ -7,7 +7,7 @@ use st_hash::Hash;
 use std::alloc::Global;
 use std::collections::BTreeSet;
 
-/// Who tells of a file whether it is wanted.
+/// A test of whether a file is wanted.
 pub trait Wants {
     /// The URIs of the files that are wanted.
     ghost wanted: { Self → List HashValue };

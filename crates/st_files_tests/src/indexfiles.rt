@@ -15,9 +15,9 @@ const OF_ABC: &str = "EiC6eBa_jwHP6kFBQN5driIjsANho5YXepy0EP9h8gAVrQ";
 const SHA_512: &str =
     "E0DdrzWhk2F6usxBc0muIEExEub6TompfqIKnu7mS1XTmiGSmSonT8GoNro8I6P-671FTUQjZDzoDiqayU-lTKSf";
 
-// What stands for a sign in a file that is written shortly: + is a create, ! and ? are updates of two
-// suffixes and @ is one of the create's, ~ is a chunk; * and ^ are the hash texts of `abc` and of no bytes,
-// and # that of `abc` by SHA-512; $ is the suffix of the create, as another program computes it.
+// The signs in an abbreviated file: + is a create, ! and ? are updates of two suffixes and @ is one
+// of the create's, ~ is a chunk; * and ^ are the hash texts of `abc` and of no bytes, and # that of
+// `abc` by SHA-512; $ is the suffix of the create, as another program computes it.
 const SIGNS: &str = r#"+ {"suffixData":{"deltaHash":"*","recoveryCommitment":"^"}}
 ! {"didSuffix":"*","revealValue":"^"}
 ? {"didSuffix":"^","revealValue":"^"}
@@ -33,7 +33,7 @@ fn replaced(alloc: Global, text: &str, line: &str) -> Option<String> {
     text.replace(alloc, sign, meaning).ok()
 }
 
-// The file that is written so.
+// The file with this abbreviation.
 fn spelled(alloc: Global, short: &str) -> Option<String> {
     let mut text = String::from_str(alloc, short).ok()?;
     for line in SIGNS.lines() {
@@ -51,13 +51,11 @@ fn case_of(line: &str) -> Option<(u32, u32, &str, &str)> {
     Some((version, count, answer, file))
 }
 
-// The canonical text of the value.
 fn text_of(alloc: Global, value: &Json) -> Option<CanonicalText> {
     let written = write(alloc, value).ok()?;
     CanonicalText::read_json(alloc, written.as_slice()).ok()?
 }
 
-// A list of one target.
 fn only(alloc: Global, target: Target) -> Option<List<Target>> {
     let mut targets = List::new(alloc);
     targets.push(alloc, target).ok()?;

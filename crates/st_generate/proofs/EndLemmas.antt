@@ -1,6 +1,6 @@
--- How the two nodes end.
---     ask_next       one identifier more
---     asked_is       what a line leaves
+-- The final states of the two nodes.
+--     ask_next       one more identifier
+--     asked_is       the result of a line
 use Rattle.std.specs.Prelude.{bytes_eq, codes}
 use Rattle.std.proofs.Common.{◌≡◌, ◌∙◌, ℕ, ◌+◌, ◌<◌, List, length, get_or, refl, sym, ap, arith, add-one}
 use Rattle.st_workload.proofs.EachLemmas.{each_at, length-each}

@@ -1,4 +1,4 @@
--- The lines of a reply, cut at the first line feed.
+-- The lines of a reply, split at the first line feed.
 use Rattle.std.proofs.Common.{◌≡◌, ◌∙◌, ℕ, List, [], ◌∷◌, ◌++◌, ap}
 use Rattle.st_base.specs.Words.{HasNo}
 use Rattle.st_drive.proofs.LineLemmas.{split_line, split_open}

@@ -1,7 +1,7 @@
 -- The batches of the first node.
---     batch_next     one batch more
---     file_next      one file more of a reply
---     batched_is     what a round leaves
+--     batch_next     one more batch
+--     file_next      one more file of a reply
+--     batched_is     the result of a round
 use Rattle.std.proofs.Common.{◌≡◌, ◌∙◌, ℕ, ◌+◌, ◌<◌, List, [], ◌∷◌, ◌++◌, map, refl, sym, ap, add-one, append_assoc}
 use Rattle.st_base.specs.Words.{HasNo}
 use Rattle.st_drive.specs.Lines.{whole_lines}

@@ -1,14 +1,14 @@
--- What telling a node one line more leaves.
---     stays_paid     what it has read is paid
---     within         so it is at most five files for each anchor that it accepted
---     tell_is        what a node is then, with what it accepted
+-- Sending a node one more line.
+--     stays_paid     its reads are paid
+--     within         so it reads at most five files for each anchor that it accepted
+--     tell_is        the node afterwards, with its counts
 use Rattle.std.proofs.Common.{◌≡◌, ◌∙◌, ℕ, ◌+◌, ◌*◌, ◌≤◌, ◌<◌, List, ap, arith}
 use Rattle.st_exchange.specs.Peer.{Peer, anchors_told}
 use Rattle.st_generate.specs.Paid.{IsPaid}
 use Rattle.st_generate.specs.Talk.{TalkValue, counted, reply, tell}
 use Rattle.st_generate.specs.declared.talk.Accepted.{Accepted}
 
--- ---- what was read is paid
+-- ---- reads are paid
 
 sum_within : (due later some more said read now before after : ℕ) → read + due ≤ 5 * some → after + later ≤ before + due + 5 * said
     → now + before ≡ read + after → more ≡ some + said → now + later ≤ 5 * more
@@ -37,7 +37,7 @@ pub within : (read due anchors : ℕ) → IsPaid read due anchors → anchors * 
 unfolding IsPaid
 within read due anchors paid beyond = no_more read due anchors paid beyond
 
--- ---- one line more
+-- ---- one more line
 
 abbrev talk_of : {M : Type 0} → M → Accepted → TalkValue M
 talk_of machine all = record { machine = machine; accepted = all }

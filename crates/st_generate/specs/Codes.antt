@@ -1,4 +1,4 @@
--- How the logic stores a node that is told lines. Nothing that is said of them turns on it.
+-- How the logic stores a node that receives lines. No statement about them depends on it.
 use Rattle.std.specs.Prelude.{ℕ, refl}
 use Rattle.std.specs.Coded.{Coded, code_by, coded_ℕ, coded×}
 use Rattle.st_generate.specs.Talk.{TalkValue}
@@ -11,7 +11,7 @@ coded_accepted =
     (λ p. record { submissions = p.0; anchors = p.1.0; rollbacks = p.1.1.0; files = p.1.1.1 })
     (λ _. refl)
 
--- one by the pair of its fields
+-- one as the pair of its fields
 abbrev pub coded_talk : {M : Type 0} → Coded M → Coded (TalkValue M)
 coded_talk {M} coded =
     code_by (M × Accepted) (coded× coded coded_accepted)

@@ -1,14 +1,14 @@
--- What the words of a workload ask for.
+-- The plan in the words of a workload.
 use Rattle.std.specs.Prelude.{ℕ, ◌-◌, ◌^◌, List, [], ◌∷◌, nat_le, Option, Some, None}
 use Rattle.st_base.specs.Options.{◌>>=◌, ◌>>◌}
 use Rattle.st_base.specs.Words.{number_of}
 use Rattle.st_generate.specs.declared.plan.Plan.{Plan}
 
--- how many identifiers a workload has at most
+-- the largest number of identifiers of a workload
 abbrev pub most_dids : ℕ
 most_dids = 200
 
--- in how many rounds each of them is updated at most
+-- the largest number of rounds in which each of them is updated
 abbrev pub most_rounds : ℕ
 most_rounds = 30
 

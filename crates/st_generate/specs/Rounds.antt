@@ -1,5 +1,5 @@
--- The first node: in each round it takes the requests of all identifiers in their order, makes a batch of
--- them, and takes its anchor.
+-- The first node: in each round it receives the requests of all identifiers in their order, makes a batch of them,
+-- and receives its anchor.
 use Rattle.std.specs.Prelude.{ℕ, zero, suc, List, [], ◌∷◌, ◌++◌, codes, map, drop, unwrap_or}
 use Rattle.std.specs.Fmt.{decimal}
 use Rattle.st_base.specs.Words.{first_word, other_words}
@@ -9,9 +9,9 @@ use Rattle.st_generate.specs.declared.rounds.Batches.{Batches}
 use Rattle.st_exchange.specs.Peer.{Peer}
 use Rattle.st_workload.specs.Identity.{round_lines}
 
--- ---- what a reply says
+-- ---- the contents of replies
 
--- what stands behind the first space of a line, or nothing
+-- the text after the first space of a line, or nothing
 abbrev pub behind_one : List ℕ → List ℕ
 behind_one line = unwrap_or (other_words 32 line) []
 
@@ -19,7 +19,7 @@ behind_one line = unwrap_or (other_words 32 line) []
 unfoldable pub anchor_in : List ℕ → List ℕ
 anchor_in reply = first_word 32 (behind_one reply)
 
--- `file <role> <uri> <base64url>`: the line that brings another node this file
+-- `file <role> <uri> <base64url>`: the line that gives another node this file
 unfoldable pub content_line : List ℕ → List ℕ
 content_line line = codes "content " ++ behind_one (behind_one (behind_one line))
 
@@ -37,7 +37,7 @@ flush_line = codes "flush"
 abbrev pub anchor_line : ℕ → List ℕ → List ℕ
 anchor_line round anchor = codes "anchor " ++ (decimal round ++ (codes " " ++ anchor))
 
--- once the requests of a round were told: the batch, its anchor line, and those of its files behind the others
+-- after the requests of a round: the batch, its anchor line, and the lines of its files after the others
 abbrev pub batched : {M : Type 0} → Peer M → ℕ → TalkValue M → Batches M → Batches M
 batched peer round talk batches =
     let batch = reply peer talk flush_line in
@@ -48,7 +48,7 @@ batched peer round talk batches =
       files = batches.files ++ content_lines batch;
     }
 
--- the batches of the first rounds, so many
+-- the batches of the first `n` rounds
 abbrev pub batches_of : {M : Type 0} → Peer M → ℕ → ℕ → ℕ → Batches M
 batches_of peer seed dids zero = record { talk = new_talk peer; anchors = []; files = [] }
 batches_of peer seed dids (suc round) =

@@ -1,4 +1,4 @@
--- The summary of a workload: what two nodes made of it.
+-- The summary of a workload on two nodes.
 use Rattle.std.specs.Prelude.{ℕ, zero, suc, ◌+◌, List, ◌++◌, codes, bytes_eq}
 use Rattle.std.specs.Fmt.{decimal}
 use Rattle.st_generate.specs.Rounds.{batches_of}
@@ -15,8 +15,8 @@ use Rattle.st_workload.specs.Order.{events}
 unfoldable pub resolve_line : HashValue → List ℕ
 resolve_line suffix = codes "resolve did:sidetree:" ++ hash_text suffix
 
--- Once both nodes have resolved a line: the second resolved it where its reply says so, and they agree
--- where their replies are equal.
+-- After both nodes have resolved a line: the second resolved it if its reply says so, and they agree if their replies
+-- are equal.
 unfoldable pub asked : {M : Type 0} → Peer M → List ℕ → Ends M → Ends M
 asked peer line ends = record {
   first = tell peer line ends.first;
@@ -25,16 +25,16 @@ asked peer line ends = record {
   agreed = ends.agreed + one_if (bytes_eq (reply peer ends.first line) (reply peer ends.second line));
 }
 
--- once they have resolved the first identifiers, so many
+-- after they have resolved the first identifiers
 abbrev pub all_asked : {M : Type 0} → Peer M → ℕ → ℕ → Ends M → Ends M
 all_asked peer seed zero ends = ends
 all_asked peer seed (suc i) ends = asked peer (resolve_line (did_suffix seed i)) (all_asked peer seed i ends)
 
--- the second node: it gets the events of the batches in the order of the stream behind those of the identifiers
+-- the second node: it receives the events of the batches in the order of the stream after those of the identifiers
 abbrev pub fed : {M : Type 0} → Peer M → Plan → Batches M → TalkValue M
 fed peer plan batches = told peer (events plan.seed plan.dids batches.anchors batches.files) (new_talk peer)
 
--- how the two nodes end
+-- the final states of the two nodes
 unfoldable pub ends_of : {M : Type 0} → Peer M → Plan → Ends M
 ends_of peer plan =
     let batches = batches_of peer plan.seed plan.dids (plan.rounds + 1) in
@@ -44,7 +44,7 @@ ends_of peer plan =
 abbrev pub summary_line : List ℕ → ℕ → List ℕ
 summary_line word n = word ++ (decimal n ++ codes "\n")
 
--- the nine lines of a workload that ended so
+-- the nine lines of a workload with these final states
 abbrev pub lines_of : {M : Type 0} → Plan → Ends M → List ℕ
 lines_of plan ends =
     summary_line (codes "dids ") plan.dids

@@ -12,7 +12,8 @@ use st_hash::{Hash, hash_text};
 use st_workload::Identity;
 use std::alloc::Global;
 
-/// The two nodes, how many identifiers the second resolved, and how many both answered alike.
+/// The two nodes, how many identifiers the second resolved, and for how many both gave the same
+/// answer.
 #[derive(Drop)]
 pub struct Ends<N: Peer> {
     pub first: Talk<N>,
@@ -53,7 +54,6 @@ fn ask<N: Peer>(
     Ok(ask_line(alloc, line.as_slice(), ends, work)?)
 }
 
-// Asks both nodes this line.
 #[tactic(auto, unfolding(crate::specs::Summary::asked))]
 fn ask_line<N: Peer>(
     alloc: Global,
@@ -80,7 +80,7 @@ fn ask_line<N: Peer>(
     })
 }
 
-// How many were resolved and answered alike, with the replies of both nodes to one line more.
+// How many were resolved and answered alike, after one more line with the replies of both nodes.
 fn count(resolved: u64, agreed: u64, one: &[u8], other: &[u8]) -> Result<(u64, u64), WantOfMemory>
     ensures { IfOk result (λ more.
         (more.0 ≡ resolved + one_if (begins_with (codes "resolved") other.now))

@@ -1,5 +1,5 @@
-//! A machine is tried with a workload that a seed makes: a node makes batches of its requests, another takes
-//! them in another order, and what the two made of them is summed up in nine lines.
+//! Tests a machine with a workload made from a seed: a node makes batches of its requests, another
+//! receives them in another order, and a summary of both has nine lines.
 #![tactic(auto)]
 
 mod ends;

@@ -4,7 +4,7 @@ ghost use Rattle.st_base.specs.Words.{number_of};
 
 use itoa::Buffer;
 
-/// The number from 0 to 2^64 - 1 whose decimal text this is, as `read_number` reads a shorter one.
+/// The number from 0 to 2^64 - 1 with this decimal text, like `read_number` for larger numbers.
 pub(crate) fn read_long(text: &[u8]) -> Option<u64>
     ensures { result ≡ number_of (2 ^ 64 - 1) text.now }
 {
@@ -18,7 +18,7 @@ pub(crate) fn read_long(text: &[u8]) -> Option<u64>
     }
 }
 
-// The number in some decimal spelling.
+// The number, by a parser that also accepts other decimal spellings.
 fn parse(text: &[u8]) -> Option<u64>
     ensures { (number : ℕ) → number < 2 ^ 64 → text.now ≡ decimal number → result ≡ Some number }
 {

@@ -4,25 +4,25 @@ ghost use Rattle.st_generate.specs.Plan.{most_dids, most_rounds, plan_of, plan_w
 use crate::number::read_long;
 use st_base::{Text, read_number};
 
-// How many identifiers a workload has at most, and in how many rounds each of them is updated at most.
+// The largest number of identifiers of a workload, and of rounds in which each is updated.
 const MOST_DIDS: u32 = 200;
 
 const MOST_ROUNDS: u32 = 30;
 
-/// How a workload is made.
+/// The parameters of a workload.
 #[derive(Clone, Copy, Debug, PartialEq, Eq)]
 pub struct Plan {
-    /// What its random words are made of.
+    /// The seed of its random words.
     pub seed: u64,
-    /// How many identifiers there are, from 1 to 200.
+    /// The number of identifiers, from 1 to 200.
     pub dids: u32,
-    /// In how many rounds each of them is updated, from 0 to 30.
+    /// The number of rounds in which each of them is updated, from 0 to 30.
     pub rounds: u32,
 }
 
-/// Reads the words of a plan: a seed from 0 to 2^64 - 1, a number of identifiers from 1 to 200, and a number
-/// of rounds from 0 to 30, each in decimal and without leading zeros but for `0` itself. `None` comes exactly
-/// where they are of no plan.
+/// Reads the words of a plan: a seed from 0 to 2^64 - 1, a number of identifiers from 1 to 200, and
+/// a number of rounds from 0 to 30, each in decimal and without leading zeros except in `0` itself.
+/// `None` if and only if they are not a plan.
 pub fn read_plan(words: &[Text]) -> Option<Plan>
     ensures value { result ≡ plan_of words.now }
     ensures bound { IfSome result (λ plan. plan.rounds ≤ most_rounds) }

@@ -18,8 +18,8 @@ const SPACE: u8 = 32;
 
 const LINE_FEED: u8 = 10;
 
-/// The first node, the anchor line of each batch that it made, and the lines that bring another node the files
-/// of all of them.
+/// The first node, the anchor line of each of its batches, and the lines that give another node the
+/// files of all of them.
 #[derive(Drop)]
 pub struct Batches<N: Peer> {
     pub talk: Talk<N>,
@@ -27,7 +27,7 @@ pub struct Batches<N: Peer> {
     pub files: List<Bytes>,
 }
 
-/// What the first node makes of all rounds.
+/// The batches of the first node in all rounds.
 pub fn all_batches<N: Peer>(
     alloc: Global,
     plan: Plan,
@@ -57,7 +57,7 @@ fn no_batches<N: Peer>(alloc: Global) -> Result<Batches<N>, WantOfMemory>
     })
 }
 
-// The batch of a round, behind those before.
+// The batch of a round, after the earlier ones.
 fn batch<N: Peer>(
     alloc: Global,
     identities: &[Identity],
@@ -86,7 +86,7 @@ fn batch<N: Peer>(
     })
 }
 
-// Tells the requests of a round.
+// Sends the requests of a round.
 fn tell_round<N: Peer>(
     alloc: Global,
     identities: &[Identity],
@@ -114,7 +114,6 @@ fn line_of(identity: &Identity, round: u32) -> &[u8]
     }
 }
 
-// The line of a batch's anchor.
 fn anchor_line(alloc: Global, round: u32, anchor: &[u8]) -> Result<Bytes, WantOfMemory>
     ensures { IfOk result (λ line. line ≡ anchor_line round anchor.now) }
 {
@@ -127,7 +126,7 @@ fn anchor_line(alloc: Global, round: u32, anchor: &[u8]) -> Result<Bytes, WantOf
 
 // ---- replies
 
-// What stands behind the first space of a line, or nothing.
+// The text after the first space of a line, or nothing.
 fn behind_one(line: &[u8]) -> &[u8]
     ensures { result.now ≡ behind_one line.now }
 {
@@ -137,7 +136,6 @@ fn behind_one(line: &[u8]) -> &[u8]
     }
 }
 
-// The anchor string in the reply to a flush.
 #[tactic(auto, unfolding(crate::specs::Rounds::anchor_in))]
 fn anchor_in(reply: &[u8]) -> &[u8]
     ensures { result.now ≡ anchor_in reply.now }
@@ -146,7 +144,7 @@ fn anchor_in(reply: &[u8]) -> &[u8]
     word
 }
 
-// The line that brings another node the file of this line.
+// The line that gives another node the file of this line.
 #[tactic(auto, unfolding(crate::specs::Rounds::content_line))]
 fn content_line(alloc: Global, line: &[u8]) -> Result<Bytes, WantOfMemory>
     ensures { IfOk result (λ content. content ≡ content_line line.now) }
@@ -156,7 +154,7 @@ fn content_line(alloc: Global, line: &[u8]) -> Result<Bytes, WantOfMemory>
     Ok(content)
 }
 
-// Puts the lines of the files of a reply behind the others: the files stand in the lines behind its first.
+// Appends the lines of the files in a reply: they are in its lines after the first.
 fn push_files(alloc: Global, files: &mut List<Bytes>, reply: &[u8]) -> Result<(), WantOfMemory>
     ensures { OnOk result (files.new ≡ files.old ++ content_lines reply.now) }
 {
@@ -169,7 +167,7 @@ fn push_files(alloc: Global, files: &mut List<Bytes>, reply: &[u8]) -> Result<()
     Ok(())
 }
 
-// What stands behind the first line.
+// The text after the first line.
 fn behind_line(reply: &[u8]) -> &[u8]
     ensures { whole_lines result.now ≡ drop 1 (whole_lines reply.now) }
 {

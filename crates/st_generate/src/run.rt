@@ -14,8 +14,8 @@ use st_exchange::Peer;
 use st_io::{Failed, Sink};
 use std::alloc::Global;
 
-/// Writes the summary of a plan to a sink, and answers a status: 0 where the whole of it is written and the
-/// sink is finished, 3 where the sink failed, after a beginning of it, and 6 where memory could not be had,
+/// Writes the summary of a plan to a sink, and returns a status: 0 if it is written completely and
+/// the sink is finished, 3 if the sink failed, after a prefix was written, and 6 if memory ran out,
 /// before anything is written. There is no other.
 pub fn run_generate<N: Peer, K: Sink>(
     alloc: Global,
@@ -43,7 +43,7 @@ pub fn run_generate<N: Peer, K: Sink>(
     }
 }
 
-// Writes all of it and finishes, or writes a front of it where the sink fails.
+// Writes all of it and finishes, or writes a prefix if the sink fails.
 fn write_whole<K: Sink>(sink: &mut K, text: &[u8]) -> Result<(), Failed>
     ensures ok { OnOk result (Appends (K.written sink.old) (K.written sink.new) text.now) }
     ensures front { WritesFront text.now (K.written sink.old) (K.written sink.new) }

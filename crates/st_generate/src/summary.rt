@@ -14,10 +14,12 @@ use st_exchange::Peer;
 use st_workload::{all_identities, events};
 use std::alloc::Global;
 
-/// Makes the workload of a plan, hands it to two nodes, and sums up what they made of it, in nine lines that
-/// each end with a line feed. It works in memory alone, and both nodes count their work there.
+/// Makes the workload of a plan, gives it to two nodes, and summarizes the result in nine lines
+/// that each end with a line feed. Everything is in memory, and the work of both nodes is counted
+/// there.
 ///
-/// It takes the time of a key for each identifier, of a signature for each update, and of two nodes.
+/// It takes the time of a key for each identifier, of a signature for each update, and of two
+/// nodes.
 #[tactic(auto, unfolding(crate::specs::Summary::summary))]
 pub fn generate<N: Peer>(alloc: Global, plan: Plan, work: &mut Work) -> Result<Bytes, WantOfMemory>
     requires { plan.rounds ≤ most_rounds }
@@ -27,7 +29,7 @@ pub fn generate<N: Peer>(alloc: Global, plan: Plan, work: &mut Work) -> Result<B
     Ok(tell_ends(alloc, plan, &ends)?)
 }
 
-// How the two nodes end.
+// The final states of the two nodes.
 #[tactic(auto, unfolding(crate::specs::Summary::ends_of))]
 fn ends_of<N: Peer>(alloc: Global, plan: Plan, work: &mut Work) -> Result<Ends<N>, WantOfMemory>
     requires { plan.rounds ≤ most_rounds }
@@ -39,7 +41,7 @@ fn ends_of<N: Peer>(alloc: Global, plan: Plan, work: &mut Work) -> Result<Ends<N
     Ok(ask_all(alloc, plan, identities.as_slice(), ends, work)?)
 }
 
-// The two nodes before they are asked.
+// The two nodes before identifiers are resolved.
 fn begin_ends<N: Peer>(
     alloc: Global,
     plan: Plan,
@@ -67,7 +69,7 @@ fn begin_ends<N: Peer>(
     })
 }
 
-// The second node, once it got all events.
+// The second node, after it received all events.
 fn feed<N: Peer>(
     alloc: Global,
     plan: Plan,
@@ -82,7 +84,7 @@ fn feed<N: Peer>(
     Ok(tell_all(alloc, lines.as_slice(), talk, work)?)
 }
 
-// The nine lines of a workload that ended so.
+// The nine lines of a workload with these final states.
 fn tell_ends<N: Peer>(alloc: Global, plan: Plan, ends: &Ends<N>) -> Result<Bytes, WantOfMemory>
     requires { plan.rounds ≤ most_rounds }
     ensures { IfOk result (λ text. text ≡ lines_of plan ends.now) }
@@ -102,7 +104,7 @@ fn tell_ends<N: Peer>(alloc: Global, plan: Plan, ends: &Ends<N>) -> Result<Bytes
     Ok(text)
 }
 
-// Puts a line of a word and a number behind the text.
+// Appends a line of a word and a number to the text.
 fn push_line(alloc: Global, text: &mut Bytes, word: &str, n: u64) -> Result<(), WantOfMemory>
     ensures { OnOk result (text.new ≡ text.old ++ summary_line word.now n) }
 {

@@ -7,7 +7,7 @@ use st_exchange::Peer;
 use std::alloc::Global;
 use std::marker::Model;
 
-/// How many lines a node accepted.
+/// The number of lines that a node accepted.
 #[derive(Clone, Copy, Debug, PartialEq, Eq)]
 pub struct Accepted {
     /// Requests that it queued.
@@ -20,13 +20,13 @@ pub struct Accepted {
     pub files: u64,
 }
 
-/// A node that is told lines, and how many of them it accepted. It reads at most five files for each
-/// anchor that it accepted.
+/// A node that receives lines, and how many of them it accepted. It reads at most five files for
+/// each anchor that it accepts.
 #[derive(Drop)]
 pub struct Talk<N: Peer> {
     node: N,
     accepted: Accepted,
-    // How many files were read in all of its calls.
+    // The number of files read in all of its calls.
     read: u64,
 }
 
@@ -45,7 +45,7 @@ impl<N: Peer> Model for Talk<N> {
 }
 
 impl<N: Peer> Talk<N> {
-    /// A node before anything was told.
+    /// A node before any line.
     #[tactic(auto, unfolding(crate::specs::Talk::new_talk))]
     pub fn new(alloc: Global) -> Result<Talk<N>, WantOfMemory>
         ensures { IfOk result (λ talk. talk ≡ new_talk N.peer) }
@@ -65,7 +65,7 @@ impl<N: Peer> Talk<N> {
         Ok(talk)
     }
 
-    /// Tells a line, and gives the reply.
+    /// Sends a line, and returns the reply.
     pub fn tell(
         self,
         alloc: Global,
@@ -102,8 +102,8 @@ impl<N: Peer> Talk<N> {
         self.accepted
     }
 
-    /// The line that tells whether it read at most five files for each anchor that it accepted, which it
-    /// always did.
+    /// The line that says whether it read at most five files for each anchor that it accepted,
+    /// which it always did.
     pub fn within_line(&self) -> &'static str
         ensures { result.now ≡ codes "filesWithin yes\n" }
     {
@@ -115,7 +115,7 @@ impl<N: Peer> Talk<N> {
     }
 }
 
-/// Tells these lines, one after the other.
+/// Sends these lines, one after another.
 pub fn tell_all<N: Peer>(
     alloc: Global,
     lines: &[Bytes],
@@ -132,7 +132,7 @@ pub fn tell_all<N: Peer>(
     Ok(talk)
 }
 
-// A node that was told one line more, its reply, and what it then has accepted and read.
+// A node after one more line, its reply, and the new counts of accepted lines and reads.
 struct Told<N> {
     node: N,
     reply: Bytes,
@@ -140,7 +140,7 @@ struct Told<N> {
     read: u64,
 }
 
-// Tells a node a line.
+// Sends a line to a node.
 fn tell_node<N: Peer>(
     alloc: Global,
     node: N,
@@ -166,7 +166,7 @@ fn tell_node<N: Peer>(
     })
 }
 
-// What was accepted and read, with one line more.
+// The counts of accepted lines and of reads, after one more line.
 fn count_all(
     accepted: Accepted,
     read: u64,
@@ -182,7 +182,7 @@ fn count_all(
     Ok((accepted, read))
 }
 
-// What was accepted, with one line more.
+// The counts of accepted lines, after one more line.
 #[tactic(auto, unfolding(crate::specs::Talk::counted))]
 fn count(accepted: Accepted, line: &[u8], reply: &[u8]) -> Result<Accepted, WantOfMemory>
     ensures { IfOk result (λ more. more ≡ counted line.now reply.now accepted) }
@@ -199,7 +199,7 @@ fn count(accepted: Accepted, line: &[u8], reply: &[u8]) -> Result<Accepted, Want
     })
 }
 
-/// One more where it is so. Before a count has no room for one more, memory has none for what is counted.
+/// One more if the condition holds. Memory runs out before a count can overflow.
 pub fn plus_one_if(count: u64, holds: bool) -> Result<u64, WantOfMemory>
     ensures { IfOk result (λ more. more ≡ count + one_if holds) }
 {
@@ -209,7 +209,7 @@ pub fn plus_one_if(count: u64, holds: bool) -> Result<u64, WantOfMemory>
     }
 }
 
-// What was read, with what a counter has grown by.
+// The reads so far, plus the growth of a counter.
 fn plus_grown(read: u64, before: u64, now: u64) -> Result<u64, WantOfMemory>
     ensures { IfOk result (λ more. more + before ≡ read + now) }
 {
@@ -222,7 +222,7 @@ fn plus_grown(read: u64, before: u64, now: u64) -> Result<u64, WantOfMemory>
     }
 }
 
-/// Whether a text begins with this front.
+/// Whether a text has this prefix.
 pub fn begins_with(front: &[u8], text: &[u8]) -> bool
     ensures { result ≡ begins_with front.now text.now }
 {

@@ -14,7 +14,7 @@ use st_base::{List, WantOfMemory};
 use st_canon::{Json, Object, is_text_if_there, read, some_list, write};
 use std::alloc::Global;
 
-// An object of fixed members, which are put in another order than they are listed.
+// An object of fixed members, put in another order than they are listed.
 #[tactic(auto, unfolding(st_plain::proofs::OnLiterals::names_on_literals))]
 fn pair_of(alloc: Global, first: Json, second: Json) -> Result<Json, WantOfMemory>
     ensures { IfOk result (λ json. plain json ≡ object_of ((codes "type", plain first) ∷ (codes "deltaHash", plain second) ∷ [])) }
@@ -25,7 +25,7 @@ fn pair_of(alloc: Global, first: Json, second: Json) -> Result<Json, WantOfMemor
     Ok(Json::Object(pair))
 }
 
-// An object of members that may be left out, which are put in the order in which they are listed.
+// An object of optional members, put in the order in which they are listed.
 fn step_of(alloc: Global, from: Option<Json>, ids: List<Json>) -> Result<Json, WantOfMemory>
     ensures { IfOk result (λ json. plain json ≡ object_of_some ((codes "from", option_map plain from) ∷ (codes "ids", some_list (map plain ids)) ∷ [])) }
 {
@@ -68,7 +68,7 @@ fn is_written(alloc: Global, json: &Json, text: &str) -> bool {
     }
 }
 
-// Whether a text is read, and what was read is written so.
+// Whether a text is read, and then written like this.
 fn is_respelled(alloc: Global, text: &str, canonical: &str) -> bool {
     match read(alloc, text.as_bytes()) {
         Ok(json) => is_written(alloc, &json, canonical),
@@ -76,7 +76,6 @@ fn is_respelled(alloc: Global, text: &str, canonical: &str) -> bool {
     }
 }
 
-// The object that is read from a text.
 fn object(alloc: Global, text: &str) -> Option<Object> {
     match read(alloc, text.as_bytes()) {
         Ok(Json::Object(object)) => Some(object),

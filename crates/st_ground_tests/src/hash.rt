@@ -17,7 +17,7 @@ fn has_text(alloc: Global, hash: &Hash, text: &str) -> bool {
     }
 }
 
-// Whether the hash of the bytes has this text, from which it is read again.
+// Whether the hash of the bytes has this text, and is read from it again.
 fn is_written(alloc: Global, bytes: &[u8], text: &str) -> bool {
     let hash = hash256(bytes);
     has_text(alloc, &hash, text)
@@ -103,7 +103,7 @@ fn is_copied(alloc: Global) -> Result<bool, WantOfMemory> {
     Ok(copied.as_slice() == [hash256(b"abc")].as_slice())
 }
 
-// `abc` has a digest that begins with 0xba, and `{}` one that begins with 0x44.
+// The digest of `abc` starts with 0xba, and that of `{}` with 0x44.
 #[test]
 fn hashes_are_copied_and_ordered_by_code_and_digest(rt: HostRuntime) -> Result<(), Fail> {
     assert!(rt; is_copied(rt.alloc())?);
@@ -116,7 +116,7 @@ fn is_refused(text: &[u8]) -> bool {
     read_hash(text) == Err(BadHash) && read_hash_at(text, 2) == Err(BadHash)
 }
 
-// Of `abc`, in turn: the last character has spare bits that are not zero; padding; the other
+// For `abc`, in turn: the last character has spare bits that are not zero; padding; the other
 // alphabet; a space; one character fewer or more; the code 0x13 or the length 0x21 in a text of 46
 // characters; the code 0x12 or 0x14 or the length 0x20 in one of 88; a digest of 63 or 65 bytes.
 #[test]

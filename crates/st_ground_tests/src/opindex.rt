@@ -38,7 +38,7 @@ impl Folder for Adds {
     }
 }
 
-// Gathers numbers into a list.
+// Collects numbers in a list.
 #[derive(Drop)]
 struct Gathers;
 
@@ -188,7 +188,7 @@ fn a_state_may_own_memory(rt: HostRuntime) -> Result<(), Fail> {
 
 const PLACES: usize = 30;
 
-// Whether a key has the items that its places have, in their order. A place with 0 has none.
+// Whether a key has the items of its places, in their order. A place with 0 has none.
 fn is_plain(alloc: Global, index: &Lists, items: &[u64], key: usize) -> Result<bool, WantOfMemory>
     requires { index.now.changes ≡ [] }
 {
@@ -209,7 +209,7 @@ fn cut_from(items: &mut [u64], place: usize) {
     }
 }
 
-// The index after a put or a cut at this place, and the items so.
+// The index after a put or a cut at this place, and the items likewise.
 fn changed(
     alloc: Global,
     index: Lists,
@@ -228,7 +228,7 @@ fn changed(
     Ok(index.put(alloc, (at / PLACES) as u64, place as u32, item)?)
 }
 
-// The number of the first change after which a key has other items than its places.
+// The number of the first change after which the items of a key differ from its places.
 fn first_other(alloc: Global, work: &mut Work) -> Result<Option<u64>, WantOfMemory> {
     let mut index = Index::new(alloc, Gathers)?;
     let mut items = vec![in alloc; 0u64; 3 * PLACES]?;

@@ -4,12 +4,12 @@ use st_scan::{CanonicalText, Entries, Scanned, entries_in, only_of};
 use std::alloc::Global;
 use std::test::Fail;
 
-// A file with its members in no order, and brackets, commas and marks in its texts.
+// A file with unordered members, and brackets, commas and marks in its texts.
 const FILE: &str =
     r#"{ "text": "a\"],\\", "list": [ 1, "]}", { "c": "\"}" }, [], {} ], "object": { "y": [], "x": -70 },
     "empty": [], "none": null, "plain": "na\u00efve", "q\"": true }"#;
 
-// Names, and the texts of their values. Nothing is under the last.
+// Names, and the texts of their values. The last has none.
 const MEMBERS: &str = r#"empty|[]
 list|[1,"]}",{"c":"\"}"},[],{}]
 none|null
@@ -19,12 +19,10 @@ q"|true
 text|"a\"],\\"
 other|"#;
 
-// Whether this is the canonical text of the value.
 fn is(value: &Scanned<'_>, text: &str) -> bool {
     value.as_slice() == text.as_bytes()
 }
 
-// Whether the file has this value under this name.
 fn has(file: &Scanned<'_>, name: &str, value: &str) -> bool {
     match file.member(name) {
         Some(found) => is(&found, value),
@@ -48,7 +46,7 @@ fn members_are_found_by_name(rt: HostRuntime) -> Result<(), Fail> {
     Ok(())
 }
 
-// Whether the members come in turn under these names: a text, a list, and no more.
+// Whether the members have these names in this order: a text, a list, and no more.
 fn come_in_turn(file: &Scanned<'_>, first: &str, second: &str) -> bool {
     let Some(mut members) = file.members() else {
         return false;
@@ -63,7 +61,7 @@ fn come_in_turn(file: &Scanned<'_>, first: &str, second: &str) -> bool {
     is(&one, "\"x\"") && is(&other, "[1]") && members.is_empty()
 }
 
-// Whether the members under these names are a text and a list, and there are no others.
+// Whether the members of these names are a text and a list, and there are no others.
 fn are_both(file: &Scanned<'_>, text: &str, list: &str) -> bool {
     match file.both_members(text, list) {
         Some((one, other)) => is(&one, "\"x\"") && is(&other, "[1]"),
@@ -82,7 +80,7 @@ fn members_come_in_turn(rt: HostRuntime) -> Result<(), Fail> {
     Ok(())
 }
 
-// Whether these are the texts of the entries, one a line.
+// Whether these are the texts of the entries, one on each line.
 fn are(entries: &mut Entries<'_>, lines: &str) -> bool {
     for line in lines.lines() {
         match entries.next() {
@@ -97,7 +95,7 @@ fn are(entries: &mut Entries<'_>, lines: &str) -> bool {
     entries.next().is_none()
 }
 
-// Whether the list has these entries, and so many.
+// Whether the list has these entries, and this many.
 fn lists(alloc: Global, list: &str, lines: &str, count: usize) -> bool {
     match CanonicalText::read_json(alloc, list.as_bytes()) {
         Ok(Some(text)) => {
@@ -123,7 +121,7 @@ fn entries_come_one_by_one(rt: HostRuntime) -> Result<(), Fail> {
     Ok(())
 }
 
-// Whether the JSON is this word, and bare where it should be.
+// Whether the JSON is this word, and without escapes if it should be.
 fn is_word(alloc: Global, json: &str, word: &str, bare: bool) -> bool {
     let Ok(canonical) = CanonicalText::read(alloc, json.as_bytes()) else {
         return false;
@@ -155,7 +153,7 @@ fn texts_are_told(rt: HostRuntime) -> Result<(), Fail> {
     Ok(())
 }
 
-// Whether the text is this word, wherever in the file it is looked for.
+// Whether the text is this word, at any offset of the file.
 fn is_kept(
     alloc: Global,
     value: &Scanned<'_>,
@@ -174,7 +172,7 @@ fn is_kept(
     Ok(true)
 }
 
-// The same of JSON that is a file by itself.
+// The same for JSON that is a file by itself.
 fn is_kept_of(alloc: Global, json: &str, word: &str) -> bool {
     let (Ok(canonical), Ok(bytes)) = (
         CanonicalText::read(alloc, json.as_bytes()),
@@ -199,7 +197,7 @@ fn texts_may_be_kept_in_their_file(rt: HostRuntime) -> Result<(), Fail> {
     Ok(())
 }
 
-// Whether it holds of a header and its lists, which are the only member.
+// Whether the test holds for a header and its lists, which are the only member.
 fn has_shape(alloc: Global, json: &str, lists: &str) -> bool {
     let Ok(canonical) = CanonicalText::read(alloc, json.as_bytes()) else {
         return false;
@@ -230,7 +228,8 @@ fn shapes_are_told(rt: HostRuntime) -> Result<(), Fail> {
     Ok(())
 }
 
-// The delta of a create that another program made. Two brackets open in it, so it nests three deep at most.
+// The delta of a create that another program made. It has two opening brackets, so it nests at most
+// three deep.
 const DELTA: &str =
     "{\"patches\":[],\"updateCommitment\":\"EiA-HpZ-m3k-kI-OroPHTbqbzMzmpVNbS0Yr2ZlFN7_hXA\"}";
 

@@ -12,7 +12,7 @@ use Rattle.st_hss.specs.Parts.{PartsHold}
 use Rattle.st_hss.specs.Signed.{IsHssSignature}
 use Rattle.st_hss.specs.declared.public.HssPublic.{HssPublic}
 
--- bytes cut into four parts, of which the second has n bytes
+-- bytes split into four parts, the second of n bytes
 pub record IsCut (n : ℕ) (signature a b c d : List ℕ) : Type 0 where
   pub whole : signature ≡ a ++ b ++ c ++ d
   pub a_long : length a ≡ 4
@@ -22,7 +22,7 @@ pub record IsCut (n : ℕ) (signature a b c d : List ℕ) : Type 0 where
 length-parts : (a b c d : List ℕ) → length (a ++ b ++ c ++ d) ≡ length a + length b + length c + length d
 length-parts a b c d = omega (arith, length-append (a ++ b ++ c) d, length-append (a ++ b) c, length-append a b)
 
--- two cuts are one
+-- two splits are the same
 record IsSame (a b c d a' b' c' d' : List ℕ) : Type 0 where
   a_is : a ≡ a'
   b_is : b ≡ b'
@@ -50,11 +50,11 @@ same_parts n signature a b c d a' b' c' d' one other =
     let two = same_cut a b a' b' three.front_is (one.b_long ∙ sym other.b_long) in
     record { a_is = two.front_is; b_is = two.back_is; c_is = three.back_is; d_is = four.back_is }
 
--- how many bytes a signature under a key has
+-- the size of a signature under a key
 abbrev pub signature_len : PublicKey → ℕ
 signature_len key = 44 + 32 * chains key.ots + 32 * height key.tree
 
--- a signature is cut as it says
+-- a signature has this split
 pub cut_of : (public : HssPublic) (message signature : List ℕ) → (is : IsHssSignature public message signature)
     → IsCut (signature_len public.top) signature (u32str 1) is.key_signature is.key_text is.message_signature
 cut_of public message signature is = record {
@@ -64,14 +64,13 @@ cut_of public message signature is = record {
   c_long = length-public_in is.key_text is.lower is.lower_is;
 }
 
--- so it has at least so many bytes
+-- so it has at least this many bytes
 pub least : (public : HssPublic) (message signature : List ℕ) → IsHssSignature public message signature
     → 60 + signature_len public.top ≤ length signature
 least public message signature is =
     let cut = cut_of public message signature is in
     omega (arith, ap length cut.whole, length-parts (u32str 1) is.key_signature is.key_text is.message_signature, cut.a_long, cut.b_long, cut.c_long)
 
--- the parts that are cut out of a signature hold
 pub parts_hold_of : (public : HssPublic) (message signature a b c d : List ℕ) → IsCut (signature_len public.top) signature a b c d
     → IsHssSignature public message signature
     → PartsHold public message a b c d

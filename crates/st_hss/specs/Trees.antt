@@ -1,4 +1,4 @@
--- What is kept from one signature to the next: the top key, and all that the counters of one lower key share.
+-- Data stored from one signature to the next: the top key, and the parts that all counters of one lower key share.
 use Rattle.std.specs.Prelude.{◌≡◌, ◌+◌, Option, IfSome}
 use Rattle.st_lms.specs.Keys.{SecretKey}
 use Rattle.st_vault.specs.Children.{child_of}
@@ -6,7 +6,7 @@ use Rattle.st_hss.specs.Uses.{head_of}
 use Rattle.st_hss.specs.declared.trees.Lower.{Lower}
 use Rattle.st_hss.specs.declared.trees.Trees.{Trees}
 
--- the lower key that its leaf of the top key signs, and what stands before its signatures
+-- the lower key of a leaf of the top key, and the prefix of its signatures
 pub record IsLowerOf (secret : SecretKey) (lower : Lower) : Type 0 where
   pub head : lower.head ≡ head_of secret lower.leaf
   pub signer : lower.signer ≡ child_of secret (1 + lower.leaf)
@@ -16,6 +16,6 @@ pub record IsTreesOf (secret : SecretKey) (trees : Trees) : Type 0 where
   pub top : trees.top ≡ child_of secret 0
   pub lower : IsLowerOf secret trees.lower
 
--- they are that, where they are kept
+-- the stored trees, if any, are these
 abbrev pub IfKept : SecretKey → Option Trees → Type 0
 IfKept secret kept = IfSome kept (IsTreesOf secret)

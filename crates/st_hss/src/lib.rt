@@ -1,5 +1,5 @@
-//! Signatures of two levels (HSS, RFC 8554, section 6): a top key signs 32 lower keys, each of which
-//! signs 32 messages. A vault with 1,024 counters keeps the key of them all.
+//! Signatures of two levels (HSS, RFC 8554, section 6): a top key signs 32 lower keys, each of
+//! which signs 32 messages. All are derived from the key of a vault with 1,024 counters.
 #![tactic(auto)]
 
 mod laws;

@@ -9,11 +9,11 @@ use st_base::{Bytes, WantOfMemory};
 use st_vault::Counter;
 use std::alloc::Global;
 
-/// How many messages a lower key signs, and how many lower keys the top key.
+/// The number of messages that a lower key signs, and of lower keys that the top key signs.
 pub(crate) const LEAVES: u32 = 32;
 
-/// The signature of a message with this counter, by the trees that it needs. After want of memory the
-/// counter is lost.
+/// The signature of a message with this counter, with the trees that it needs. If it runs out of
+/// memory, the counter is lost.
 pub(crate) fn signature_with(
     alloc: Global,
     counter: Counter,

@@ -9,26 +9,27 @@ use st_lms::Signer;
 use st_vault::Vault;
 use std::alloc::Global;
 
-/// The top key and one lower key, each with all nodes of its tree, so that a signature computes no leaf.
+/// The top key and one lower key, each with all nodes of its tree, so that a signature computes no
+/// leaf.
 #[derive(Drop)]
 pub(crate) struct Trees {
     pub(crate) top: Signer,
     pub(crate) lower: Lower,
 }
 
-/// A lower key, which serves 32 signatures.
+/// A lower key, for 32 signatures.
 #[derive(Drop)]
 pub(crate) struct Lower {
     /// The leaf of the top key that signs the public key of this one.
     pub(crate) leaf: u32,
-    /// What stands before each of its signatures: the number of signed public keys, the signature of
-    /// its public key, and that key.
+    /// The common prefix of its signatures: the number of signed public keys, the signature of its
+    /// public key, and that key.
     pub(crate) head: Bytes,
     pub(crate) signer: Signer,
 }
 
-/// The trees with the lower key for this leaf of the top key: those that are kept, if it is that one, or
-/// what is made anew.
+/// The trees with the lower key for this leaf of the top key: the stored ones, if they are for it,
+/// or new ones.
 pub(crate) fn trees_for(
     alloc: Global,
     vault: &Vault,
@@ -76,7 +77,7 @@ fn new_lower(alloc: Global, vault: &Vault, top: &Signer, leaf: u32) -> Result<Lo
     Ok(Lower { leaf, head, signer })
 }
 
-/// What stands before the signatures of the lower key with these 56 bytes.
+/// The prefix of the signatures of the lower key with these 56 bytes.
 fn new_head(
     alloc: Global,
     vault: &Vault,

@@ -25,14 +25,14 @@ use std::marker::Model;
 /// The LMS type of a tree of height 10.
 const TREE: u32 = 6;
 
-/// How many counters a vault of that type has.
+/// The number of counters of a vault of that type.
 const COUNTERS: u32 = LEAVES * LEAVES;
 
-/// A vault with 1,024 counters that signs with two levels. Its LMS key itself signs nothing here: its
-/// child 0 is the top key, and the children from 1 on are the lower keys.
+/// A vault with 1,024 counters that signs with two levels. Its LMS key itself signs nothing here:
+/// its child 0 is the top key, and the children from 1 on are the lower keys.
 ///
-/// Once it has signed it keeps the nodes of two trees of height 5, 2,016 bytes each, and what stands before
-/// the signatures of one lower key, 1,352 to 8,744 bytes. Contracts see the vault.
+/// After the first signature it stores the nodes of two trees of height 5, 2,016 bytes each, and
+/// the prefix of the signatures of one lower key, 1,352 to 8,744 bytes. Contracts see the vault.
 #[derive(Drop)]
 pub struct HssVault {
     vault: Vault,
@@ -52,7 +52,7 @@ impl Model for HssVault {
 }
 
 impl fmt::Debug for HssVault {
-    // The seed is not written.
+    // The seed is not printed.
     fn fmt<W: fmt::Write>(&self, f: &mut fmt::Formatter<W>) -> fmt::Result {
         write!(f, "HssVault")
     }
@@ -61,7 +61,8 @@ impl fmt::Debug for HssVault {
 impl HssVault {
     /// The vault, for signatures of two levels. It computes nothing.
     ///
-    /// `WrongTree` comes exactly where the LMS type of the vault's key isn't 6; it hands the vault back.
+    /// The result is `WrongTree` if and only if the LMS type of the vault's key isn't 6; it returns
+    /// the vault.
     pub fn new(vault: Vault) -> Result<HssVault, HssVaultRefused>
         ensures wrong_tree { IsErr result ↔ (vault.key.tree ≢ 6) }
         ensures value { IfOk result (λ hss. hss ≡ vault) }
@@ -73,14 +74,14 @@ impl HssVault {
         Ok(HssVault { vault, kept: None })
     }
 
-    /// The vault, whose counters are as they are now.
+    /// The vault, with its present counters.
     pub fn vault(&self) -> &Vault
         ensures { result.now ≡ self.now }
     {
         &self.vault
     }
 
-    /// The same, handed back. What was kept for signatures is gone.
+    /// Returns the vault. The data stored for signatures is dropped.
     pub fn into_vault(self) -> Vault
         ensures { result ≡ self }
     {
@@ -88,8 +89,8 @@ impl HssVault {
         vault
     }
 
-    /// The public key that the signatures are verified with. It computes the leaves of the top key, but
-    /// where something was signed.
+    /// The public key that verifies the signatures. It computes the leaves of the top key, unless
+    /// they are stored from a signature.
     pub fn public(&self) -> HssPublic
         ensures { result ≡ hss_public_of self.now.key }
     {
@@ -105,13 +106,14 @@ impl HssVault {
 
     /// Spends the next counter on the disk, and then signs the message with it.
     ///
-    /// `Exhausted` comes exactly where no counter is left; it hands the vault back, and the disk is as
-    /// it was. `DiskFault` comes only where the disk's count of faults rose: the vault is gone, the
-    /// counter may be spent or not, and the disk is to be opened again. After want of memory the vault
-    /// is gone too, and the disk is as it was, or the counter is spent and lost.
+    /// The result is `Exhausted` if and only if no counter is left; it returns the vault, and the
+    /// disk is unchanged. It is `DiskFault` only if the disk's count of faults rose: the vault is
+    /// lost, the counter may be spent or not, and the disk must be opened again. If it runs out of
+    /// memory, the vault is lost too, and the disk is unchanged, or the counter is spent and lost.
     ///
-    /// The first signature computes the leaves of the top key, and the first with each lower key those of
-    /// that, before the counter is spent; what is kept of it serves the others, which compute none.
+    /// The first signature computes the leaves of the top key, and the first with each lower key
+    /// those of that key, before the counter is spent; they are stored for the later signatures,
+    /// which compute none.
     #[tactic(auto, using(crate::proofs::VaultLemmas::keeps_standing, crate::proofs::VaultLemmas::moments_standing))]
     pub fn sign<D: Disk>(
         self,
@@ -125,24 +127,24 @@ impl HssVault {
         ensures verifies { IfOk result (λ given. IsHssSignature (hss_public_of self.key) message.now given.1) }
         ensures untouched { left_of self ≡ 0 → disk.new ≡ disk.old }
 
-        // The counter was not spent. The disk reads as the vault that comes back, and the counter is
-        // spent in every image.
+        // The counter was not spent. The contents are the returned vault, and the counter is spent
+        // in every image.
         ensures unspent { OnOk result (IfTold (D.reads disk.old) (λ image. IsSpent image self.next → ⊥)) }
         ensures reads { IfOk result (λ given. ReadsAs (D.reads disk.new) given.0) }
         ensures told { OnOk result (IfTold (D.reads disk.old) (λ image. IsSome (D.reads disk.new))) }
         ensures durable { OnOk result (IfTold (D.reads disk.new) (Only (D.past disk.new))) }
         ensures spent { OnOk result (IfTold (D.reads disk.old) (λ image. SpentInAll (D.past disk.new) self.next)) }
 
-        // After want of memory nothing was spent, or the counter is and is lost.
+        // If it ran out of memory, nothing was spent, or the counter was and is lost.
         ensures lost { IsErrOf result HssSignRefused.WantOfMemory → (disk.new ≡ disk.old)
             ⊎ IfTold (D.reads disk.old) (λ image. SpentInAll (D.past disk.new) self.next) }
 
-        // Where a stop before the call leaves the vault, a stop at any moment of the call leaves the vault
-        // before its next counter was spent, or after.
+        // If a stop before the call leaves the vault, a stop at any moment of the call leaves the
+        // vault before its next counter was spent, or after.
         ensures moments { AllOpenAs (Ok self) (D.past disk.old)
             → Leaves (IsBeforeOrAfter self) (D.past disk.old) (D.past disk.new) }
 
-        // What was spent in every image stays so at each moment of the call.
+        // Counters that were spent in every image stay so at each moment of the call.
         ensures stays { IfTold (D.reads disk.old) (λ image. KeepsSpent (D.past disk.old) (D.past disk.new)) }
         ensures later { D.faults disk.old ≤ D.faults disk.new }
     {
@@ -176,7 +178,7 @@ impl HssVault {
     }
 }
 
-/// The one-time type of a vault's key is one that is known.
+/// The one-time type of a vault's key is known.
 #[tactic(auto, using(crate::proofs::KeyLemmas::known_from_child))]
 fn know_key(vault: &Vault)
     ensures { IsOneTimeType vault.now.key.ots }

@@ -45,7 +45,7 @@ has_core_members max_lock_id index =
     && (is_uri_if_there (member_in (codes "provisionalIndexFileUri") index)
     && is_lock_id_if_there max_lock_id (member_in (codes "writerLockId") index))
 
--- each entry is an object with exactly its members, which are hash texts of the version
+-- each entry is an object with exactly its members, and its hash texts are those of the version
 unfoldable pub has_core_entries : ℕ → Option Plain → Bool
 has_core_entries version index =
     each_is (create_of version) (operations_of (codes "create") index)

@@ -16,7 +16,7 @@ pub enum CoreRule {
     /// A URI member isn't a hash text, or `writerLockId` isn't a text of at most `max_lock_id`
     /// bytes. Both may be missing.
     C4,
-    /// An entry isn't an object with exactly its members, or one of these isn't a hash text.
+    /// An entry isn't an object with exactly its members, or has a hash text that isn't one.
     C5,
     /// There are more operations than the declared count.
     C6,

@@ -70,8 +70,8 @@ impl Copied for SuffixData {
     }
 }
 
-/// The suffix of an identifier with this suffix data: the hash of its canonical text, by the algorithm
-/// of its delta hash.
+/// The suffix of an identifier with this suffix data: the hash of its canonical text, by the
+/// algorithm of its delta hash.
 pub fn suffix_of(alloc: Global, suffix_data: &SuffixData) -> Result<Hash, WantOfMemory>
     ensures { IfOk result (λ suffix. suffix ≡ suffix_of suffix_data.now) }
 {

@@ -33,7 +33,6 @@ pub(crate) fn shares_one(
     Ok(false)
 }
 
-// The set of these hashes.
 fn set_of(alloc: Global, hashes: &[Hash]) -> Result<BTreeSet<Hash>, AllocError>
     ensures { IfOk result (IsFromIterResult ⟦<Hash as Ord>⟧.cmp hashes.now) }
 {

@@ -1,4 +1,4 @@
--- What a pick leaves is an image.
+-- The result of a pick is an image.
 use Rattle.std.proofs.Common.{◌≡◌, inr, ℕ, ◌+◌, ◌<◌, ◌≤◌, max, List, [], ◌∷◌, ◌++◌, length, get_or, take, drop, replicate, refl, sym, ◌∙◌, ap, subst, arith}
 use Rattle.std.proofs.lemmas.List.{length-replicate, reverse-append, take_more, take-append-drop}
 use Rattle.std.specs.Prelude.{reverse}
@@ -30,7 +30,7 @@ is_torn (Fill byte) written image within =
     subst (λ n. Torn written.at n image (torn_by (Fill byte) written image)) (length-replicate (length written.bytes) byte)
     (overwritten_is_torn written.at (replicate (length written.bytes) byte) image within)
 
--- an image of any pick is as long as what the bytes read as
+-- an image of any pick is as long as the contents
 length_crashed : (pick : Pick) (first : List ℕ) (steps : List Step) → AllBeganWithin first steps
     → length (crashed pick first steps) ≡ length (reads_after first steps)
 length_crashed pick first [] within = refl
@@ -53,13 +53,13 @@ pub is_image_of : (pick : Pick) (h : DiskHistory) → AllBeganWithin h.first h.s
 is_image_of pick h within image is =
     subst (Images (past_of h)) (sym is) (left_image h.first h.steps (length h.steps) (crashed pick h.first h.steps) (crash_is_image pick h.first h.steps within))
 
--- with the new bytes it is what the bytes read as
+-- with the new bytes it is the contents
 pub newest_crash : (first : List ℕ) (steps : List Step) → crashed New first steps ≡ reads_after first steps
 newest_crash first [] = refl
 newest_crash first (Wrote written ∷ earlier) = ap (overwritten written.at written.bytes) (newest_crash first earlier)
 newest_crash first (Synced ∷ earlier) = refl
 
--- one step more of those that are listed with the oldest first
+-- one more step of those listed with the oldest first
 one_more : (steps : List Step) (i : ℕ) (step : Step) → i < length steps → step ≡ get_or steps i step
     → reverse (take (i + 1) steps) ≡ step ∷ reverse (take i steps)
 one_more steps i step lt is =
@@ -75,7 +75,7 @@ so_far first steps i within =
     older first (reverse (drop i steps)) (reverse (take i steps))
     (subst (AllBeganWithin first) (ap reverse (sym (take-append-drop i steps)) ∙ reverse-append (take i steps) (drop i steps)) within)
 
--- what was read and what is torn, after the i oldest steps
+-- the contents and the torn image, after the i oldest steps
 pub record HasGone (pick : Pick) (first : List ℕ) (steps : List Step) (i : ℕ) (reads image : List ℕ) : Type 0 where
   pub reads_are : reads ≡ reads_after first (reverse (take i steps))
   pub image_is : image ≡ crashed pick first (reverse (take i steps))
@@ -86,7 +86,7 @@ begins_within pick first (Wrote written) earlier within = (within.0, omega (arit
 begins_within pick first Synced earlier within = tt
 
 module _ {pick : Pick} {first : List ℕ} {steps : List Step} {i : ℕ} {reads image : List ℕ} (gone : HasGone pick first steps i reads image) (step : Step) (lt : i < length steps) (is : step ≡ get_or steps i step) where
-  -- the next step begins within both
+  -- the next step starts within both
   pub next_begins : AllBeganWithin first (reverse steps) → BeginsWithin step reads image
   next_begins within =
       let next = subst (AllBeganWithin first) (one_more steps i step lt is) (so_far first steps (i + 1) within) in

@@ -1,4 +1,4 @@
--- What one step more leaves of a past.
+-- The effect of one more step on a past.
 use Rattle.std.proofs.Common.{◌≡◌, inl, inr, ⊎_elim, ℕ, suc, ◌<◌, ◌≤◌, List, [], ◌∷◌, length, refl, sym, subst, arith}
 use Rattle.st_io.specs.declared.history.Step.{Step}
 use Rattle.st_io.specs.declared.history.Step.TheVariants.{Wrote, Synced}
@@ -7,7 +7,7 @@ use Rattle.st_io.specs.Past.{Images, OneSync, AddsNone, Follow}
 use Rattle.st_io.specs.Tears.{Torn}
 use Rattle.st_io.proofs.TearLemmas.{torn_same, overwritten_is_torn}
 
--- no good sync came later than now
+-- no successful sync is later than now
 pub synced_by_now : (steps : List Step) (s : ℕ) → WasSynced steps s → s ≤ length steps
 synced_by_now [] s never = absurd never
 synced_by_now (Wrote written ∷ earlier) s was = omega (arith, synced_by_now earlier s was)
@@ -22,7 +22,7 @@ left_image first (step ∷ earlier) t c image = inl image
 none_since : (h : DiskHistory) (s : ℕ) → length h.steps < s → WasSynced h.steps s → ⊥
 none_since h s lt was = omega (arith, lt, synced_by_now h.steps s was)
 
--- a write more
+-- one more write
 module _ (at : ℕ) (bytes : List ℕ) (h : DiskHistory) (within : at ≤ length (reads_of h)) where
   torn_from : (c : List ℕ) → IsImage h.first (Wrote (record { at = at; bytes = bytes }) ∷ h.steps) c → (d : List ℕ) × Images (past_of h) d × Torn at (length bytes) d c
   torn_from c (inl is) = (reads_of h, left_now h.first h.steps (length h.steps), subst (Torn at (length bytes) (reads_of h)) (sym is) (overwritten_is_torn at bytes (reads_of h) within))
@@ -34,7 +34,7 @@ module _ (at : ℕ) (bytes : List ℕ) (h : DiskHistory) (within : at ≤ length
   pub follows_write : (new : DiskHistory) → new ≡ with_write at bytes h → Follow (Torn at (length bytes)) (past_of h) (past_of new)
   follows_write new is = subst (λ n. Follow (Torn at (length bytes)) (past_of h) (past_of n)) (sym is) torn_or_same
 
--- a good sync more
+-- one more successful sync
 read_then : (h : DiskHistory) → AddsNone (past_of h) (past_of (with_step Synced h))
 read_then h c = ⊎_elim (λ is. subst (Images (past_of h)) (sym is) (left_now h.first h.steps (length h.steps))) (λ was. was.1)
 

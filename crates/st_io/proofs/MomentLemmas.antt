@@ -1,5 +1,5 @@
--- Runs of calls of a disk: what a stop leaves over them, and what the disk then reads as. For crates that
--- say what holds at each moment of a call.
+-- Runs of calls of a disk: the images over them, and the contents afterwards. For crates with clauses about each
+-- moment of a call.
 use Rattle.std.proofs.Common.{◌≡◌, ◌∙◌, ℕ, List, Option, Some, sym, subst}
 use Rattle.st_io.proofs.PastLemmas.{adds_none, goes_on, more}
 use Rattle.st_io.specs.Past.{Past, AddsNoImage, GoesOn, Follow, Only, Leaves}
@@ -29,11 +29,11 @@ only_after a b old only ab x image = only x (ab.none x (b.earlier a.now b.now x 
 pub then_on : (P : List ℕ → Type 0) (a b c : Past) → Leaves P a b → Leaves P b c → Leaves P a c
 then_on P a b c first second = more P a b c first second.goes second.each
 
--- what holds of each image, by a weaker property
+-- a property of each image, weakened
 pub weaker : (P Q : List ℕ → Type 0) (a b : Past) → Leaves P a b → ((x : List ℕ) → P x → Q x) → Leaves Q a b
 weaker P Q a b leaves to = record { goes = leaves.goes; each = λ x left. to x (leaves.each x left) }
 
--- what a disk reads as stays the same
+-- the contents of a disk stay the same
 pub turns_same : (old new : Option (List ℕ)) (R : List ℕ → List ℕ → Type 0) → new ≡ old → ((x : List ℕ) → old ≡ Some x → R x x) → Turns old new R
 turns_same old new R same to = record {
   forward = λ x told. (x, same ∙ told, to x told);
@@ -54,7 +54,7 @@ turns_on a b c R S T to first second = record {
       (start.0, start.1, to start.0 at.0 z start.1 start.2 at.2);
 }
 
--- what a disk reads as, by a weaker relation
+-- the contents of a disk, by a weaker relation
 pub turns_weaker : (old new : Option (List ℕ)) (R S : List ℕ → List ℕ → Type 0) → ((x y : List ℕ) → old ≡ Some x → R x y → S x y)
     → Turns old new R → Turns old new S
 turns_weaker old new R S to turns = record {

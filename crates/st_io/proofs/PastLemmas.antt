@@ -1,4 +1,4 @@
--- How a run of calls of a disk goes on. For crates that speak of stops inside a call.
+-- How a disk continues over a run of calls. For crates with clauses about stops inside a call.
 use Rattle.std.proofs.Common.{◌⊎◌, inl, inr, ⊎_elim, ℕ, zero, suc, ◌<◌, ◌≤◌, List, arith}
 use Rattle.st_io.specs.Past.{Past, GoesOn, AddsNone, LeftSinceSync, Leaves, SplitsSinceSync}
 
@@ -21,7 +21,7 @@ goes_on a b c ab bc = record {
       (λ new. first.0 (second.0 new), λ was. second.1 (first.1 was));
 }
 
--- one call more
+-- one more call
 pub more : (P : List ℕ → Type 0) (a b c : Past) → Leaves P a b → GoesOn b c → ((x : List ℕ) → c.left_since b.now x → P x) → Leaves P a c
 more P a b c so_far goes since = record {
   goes = goes_on a b c so_far.goes goes;
@@ -40,7 +40,7 @@ le_or_lt zero n = inl (omega arith)
 le_or_lt (suc s) zero = inr (omega arith)
 le_or_lt (suc s) (suc n) = ⊎_elim (λ le. inl (omega (arith, le))) (λ lt. inr (omega (arith, lt))) (le_or_lt s n)
 
--- the images from the first good sync on split at a later moment
+-- the images from the first successful sync on split at a later moment
 pub splits_since_sync : (b c : Past) → GoesOn b c → (t : ℕ) (x : List ℕ) → LeftSinceSync c t x → LeftSinceSync b t x ⊎ c.left_since b.now x
 splits_since_sync b c goes t x left =
     ⊎_elim
@@ -51,7 +51,7 @@ splits_since_sync b c goes t x left =
     (λ lt. inr (c.earlier b.now left.0 x (omega (arith, lt)) left.3))
     (le_or_lt left.0 b.now)
 
--- and both parts are among them, where a good sync has come by then
+-- and both parts are among them, if there was a successful sync by then
 pub keeps_since_sync : (b c : Past) → GoesOn b c → (t s : ℕ) → t < s → s ≤ b.now → b.synced s → (x : List ℕ) → LeftSinceSync b t x ⊎ c.left_since b.now x → LeftSinceSync c t x
 keeps_since_sync b c goes t s lt le synced x = ⊎_elim
     (λ was. ⊎_elim

@@ -1,4 +1,4 @@
--- What is torn and what isn't. For crates that ask what an image stands for.
+-- Torn and unchanged bytes. For crates that ask what an image means.
 use Rattle.std.proofs.Common.{◌≡◌, ⊎_elim, ℕ, ◌+◌, ◌-◌, ◌≤◌, max, List, ◌++◌, length, take, drop, replicate, refl, sym, ◌∙◌, ap, arith, append_assoc, length-append, length-drop}
 use Rattle.std.proofs.Math.ListN.{drop_of_length-le}
 use Rattle.std.proofs.lemmas.Bool.{cases_lt}
@@ -9,7 +9,7 @@ use Rattle.st_io.specs.Tears.{overwritten, Torn}
 pub torn_same : (at n : ℕ) (xs : List ℕ) → Torn at n xs xs
 torn_same at n xs = record { before = refl; after = refl; no_shorter = omega arith; no_longer = omega arith }
 
--- a write that begins within the bytes or at their end
+-- a write that starts within the bytes or at their end
 module _ (at : ℕ) (bytes old : List ℕ) (within : at ≤ length old) where
   front : length (take at old ++ bytes) ≡ at + length bytes
   front = length-append (take at old) bytes ∙ ap (λ k. k + length bytes) (length-take-le at old within)
@@ -17,7 +17,7 @@ module _ (at : ℕ) (bytes old : List ℕ) (within : at ≤ length old) where
   pub length_overwritten : length (overwritten at bytes old) ≡ max (length old) (at + length bytes)
   length_overwritten = omega (arith, length-append (take at old ++ bytes) (drop (at + length bytes) old), front, length-drop (at + length bytes) old)
 
-  -- one that is done leaves one of the images that it may leave
+  -- a complete write leaves one of the images that it may leave
   pub overwritten_is_torn : Torn at (length bytes) old (overwritten at bytes old)
   overwritten_is_torn = record {
     before = ap (take at) (append_assoc (take at old) bytes (drop (at + length bytes) old))
@@ -27,7 +27,7 @@ module _ (at : ℕ) (bytes old : List ℕ) (within : at ≤ length old) where
     no_longer = omega (arith, length_overwritten);
   }
 
--- one that only lengthens the bytes, with zeros
+-- a write that only extends the bytes, with zeros
 module _ (at n : ℕ) (old : List ℕ) (within : at ≤ length old) where
   pub length_lengthened : length (old ++ replicate (at + n - length old) 0) ≡ max (length old) (at + n)
   length_lengthened = omega (arith, length-append old (replicate (at + n - length old) 0), length-replicate {A = ℕ} (at + n - length old) 0)

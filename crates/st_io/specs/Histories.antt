@@ -1,4 +1,4 @@
--- Bytes in memory as a disk: what was done to them, and what a stop may leave of them.
+-- Bytes in memory as a disk: their changes, and the images that a stop may leave.
 use Rattle.std.specs.Prelude.{◌≡◌, ◌⊎◌, ℕ, suc, ◌≤◌, List, [], ◌∷◌, length, Some, None, Option, ⊤}
 use Rattle.std.proofs.Common.{inl, inr, arith, refl, subst}
 use Rattle.std.proofs.lemmas.Option.{same_Some}
@@ -7,23 +7,23 @@ use Rattle.st_io.specs.Tears.{IfTold, overwritten, Torn}
 use Rattle.st_io.specs.declared.history.Step.{Step}
 use Rattle.st_io.specs.declared.history.Step.TheVariants.{Wrote, Synced}
 
--- the first bytes, and each write and each good sync since, the newest first
+-- the first bytes, and each write and each successful sync since, the newest first
 pub record DiskHistory : Type 0 where
   pub first : List ℕ
   pub steps : List Step
 
--- what bytes read as after one more step
+-- the contents after one more step
 abbrev pub after_step : Step → List ℕ → List ℕ
 after_step (Wrote written) bytes = overwritten written.at written.bytes bytes
 after_step Synced bytes = bytes
 
--- what they read as after all steps
+-- the contents after all steps
 abbrev pub reads_after : List ℕ → List Step → List ℕ
 reads_after first [] = first
 reads_after first (step ∷ earlier) = after_step step (reads_after first earlier)
 
--- A stop just after these steps may leave this: at first and after a good sync what the bytes read
--- as alone; after a write what they read as, and each image from before it with the range torn.
+-- A stop just after these steps may leave this: at first and after a successful sync only the contents; after a write
+-- the contents, and each earlier image with the range torn.
 abbrev pub IsImage : List ℕ → List Step → List ℕ → Type 0
 IsImage first [] c = c ≡ first
 IsImage first (Wrote written ∷ earlier) c =
@@ -31,25 +31,25 @@ IsImage first (Wrote written ∷ earlier) c =
     ⊎ ((d : List ℕ) × IsImage first earlier d × Torn written.at (length written.bytes) d c)
 IsImage first (Synced ∷ earlier) c = c ≡ reads_after first earlier
 
--- an image of now, or of a moment before that from t on; a moment is a number of steps
+-- an image of the present, or of an earlier moment from t on; a moment is a number of steps
 abbrev pub WasLeft : List ℕ → List Step → ℕ → List ℕ → Type 0
 WasLeft first [] t c = IsImage first [] c
 WasLeft first (step ∷ earlier) t c =
     IsImage first (step ∷ earlier) c ⊎ ((t ≤ length earlier) × WasLeft first earlier t c)
 
--- a good sync came just at this moment
+-- a successful sync was just at this moment
 abbrev pub WasSynced : List Step → ℕ → Type 0
 WasSynced [] s = ⊥
 WasSynced (Wrote written ∷ earlier) s = WasSynced earlier s
 WasSynced (Synced ∷ earlier) s = (s ≡ suc (length earlier)) ⊎ WasSynced earlier s
 
--- what was left since a moment was left since an earlier one
+-- an image since a moment is one since an earlier moment
 pub was_earlier : (first : List ℕ) (steps : List Step) (s t : ℕ) (c : List ℕ) → s ≤ t → WasLeft first steps t c → WasLeft first steps s c
 was_earlier first [] s t c le left = left
 was_earlier first (step ∷ earlier) s t c le (inl now) = inl now
 was_earlier first (step ∷ earlier) s t c le (inr was) = inr (omega (arith, le, was.0), was_earlier first earlier s t c le was.1)
 
--- what a stop may leave of them, at each moment so far
+-- the images that a stop may leave, at each moment so far
 abbrev pub past_of : DiskHistory → Past
 past_of history = record {
   now = length history.steps;
@@ -58,30 +58,30 @@ past_of history = record {
   synced = WasSynced history.steps;
 }
 
--- what they read as
+-- the contents
 abbrev pub reads_of : DiskHistory → List ℕ
 reads_of history = reads_after history.first history.steps
 
--- the history with one step more
+-- the history with one more step
 abbrev pub with_step : Step → DiskHistory → DiskHistory
 with_step step history = record { first = history.first; steps = step ∷ history.steps }
 
--- the history with a write more
+-- the history with one more write
 abbrev pub with_write : ℕ → List ℕ → DiskHistory → DiskHistory
 with_write at bytes = with_step (Wrote (record { at = at; bytes = bytes }))
 
--- each write began within what the bytes read as then, or at its end
+-- each write started within the contents at that time, or at their end
 abbrev pub AllBeganWithin : List ℕ → List Step → Type 0
 AllBeganWithin first [] = ⊤
 AllBeganWithin first (Wrote written ∷ earlier) = (written.at ≤ length (reads_after first earlier)) × AllBeganWithin first earlier
 AllBeganWithin first (Synced ∷ earlier) = AllBeganWithin first earlier
 
--- the bytes that are kept are those that the history leaves
+-- the stored bytes are those of the history
 pub record IsKept (first : List ℕ) (steps : List Step) (now : List ℕ) : Type 0 where
   pub reads : now ≡ reads_after first steps
   pub within : AllBeganWithin first steps
 
--- the copy of the first bytes, or what is kept where none was needed yet
+-- the copy of the first bytes, or the present ones if no copy was needed yet
 abbrev pub first_of : Option (List ℕ) → List ℕ → List ℕ
 first_of None now = now
 first_of (Some first) now = first
@@ -95,7 +95,7 @@ pub left_now : (first : List ℕ) (steps : List Step) (t : ℕ) → WasLeft firs
 left_now first [] t = refl
 left_now first (step ∷ earlier) t = inl (image_now first (step ∷ earlier))
 
--- what they read as is one of their images
+-- the contents are one of their images
 pub reads_is_image : (history : DiskHistory) → IfTold (Some (reads_of history)) (Images (past_of history))
 reads_is_image history xs told =
     subst (Images (past_of history)) (same_Some (reads_of history) xs told) (left_now history.first history.steps (length history.steps))

@@ -8,7 +8,7 @@ use crate::pick::Pick;
 use st_base::{Bytes, WantOfMemory};
 use std::alloc::Global;
 
-// Tears the image by the write, as the pick tells.
+// Tears the image by the write, as the pick chooses.
 fn tear(
     alloc: Global,
     image: &mut Vec<u8>,
@@ -33,7 +33,7 @@ fn tear(
     }
 }
 
-// One step more, for what the bytes read as and for the image.
+// One more step, for the contents and for the image.
 fn go_on(
     alloc: Global,
     reads: &mut Vec<u8>,
@@ -57,7 +57,7 @@ fn go_on(
     }
 }
 
-// The image that the pick tells, of bytes that were these first. The oldest step comes first.
+// The image that the pick chooses, from these first bytes. The oldest step is first.
 pub fn crash_of(
     alloc: Global,
     first: &[u8],

@@ -8,26 +8,26 @@ use crate::failed::Failed;
 
 /// A list of bytes that outlives a stop.
 ///
-/// At each moment it has images, the lists of bytes that a stop at that moment may leave. What it
-/// reads as is one of them. Between two good syncs each range that was written, and the part past
-/// the old end, may hold any bytes in an image; bytes outside stay. After a good sync what it reads
-/// as is its only image. A good sync is one that answers Ok.
+/// At each moment it has images, the lists of bytes that a stop at that moment may leave. Its
+/// contents, as read, are one of them. Between two successful syncs each written range, and the
+/// part past the old end, may hold any bytes in an image; bytes outside stay. After a successful
+/// sync the contents are its only image. A sync is successful if it returns Ok.
 ///
-/// An implementation need not tell what it reads as. What is said of that stands where it does.
+/// An implementation need not reveal the contents. Clauses about them hold if it does.
 pub trait Disk {
-    /// What it reads as, where the implementation tells it.
+    /// The contents, if the implementation reveals them.
     ghost reads: { Self → Option (List ℕ) };
 
-    /// The images at each moment so far, and when a good sync came.
+    /// The images at each moment so far, and the moments of successful syncs.
     ghost past: { Self → Past };
 
-    /// How often the disk has failed. It never falls, and stays at `u64::MAX` once it is there.
+    /// How often the disk has failed. It never falls, and stays at `u64::MAX` after it gets there.
     ghost faults: { Self → ℕ };
 
-    /// How many bytes it reads as.
+    /// The length of the contents.
     ///
-    /// `Failed` comes only where the count of faults rose in this call. What the disk reads as stays
-    /// in any case, and no image is added.
+    /// The result is `Failed` only if the count of faults rose in this call. In any case the
+    /// contents stay, and no image is added.
     fn length(&mut self) -> Result<u64, Failed>
         ensures length { IfOk result (λ n. IfTold (reads self.old) (λ xs. n ≡ length xs)) }
         ensures reads { reads self.new ≡ reads self.old }
@@ -36,10 +36,10 @@ pub trait Disk {
         ensures syncs { NoSync (past self.old) (past self.new) }
         ensures cause { HasCause (faults self.old) (faults self.new) result };
 
-    /// Fills `into` with the bytes from `at` on. The range lies within the length.
+    /// Fills `into` with the bytes from `at` on. The range is within the length.
     ///
-    /// `Failed` comes only where the count of faults rose in this call. What the disk reads as stays
-    /// in any case, and no image is added.
+    /// The result is `Failed` only if the count of faults rose in this call. In any case the
+    /// contents stay, and no image is added.
     fn read_at(&mut self, at: u64, into: &mut [u8]) -> Result<(), Failed>
         requires { IfTold (reads self.old) (λ xs. at + length into.old ≤ length xs) }
         ensures bytes { OnOk result (IfTold (reads self.old) (λ xs. into.new ≡ take (length into.old) (drop at xs))) }
@@ -49,12 +49,12 @@ pub trait Disk {
         ensures syncs { NoSync (past self.old) (past self.new) }
         ensures cause { HasCause (faults self.old) (faults self.new) result };
 
-    /// Writes `from` over what stands from `at` on, and past the end where it is longer. `at` is at
+    /// Overwrites the bytes from `at` on with `from`, also past the end if it is longer. `at` is at
     /// most the length.
     ///
-    /// `Failed` comes only where the count of faults rose in this call; the range may then hold any
-    /// bytes, and the disk may be longer, up to the range's end. In any case an image may have any
-    /// bytes in the range until the next good sync.
+    /// The result is `Failed` only if the count of faults rose in this call; the range may then
+    /// hold any bytes, and the disk may be longer, up to the range's end. In any case an image may
+    /// have any bytes in the range until the next successful sync.
     fn write_at(&mut self, at: u64, from: &[u8]) -> Result<(), Failed>
         requires { IfTold (reads self.old) (λ xs. at ≤ length xs) }
         ensures written { OnOk result (Turns (reads self.old) (reads self.new) (Holds at from.now)) }
@@ -64,10 +64,10 @@ pub trait Disk {
         ensures syncs { NoSync (past self.old) (past self.new) }
         ensures cause { HasCause (faults self.old) (faults self.new) result };
 
-    /// Makes what was written last. After Ok, what the disk reads as is its only image.
+    /// Makes the contents durable. After Ok, they are its only image.
     ///
-    /// `Failed` comes only where the count of faults rose in this call. What the disk reads as stays
-    /// in any case, and no image is added.
+    /// The result is `Failed` only if the count of faults rose in this call. In any case the
+    /// contents stay, and no image is added.
     fn sync(&mut self) -> Result<(), Failed>
         ensures durable { OnOk result (IfTold (reads self.old) (Only (past self.new))) }
         ensures reads { reads self.new ≡ reads self.old }
@@ -77,6 +77,6 @@ pub trait Disk {
         ensures none { OnErr result (NoSync (past self.old) (past self.new)) }
         ensures cause { HasCause (faults self.old) (faults self.new) result };
 
-    /// What it reads as is one of its images.
+    /// The contents are one of its images.
     ghost is_image: { (disk : Self) → IfTold (reads disk) (Images (past disk)) };
 }

@@ -6,11 +6,11 @@ ghost use Rattle.st_io.specs.Tears.{IfTold, Turns, Holds, Torn};
 use crate::disk::Disk;
 use crate::failed::Failed;
 
-/// Writes `from` over what stands from `at` on, as `Disk::write_at` does, and syncs. After Ok, what
-/// the disk then reads as is its only image.
+/// Overwrites the bytes from `at` on with `from`, as `Disk::write_at` does, and syncs. After Ok,
+/// the new contents are its only image.
 ///
-/// `Failed` comes only where the disk's count of faults rose in this call. At each moment of the call
-/// an image is one from before it, or such a one with any bytes in the range.
+/// The result is `Failed` only if the disk's count of faults rose in this call. At each moment of
+/// the call an image is one from before it, or such a one with any bytes in the range.
 pub fn write_synced<D: Disk>(disk: &mut D, at: u64, from: &[u8]) -> Result<(), Failed>
     requires { IfTold (D.reads disk.old) (λ image. at ≤ length image) }
     ensures written { OnOk result (Turns (D.reads disk.old) (D.reads disk.new) (Holds at from.now)) }

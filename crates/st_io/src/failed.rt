@@ -1,7 +1,7 @@
 use std::error::Error;
 use std::fmt;
 
-/// A device has failed in this call, and has counted it.
+/// A device failed in this call, and counted it.
 #[derive(Clone, Copy, Debug, PartialEq, Eq)]
 pub struct Failed;
 

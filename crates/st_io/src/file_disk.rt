@@ -22,21 +22,21 @@ enum Slot {
     /// No call has opened it yet.
     Unopened,
     Open(File),
-    /// Opening it or a sync has failed. What was written may then be gone without another error, so
-    /// nothing more is asked of the file.
+    /// Opening it or a sync failed. Written bytes may then be lost without another error, so the
+    /// file is not used again.
     Lost,
 }
 
-/// A file in the current folder as a disk. What it reads as isn't told.
+/// A file in the current folder as a disk. Its contents aren't revealed.
 ///
-/// The first call opens the file, or makes it with mode 0600 where there is none. It fails where what
-/// stands under the name is no regular file, is a link, or has a second name; where it may not be read
-/// or written; and where another process has it open as a disk. While it is open it is locked against
-/// them, and it is never one of the three standard streams, even where one of these was closed. It is
-/// synced, with its folder.
+/// The first call opens the file, or creates it with mode 0600 if there is none. It fails if the
+/// name is not that of a regular file, is a link, or the file has a second name; if it may not be
+/// read or written; and if another process has it open as a disk. While it is open it is locked
+/// against other processes, and it is never one of the three standard streams, even if one of these
+/// was closed. It is synced, with its folder.
 ///
-/// A failure to open is a fault of that call. After such a failure, and after a sync that failed, every
-/// later call fails.
+/// A failure to open is a fault of that call. After such a failure, and after a sync that failed,
+/// every later call fails.
 #[derive(Drop)]
 pub struct FileDisk<'a, R> {
     rt: &'a R,
@@ -72,7 +72,6 @@ impl<'a, R: Files<File = File>> FileDisk<'a, R> {
     }
 }
 
-// A file of that name is made, or the regular file that is there is opened.
 fn make_or_open<R: Files<File = File>>(rt: &R, name: &str) -> io::Result<File> {
     match OpenOptions::new()
         .read(true)
@@ -91,8 +90,8 @@ fn make_or_open<R: Files<File = File>>(rt: &R, name: &str) -> io::Result<File> {
     }
 }
 
-// The one name of a regular file that no other process holds. It is no standard stream that was closed:
-// what is meant for that must not land in the file.
+// Opens a regular file that has only this name and that no other process holds. It is never a
+// standard stream that was closed: output for that must not land in the file.
 fn open_locked<R: Files<File = File>>(rt: &R, name: &str) -> io::Result<File> {
     let mut file = make_or_open(rt, name)?;
     if file.as_raw_fd() <= 2 {
@@ -109,7 +108,7 @@ fn open_locked<R: Files<File = File>>(rt: &R, name: &str) -> io::Result<File> {
     Ok(file)
 }
 
-// The file under a name that lasts: one that was just made outlives a stop only once its folder is synced.
+// The file at a durable name: a newly created file outlives a stop only after its folder is synced.
 fn settled<R: Files<File = File>>(rt: &R, name: &str) -> io::Result<File> {
     let file = open_locked(rt, name)?;
     file.sync_all()?;
@@ -117,7 +116,7 @@ fn settled<R: Files<File = File>>(rt: &R, name: &str) -> io::Result<File> {
     Ok(file)
 }
 
-// A failure is remembered: Linux reports that a write was lost once, and a second try would not see it.
+// A failure is remembered: Linux reports a lost write once, and a second try would not see it.
 fn open_once<R: Files<File = File>>(rt: &R, name: &str, slot: &mut Slot) -> io::Result<()> {
     if let Slot::Unopened = slot {
         *slot = Slot::Lost;

@@ -11,22 +11,22 @@ use st_base::{Bytes, List, WantOfMemory};
 use std::alloc::Global;
 use std::marker::Model;
 
-/// Bytes that were written from a place on.
+/// Bytes written from a place on.
 #[derive(Drop)]
 pub struct Written {
     pub at: usize,
     pub bytes: Bytes,
 }
 
-/// What was done to the bytes of a disk in memory.
+/// A change of the bytes of a disk in memory.
 #[derive(Drop)]
 pub enum Step {
     Wrote(Written),
     Synced,
 }
 
-/// Bytes in memory as a disk. They are kept with what they were first and each step since, so that
-/// the images of each moment can be told. The first bytes are copied at the first write.
+/// Bytes in memory as a disk. They are stored with their first value and each step since, so that
+/// the images of each moment are known. The first bytes are copied at the first write.
 #[derive(Drop)]
 pub struct History {
     first: Option<Bytes>,
@@ -46,7 +46,7 @@ impl Model for History {
 }
 
 impl History {
-    /// These bytes, and no step yet. It takes no memory.
+    /// These bytes, and no step yet. It allocates nothing.
     pub fn new(alloc: Global, bytes: Bytes) -> History
         ensures { result ≡ record { first = bytes; steps = [] } }
     {
@@ -57,14 +57,14 @@ impl History {
         }
     }
 
-    /// What the bytes are now.
+    /// The present bytes.
     pub fn bytes(&self) -> &Bytes
         ensures { result.now ≡ reads_of self.now }
     {
         &self.bytes
     }
 
-    /// Writes `from` over what stands from `at` on, and past the end where it is longer.
+    /// Overwrites the bytes from `at` on with `from`, also past the end if it is longer.
     pub fn write(&mut self, alloc: Global, at: usize, from: &[u8]) -> Result<(), WantOfMemory>
         requires { at ≤ length (reads_of self.old) }
         ensures ok { OnOk result (self.new ≡ with_write at from.now self.old) }
@@ -74,7 +74,7 @@ impl History {
         put(alloc, &mut self.bytes, &mut self.steps, at, from)
     }
 
-    /// Makes what was written last.
+    /// Makes the bytes durable.
     pub fn sync(&mut self, alloc: Global) -> Result<(), WantOfMemory>
         ensures ok { OnOk result (self.new ≡ with_step Synced self.old) }
         ensures err { OnErr result (self.new ≡ self.old) }
@@ -82,7 +82,7 @@ impl History {
         self.steps.push(alloc, Step::Synced)
     }
 
-    /// The image of now that the pick tells.
+    /// The present image that the pick chooses.
     pub fn crash(&self, alloc: Global, pick: Pick) -> Result<Bytes, WantOfMemory>
         ensures bytes { IfOk result (λ image. image ≡ crashed pick self.now.first self.now.steps) }
         ensures image { IfOk result (Images (past_of self.now)) }

@@ -1,6 +1,6 @@
-//! Sources and sinks of bytes, and disks: traits that say what is left to read, what was written and
-//! what a stop may leave, with a count of faults; in memory, in memory with scripted faults, and over
-//! the runtime.
+//! Sources and sinks of bytes, and disks: traits that define the bytes left to read, the bytes
+//! written and the images that a stop may leave, with a count of faults; in memory, in memory with
+//! scripted faults, and over the runtime.
 #![tactic(auto)]
 
 mod crash;

@@ -19,7 +19,7 @@ pub fn keep_first(alloc: Global, first: &mut Option<Bytes>, now: &Bytes) -> Resu
     Ok(())
 }
 
-// What the bytes were first.
+// The first bytes.
 pub fn first_bytes<'a>(first: &'a Option<Bytes>, now: &'a Bytes) -> &'a [u8]
     ensures { result.now ≡ first_of first.now now.now }
 {
@@ -29,7 +29,7 @@ pub fn first_bytes<'a>(first: &'a Option<Bytes>, now: &'a Bytes) -> &'a [u8]
     }
 }
 
-// Writes over what stands there. There is room for all of it behind the end.
+// Overwrites. There is room for everything past the end.
 fn overwrite(items: &mut Vec<u8>, at: usize, from: &[u8])
     requires place { at ≤ length items.old.items }
     requires room { vec_len items.old + length from.now ≤ vec_capacity items.old }
@@ -40,7 +40,7 @@ fn overwrite(items: &mut Vec<u8>, at: usize, from: &[u8])
     let _ = items.extend_from_slice(&from[over..]);
 }
 
-// Writes over what stands there.
+// Overwrites the bytes from a place on.
 pub fn write_over(items: &mut Vec<u8>, at: usize, from: &[u8]) -> Result<(), WantOfMemory>
     requires { at ≤ length items.old.items }
     ensures ok { OnOk result (Holds at from.now items.old.items items.new.items) }
@@ -51,7 +51,7 @@ pub fn write_over(items: &mut Vec<u8>, at: usize, from: &[u8]) -> Result<(), Wan
     Ok(())
 }
 
-// Writes over what stands there, and adds the step. What takes memory comes first.
+// Overwrites, and adds the step. Allocation is first.
 fn put_in(
     alloc: Global,
     items: &mut Vec<u8>,
@@ -72,7 +72,7 @@ fn put_in(
     Ok(())
 }
 
-// The same in bytes.
+// The same for `Bytes`.
 pub fn put(
     alloc: Global,
     now: &mut Bytes,

@@ -1,9 +1,9 @@
-/// What a written byte holds after a stop, where no good sync has made it last.
+/// The value after a stop of a written byte that no successful sync has made durable.
 #[derive(Clone, Copy, Debug, PartialEq, Eq)]
 pub enum Pick {
-    /// What the last good sync left there, and 0 past the end that it left.
+    /// The value at the last successful sync, and 0 past the end at that time.
     Old,
-    /// What was written last.
+    /// The last written value.
     New,
     /// This byte.
     Fill(u8),

@@ -12,11 +12,11 @@ use crate::history::History;
 use st_base::Bytes;
 use std::alloc::Global;
 
-/// A disk in memory. It fails only where its own growth is refused, and then nothing has changed but
-/// the count of faults.
+/// A disk in memory. It fails only if it can't grow, and then nothing changes except the count of
+/// faults.
 ///
-/// It keeps each write and each good sync since it was made, and a copy of its first bytes from the
-/// first write on. So a sync takes memory too, and may fail for want of it.
+/// It stores each write and each successful sync since it was made, and a copy of its first bytes
+/// from the first write on. So a sync allocates too, and may run out of memory.
 #[derive(Drop)]
 pub struct PlainDisk {
     alloc: Global,
@@ -25,7 +25,7 @@ pub struct PlainDisk {
 }
 
 impl PlainDisk {
-    /// A disk that reads as these bytes and has no other image. It takes no memory.
+    /// A disk with these contents and no other image. It allocates nothing.
     pub fn new(alloc: Global, image: Bytes) -> Self
         ensures reads { ⟦<PlainDisk as Disk>⟧.reads result ≡ Some image }
         ensures images { Only (⟦<PlainDisk as Disk>⟧.past result) image }
@@ -38,7 +38,7 @@ impl PlainDisk {
         }
     }
 
-    /// What it reads as.
+    /// The contents.
     pub fn image(&self) -> &Bytes
         ensures { ⟦<PlainDisk as Disk>⟧.reads self.now ≡ Some result.now }
     {

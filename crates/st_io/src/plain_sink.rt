@@ -5,7 +5,7 @@ use crate::sink::Sink;
 use st_base::Bytes;
 use std::alloc::Global;
 
-/// A sink in memory. It takes all that it is given, and fails only where its growth is refused.
+/// A sink in memory. It accepts everything, and fails only if it can't grow.
 #[derive(Drop)]
 pub struct PlainSink {
     alloc: Global,
@@ -29,7 +29,7 @@ impl PlainSink {
         }
     }
 
-    /// All that was written.
+    /// All written bytes.
     pub fn written(&self) -> &Bytes
         ensures { ⟦<PlainSink as Sink>⟧.written self.now ≡ Some result.now }
     {

@@ -5,7 +5,7 @@ use crate::front::copy_front;
 use crate::source::Source;
 use st_base::Bytes;
 
-/// Bytes in memory as a source. It gives as many as there is room for, and never fails.
+/// Bytes in memory as a source. It returns as many as fit, and never fails.
 #[derive(Drop)]
 pub struct PlainSource {
     bytes: Bytes,
@@ -14,7 +14,7 @@ pub struct PlainSource {
 }
 
 impl PlainSource {
-    /// All these bytes are left.
+    /// A source of these bytes.
     pub fn new(bytes: Bytes) -> Self
         ensures { ⟦<PlainSource as Source>⟧.left result ≡ Some bytes }
     {

@@ -17,7 +17,8 @@ use st_base::{Bytes, List, WantOfMemory};
 use std::alloc::Global;
 use std::marker::Model;
 
-/// A disk in memory that fails at listed calls and from some call on, and tells what a stop leaves.
+/// A disk in memory that fails at listed calls and from some call on, and gives the images that a
+/// stop may leave.
 #[derive(Drop)]
 pub struct ScriptDisk {
     alloc: Global,
@@ -36,7 +37,6 @@ impl Model for ScriptDisk {
     ghost view = { λ s. record { history = s.history; failing = s.failing; last = s.last; calls = s.calls; faults = s.faults } };
 }
 
-// Whether the call with this number fails.
 fn is_failing(failing: &[u64], last: u64, call: u64) -> bool
     ensures { IsTrue result ↔ Fails failing.now last call }
 {
@@ -44,9 +44,9 @@ fn is_failing(failing: &[u64], last: u64, call: u64) -> bool
 }
 
 impl ScriptDisk {
-    /// Calls of the disk are numbered from 1, and the numbers stay at `u64::MAX`. The calls whose
-    /// numbers are listed fail, and so does every call with a number greater than `last`. A write or
-    /// a sync whose growth is refused fails too. It takes no memory.
+    /// Calls of the disk are numbered from 1, and the numbers stay at `u64::MAX`. The listed calls
+    /// fail, and so does every call with a number greater than `last`. A write or a sync that can't
+    /// grow fails too. It allocates nothing.
     pub fn new(alloc: Global, image: Bytes, failing: List<u64>, last: u64) -> Self
         ensures { result ≡ record { history = record { first = image; steps = [] }; failing = failing; last = last; calls = 0; faults = 0 } }
     {
@@ -60,8 +60,8 @@ impl ScriptDisk {
         }
     }
 
-    /// One image of now: each written byte that no good sync has made last holds what the pick
-    /// tells. It is as long as what the disk reads as.
+    /// A present image: each written byte that no successful sync has made durable has the value
+    /// that the pick chooses. It is as long as the contents.
     pub fn crash(&self, alloc: Global, pick: Pick) -> Result<Bytes, WantOfMemory>
         ensures bytes { IfOk result (λ image. image ≡ crashed pick self.now.history.first self.now.history.steps) }
         ensures image { IfOk result (Images (⟦<ScriptDisk as Disk>⟧.past self.now)) }

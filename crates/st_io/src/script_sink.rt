@@ -35,9 +35,9 @@ impl Model for ScriptSink {
 }
 
 impl ScriptSink {
-    /// Takes at most `piece` bytes a call. Calls of `write` and `finish` are numbered from 1, and
-    /// the numbers stay at `u64::MAX`; the calls whose numbers are listed fail. A write whose growth
-    /// is refused fails too.
+    /// Accepts at most `piece` bytes per call. Calls of `write` and `finish` are numbered from 1,
+    /// and the numbers stay at `u64::MAX`; the listed calls fail. A write that can't grow fails
+    /// too.
     pub fn new(alloc: Global, piece: usize, failing: List<u64>) -> Self
         requires { 0 < piece }
         ensures { result ≡ record { written = []; piece = piece; failing = failing; calls = 0; finished = false; faults = 0 } }
@@ -53,14 +53,14 @@ impl ScriptSink {
         }
     }
 
-    /// All that was written.
+    /// All written bytes.
     pub fn written(&self) -> &Bytes
         ensures { result.now ≡ self.now.written }
     {
         &self.bytes
     }
 
-    /// How many calls of `write` and `finish` there were: it stays at `u64::MAX`.
+    /// The number of calls of `write` and `finish`; it stays at `u64::MAX`.
     pub fn calls(&self) -> u64
         ensures { result ≡ self.now.calls }
     {

@@ -10,7 +10,7 @@ use crate::source::Source;
 use st_base::{Bytes, List};
 use std::marker::Model;
 
-/// Bytes in memory as a source that gives small pieces and fails at listed calls.
+/// Bytes in memory as a source that returns small pieces and fails at listed calls.
 #[derive(Drop)]
 pub struct ScriptSource {
     bytes: Bytes,
@@ -33,8 +33,8 @@ impl Model for ScriptSource {
 }
 
 impl ScriptSource {
-    /// Gives at most `piece` bytes a call. Calls are numbered from 1, and the numbers stay at
-    /// `u64::MAX`; the calls whose numbers are listed fail.
+    /// Returns at most `piece` bytes per call. Calls are numbered from 1, and the numbers stay at
+    /// `u64::MAX`; the listed calls fail.
     pub fn new(bytes: Bytes, piece: usize, failing: List<u64>) -> Self
         requires { 0 < piece }
         ensures { result ≡ record { left = bytes; piece = piece; failing = failing; calls = 0; faults = 0 } }

@@ -7,21 +7,21 @@ ghost use Rattle.st_io.specs.Sinks.{WriteUnfinishes};
 
 use crate::failed::Failed;
 
-/// What takes bytes.
+/// A receiver of bytes.
 pub trait Sink {
-    /// The bytes that were written, in order, where the implementation tells them.
+    /// The written bytes, in order, if the implementation reveals them.
     ghost written: { Self → Option (List ℕ) };
 
-    /// All that was written is complete: `finish` has answered Ok, and nothing was written since.
+    /// The written bytes are complete: `finish` has returned Ok, and nothing was written since.
     ghost is_finished: { Self → Bool };
 
-    /// How often the sink has failed. It never falls, and stays at `u64::MAX` once it is there.
+    /// How often the sink has failed. It never falls, and stays at `u64::MAX` after it gets there.
     ghost faults: { Self → ℕ };
 
-    /// Appends the first bytes of `from`, and answers how many: at least one where there is one.
+    /// Appends a prefix of `from`, and returns its length: at least one if `from` is not empty.
     ///
-    /// `Failed` comes only where the count of faults rose in this call, and all else is then as
-    /// before.
+    /// The result is `Failed` only if the count of faults rose in this call, and then all else is
+    /// unchanged.
     fn write(&mut self, from: &[u8]) -> Result<usize, Failed>
         ensures bound { WritesAtMost result from.now }
         ensures takes { 0 < length from.now → IfOk result (λ n. 0 < n) }
@@ -29,10 +29,10 @@ pub trait Sink {
         ensures finished { WriteUnfinishes (is_finished self.old) (is_finished self.new) result }
         ensures cause { HasCause (faults self.old) (faults self.new) result };
 
-    /// Ends what was written, and appends nothing.
+    /// Ends the written bytes, and appends nothing.
     ///
-    /// `Failed` comes only where the count of faults rose in this call, and all else is then as
-    /// before.
+    /// The result is `Failed` only if the count of faults rose in this call, and then all else is
+    /// unchanged.
     fn finish(&mut self) -> Result<(), Failed>
         ensures bytes { Keeps (written self.old) (written self.new) }
         ensures ok { OnOk result (is_finished self.new ≡ true) }

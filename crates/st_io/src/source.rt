@@ -6,18 +6,19 @@ ghost use Rattle.st_io.specs.Causes.{HasCause};
 
 use crate::failed::Failed;
 
-/// What gives bytes.
+/// A giver of bytes.
 pub trait Source {
-    /// The bytes that are left, in order, where the implementation tells them.
+    /// The remaining bytes, in order, if the implementation reveals them.
     ghost left: { Self → Option (List ℕ) };
 
-    /// How often the source has failed. It never falls, and stays at `u64::MAX` once it is there.
+    /// How often the source has failed. It never falls, and stays at `u64::MAX` after it gets
+    /// there.
     ghost faults: { Self → ℕ };
 
-    /// Puts the first bytes that are left at the front of `into`, and answers how many.
+    /// Moves a prefix of the remaining bytes to the front of `into`, and returns its length.
     ///
-    /// For a nonempty `into` that is 0 exactly at the end. `Failed` comes only where the count of
-    /// faults rose in this call, and the bytes that are left are then as before.
+    /// For a nonempty `into` that is 0 if and only if no bytes remain. The result is `Failed` only
+    /// if the count of faults rose in this call, and then the remaining bytes are unchanged.
     fn read(&mut self, into: &mut [u8]) -> Result<usize, Failed>
         ensures bound { ReadsAtMost result into.new }
         ensures bytes { ReadConsumes (left self.old) (left self.new) result into.new }

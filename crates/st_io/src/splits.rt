@@ -3,11 +3,11 @@ ghost use Rattle.st_io.specs.Past.{GoesOn, SplitsSinceSync};
 
 use crate::disk::Disk;
 
-/// What a stop may leave of a disk from a good sync on splits at a later moment, as what it may leave
-/// since a moment does. So a clause on a whole run follows call by call.
+/// The images that a stop may leave from a successful sync on can be split at a later moment, like
+/// the images since a moment. So a clause about a whole run follows call by call.
 ///
-/// It takes a disk as it was and as it is, so no program can call it: proofs take the same from
-/// `st_io.proofs.PastLemmas.split_since_sync`, over the clause `time` of each call.
+/// It takes a disk before and after, so no program can call it: proofs use
+/// `st_io.proofs.PastLemmas.split_since_sync` with the clause `time` of each call.
 pub fn images_split<D: Disk>(before: &D, after: &D)
     requires { GoesOn (D.past before.now) (D.past after.now) }
     ensures { (t : ℕ) → SplitsSinceSync (D.past before.now) (D.past after.now) t }

@@ -6,9 +6,9 @@ use crate::sink::Sink;
 use std::io;
 use std::io::Write;
 
-/// Standard output as a sink that flushes after each write. What was written isn't told.
+/// Standard output as a sink that flushes after each write. The written bytes aren't revealed.
 ///
-/// A write that a signal interrupts is tried again, and is no fault.
+/// A write that a signal interrupts is tried again, and is not a fault.
 #[derive(Drop)]
 pub struct StdSink<'a, R> {
     rt: &'a R,
@@ -30,7 +30,7 @@ impl<'a, R: Print> StdSink<'a, R> {
     }
 }
 
-/// One write, which is tried again where a signal interrupts it before a byte is written.
+/// One write, tried again if a signal interrupts it before a byte is written.
 fn write_some(rt: &impl Print, from: &[u8]) -> io::Result<usize>
     ensures { WritesAtMost result from.now }
 {
@@ -62,7 +62,7 @@ impl<'a, R: Print> Sink for StdSink<'a, R> {
 
     fn write(&mut self, from: &[u8]) -> Result<usize, Failed> {
         match write_and_flush(self.rt, from) {
-            // A device that takes none of a nonempty piece has failed.
+            // A device that accepts nothing of a nonempty piece has failed.
             Ok(count) if count > 0 || from.is_empty() => {
                 if count > 0 {
                     self.finished = false;

@@ -6,9 +6,9 @@ use crate::source::Source;
 use std::io;
 use std::io::Read;
 
-/// Standard input as a source. What is left isn't told.
+/// Standard input as a source. The remaining bytes aren't revealed.
 ///
-/// A read that a signal interrupts is tried again, and is no fault.
+/// A read that a signal interrupts is tried again, and is not a fault.
 #[derive(Drop)]
 pub struct StdSource<'a, R> {
     rt: &'a R,
@@ -24,7 +24,7 @@ impl<'a, R: Input> StdSource<'a, R> {
     }
 }
 
-/// One read, which is tried again where a signal interrupts it before a byte is read.
+/// One read, tried again if a signal interrupts it before a byte is read.
 fn read_some(rt: &impl Input, into: &mut [u8]) -> io::Result<usize>
     ensures { ReadsAtMost result into.new }
 {

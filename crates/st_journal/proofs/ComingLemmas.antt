@@ -1,10 +1,10 @@
--- Records that come one by one:
---     records_none, records_next, records_damaged    what is still to come, behind one step
---     closed_none, closed_next                       where the first closed gate stands, behind one step
---     comes_by                                       what came, by what stands there
---     opened_short, opened_long, opened_too_long     what an image is opened as, at the beginning
---     closed_begun                                   its first closed gate, at the beginning
---     given_none, given_more, given_all, given_damaged    what has come so far
+-- Records that are read one by one:
+--     records_none, records_next, records_damaged    the remaining ones, after one step
+--     closed_none, closed_next                       the first closed gate, after one step
+--     comes_by                                       the answer, by the record there
+--     opened_short, opened_long, opened_too_long     the result of opening an image, at the start
+--     closed_begun                                   its first closed gate, at the start
+--     given_none, given_more, given_all, given_damaged    the records so far
 use Rattle.std.proofs.Common.{◌≡◌, ◌∙◌, ℕ, ◌+◌, ◌^◌, ◌<◌, ◌≤◌, true, false, nat_le, List, [], ◌∷◌, ◌++◌, length, drop, Option, Some, None, option_map, Result, Ok, Err, ap, sym, refl, arith, append_assoc}
 use Rattle.std.specs.Option.{ok_or}
 use Rattle.std.proofs.lemmas.Bool.{le-leb, lt-leb}
@@ -57,7 +57,7 @@ module _ (place : ℕ) (image : List ℕ) where
     unfolding closed_from
     closed_next = ap (option_map (λ found. place + found.end)) found_next ∙ ends_with place body (found (drop (place + (5 + length body)) image))
 
--- where the next gate stands
+-- the place of the next gate
 abbrev pub next_place : ℕ → Result (Option (List ℕ)) JournalRefused → ℕ
 next_place place (Ok None) = place
 next_place place (Ok (Some body)) = place + (5 + length body)
@@ -72,7 +72,7 @@ comes_by place image (Err Damaged) is = records_damaged place image is
 comes_by place image (Err DiskFault) is = tt
 comes_by place image (Err WantOfMemory) is = tt
 
--- ---- at the beginning
+-- ---- at the start
 
 opened_fits : (image : List ℕ) (r : Option (List (List ℕ))) → length image ≤ 2 ^ 40 → records image ≡ r → opened image ≡ ok_or r Damaged
 opened_fits image r short is = let fits : nat_le (length image) (2 ^ 40) ≡ true = le-leb (length image) (2 ^ 40) short in rw (fits, is) refl
@@ -99,7 +99,7 @@ pub closed_begun : (image : List ℕ) → first_closed image ≡ closed_from 0 i
 unfolding closed_from
 closed_begun image = closed_zero (found image)
 
--- ---- what has come so far
+-- ---- the records so far
 
 pub given_none : (rest : Option (List (List ℕ))) → rest ≡ put_before [] rest
 given_none None = refl

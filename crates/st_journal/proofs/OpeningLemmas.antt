@@ -1,4 +1,4 @@
--- What opening leaves of a disk, and how it stands afterwards.
+-- The effects of opening on a disk, and its state afterwards.
 use Rattle.std.proofs.Common.{◌≡◌, ⊎_elim, ◌∙◌, ℕ, ◌+◌, ◌^◌, ◌<◌, ◌≤◌, nat_lt, List, [], ◌∷◌, length, drop, Option, Some, None, ap, sym, arith}
 use Rattle.std.proofs.lemmas.Bool.{cond-false, cond-true, le-ltb, lt-ltb}
 use Rattle.std.proofs.lemmas.List.{drop_all}
@@ -45,7 +45,7 @@ begin_moments old a b short only goes follow =
 
 -- ---- reading
 
--- a disk of which nothing is known yet but how long it is
+-- a disk of which only the length is known
 pub begin_reading : (window : Window) (len : ℕ) (told : Option (List ℕ)) (past : Past) → 2 ≤ len → len ≤ 2 ^ 40 → IsSound window
     → ((image : List ℕ) → Shows window image) → IfTold told (λ image. length image ≡ len) → IfTold told (Only past)
     → IsReading (record { window = window; place = 0; len = len }) told past
@@ -60,7 +60,7 @@ begin_reading window len told past some small sound shows long only = record {
   only = only;
 }
 
--- a disk on which a closed gate was written
+-- a disk to which a closed gate was written
 pub begin_closed_gate : (window : Window) (told : Option (List ℕ)) (past : Past) → ((image : List ℕ) → Shows window image)
     → IfTold told (λ image. record_at image ≡ Some None) → IfTold told (Only past)
     → IsReading (record { window = window; place = 0; len = 0 }) told past
@@ -75,7 +75,7 @@ begin_closed_gate window told past shows closed only = record {
   only = only;
 }
 
--- a read further, with a record more or with none
+-- one more read, with one more record or with none
 module _ {opening : Opening} {told now : Option (List ℕ)} {old new : Past} (reading : IsReading opening told old) (same : now ≡ told) (adds : AddsNoImage old new) where
   still_only : IfTold now (Only new)
   still_only image is = only_after old new image (reading.only image (sym same ∙ is)) adds
@@ -94,7 +94,7 @@ module _ {opening : Opening} {told now : Option (List ℕ)} {old new : Past} (re
     only = still_only;
   }
 
-  -- behind the last record
+  -- after the last record
   pub ready_behind : IfTold told (λ image. record_at (drop opening.place image) ≡ Some None) → IsReady (record { end = opening.place }) now new
   ready_behind closed =
       ready_only opening.place now new
@@ -106,13 +106,13 @@ module _ {opening : Opening} {told now : Option (List ℕ)} {old new : Past} (re
 pub read_moments : (old : List ℕ) (a b : Past) → Only a old → AddsNoImage a b → Leaves (λ image. records image ≡ records old) a b
 read_moments old a b only none = stays_only (λ image. records image ≡ records old) a b old only none (λ x same. ap records same)
 
--- Behind the beginning, after which the disk reads as what has the same records, nothing is written.
+-- After the start, when the contents have the same records, nothing is written.
 module _ {told now : Option (List ℕ)} {b c : Past} {old : List ℕ} (here : told ≡ Some old)
     (same : Turns told now (λ old new. records new ≡ records old)) (only : IfTold now (Only b)) (adds : AddsNoImage b c) where
   stay : (x : List ℕ) → c.left_since b.now x → records x ≡ records old
   stay x left = let to = same.forward old here in ap records (only to.0 to.1 x (adds.none x left)) ∙ to.2
 
-  -- what a stop leaves over both
+  -- the images over both
   pub moments_on : {a : Past} (P : List ℕ → Type 0) → ((x : List ℕ) → records x ≡ records old → P x) → Leaves P a b → Leaves P a c
   moments_on {a} P has leaves = more P a b c leaves adds.goes (λ x left. has x (stay x left))
 

@@ -1,4 +1,4 @@
--- What an append leaves of a disk, at each of its moments and at its end.
+-- The effects of an append on a disk, at each of its moments and at its end.
 use Rattle.std.proofs.Common.{◌≡◌, inl, inr, ⊎_elim, ◌∙◌, ℕ, ◌+◌, ◌^◌, ◌<◌, List, [], ◌∷◌, length, Option, Some, option_map, ap, sym, subst}
 use Rattle.st_io.specs.Past.{Past, Images, GoesOn, Follow, Only, Leaves}
 use Rattle.st_io.specs.Tears.{IfTold, Holds, Torn}
@@ -8,7 +8,7 @@ use Rattle.st_journal.specs.Image.{Found, first_closed, found, open_gate, record
 use Rattle.st_journal.specs.Moments.{IsBeforeOrAfter, IsReady, with_record}
 use Rattle.st_journal.specs.Rows.{put_last, row_of}
 
--- what is found in every image is what is found in what the disk reads as
+-- the result is the same in every image and in the contents
 pub record Alike (end : ℕ) (old : List ℕ) (past : Past) : Type 0 where
   pub ends : Ends end old
   pub all : (d : List ℕ) → Images past d → found d ≡ found old
@@ -19,7 +19,6 @@ alike end told past old ready is = record {
   all = λ d image. let both = ready.images old is d image in same_found end old d (ready.gate old is) both.0 both.1;
 }
 
--- the image has the record as one more
 pub has_more : (old image body : List ℕ) (f : Found) → found old ≡ Some f → found image ≡ Some (put_last body f) → records image ≡ with_record body (records old)
 has_more old image body f is more = records_of image (put_last body f) more ∙ sym (ap (with_record body) (records_of old f is))
 
@@ -53,7 +52,7 @@ written end old body laid new is small holds put =
     appended is.it old is.is body small laid (subst (λ k. Holds (k + 1) (row_of body) old laid) (sym is.at) holds) new (subst (λ k. Holds k (open_gate ∷ []) laid new) (sym is.at) put)
     ∙ sym (ap (option_map (put_last body)) is.is)
 
--- a disk of one image that reads as what has its first closed gate there stands ready
+-- a disk with only one image whose first closed gate is there is ready
 pub ready_only : (end : ℕ) (told : Option (List ℕ)) (past : Past) → IfTold told (λ now. first_closed now ≡ Some end) → IfTold told (Only past)
     → IsReady (record { end = end }) told past
 ready_only end told past gate only = record {

@@ -1,4 +1,4 @@
--- The records of a disk as they come one by one, each from the gate in front of it.
+-- The records of a disk, read one by one, each from the gate before it.
 use Rattle.std.specs.Prelude.{◌≡◌, ⊤, ℕ, ◌+◌, ◌-◌, ◌<◌, ◌≤◌, ◌^◌, ◌==◌, if◌then◌else◌, List, [], ◌∷◌, ◌++◌, length, drop, Option, Some, None, option_map, Result, Ok, Err}
 use Rattle.st_io.specs.Past.{Past, Only}
 use Rattle.st_io.specs.Tears.{IfTold}
@@ -8,8 +8,8 @@ use Rattle.st_journal.specs.declared.opening.Opening.{Opening}
 use Rattle.st_journal.specs.declared.refused.JournalRefused.{JournalRefused}
 use Rattle.st_journal.specs.declared.refused.JournalRefused.TheVariants.{TooLong, Damaged, DiskFault, WantOfMemory}
 
--- what stands from a gate on: no record behind a closed gate, the body behind an open one; damaged is an
--- open gate that too few bytes follow
+-- the bytes from a gate on: no record after a closed gate, the body after an open one; an open gate that too few
+-- bytes follow is damaged
 unfoldable pub record_at : List ℕ → Option (Option (List ℕ))
 record_at [] = None
 record_at (gate ∷ behind) =
@@ -17,7 +17,7 @@ record_at (gate ∷ behind) =
     then (if is_enough behind then Some (Some (body_of behind)) else None)
     else Some None
 
--- the records from a gate's place on, up to the first closed gate, or none where they are damaged
+-- the records from a gate's place on, up to the first closed gate, or none if they are damaged
 unfoldable pub records_from : ℕ → List ℕ → Option (List (List ℕ))
 records_from place image = option_map (λ found. found.bodies) (found (drop place image))
 
@@ -29,21 +29,21 @@ closed_from place image = option_map (λ found. place + found.end) (found (drop 
 abbrev pub put_before : List (List ℕ) → Option (List (List ℕ)) → Option (List (List ℕ))
 put_before given = option_map (λ more. given ++ more)
 
--- the records that are still to come
+-- the remaining records
 abbrev pub coming : Opening → List ℕ → Option (List (List ℕ))
 coming opening image = records_from opening.place image
 
--- from this gate's place on these records stand one behind the other, up to that place
+-- from this gate's place on these records follow one another, up to the place `end`
 abbrev pub StandFrom : (place : ℕ) → List (List ℕ) → (end : ℕ) → List ℕ → Type 0
 StandFrom place [] end image = end ≡ place
 StandFrom place (body ∷ more) end image =
     (record_at (drop place image) ≡ Some (Some body)) × StandFrom (place + (5 + length body)) more end image
 
--- how many bytes are still to be read
+-- the number of bytes that remain to be read
 abbrev pub left_of : Opening → ℕ
 left_of opening = opening.len - opening.place
 
--- what stands from a gate on, as it is answered
+-- the bytes from a gate on agree with the answer
 abbrev pub RecordIs : List ℕ → Result (Option (List ℕ)) JournalRefused → Type 0
 RecordIs from (Ok next) = record_at from ≡ Some next
 RecordIs from (Err Damaged) = record_at from ≡ None
@@ -51,7 +51,7 @@ RecordIs from (Err TooLong) = ⊥
 RecordIs from (Err DiskFault) = ⊤
 RecordIs from (Err WantOfMemory) = ⊤
 
--- these records were to come, this has come of them, and those are still to come
+-- these records remained, this is the answer, and those remain now
 abbrev pub Comes : (was is : Option (List (List ℕ))) → Result (Option (List ℕ)) JournalRefused → Type 0
 Comes was is (Ok (Some body)) = was ≡ put_before (body ∷ []) is
 Comes was is (Ok None) = was ≡ Some []
@@ -60,8 +60,8 @@ Comes was is (Err TooLong) = ⊥
 Comes was is (Err DiskFault) = ⊤
 Comes was is (Err WantOfMemory) = ⊤
 
--- A disk is read record by record: what it reads as is the only image, with its first closed gate among
--- what is still to come; a window shows some of it. Where all was read before, a closed gate stands there.
+-- A disk is read record by record: its contents are the only image, with the first closed gate in the remaining part;
+-- a window has some of its bytes. If everything was read, a closed gate is at the place.
 pub record IsReading (opening : Opening) (told : Option (List ℕ)) (past : Past) : Type 0 where
   pub small : opening.len ≤ 2 ^ 40
   pub below : opening.place < 2 ^ 40

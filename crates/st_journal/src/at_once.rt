@@ -17,20 +17,21 @@ use st_base::{Bytes, List};
 use st_io::Disk;
 use std::alloc::Global;
 
-/// The journal that a disk reads as after a sync, and its records, the oldest first. Where it has fewer
-/// than 2 bytes, a closed gate is written in place of them, and synced; else nothing is written.
+/// The journal in a disk's contents after a sync, and its records, the oldest first. Fewer than 2
+/// bytes are replaced by a closed gate, which is synced; otherwise nothing is written.
 ///
-/// `TooLong` comes exactly where the disk has more than 2^40 bytes, and `Damaged` exactly where else
-/// too few bytes follow an open gate before any closed one. `DiskFault` comes only where the disk's
-/// count of faults rose. After `TooLong`, `Damaged` and `WantOfMemory` the disk is as it was. It takes
-/// memory for the records and 65,536 bytes at once; `Opening` takes it for one record.
+/// The result is `TooLong` if and only if the disk has more than 2^40 bytes; otherwise `Damaged` if
+/// and only if too few bytes follow an open gate before the first closed one. It is `DiskFault`
+/// only if the disk's count of faults rose. After `TooLong`, `Damaged` and `WantOfMemory` the disk
+/// is unchanged. It allocates memory for all records at once and 65,536 bytes; `Opening` does so
+/// for one record at a time.
 pub fn open_journal<D: Disk>(
     alloc: Global,
     disk: &mut D,
 ) -> Result<(Journal, List<Bytes>), JournalRefused>
     ensures gives { IfTold (D.reads disk.old) (λ old. GivesAs (λ given. given.1) refusal_of (opened old) result) }
 
-    // The disk then stands ready for the journal, and in every image the records are those that are given.
+    // The disk is then ready for the journal, and every image has the returned records.
     ensures ready { IfOk result (λ given. IsReady given.0 (D.reads disk.new) (D.past disk.new)) }
     ensures begun { OnOk result (Turns (D.reads disk.old) (D.reads disk.new) (λ old new. new ≡ begun old)) }
     ensures same { OnOk result (Turns (D.reads disk.old) (D.reads disk.new) (λ old new. records new ≡ records old)) }
@@ -38,12 +39,12 @@ pub fn open_journal<D: Disk>(
         → Images (D.past disk.new) image → records image ≡ Some given.1)) }
     ensures small { IfOk result (λ given. given.0.end < 2 ^ 40) }
 
-    // What is refused is left as it was.
+    // A refused disk is unchanged.
     ensures refused { IfErr result (λ refused. refused ≢ JournalRefused.DiskFault
         → StaysAsItWas (D.reads disk.old) (D.reads disk.new) (D.past disk.old) (D.past disk.new)) }
 
-    // A stop at any moment of the call leaves what it might have left before, or the same records; from
-    // the first good sync on, the same records.
+    // A stop at any moment of the call leaves what it might have left before, or the same records;
+    // from the first successful sync on, the same records.
     ensures moments { IfTold (D.reads disk.old) (λ old. Leaves (IsOldOrHas (D.past disk.old) (records old)) (D.past disk.old) (D.past disk.new)) }
     ensures synced { IfTold (D.reads disk.old) (λ old. (image : List ℕ)
         → LeftSinceSync (D.past disk.new) (D.past disk.old).now image → records image ≡ records old) }
@@ -54,7 +55,7 @@ pub fn open_journal<D: Disk>(
     open_synced(alloc, disk)
 }
 
-/// Opens a disk of which a stop leaves just what it reads as.
+/// Opens a disk whose only image is its contents.
 fn open_synced<D: Disk>(
     alloc: Global,
     disk: &mut D,
@@ -77,7 +78,7 @@ fn open_synced<D: Disk>(
     }
 }
 
-/// The records that are still to come, and the journal behind them.
+/// The remaining records, and the journal after them.
 fn read_on<D: Disk>(
     alloc: Global,
     disk: &mut D,

@@ -19,10 +19,10 @@ use st_base::Bytes;
 use st_io::{Disk, write_synced};
 use std::alloc::Global;
 
-/// The opening of a disk as a journal: its records come one by one, the oldest first, and behind the last
-/// of them it gives the journal.
+/// The opening of a disk as a journal: it returns the records one by one, the oldest first, and
+/// after the last of them the journal.
 ///
-/// It is handed from call to call with its disk, which nobody else may write to in between.
+/// It is passed from call to call with its disk, which nobody else may write to in between.
 #[derive(Drop)]
 pub struct Opening {
     window: Window,
@@ -31,29 +31,29 @@ pub struct Opening {
 }
 
 impl Opening {
-    /// Begins the opening of what a disk reads as after a sync. Where that has fewer than 2 bytes, a closed
-    /// gate is written in place of them, and synced; else nothing is written.
+    /// Begins to open a disk, by its contents after a sync. Fewer than 2 bytes are replaced by a
+    /// closed gate, which is synced; otherwise nothing is written.
     ///
-    /// `TooLong` comes exactly where the disk has more than 2^40 bytes. `DiskFault` comes only where the
-    /// disk's count of faults rose. After `TooLong` and `WantOfMemory` the disk is as it was. It takes memory
-    /// for 65,536 bytes.
+    /// The result is `TooLong` if and only if the disk has more than 2^40 bytes. It is `DiskFault`
+    /// only if the disk's count of faults rose. After `TooLong` and `WantOfMemory` the disk is
+    /// unchanged. It allocates 65,536 bytes.
     pub fn begin<D: Disk>(alloc: Global, disk: &mut D) -> Result<Opening, JournalRefused>
-        // The records that are still to come are then all that the disk is opened as.
+        // The remaining records are then all records of the disk.
         ensures reading { IfOk result (λ opening. IsReading opening (D.reads disk.new) (D.past disk.new)) }
         ensures first { IfOk result (λ opening. opening.place ≡ 0) }
         ensures comes { IfOk result (λ opening. Turns (D.reads disk.old) (D.reads disk.new) (λ old new. opened old ≡ ok_or (coming opening new) Damaged)) }
         ensures begun { OnOk result (Turns (D.reads disk.old) (D.reads disk.new) (λ old new. new ≡ begun old)) }
         ensures same { OnOk result (Turns (D.reads disk.old) (D.reads disk.new) (λ old new. records new ≡ records old)) }
 
-        // Where something is to be read, and where it is refused, the disk was left as it was.
+        // If something remains to be read, and if it is refused, the disk is unchanged.
         ensures unwritten { IfOk result (λ opening. 0 < left_of opening
             → StaysAsItWas (D.reads disk.old) (D.reads disk.new) (D.past disk.old) (D.past disk.new)) }
         ensures refusal { IfErr result (λ error. IfTold (D.reads disk.old) (λ old. IfSome (refusal_of error) (λ refusal. opened old ≡ Err refusal))) }
         ensures refused { IfErr result (λ refused. refused ≢ JournalRefused.DiskFault
             → StaysAsItWas (D.reads disk.old) (D.reads disk.new) (D.past disk.old) (D.past disk.new)) }
 
-        // A stop at any moment of the call leaves what it might have left before, or the same records; from
-        // the first good sync on, the same records.
+        // A stop at any moment of the call leaves what it might have left before, or the same
+        // records; from the first successful sync on, the same records.
         ensures moments { IfTold (D.reads disk.old) (λ old. Leaves (IsOldOrHas (D.past disk.old) (records old)) (D.past disk.old) (D.past disk.new)) }
         ensures synced { IfTold (D.reads disk.old) (λ old. (image : List ℕ)
             → LeftSinceSync (D.past disk.new) (D.past disk.old).now image → records image ≡ records old) }
@@ -64,10 +64,11 @@ impl Opening {
         begin_synced(alloc, disk)
     }
 
-    /// The next record, or none behind the last of them: what stands at the place that was reached, exactly.
+    /// The next record, or none after the last of them: exactly the one at the current place.
     ///
-    /// `Damaged` comes exactly where too few bytes follow an open gate there. `DiskFault` comes only where
-    /// the disk's count of faults rose. Nothing is written. It takes memory for the record.
+    /// The result is `Damaged` if and only if too few bytes follow an open gate there. It is
+    /// `DiskFault` only if the disk's count of faults rose. Nothing is written. It allocates memory
+    /// for the record.
     pub fn next<D: Disk>(
         &mut self,
         alloc: Global,
@@ -75,19 +76,19 @@ impl Opening {
     ) -> Result<Option<Bytes>, JournalRefused>
         requires reading { IsReading self.old (D.reads disk.old) (D.past disk.old) }
 
-        // What came, and what is still to come, are what was to come.
+        // The returned record and the remaining ones are those that remained before.
         ensures reading { IsReading self.new (D.reads disk.new) (D.past disk.new) }
         ensures gives { IfTold (D.reads disk.old) (λ image. RecordIs (drop self.old.place image) result) }
         ensures comes { IfTold (D.reads disk.old) (λ image. Comes (coming self.old image) (coming self.new image) result) }
 
-        // A record is passed with the five bytes in front of it.
+        // The place moves past a record and the five bytes before it.
         ensures place { IfOk result (λ next. IfSome next (λ body. self.new.place ≡ self.old.place + (5 + length body))) }
 
-        // Behind the last record the disk stands ready for the journal that ends there.
+        // After the last record the disk is ready for the journal that ends there.
         ensures ready { IfOk result (λ next. next ≡ None → IsReady (at_end self.new.place) (D.reads disk.new) (D.past disk.new)) }
         ensures small { self.new.place < 2 ^ 40 }
 
-        // It goes on, and refuses only where something was left to be read.
+        // It makes progress, and refuses only if something remained to be read.
         ensures shorter { IfOk result (λ next. IfSome next (λ body. left_of self.new < left_of self.old)) }
         ensures refuses { IfErr result (λ refused. 0 < left_of self.old) }
         ensures reads { D.reads disk.new ≡ D.reads disk.old }
@@ -108,7 +109,7 @@ impl Opening {
         }
     }
 
-    /// The journal that ends at the place that was reached, behind the last record of the disk.
+    /// The journal that ends at the current place, after the last record of the disk.
     pub fn finish<D: Disk>(self, _disk: &D) -> Journal
         requires { IsReady (at_end self.place) (D.reads _disk.now) (D.past _disk.now) }
         ensures value { result ≡ at_end self.place }
@@ -118,7 +119,7 @@ impl Opening {
     }
 }
 
-/// Begins the opening of a disk of which a stop leaves just what it reads as.
+/// Begins to open a disk whose only image is its contents.
 pub(crate) fn begin_synced<D: Disk>(alloc: Global, disk: &mut D) -> Result<Opening, JournalRefused>
     requires { IfTold (D.reads disk.old) (Only (D.past disk.old)) }
     ensures reading { IfOk result (λ opening. IsReading opening (D.reads disk.new) (D.past disk.new)) }
@@ -150,7 +151,7 @@ pub(crate) fn begin_synced<D: Disk>(alloc: Global, disk: &mut D) -> Result<Openi
     })
 }
 
-/// Writes a closed gate over fewer than 2 bytes, behind which nothing is to be read.
+/// Writes a closed gate over fewer than 2 bytes; nothing remains to be read.
 fn begin_closed<D: Disk>(alloc: Global, disk: &mut D) -> Result<Opening, JournalRefused>
     requires short { IfTold (D.reads disk.old) (λ old. length old < 2) }
     requires only { IfTold (D.reads disk.old) (Only (D.past disk.old)) }

@@ -1,4 +1,4 @@
--- The machine that a journal brings back is the one behind all lines, also those that aren't recorded.
+-- The machine that a journal restores is the one after all lines, also those that aren't recorded.
 use Rattle.std.proofs.Common.{◌≡◌, ◌∙◌, ◌++◌, ℕ, Bool, true, false, List, [], ◌∷◌, refl, ap, sym}
 use Rattle.st_drive.specs.Recording.{changing, recorded}
 use Rattle.st_journal_lines.specs.Answering.{Answering, Idles, behind}
@@ -14,7 +14,7 @@ module _ {M C : Type 0} (answering : Answering M C) where
     stays_good m [] is = is
     stays_good m (line ∷ lines) is = stays_good (answering.next m line) lines (idles.stays m line is)
 
-    -- a line, where it is recorded
+    -- a line, if it is recorded
     one_changing : (m : M) (line : List ℕ) (changes : Bool) → good m → answering.changes m line ≡ changes
         → behind answering m (recorded changes line) ≡ answering.next m line
     one_changing m line true is told = refl

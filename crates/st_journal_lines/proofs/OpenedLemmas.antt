@@ -1,4 +1,4 @@
--- What a journal was opened as, and the machine behind it.
+-- The result of opening a journal, and the machine after it.
 use Rattle.std.proofs.Common.{◌≡◌, ◌≢◌, ◌∙◌, ◌⊎◌, ◌<◌, inl, inr, ⊎_elim, ℕ, Bool, true, false, List, [], Option, Some, None, Result, Ok, Err, refl, ap, sym, subst, length, nat_le, ◌^◌}
 use Rattle.std.specs.Prelude.{IfErr, IfSome, IsErrOf, IsTrue, OnOk}
 use Rattle.st_io.specs.Past.{AddsNoImage, Past}
@@ -23,7 +23,7 @@ abbrev error_or : {A E : Type 0} → E → Result A E → E
 error_or other (Ok x) = other
 error_or other (Err e) = e
 
--- what was given in place of a refusal
+-- a value in place of a refusal
 pub ok_some : {A E : Type 0} (o : Option A) (e : E) (x : A) → ok_or o e ≡ Ok x → o ≡ Some x
 ok_some None e x is = absurd (let no = is in cc)
 ok_some (Some y) e x is = ap Some (ap (value_or y) is)
@@ -44,7 +44,7 @@ module _ {M C : Type 0} (answering : Answering M C) (m : M) where
   machine_by (Ok x) n r gives is = sym (ap (value_or n) gives) ∙ ap (behind answering m) (ap (value_or x) is)
   machine_by (Err e) n r gives is = absurd (let no = gives in cc)
 
-  -- the machine is the one behind the records
+  -- the machine is the one after the records
   pub machine_is : (image : List ℕ) (n : M) (r : List (List ℕ)) → behind_opened answering m (opened image) ≡ Ok n → opened image ≡ Ok r
       → n ≡ behind answering m r
   machine_is image n r gives is = machine_by (opened image) n r gives is
@@ -54,11 +54,11 @@ module _ {M C : Type 0} (answering : Answering M C) (m : M) where
   refusal_by (Ok r) refusal is = absurd (let no = is in cc)
   refusal_by (Err e) refusal is = ap Err (ap (error_or e) is)
 
-  -- what a refusal says of the journal
+  -- the meaning of a refusal for the journal
   refusal_is : (image : List ℕ) (refusal : JournalRefused) → behind_opened answering m (opened image) ≡ Err refusal → opened image ≡ Err refusal
   refusal_is image refusal is = refusal_by (opened image) refusal is
 
-  -- the refusal that an error is
+  -- the refusal of an error, if it is one
   abbrev SaysOf : List ℕ → JournalRefused → Type 0
   SaysOf image error = IfSome (refusal_of error) (λ refusal. behind_opened answering m (opened image) ≡ Err refusal)
 
@@ -68,7 +68,7 @@ module _ {M C : Type 0} (answering : Answering M C) (m : M) where
   pub too_long_is : (image : List ℕ) (error : JournalRefused) → SaysOf image error → error ≡ TooLong → opened image ≡ Err TooLong
   too_long_is image error says is = refusal_is image TooLong (subst (SaysOf image) is says)
 
-  -- what is refused when the journal is opened is refused
+  -- a refusal while the journal is opened is a refusal
   pub refused_by : (opening : Result (List (List ℕ)) JournalRefused) (error : JournalRefused) → IfSome (refusal_of error) (λ refusal. opening ≡ Err refusal)
       → IfSome (refusal_of error) (λ refusal. behind_opened answering m opening ≡ Err refusal)
   refused_by opening TooLong is = ap (behind_opened answering m) is
@@ -86,7 +86,7 @@ module _ {M C : Type 0} (answering : Answering M C) (m : M) where
       → opened image ≡ Err refusal → ⊥
   not_refused image n refusal gives is = gave_by (opened image) n refusal gives is
 
-  -- the context went over no more than the records
+  -- the context is the one after at most the records
   pub within_records : {cap : ℕ} {c d : C} (r : List (List ℕ)) → EffectLaws answering.effect cap → StayedOrWent answering m r c d
       → WentWithin answering m c d r
   within_records {c = c} {d = d} r laws stayed = ⊎_elim
@@ -98,13 +98,13 @@ module _ {M C : Type 0} (answering : Answering M C) (m : M) where
 pub no_end : (status other : ℕ) → IsTrue (is_end status) → (is_end other ≡ false) → status ≡ other → ⊥
 no_end status other end none is = let here : is_end other ≡ true = subst (λ s. is_end s ≡ true) is end in cc
 
--- ---- the records are gone over once a disk was opened
+-- ---- the records are replayed after a disk was opened
 
 pub on_ok : {T E P : Type 0} (r : Result T E) → P → OnOk r P
 on_ok (Ok x) p = p
 on_ok (Err e) p = tt
 
--- a journal that is refused while its records come had some left, and then the disk was left as it was
+-- a journal that is refused while its records are read had some left, and then the disk was unchanged
 pub stays_refused : {T : Type 0} (result : Result T JournalRefused) {left : ℕ} {told mid now : Option (List ℕ)} {a b c : Past}
     → IfErr result (λ refused. 0 < left) → (0 < left → StaysAsItWas told mid a b) → now ≡ mid → AddsNoImage b c
     → IsErrOf result Damaged ⊎ IsErrOf result TooLong → StaysAsItWas told now a c
@@ -113,11 +113,11 @@ stays_refused (Err e) {a = a} {b = b} {c = c} some stays reads images is =
     let was = stays some in
     record { reads = reads ∙ was.reads; images = no_image_on a b c was.images images }
 
--- the error is the same, whatever would be there without it
+-- the error is the same, whatever the result would be without it
 pub same_error : {T U : Type 0} {error other : JournalRefused} → IsErrOf {T = T} (Err error) other → IsErrOf {T = U} (Err error) other
 same_error {error = error} is = ap Err (ap (error_or error) is)
 
--- a disk that could not be opened was left as it was, unless it failed
+-- a disk that could not be opened is unchanged, unless it failed
 pub stays_unopened : {T : Type 0} {error : JournalRefused} {told now : Option (List ℕ)} {a b : Past} → (error ≢ DiskFault → StaysAsItWas told now a b)
     → IsErrOf {T = T} (Err error) Damaged ⊎ IsErrOf {T = T} (Err error) TooLong → StaysAsItWas told now a b
 stays_unopened {error = error} stays (inl is) = stays (λ fault. let no = sym fault ∙ ap (error_or error) is in cc)

@@ -1,4 +1,4 @@
--- A machine that goes over the records of a journal as they come.
+-- A machine that replays the records of a journal as they are read.
 use Rattle.std.proofs.Common.{◌≡◌, ◌∙◌, ◌⊎◌, inl, inr, ⊎_elim, ◌++◌, ◌+◌, append-nil, drop, length, ℕ, List, [], ◌∷◌, Option, Some, None, Ok, Err, refl, ap, sym, subst}
 use Rattle.std.specs.Prelude.{◌<◌, IfErr, IfSome, OnErr, Result}
 use Rattle.st_io.specs.Tears.{IfTold}
@@ -13,8 +13,8 @@ use Rattle.st_journal.specs.declared.refused.JournalRefused.{JournalRefused}
 use Rattle.st_journal.specs.declared.refused.JournalRefused.TheVariants.{TooLong, Damaged, DiskFault, WantOfMemory}
 use Rattle.st_journal_lines.specs.Answering.{Answering, AnsweringLaws, StayedOrWent, WentOverFirst, WentOverFrom, behind, behind_opened}
 
--- Of the records that were to come, some have come, and the rest is still to come: the machine n at d has gone
--- over those, from m at c, or has done nothing yet.
+-- Of the remaining records, some were read, and the rest remains: the machine n at d has executed those, from m at c,
+-- or has done nothing yet.
 pub record Replayed {M C : Type 0} (answering : Answering M C) (m : M) (c : C) (from to : ℕ) (image : List ℕ)
     (all rest : Option (List (List ℕ))) (n : M) (d : C) : Type 0 where
   pub done : List (List ℕ)
@@ -46,7 +46,7 @@ module _ {M C : Type 0} {answering : Answering M C} {cap : ℕ} (laws : Answerin
 
   module _ {m n : M} {c d : C} {from to : ℕ} {image : List ℕ} {all rest : Option (List (List ℕ))}
       (so_far : Replayed answering m c from to image all rest n d) where
-    -- one record more
+    -- one more record
     pub replayed_more : {o : M} {e : C} {line : List ℕ} {more : Option (List (List ℕ))} {end : ℕ} → rest ≡ put_before (line ∷ []) more
         → record_at (drop to image) ≡ Some (Some line) → end ≡ to + (5 + length line)
         → o ≡ answering.next n line → answering.effect.ran n d (line ∷ []) o e → Replayed answering m c from end image all more o e
@@ -59,7 +59,7 @@ module _ {M C : Type 0} {answering : Answering M C} {cap : ℕ} (laws : Answerin
       stayed = inr (laws.effect.gave_up_more m n c d e so_far.done (line ∷ []) so_far.context (laws.gave_up_behind n o d e line ran));
     }
 
-    -- no record more
+    -- no more records
     pub replayed_all : rest ≡ Some [] → behind_opened answering m (ok_or all Damaged) ≡ Ok n
     replayed_all end =
         ap (λ r. behind_opened answering m (ok_or r Damaged)) (given_all so_far.done so_far.split end) ∙ ap Ok (sym so_far.machine)
@@ -68,7 +68,7 @@ module _ {M C : Type 0} {answering : Answering M C} {cap : ℕ} (laws : Answerin
     ran_all end r is =
         subst (λ rs. answering.effect.ran m c rs n d) (same_Some so_far.done r (sym (given_all so_far.done so_far.split end) ∙ is)) so_far.context
 
-    -- the next record could not be had
+    -- the next record is refused
     pub refused_as : (more : Option (List (List ℕ))) (error : JournalRefused) → Comes rest more (Err error)
         → IfSome (refusal_of error) (λ refusal. behind_opened answering m (ok_or all Damaged) ≡ Err refusal)
     refused_as more TooLong is = absurd is
@@ -76,7 +76,7 @@ module _ {M C : Type 0} {answering : Answering M C} {cap : ℕ} (laws : Answerin
     refused_as more DiskFault is = tt
     refused_as more WantOfMemory is = tt
 
-    -- the first records were gone over, and then the next one could not be had
+    -- the first records were replayed, and then the next one was refused
     pub first_within : (first : List (List ℕ)) × (end : ℕ) × StandFrom from first end image × StayedOrWent answering m first c d
     first_within = (
       so_far.done,
@@ -114,7 +114,7 @@ module _ {M C : Type 0} {answering : Answering M C} {cap : ℕ} (laws : Answerin
       laws.effect.gave_up_more m n c d e so_far.done (line ∷ []) so_far.context gave,
     )
 
--- a journal that was refused behind its beginning was left as it was, so what was gone over stands in the old image
+-- a journal that was refused after its start was unchanged, so the replayed records are in the old image
 pub first_opened : {M C T : Type 0} (answering : Answering M C) (m : M) (c d : C) (result : Result T JournalRefused) (place left : ℕ) (told now : Option (List ℕ))
     (image : List ℕ) → told ≡ Some image → place ≡ 0 → IfErr result (λ refused. 0 < left) → (0 < left → now ≡ told)
     → IfTold now (λ x. OnErr result (WentOverFrom answering m place x c d)) → OnErr result (WentOverFirst answering m image c d)
@@ -122,7 +122,7 @@ first_opened answering m c d (Ok x) place left told now image here is refuses st
 first_opened answering m c d (Err e) place left told now image here is refuses stays within =
     subst (λ n. WentOverFrom answering m n image c d) is (within image (stays refuses ∙ here))
 
--- what is read is not too long
+-- the contents are not too long
 pub not_long : (found : Option (List (List ℕ))) → ok_or found Damaged ≡ Err TooLong → ⊥
 not_long None is = absurd (let no = is in cc)
 not_long (Some r) is = absurd (let no = is in cc)

@@ -1,7 +1,7 @@
 -- A run of a machine with its journal, from before its disk is opened:
---     replies_are     where the journal ends makes no difference to replies
---     opened_run      what is promised where the journal was opened
---     refused_run     and where it wasn't
+--     replies_are     the end of the journal makes no difference to replies
+--     opened_run      the properties if the journal was opened
+--     refused_run     and if it wasn't
 use Rattle.std.proofs.Common.{◌≡◌, ◌∙◌, inl, inr, ⊎_elim, ◌++◌, ◌≤◌, ℕ, Bool, true, false, List, [], ◌∷◌, Option, Some, Ok, Err, is_some, refl, ap, sym, subst, arith, length, append-nil, ◌⊎◌, IsTrue, ◌||◌}
 use Rattle.std.specs.Prelude.{IsErrOf}
 use Rattle.std.proofs.lemmas.Bool.{false≢true}
@@ -35,7 +35,7 @@ or_left true b is = refl
 or_left false b is = absurd (false≢true is)
 
 module _ {M C : Type 0} (answering : Answering M C) where
-  -- ---- where the journal ends makes no difference
+  -- ---- the end of the journal makes no difference
 
   pub replies_are : (m : M) (journal : JournalValue) (lines : List (List ℕ))
       → replies (recording (recorder_of answering)) (m, journal) lines ≡ replies (recording (plain_recorder answering)) m lines
@@ -99,7 +99,7 @@ module _ {M C : Type 0} (answering : Answering M C) where
           synced = λ x left. opens.synced image told x left ∙ is;
         }
 
-  -- all images have the records then
+  -- all images then have the records
   all_have : (image : List ℕ) (r : List (List ℕ)) (told now : Option (List ℕ)) (past : Past) (journal : JournalValue) → told ≡ Some image
       → records image ≡ Some r → Turns told now (λ old new. records new ≡ records old) → IsReady journal now past
       → AllHold (recording (recorder_of answering)) r past
@@ -107,7 +107,7 @@ module _ {M C : Type 0} (answering : Answering M C) where
       let to = turns.forward image here in
       (ready.images to.0 to.1 x left).1 ∙ to.2 ∙ is
 
-  -- the context went over the records, to the machine that they bring back
+  -- the context is the one after the records, and the machine the one that they restore
   within_none : (m : M) (r : List (List ℕ)) {c d : C} → WentWithin answering m c d r → WentWithin answering m c d (r ++ [])
   within_none m r within = (within.0, subst (Begins within.0) (sym (append-nil r)) within.1, within.2)
 
@@ -189,11 +189,11 @@ module _ {M C : Type 0} (answering : Answering M C) where
           unmoved = λ image told is. absurd (not_refused answering m image lines.0 TooLong (opens.gives image told) is);
         }
 
-  -- ---- it was refused, or the disk failed, or memory was wanting
+  -- ---- it was refused, or the disk failed, or memory ran out
 
   module _ {m : M} {limit : ℕ} {run : Outcome C} {refused : JournalRefused} (opens : OpensJournal answering m run.disk run.context run.context_now (Err refused))
       (unread : Unread run.io) (kept : run.io.source_kept × run.io.sink_kept) where
-    -- the machine is not there, and the context went over no more than the records
+    -- there is no machine, and the context is the one after at most the records
     from_refused : {cap : ℕ} → EffectLaws answering.effect cap → IsUnread run.disk.failed run.status → IsTrue (is_end run.status)
         → {image : List ℕ} → run.disk.reads ≡ Some image → (r : List (List ℕ)) → opened image ≡ Ok r → RunFromRecords answering m limit run r
     from_refused effects late end {image} told r is =
@@ -210,7 +210,7 @@ module _ {M C : Type 0} (answering : Answering M C) where
               (keeps_records (recorder_of answering) (behind answering m r, record { end = 0 }) r (all_lines input) [] run.disk.before run.disk.behind (none input)));
         }
 
-    -- all but what the cause and the status say
+    -- all except the properties from the cause and the status
     refused_with : IsUnread run.disk.failed run.status
         → ((image : List ℕ) → run.disk.reads ≡ Some image → (r : List (List ℕ)) → opened image ≡ Ok r → RunFromRecords answering m limit run r)
         → ((image : List ℕ) → run.disk.reads ≡ Some image → Refuses Damaged image 7 run.status × Refuses TooLong image 8 run.status)

@@ -12,7 +12,7 @@ use Rattle.st_journal.specs.Moments.{IsBeforeOrAfter, with_record}
 use Rattle.st_journal.specs.Values.{JournalValue, at_end}
 use Rattle.st_journal_lines.specs.Answering.{Answering, grown, recorder_of}
 
--- the same of a machine that is seen as another, and came to one that is
+-- the same for a machine with an equal view, and an equal next one
 pub ran_as : {M C K D : Type 0} {rules : Rules M C K} {store : Store D} {m n self after : M} {c d : C × D} {lines : List (List ℕ)}
     → m ≡ self → after ≡ n → RanOnDisk rules store m c lines n d → RanOnDisk rules store self c lines after d
 ran_as {rules = rules} {store = store} {m = m} {self = self} {after = after} {c = c} {d = d} {lines = lines} is came ran =
@@ -23,12 +23,12 @@ pub gave_as : {M C K D : Type 0} {rules : Rules M C K} {store : Store D} {m self
 gave_as {rules = rules} {store = store} {c = c} {d = d} {lines = lines} is gave = subst (λ x. GaveUpOnDisk rules store x c lines d) is gave
 
 module _ {M C : Type 0} (answering : Answering M C) where
-  -- where one image is told, all images hold what it holds
+  -- if the contents are revealed, all images have the records of the contents
   there : (told : Option (List ℕ)) (past : Past) (r : List (List ℕ)) → IfTold told (Images past)
       → AllHold (recording (recorder_of answering)) r past → IfTold told (λ image. records image ≡ Some r)
   there told past r is all image here = all image (is image here)
 
-  -- a record more, or not yet
+  -- one more record, or not yet
   moments_of : (told : Option (List ℕ)) (a b : Past) (line : List ℕ) (r : List (List ℕ)) → IsSome told → IfTold told (λ image. records image ≡ Some r)
       → IfTold told (λ old. Leaves (IsBeforeOrAfter (records old) line) a b)
       → Leaves (λ image. (records image ≡ Some r) ⊎ (records image ≡ Some (r ++ line ∷ []))) a b

@@ -1,5 +1,4 @@
--- Machines of lines that lines bring back, and the same with a journal in which the lines that change them are
--- recorded.
+-- Machines that replay restores, and the same with a journal that records the lines that change them.
 use Rattle.std.specs.Prelude.{◌≡◌, ◌⊎◌, ℕ, ◌+◌, ◌≤◌, ◌<◌, ◌^◌, Bool, true, false, List, [], ◌∷◌, length, take, if◌then◌else◌, Result, Ok}
 use Rattle.st_base.specs.Answers.{◌>>=◌}
 use Rattle.st_drive.specs.OnDisk.{Effect, EffectLaws}
@@ -12,40 +11,40 @@ use Rattle.st_journal.specs.declared.refused.JournalRefused.{JournalRefused}
 
 -- a machine of type M with a context of type C that answers lines
 pub record Answering (M C : Type 0) : Type 1 where
-  -- what it replies to a line, and the machine after it
+  -- its reply to a line, and the machine after it
   pub reply : M → List ℕ → List ℕ
   pub next : M → List ℕ → M
   -- a line changes the machine
   pub changes : M → List ℕ → Bool
-  -- what it may do to its context
+  -- the possible effects on its context
   pub effect : Effect M C
 
--- how many bytes a line that is recorded has at most
+-- the largest number of bytes of a recorded line
 abbrev pub longest_record : ℕ
 longest_record = 24000000
 
--- what is promised of a machine that looks at the first `cap` bytes of a line
+-- the laws of a machine that reads the first `cap` bytes of a line
 pub record AnsweringLaws {M C : Type 0} (answering : Answering M C) (cap : ℕ) : Type 0 where
-  -- a line that changes it can be recorded, and is looked at whole
+  -- a line that changes it can be recorded, and is read completely
   pub whole : longest_record < cap
   pub short : (m : M) (line : List ℕ) → answering.changes m line ≡ true → length line ≤ longest_record
-  -- a line that is cut to its first `cap` bytes does the same
+  -- a line that is truncated to its first `cap` bytes has the same effect
   pub cut_reply : (m : M) (line : List ℕ) → length line < 2 ^ 62 → answering.reply m (take cap line) ≡ answering.reply m line
   pub cut_next : (m : M) (line : List ℕ) → length line < 2 ^ 62 → answering.next m (take cap line) ≡ answering.next m line
   pub cut_changes : (m : M) (line : List ℕ) → length line < 2 ^ 62 → answering.changes m (take cap line) ≡ answering.changes m line
   pub effect : EffectLaws answering.effect cap
-  -- where it went over a line, it may as well give up behind it
+  -- if it executed a line, it may also give up after it
   pub gave_up_behind : (m n : M) (c d : C) (line : List ℕ) → answering.effect.ran m c (line ∷ []) n d
       → answering.effect.gave_up m c (line ∷ []) d
 
--- ---- over lines, one after the other
+-- ---- over lines, one after another
 
--- the machine behind these lines
+-- the machine after these lines
 abbrev pub behind : {M C : Type 0} → Answering M C → M → List (List ℕ) → M
 behind answering m [] = m
 behind answering m (line ∷ lines) = behind answering (answering.next m line) lines
 
--- behind the records of a journal, where it was opened
+-- after the records of a journal, if it was opened
 abbrev pub behind_opened : {M C : Type 0} → Answering M C → M → Result (List (List ℕ)) JournalRefused → Result M JournalRefused
 behind_opened answering m opened = do
   records ← opened
@@ -55,24 +54,24 @@ behind_opened answering m opened = do
 abbrev pub GaveUpWithin : {M C : Type 0} → Answering M C → M → List (List ℕ) → (c d : C) → Type 0
 GaveUpWithin answering m lines c d = (first : List (List ℕ)) × Begins first lines × answering.effect.gave_up m c first d
 
--- the context stayed as it was, or went over these lines, or the machine gave up at one of them
+-- the context is unchanged, or that after these lines, or the machine gave up at one of them
 abbrev pub StayedOrWent : {M C : Type 0} → Answering M C → M → List (List ℕ) → (c d : C) → Type 0
 StayedOrWent answering m lines c d = (d ≡ c) ⊎ GaveUpWithin answering m lines c d
 
--- What is promised of the machines that lines bring back from the start: a line that isn't told as a change leaves the
--- machine. It may be so of the good ones alone, as which the machine starts and stays.
+-- The laws of the machines that replay restores from the start: a line that isn't reported as a change leaves the
+-- machine unchanged. This is required only of good machines; the machine starts as one and stays one.
 pub record Idles {M C S : Type 0} (answering : Answering M C) (start : S → M) (good : M → Type 0) : Type 0 where
   pub starts : (seed : S) → good (start seed)
   pub stays : (m : M) (line : List ℕ) → good m → good (answering.next m line)
   pub idle : (m : M) (line : List ℕ) → good m → answering.changes m line ≡ false → answering.next m line ≡ m
 
--- The context went over no more than the first records of an image from this gate's place on, whatever stands behind
+-- The context is the one after at most the first records of an image from this gate's place on, whatever follows
 -- them.
 abbrev pub WentOverFrom : {M C : Type 0} → Answering M C → M → (place : ℕ) (image : List ℕ) → (c d : C) → Type 0
 WentOverFrom answering m place image c d =
     (first : List (List ℕ)) × (end : ℕ) × StandFrom place first end image × StayedOrWent answering m first c d
 
--- no more than the first records of the image
+-- at most the first records of the image
 abbrev pub WentOverFirst : {M C : Type 0} → Answering M C → M → (image : List ℕ) → (c d : C) → Type 0
 WentOverFirst answering m image c d = WentOverFrom answering m 0 image c d
 

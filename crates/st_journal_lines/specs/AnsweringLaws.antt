@@ -1,4 +1,4 @@
--- What is promised of a machine with its journal.
+-- The laws of a machine with its journal.
 use Rattle.std.specs.Prelude.{◌≡◌, refl, ℕ, ◌+◌, ◌*◌, ◌<◌, ◌≤◌, ◌^◌, Bool, true, false, List, ◌++◌, length, take}
 use Rattle.std.proofs.Common.{◌∙◌, ap, sym, arith}
 use Rattle.std.proofs.lemmas.List.{take_all}
@@ -9,7 +9,7 @@ use Rattle.st_drive.specs.Recording.{recorded, recording}
 use Rattle.st_journal_lines.specs.Answering.{Answering, AnsweringLaws, grown, recorder_of}
 
 module _ {M C : Type 0} {answering : Answering M C} {cap : ℕ} (laws : AnsweringLaws answering cap) where
-  -- a line that changes the machine is not cut, and what another does isn't looked at
+  -- a line that changes the machine is not truncated, and another's text doesn't matter
   cut_line : {A : Type 0} (f : Bool → List ℕ → A) → ((line other : List ℕ) → f false line ≡ f false other)
       → (m : M) (line : List ℕ) → length line < 2 ^ 62 → (changes : Bool) → answering.changes m line ≡ changes
       → f (answering.changes m (take cap line)) (take cap line) ≡ f (answering.changes m line) line

@@ -1,5 +1,5 @@
-//! A machine of lines that survives stops: each line that changes it is recorded in a journal before it
-//! is replied to, and the records bring it back.
+//! A machine of lines that survives stops: each line that changes it is recorded in a journal
+//! before its reply, and replaying the records restores it.
 #![tactic(auto)]
 
 mod laws;

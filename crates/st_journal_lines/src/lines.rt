@@ -18,8 +18,9 @@ use st_journal::{AppendRefused, Journal};
 use std::alloc::Global;
 use std::marker::{Model, PhantomData};
 
-/// A machine that is driven by lines, with the journal in which each line that changes it is recorded
-/// before its reply is given. It goes with the disk of that journal, which nobody else may write to.
+/// A machine that is driven by lines, with the journal in which each line that changes it is
+/// recorded before its reply is returned. It belongs to the disk of that journal, which nobody else
+/// may write to.
 #[derive(Drop)]
 pub struct JournalLines<N, D> {
     machine: N,
@@ -48,7 +49,6 @@ impl<N, D> JournalLines<N, D> {
     }
 }
 
-// Records a line.
 fn record<D: Disk>(
     alloc: Global,
     disk: &mut D,

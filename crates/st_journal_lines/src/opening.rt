@@ -18,8 +18,8 @@ use st_io::Disk;
 use st_journal::{JournalRefused, Opening};
 use std::alloc::Global;
 
-// The machine behind the records that are still to come, with the journal behind them. Each is let go once it was
-// answered, and what the machine replies is dropped.
+// The machine after the remaining records, with the journal after them. Each record is dropped
+// after it is answered, and so are the replies.
 fn replay<N: Replayable, D: Disk>(
     alloc: Global,
     machine: N,
@@ -59,13 +59,13 @@ fn replay<N: Replayable, D: Disk>(
 }
 
 impl<N: Replayable, D: Disk> JournalLines<N, D> {
-    /// Opens the journal of a disk, and brings the machine back: from its start it goes over all records, as
-    /// lines, one by one as they are read. Where the journal turns out to be damaged, or memory or the disk fails,
-    /// that machine is let go.
+    /// Opens the journal of a disk, and restores the machine: from its start it replays all
+    /// records, as lines, one by one as they are read. If the journal is found to be damaged, or
+    /// memory or the disk fails, that machine is dropped.
     ///
-    /// `TooLong` comes exactly where the disk has more than 2^40 bytes, and `Damaged` exactly where else
-    /// its journal is damaged. `DiskFault` comes only where the disk's count of faults rose. Want of
-    /// memory is free.
+    /// The result is `TooLong` if and only if the disk has more than 2^40 bytes; otherwise
+    /// `Damaged` if and only if its journal is damaged. It is `DiskFault` only if the disk's count
+    /// of faults rose. It may run out of memory.
     pub fn open(
         alloc: Global,
         seed: &N::Seed,

@@ -4,39 +4,39 @@ ghost use Rattle.st_journal_lines.specs.Answering.{Answering, AnsweringLaws, Idl
 use st_base::{Bytes, WantOfMemory};
 use std::alloc::Global;
 
-/// A machine of lines without a disk, which the lines that changed it bring back.
+/// A machine of lines without a disk, which is restored by replaying the lines that changed it.
 pub trait Replayable: Sized + Drop {
-    /// What the machine works with and doesn't own, as a counter of work.
+    /// What the machine uses but doesn't own, such as a counter of work.
     type Context;
 
-    /// What it begins with, as a schedule of limits.
+    /// What it starts with, such as a schedule of limits.
     type Seed;
 
-    /// The machine before any line has come.
+    /// The machine before any line.
     ghost start: { Self.Seed → Self };
 
-    /// What it replies to a line, what it is then, whether the line has changed it, and what it may do
-    /// to its context.
+    /// Its reply to a line, the next machine, whether the line changed it, and the possible effects
+    /// on its context.
     ghost answering: { Answering Self Self.Context };
 
-    /// What holds of each machine that lines bring back from the start.
+    /// A property of each machine that replay restores from the start.
     ghost good: { Self → Type 0 };
 
-    /// How many bytes of a line it looks at.
+    /// How many bytes of a line it reads.
     ghost CAP: { ℕ };
 
-    /// How many bytes of a line it looks at: the others are skipped.
+    /// How many bytes of a line it reads: the others are skipped.
     const CAP: usize;
 
-    /// The machine before any line has come.
+    /// The machine before any line.
     ///
-    /// Want of memory is free.
+    /// It may run out of memory.
     fn start(alloc: Global, seed: &Self::Seed) -> Result<Self, WantOfMemory>
         ensures { IfOk result (λ machine. machine ≡ start seed.now) };
 
-    /// Answers one line: the machine that goes on, the reply, and whether the line has changed it.
+    /// Answers one line: the next machine, the reply, and whether the line changed it.
     ///
-    /// Want of memory is free.
+    /// It may run out of memory.
     fn answer(
         self,
         alloc: Global,
@@ -49,9 +49,9 @@ pub trait Replayable: Sized + Drop {
         ensures ran { IfOk result (λ done. answering.effect.ran self context.old (line.now ∷ []) done.0 context.new) }
         ensures gave_up { OnErr result (answering.effect.gave_up self context.old (line.now ∷ []) context.new) };
 
-    /// A line that isn't told as a change leaves a machine that lines bring back as it was.
+    /// A line that isn't reported as a change leaves a machine that replay restores unchanged.
     ghost idles: { Idles answering start good };
 
-    /// What it promises.
+    /// Its laws.
     ghost laws: { AnsweringLaws answering CAP };
 }

@@ -9,14 +9,14 @@ use st_io::{Disk, Sink, Source};
 use st_journal::JournalRefused;
 use std::alloc::Global;
 
-/// Brings a machine back from the journal of the disk, and answers the lines of a source of at most
+/// Restores a machine from the journal of the disk, and answers the lines of a source of at most
 /// `limit` bytes with it.
 ///
-/// The status is 7 exactly where the journal is damaged, and 8 exactly where the disk has more than 2^40
-/// bytes, unless the disk fails or memory runs out; nothing is read or written then, and the disk stays as
-/// it was. Each reply is written before the next line is carried out. The status is 4 only where
-/// the disk's count of faults rose, and else that of `run_machine`. What is said of replies and of the
-/// disk stands where it tells what it reads as.
+/// The status is 7 if and only if the journal is damaged, and 8 if and only if the disk has more
+/// than 2^40 bytes, unless the disk fails or memory runs out; then nothing is read or written, and
+/// the disk is unchanged. Each reply is written before the next line is executed. The status is 4
+/// only if the disk's count of faults rose, and else that of `run_machine`. Clauses about replies
+/// and the disk hold if it reveals its contents.
 pub fn run_journalled<N: Replayable, S: Source, K: Sink, D: Disk>(
     alloc: Global,
     limit: usize,
@@ -41,7 +41,6 @@ pub fn run_journalled<N: Replayable, S: Source, K: Sink, D: Disk>(
     }
 }
 
-// The status of a run whose journal was refused so.
 fn refusal_status(refused: JournalRefused) -> u8
     ensures { result ≡ status_of refused }
 {

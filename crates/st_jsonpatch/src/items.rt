@@ -14,7 +14,6 @@ use st_base::List;
 use st_canon::Json;
 use std::alloc::Global;
 
-// The item that a token selects.
 pub(crate) fn item<'a>(items: &'a List<Json>, token: &str) -> Option<&'a Json>
     ensures { option_map plain (option_copied result) ≡ item_at token.now (plain_items items.now) }
 {

@@ -120,7 +120,6 @@ fn read_path(alloc: Global, value: &Json, name: &str) -> Result<Pointer, StepRef
     }
 }
 
-// The text in the member of this name.
 fn text_at<'a>(value: &'a Json, name: &str) -> Option<&'a str>
     ensures { option_map (λ text. text.now) result ≡ text_at name.now (Some (plain value.now)) }
 {

@@ -20,6 +20,7 @@ use st_hash::{DecRefused, dec};
 use st_lms::verify;
 use std::alloc::Global;
 
+/// A signed text whose signature holds under the key in its payload.
 #[derive(Drop)]
 pub struct Signed {
     /// The original text.

@@ -33,7 +33,6 @@ pub fn signing_input(alloc: Global, payload: &Json) -> Result<Bytes, WantOfMemor
     Ok(input)
 }
 
-// Two texts, joined by a dot.
 fn with_dot(alloc: Global, first: &[u8], second: &[u8]) -> Result<Bytes, WantOfMemory>
     ensures { IfOk result (λ joined. joined ≡ first.now ++ dot ∷ second.now) }
 {
@@ -68,7 +67,6 @@ fn joined(alloc: Global, input: &[u8], signature: &[u8]) -> Result<Text, WantOfM
     Ok(Text::from_string(text))
 }
 
-// ASCII as a text.
 fn ascii_text(bytes: &[u8]) -> &str
     requires { IsAscii bytes.now }
     ensures { result.now ≡ bytes.now }

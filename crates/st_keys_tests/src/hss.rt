@@ -5,7 +5,7 @@ mod vectors;
 
 use std::test::Fail;
 
-/// A test that ends so.
+/// A test with this result.
 fn judged(right: bool) -> Result<(), Fail> {
     match right {
         true => Ok(()),

@@ -1,4 +1,4 @@
-//! The tests of keys: LMS signatures, vaults, keys of two levels, keys as JSON and signed texts.
+//! The tests of keys: LMS signatures, vaults, two-level keys, keys as JSON and signed texts.
 #![tactic(auto)]
 
 #[cfg(test)]

@@ -5,7 +5,7 @@ fn makes_no_key(ots: u32, tree: u32) -> bool {
     Secret::new(ots, tree, [7; 16], [9; 32]).is_err()
 }
 
-/// What 56 bytes are as a public key that are 0 but for the types.
+/// The answer to 56 bytes as a public key that are 0 except for the types.
 fn read(tree: u8, ots: u8) -> Result<Public, PublicRefused> {
     let mut text = [0u8; 56];
     text[3] = tree;

@@ -11,15 +11,15 @@ use st_lms::{BadType, Secret};
 use st_vault::{OpenRefused, ReserveRefused, Vault, format_vault, open_vault};
 use std::alloc::Global;
 
-/// How many counters are left of the vault that an image is, or what it is instead.
+/// The number of remaining counters of the vault in an image, or what else the image is.
 type Left = Result<u32, OpenRefused>;
 
-/// A key with 32 counters, of a type whose public key takes little time.
+/// A key with 32 counters, of a type whose public key is quick to compute.
 fn key() -> Result<Secret, BadType> {
     Secret::new(2, 5, [7; 16], [9; 32])
 }
 
-/// A disk with this image, of whose calls those behind the `last` fail.
+/// A disk with this image, whose calls after `last` fail.
 fn disk_of(alloc: Global, image: &[u8], last: u64) -> Result<ScriptDisk, WantOfMemory> {
     let image = Bytes::from_slice(alloc, image)?;
     Ok(ScriptDisk::new(alloc, image, List::new(alloc), last))
@@ -41,7 +41,7 @@ fn is_formatted(disk: &mut ScriptDisk) -> bool {
     }
 }
 
-/// The vault after so many reservations.
+/// The vault after this many reservations.
 fn spend<D: Disk>(disk: &mut D, vault: Vault, count: u32) -> Result<Vault, ReserveRefused>
     requires { ReadsAs (D.reads disk.old) vault }
     ensures { IfOk result (ReadsAs (D.reads disk.new)) }
@@ -54,7 +54,7 @@ fn spend<D: Disk>(disk: &mut D, vault: Vault, count: u32) -> Result<Vault, Reser
     Ok(vault)
 }
 
-/// How many are left once so many are spent of the vault that the disk is.
+/// The number of remaining counters after this many are spent from the disk's vault.
 fn left_after(disk: &mut ScriptDisk, count: u32) -> Option<u32> {
     let Ok(vault) = open_vault(disk) else {
         return None;

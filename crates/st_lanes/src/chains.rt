@@ -142,8 +142,8 @@ fn blank() -> [u8; 8480]
     [0; 8480]
 }
 
-/// The ends of the first `count` chains, in a row. Chain `i` begins at place `from[i]` with value `i` of
-/// the row `starts`, and ends at place `to[i]`.
+/// The ends of the first `count` chains, in a row. Chain `i` begins at place `from[i]` with value
+/// `i` of the row `starts`, and ends at place `to[i]`.
 pub fn walk(
     head: &[u8; 20],
     from: &[u16; 265],

@@ -65,7 +65,6 @@ node_above-path_from secret n r (suc m) =
     ∙ ap (λ k. node secret k (r / 2 / 2 ^ m)) levels
     ∙ ap (λ k. node secret (n + suc m) k) halves
 
--- the leaf of a one-time key
 leaf-node : (secret : SecretKey) (q : ℕ) →
     leaf secret.id (2 ^ height secret.tree + q) (one_time_public secret.ots secret.id q secret.seed) ≡ node secret 0 (2 ^ height secret.tree + q)
 unfolding node

@@ -43,7 +43,6 @@ pub length-path : (n m : ℕ) (signature : List ℕ) (parts : SignatureParts) �
     → length parts.path ≡ m
 length-path n m signature parts cut long = omega (arith, ap length cut.whole, length-whole_of parts)
 
--- the parts of a signature
 abbrev parts_of : (public : PublicKey) (message signature : List ℕ) → IsSignature public message signature → SignatureParts
 parts_of public message signature is = record {
   q = u32str is.q;
@@ -99,7 +98,6 @@ same_parts n signature one other a b paths =
       path = six.back_is;
     }
 
--- the parts of a signature hold
 pub parts_hold_of : (public : PublicKey) (message signature : List ℕ) (parts : SignatureParts)
     → IsCut (32 * chains public.ots) signature parts
     → IsSignature public message signature

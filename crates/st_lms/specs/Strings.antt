@@ -1,6 +1,7 @@
 -- Byte strings (RFC 8554, section 3.1).
 use Rattle.std.specs.Prelude.{ℕ, zero, suc, ◌+◌, ◌-◌, ◌*◌, ◌/◌, ◌%◌, ◌^◌, List, [], ◌++◌, slice_index}
 use Rattle.std.specs.Int.{w16, w32, to_be_bytes, from_be_bytes}
+-- string i of a row of strings of 32 bytes
 unfoldable pub use Rattle.st_lanes.specs.Chains.{value_at}
 
 -- a number as 4 bytes, big-endian (3.1.1)

@@ -1,4 +1,4 @@
--- There are four nodes, whatever lines have come, and each message goes from one of them to one of them:
+-- There are four nodes, after any lines, and the sender and the addressee of each message are among them:
 --     are-four, are-addressed
 use Rattle.std.proofs.Common.{◌≡◌, ◌∙◌, ◌<◌, ℕ, List, [], ◌∷◌, length, map, bytes_eq, codes, nat_le, is_some, slice_get, Option, Some, None, Result, Ok, Err, IfOk, sym, refl, arith, if◌then◌else◌}
 use Rattle.std.proofs.lemmas.Bool.{cond_both}
@@ -28,11 +28,11 @@ use Rattle.st_network.specs.declared.letter.Step.TheVariants.{Line, Post, Store}
 use Rattle.st_network.proofs.NetworkLemmas.{each-item}
 use Rattle.st_network.proofs.StepLemmas.{behind, behind_test, ok_or-some, posted}
 
--- what holds of each item holds of the one at a place
+-- a property of each item holds for the one at a place
 each-got : {X : Type 0} (P : X → Type 0) (xs : List X) (i : ℕ) (x : X) → AllByRecursion P xs → slice_get xs i ≡ Some x → P x
 each-got P xs i x all is = each-item P xs i x all (slice_get_within xs i x is) (sym (get_or_from_slice_get xs i x x is))
 
--- ---- how many nodes a line leaves
+-- ---- the number of nodes after a line
 
 abbrev count : {M : Type 0} → Answered M → ℕ
 count answer = length answer.next.nodes
@@ -51,9 +51,9 @@ module _ {M : Type 0} (peer : Peer M) (network : Network M) where
   done-count (Post letters) = posted (λ answer. count answer ≡ length network.nodes) network letters refl refl
   done-count (Store i bytes) = store-count i bytes (slice_get network.nodes i)
 
--- ---- what a line sends
+-- ---- the messages that a line sends
 
--- the messages that are sent go from one of the four to one of them
+-- the senders and addressees of the sent messages are among the four
 abbrev Sends : Step → Type 0
 Sends (Line i line) = ⊤
 Sends (Post letters) = AllByRecursion IsAddressed letters
@@ -134,7 +134,7 @@ module _ {M : Type 0} (peer : Peer M) (network : Network M) (four : length netwo
   line-sends line =
       behind_test Sends (nat_le (length line) longest_line) cause.Long _ (words-send (first_word space line) (other_words space line))
 
-  -- ---- what it leaves
+  -- ---- the effect
 
   abbrev Leaves : Answered M → Type 0
   Leaves answer = AllByRecursion IsAddressed answer.next.letters
@@ -160,7 +160,7 @@ step-count : {M : Type 0} (peer : Peer M) (network : Network M) (result : Result
 step-count peer network (Ok step) = done-count peer network step
 step-count peer network (Err why) = refl
 
--- what holds of a network that lines have come to
+-- properties of a network that lines have reached
 record Sound {M : Type 0} (network : Network M) : Type 0 where
   pub four : length network.nodes ≡ 4
   pub addressed : AllByRecursion IsAddressed network.letters

@@ -1,4 +1,4 @@
--- A delivered message stores nothing but what is wanted:
+-- A delivered message stores only a file that is wanted:
 --     stores-only-wanted
 use Rattle.std.proofs.Common.{◌≡◌, inl, inr, ℕ, Bool, true, false, cond, nat_le, List, [], ◌∷◌, ◌++◌, length, codes, slice_get, Option, Some, None, Result, Ok, Err, IfOk, sym, subst, refl}
 use Rattle.std.specs.Bool.{⊤}
@@ -22,7 +22,7 @@ use Rattle.st_network.specs.declared.letter.Step.{Step}
 use Rattle.st_network.specs.declared.letter.Step.TheVariants.{Line, Post, Store}
 use Rattle.st_network.proofs.StepLemmas.{behind, ok_or-some, posted}
 
--- ---- what a `deliver` asks for
+-- ---- the step of a `deliver`
 
 -- the file is wanted by that node
 record IsWanted {M : Type 0} (peer : Peer M) (network : Network M) (i : ℕ) (bytes : List ℕ) : Type 0 where
@@ -55,7 +55,7 @@ delivers peer network others =
     behind (Delivers peer network) (node_at network received.to) _ (λ node is.
     answers peer network received node (ok_or-some (slice_get network.nodes received.to) cause.Range node is) message)))))
 
--- ---- what it leaves
+-- ---- the effect
 
 abbrev Well : {M : Type 0} → Peer M → Network M → Answered M → Type 0
 Well peer network answer = StaysOrGains peer network answer.next

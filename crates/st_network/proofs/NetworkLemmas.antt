@@ -1,4 +1,4 @@
--- How much fits behind the messages that are kept, and a node that is put back to its place.
+-- The room after the stored messages, and a node that is put back to its place.
 use Rattle.std.proofs.Common.{◌≡◌, ◌∙◌, ℕ, zero, suc, ◌+◌, ◌-◌, ◌<◌, nat_le, false, List, [], ◌∷◌, length, get_or, drop, slice_set, slice_get, Option, Some, None, IfSome, ap, sym, subst, refl, arith}
 use Rattle.std.proofs.lemmas.Bool.Decides.{nat_tests}
 use Rattle.std.proofs.lemmas.List.Sums.{sum_by-cons}
@@ -15,7 +15,7 @@ put_back [] i x below = let no : ⊥ = omega (arith, below) in elim no [ ]
 put_back (y ∷ ys) zero x below = refl
 put_back (y ∷ ys) (suc i) x below = ap (λ (rest : List _). y ∷ rest) (put_back ys i x (omega arith))
 
--- so where the changed one follows from it, the new list has that at its place
+-- so if the changed one follows from it, the new list has that at its place
 module _ {X : Type 0} (nodes without new : List X) (i : ℕ) (node next : X) (below : i < length nodes) (there : slice_get nodes i ≡ Some node)
     (gone : without ≡ remove nodes i) (is : new ≡ insert without i next) where
   new_is : new ≡ slice_set nodes i next
@@ -27,7 +27,7 @@ module _ {X : Type 0} (nodes without new : List X) (i : ℕ) (node next : X) (be
       subst (λ (found : Option X). IfSome found (λ node. (new ≡ slice_set nodes i (f node)) × (told ≡ reply node))) (sym there)
       (new_is ∙ ap (λ (next : X). slice_set nodes i next) same, tells)
 
--- what holds of each holds of one
+-- a property of each holds for one
 pub each-item : {X : Type 0} (P : X → Type 0) (xs : List X) (i : ℕ) (x : X) → AllByRecursion P xs → i < length xs → x ≡ get_or xs i x → P x
 each-item P [] i x each below is = let no : ⊥ = omega (arith, below) in elim no [ ]
 each-item P (y ∷ ys) zero x each below is = subst P (sym is) each.0
@@ -40,7 +40,7 @@ less-none room size rest past =
     let other : nat_le (size + rest) room ≡ false = grind (arith, nat_tests) in
     rw other refl
 
--- a message that doesn't fit: so don't all
+-- if one message doesn't fit, all don't
 pub less_stuck : (letters : List Letter) (i : ℕ) (letter : Letter) (left room : ℕ) → i < length letters → letter ≡ get_or letters i letter
     → left < size_of letter → less left (sum_by size_of (drop i letters)) ≡ less room (sum_by size_of letters)
     → less room (sum_by size_of letters) ≡ None

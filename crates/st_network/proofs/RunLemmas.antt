@@ -1,6 +1,6 @@
--- A run of four nodes, in the words of what they reply to lines:
---     exchange_run   where it began
---     unbegun_run    where memory was wanting before
+-- A run of four nodes, by their replies to lines:
+--     exchange_run   if it started
+--     unbegun_run    if memory ran out before
 use Rattle.std.proofs.Common.{◌≡◌, ℕ, ap, arith, refl}
 use Rattle.st_base.specs.Work.{Counts}
 use Rattle.st_io.specs.Causes.{Rose}

@@ -1,7 +1,7 @@
--- Steps of definitions, and what posting messages may leave:
---     behind, behind_test   what holds behind the first step holds of both
+-- Steps of definitions, and the possible effects of posting messages:
+--     behind, behind_test   a property of the result after the first step is one of the whole
 --     ok_or-some            the value of a step
---     posted                what holds of both answers to messages that are sent
+--     posted                a property of both answers to sent messages
 use Rattle.std.proofs.Common.{◌≡◌, Bool, true, false, List, ◌++◌, Option, Some, None, Result, Ok, Err, IfOk, refl}
 use Rattle.std.proofs.lemmas.Bool.{cond_both}
 use Rattle.std.specs.Option.{ok_or}
@@ -24,7 +24,7 @@ pub ok_or-some : {A E : Type 0} (option : Option A) (e : E) (x : A) → ok_or op
 ok_or-some None e x is = cc
 ok_or-some (Some y) e x is = cc
 
--- the network with these messages behind the others, and how many they are
+-- the network with these messages after the others, and their number
 abbrev pub sent : {M : Type 0} → Network M → List Letter → Answered M
 sent network letters = record { next = record network { letters = network.letters ++ letters }; reply = post_reply letters }
 

@@ -1,5 +1,5 @@
--- What four nodes answer to a line, and what it leaves. A message is delivered whenever a line says so,
--- again or never: so the network between them may lose, repeat and reorder.
+-- The answer of four nodes to a line, and the state afterwards. A message is delivered when a line says so, also
+-- repeatedly or never: so the network between them may lose, repeat and reorder.
 use Rattle.std.specs.Prelude.{◌≡◌, ℕ, ◌-◌, ◌^◌, nat_le, List, [], ◌∷◌, ◌++◌, codes, bytes_eq, is_some, length, map, slice_get, if◌then◌else◌, Option, Some, None, Result, Ok, Err}
 use Rattle.std.specs.Fmt.{decimal}
 use Rattle.std.specs.Option.{ok_or}
@@ -24,22 +24,22 @@ use Rattle.st_network.specs.declared.letter.Step.{Step}
 use Rattle.st_network.specs.declared.letter.Step.TheVariants.{Line, Post, Store}
 use Rattle.st_exchange.specs.Peer.{Peer}
 
--- ---- what a line asks for
+-- ---- the step of a line
 
--- a word, and what stands behind it and a space
+-- a word, and the text after it and a space
 abbrev pub two_of : Option (List ℕ) → Result (List ℕ × List ℕ) Cause
 two_of behind = do
   rest ← ok_or behind cause.Words
   ok_or (cut_at space rest) cause.Words
 
--- two words, and what stands behind them
+-- two words, and the text after them
 abbrev pub three_of : Option (List ℕ) → Result (List ℕ × (List ℕ × List ℕ)) Cause
 three_of behind = do
   words ← two_of behind
   others ← ok_or (cut_at space words.1) cause.Words
   Ok (words.0, others)
 
--- the number that a word is
+-- the number in a word
 abbrev pub number_or : List ℕ → Result ℕ Cause
 number_or word = ok_or (number_of (2 ^ 32 - 1) word) cause.Number
 
@@ -47,7 +47,7 @@ number_or word = ok_or (number_of (2 ^ 32 - 1) word) cause.Number
 abbrev pub node_at : {M : Type 0} → Network M → ℕ → Result M Cause
 node_at network i = ok_or (slice_get network.nodes i) cause.Range
 
--- from, to, and the one spelling of a message
+-- sender, addressee, and the encoding of a message
 abbrev pub letter : ℕ → ℕ → Message → Letter
 letter from to message = record { from = from; to = to; bytes = spelling message }
 
@@ -72,7 +72,7 @@ ask_step peer network behind = do
   to ← node_at network j
   Ok (Post (letter i j (ask_of (peer.wanted from)) ∷ []))
 
--- `offer <i> <j> <uri>`: node i tells node j that it has this file
+-- `offer <i> <j> <uri>`: node i offers node j this file
 abbrev pub offer_step : {M : Type 0} → Peer M → Network M → Option (List ℕ) → Result Step Cause
 offer_step peer network behind = do
   words ← three_of behind
@@ -84,7 +84,7 @@ offer_step peer network behind = do
   holds_or (is_some (file_at uri (peer.files from))) cause.Unknown
   Ok (Post (letter i j (Have (uri ∷ [])) ∷ []))
 
--- `inject <i> <j> <base64url>`: the bytes as they are
+-- `inject <i> <j> <base64url>`: the bytes unchanged
 abbrev pub inject_step : {M : Type 0} → Network M → Option (List ℕ) → Result Step Cause
 inject_step network behind = do
   words ← three_of behind
@@ -95,17 +95,17 @@ inject_step network behind = do
   to ← node_at network j
   Ok (Post (record { from = i; to = j; bytes = bytes } ∷ []))
 
--- a file that is kept is stored, and else all is sent back
+-- a file that is kept is stored; otherwise all messages are sent back
 abbrev pub step_by : Letter → List Message → Option (List ℕ) → Step
 step_by received send (Some bytes) = Store received.to bytes
 step_by received send None = Post (map (back received) send)
 
--- what an answer to a message comes to
+-- the step of an answer to a message
 abbrev pub answer_step : Letter → Answer → Step
 answer_step received answer = step_by received answer.send answer.keep
 
--- `deliver <m>`: the addressee of a message answers it, by its files and what it wants. There is such a node: there
--- was one when the message was sent.
+-- `deliver <m>`: the addressee of a message answers it, by its files and its wanted URIs. The addressee exists: it
+-- did when the message was sent.
 abbrev pub deliver_step : {M : Type 0} → Peer M → Network M → Option (List ℕ) → Result Step Cause
 deliver_step peer network behind = do
   rest ← ok_or behind cause.Words
@@ -125,15 +125,15 @@ step_of_words peer network word behind =
     else if bytes_eq word (codes "deliver") then deliver_step peer network behind
     else Err cause.Command
 
--- What a line asks for, or the first cause for which it is refused.
+-- The step of a line, or the first cause why it is refused.
 abbrev pub step_of : {M : Type 0} → Peer M → Network M → List ℕ → Result Step Cause
 step_of peer network line = do
   holds_or (nat_le (length line) longest_line) cause.Long
   step_of_words peer network (first_word space line) (other_words space line)
 
--- ---- what it leaves
+-- ---- the effect
 
--- what a line leaves, and the reply to it
+-- the network after a line, and the reply to it
 pub record Answered (M : Type 0) : Type 0 where
   pub next : Network M
   pub reply : List ℕ
@@ -155,7 +155,7 @@ cause_word cause.Full = codes "full"
 abbrev pub refused : {M : Type 0} → Network M → Cause → Answered M
 refused network why = record { next = network; reply = reply (codes "refused ") (cause_word why) }
 
--- node i answers a line of its own, where there is such a node
+-- node i answers a line of its own, if there is such a node
 abbrev pub line_done : {M : Type 0} → Peer M → Network M → ℕ → List ℕ → Option M → Answered M
 line_done peer network i line None = refused network cause.Range
 line_done peer network i line (Some node) = record {
@@ -171,25 +171,25 @@ store_done peer network i bytes (Some node) = record {
   reply = reply (codes "stored ") (hash_text (uri_of bytes));
 }
 
--- how many messages are sent, where there is one
+-- the number of messages sent, if there is one
 abbrev pub post_reply : List Letter → List ℕ
 post_reply [] = reply (codes "ignored") []
 post_reply (first ∷ others) = reply (codes "sent ") (decimal (length (first ∷ others)))
 
--- the messages come last, where all fit
+-- the messages are appended, if all fit
 abbrev pub post_done : {M : Type 0} → Network M → List Letter → Answered M
 post_done network letters =
     if fits (network.letters ++ letters)
     then record { next = record network { letters = network.letters ++ letters }; reply = post_reply letters }
     else refused network cause.Full
 
--- by what is asked for
+-- by the step
 abbrev pub done : {M : Type 0} → Peer M → Network M → Step → Answered M
 done peer network (Line i line) = line_done peer network i line (slice_get network.nodes i)
 done peer network (Post letters) = post_done network letters
 done peer network (Store i bytes) = store_done peer network i bytes (slice_get network.nodes i)
 
--- what is done, or why not
+-- the effect of a step, or why there is none
 abbrev pub answered_step : {M : Type 0} → Peer M → Network M → Result Step Cause → Answered M
 answered_step peer network (Ok step) = done peer network step
 answered_step peer network (Err why) = refused network why
@@ -198,23 +198,23 @@ answered_step peer network (Err why) = refused network why
 abbrev pub answered : {M : Type 0} → Peer M → Network M → List ℕ → Answered M
 answered peer network line = answered_step peer network (step_of peer network line)
 
--- the replies to lines, one after the other
+-- the replies to lines, one after another
 abbrev pub replies : {M : Type 0} → Peer M → Network M → List (List ℕ) → List ℕ
 replies peer network [] = []
 replies peer network (line ∷ lines) = (answered peer network line).reply ++ replies peer (answered peer network line).next lines
 
--- the network behind these lines
+-- the network after these lines
 abbrev pub after : {M : Type 0} → Peer M → Network M → List (List ℕ) → Network M
 after peer network [] = network
 after peer network (line ∷ lines) = after peer (answered peer network line).next lines
 
 -- ---- calls
 
--- What comes of it is what the answer leaves, and its reply is given.
+-- The network is the one after the answer, and its reply is returned.
 abbrev pub AnswersWith : {M : Type 0} → Answered M → Network M × List ℕ → Type 0
 AnswersWith answer done = (done.0 ≡ answer.next) × (done.1 ≡ answer.reply)
 
--- the cause that an error names
+-- the cause of an error, if it has one
 abbrev pub cause_of : StepRefused → Option Cause
 cause_of (refused_is.Refused why) = Some why
 cause_of refused_is.WantOfMemory = None

@@ -1,4 +1,4 @@
--- What the lines of four nodes may do composes, and a line that is cut is answered as the whole.
+-- Effects of the lines of four nodes compose, and a truncated line is answered like the whole one.
 use Rattle.std.specs.Prelude.{◌≡◌, refl, ℕ, ◌+◌, ◌≤◌, Bool, true, false, nat_le, List, [], ◌∷◌, ◌++◌, length, take, Result, Err}
 use Rattle.std.proofs.Common.{◌∙◌, ap, sym, arith, length-take, take_all}
 use Rattle.std.proofs.lemmas.Bool.Decides.{nat_tests}
@@ -13,7 +13,7 @@ use Rattle.st_network.specs.declared.cause.Cause.{Cause}
 use Rattle.st_network.specs.declared.cause.Cause.TheVariants as cause
 use Rattle.st_network.specs.declared.letter.Step.{Step}
 
--- a line that is short enough is not cut
+-- a line that is short enough is not truncated
 uncut : (most : ℕ) (line : List ℕ) → nat_le (length line) most ≡ true → take (most + 1) line ≡ line
 uncut most line short =
     let fits : length line ≤ most + 1 = grind (arith, nat_tests) in

@@ -1,4 +1,4 @@
--- A delivered message stores nothing but a file that is wanted, under its own URI.
+-- A delivered message stores only a file that is wanted, by its own URI.
 use Rattle.std.specs.Prelude.{◌≡◌, ◌⊎◌, ◌<◌, ℕ, true, List, [], ◌∷◌, ◌++◌, codes, length, slice_get, slice_set, Some, None}
 use Rattle.std.specs.List.{AllByRecursion}
 use Rattle.st_base.specs.Words.{first_word}
@@ -10,7 +10,7 @@ use Rattle.st_network.specs.Network.{Network, new_network, space}
 use Rattle.st_network.specs.declared.letter.Letter.{Letter}
 use Rattle.st_exchange.specs.Peer.{Peer}
 
--- A node has one file more, under its own URI, which it wanted and did not have. Nothing else in it changes.
+-- A node has one more file, by its own URI, which it wanted and did not have. Nothing else in it changes.
 pub record Gains {M : Type 0} (peer : Peer M) (node next : M) : Type 0 where
   pub bytes : List ℕ
   pub was_wanted : is_among (peer.wanted node) (uri_of bytes) ≡ true
@@ -31,19 +31,19 @@ pub record OneGains {M : Type 0} (peer : Peer M) (network next : Network M) : Ty
 abbrev pub StaysOrGains : {M : Type 0} → Peer M → (network next : Network M) → Type 0
 StaysOrGains peer network next = (next.nodes ≡ network.nodes) ⊎ OneGains peer network next
 
--- Whatever lines have come, a `deliver` leaves all nodes, or one gains a file that it wanted.
+-- After any lines, a `deliver` leaves all nodes, or one gains a file that it wanted.
 abbrev pub StoresOnlyWanted : {M : Type 0} → Peer M → Type 0
 StoresOnlyWanted peer = (lines : List (List ℕ)) (line : List ℕ) → first_word space line ≡ codes "deliver"
     → StaysOrGains peer (after peer (new_network peer) lines) (after peer (new_network peer) (lines ++ line ∷ []))
 
--- There are four nodes, whatever lines have come.
+-- There are four nodes, after any lines.
 abbrev pub AreFour : {M : Type 0} → Peer M → Type 0
 AreFour peer = (lines : List (List ℕ)) → length (after peer (new_network peer) lines).nodes ≡ 4
 
--- it goes from one of the four nodes to one of them
+-- its sender and its addressee are among the four nodes
 abbrev pub IsAddressed : Letter → Type 0
 IsAddressed letter = (letter.from < 4) × (letter.to < 4)
 
--- Each message that was sent does, whatever lines have come. So a `deliver` finds its addressee.
+-- This holds for each message that was sent, after any lines. So a `deliver` finds its addressee.
 abbrev pub AreAddressed : {M : Type 0} → Peer M → Type 0
 AreAddressed peer = (lines : List (List ℕ)) → AllByRecursion IsAddressed (after peer (new_network peer) lines).letters

@@ -5,32 +5,32 @@ use st_base::WantOfMemory;
 pub enum Cause {
     /// The line has more than 24,000,000 bytes.
     Long,
-    /// The command word is unknown. It is what stands before the first space, or the whole line.
+    /// The command word is unknown. It is the part before the first space, or the whole line.
     Command,
     /// A space is missing.
     Words,
-    /// A number is not decimal from 0 to 4,294,967,295 without a leading zero.
+    /// A number is not decimal from 0 to 4,294,967,295 without leading zeros.
     Number,
-    /// A text is the base64url of no bytes.
+    /// A text is not the base64url of any bytes.
     Base64,
-    /// A URI is the hash text of no SHA-256 hash.
+    /// A URI is not the hash text of a SHA-256 hash.
     Hash,
     /// There is no node, or no message, with this number.
     Range,
-    /// The node does not have the file that it is to offer.
+    /// The node does not have the file that it should offer.
     Unknown,
-    /// The bytes of the message are the spelling of no message.
+    /// The bytes of the message are not the encoding of a message.
     Message,
     /// There would be too many messages, or too many bytes of them.
     Full,
 }
 
-/// Why a line asks for nothing.
+/// Why a line has no step.
 #[derive(Clone, Copy)]
 pub enum StepRefused {
     /// It is refused, for this cause.
     Refused(Cause),
-    /// Memory could not be had.
+    /// Out of memory.
     WantOfMemory,
 }
 

@@ -16,7 +16,7 @@ use st_base::{List, WantOfMemory};
 use st_exchange::{Answer, DecodeRefused, Message, Peer, answer, decode, encode};
 use std::alloc::Global;
 
-// What a `deliver` asks for, by what stands behind the word.
+// The step of a `deliver`, from the text after the word.
 pub fn read_deliver<N: Peer>(
     alloc: Global,
     network: &Network<N>,
@@ -40,7 +40,7 @@ pub fn read_deliver<N: Peer>(
     Ok(answered(alloc, received, to, &message)?)
 }
 
-// What the addressee of a message answers.
+// The answer of a message's addressee.
 fn answered<N: Peer>(
     alloc: Global,
     received: &Letter,
@@ -69,7 +69,8 @@ fn step_by(alloc: Global, received: &Letter, answer: Answer) -> Result<Step, Wan
     }
 }
 
-// The messages that go back to the sender. Each goes once it is spelled, so that no file stands twice beside the others.
+// The messages back to the sender. Each is dropped after it is encoded, so that no file is in
+// memory twice next to the others.
 fn sent_back(
     alloc: Global,
     received: &Letter,

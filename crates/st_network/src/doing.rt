@@ -12,7 +12,7 @@ use st_exchange::Peer;
 use st_hash::hash_text;
 use std::alloc::Global;
 
-// Does what is asked for, and gives the reply.
+// Executes a step, and returns the reply.
 pub fn take<N: Peer>(
     network: Network<N>,
     alloc: Global,

@@ -2,9 +2,10 @@ ghost use Rattle.st_network.specs.StoresWanted.{AreAddressed, AreFour, StoresOnl
 
 use st_exchange::Peer;
 
-/// Whatever lines have come: a message that is delivered stores nothing but a file that its addressee wants
-/// and lacks, under its own URI, and changes nothing else in any node. So whatever is lost, repeated and
-/// reordered, and whatever bytes are injected, no node gets a file by a message that it doesn't want.
+/// For any lines: a message that is delivered stores at most a file that its addressee wants and
+/// lacks, by its own URI, and changes nothing else in any node. So for any loss, repetition and
+/// reordering, and for any injected bytes, no node receives a file by a message that it doesn't
+/// want.
 pub fn exchange_law<N: Peer>()
     ensures stores { StoresOnlyWanted N.peer }
     ensures four { AreFour N.peer }

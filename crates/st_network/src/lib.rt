@@ -1,6 +1,6 @@
-//! Four nodes in one process, and the messages between them: a message is delivered whenever a line says
-//! so, again or never. So the network between the nodes may lose, repeat and reorder. A node gets no file
-//! by a message but one that it wants, under its own URI.
+//! Four nodes in one process, and the messages between them: a message is delivered when a line
+//! says so, also repeatedly or never. So the network between the nodes may lose, repeat and
+//! reorder. A node receives a file by a message only if it wants it, by its own URI.
 #![tactic(auto)]
 
 mod cause;

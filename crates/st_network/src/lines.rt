@@ -8,10 +8,10 @@ use st_drive::{Machine, StepError};
 use st_exchange::Peer;
 use std::alloc::Global;
 
-/// How many bytes a line has at most.
+/// The largest number of bytes of a line.
 pub const LONGEST_LINE: usize = 24_000_000;
 
-// It looks at one byte more of a line than a line may have, by which it knows one that is too long.
+// It reads one byte more of a line than a line may have, to recognize one that is too long.
 impl<N: Peer> Machine for Network<N> {
     type Context = Work;
 

@@ -12,8 +12,8 @@ use st_exchange::Peer;
 use std::alloc::Global;
 use std::marker::Model;
 
-/// Four nodes, and the messages between them. Contracts see the reference machines of the nodes, and the
-/// messages in the order in which they were sent.
+/// Four nodes, and the messages between them. Contracts see the reference machines of the nodes,
+/// and the messages in the order in which they were sent.
 #[derive(Drop)]
 pub struct Network<N> {
     pub(crate) nodes: List<N>,
@@ -32,7 +32,7 @@ impl<N> Model for Network<N> {
 }
 
 impl<N: Peer> Network<N> {
-    /// Four nodes, before anything has come.
+    /// Four nodes, without entries and files.
     pub fn new(alloc: Global) -> Result<Network<N>, WantOfMemory>
         ensures { IfOk result (λ network. network ≡ new_network N.peer) }
     {
@@ -54,18 +54,18 @@ impl<N: Peer> Network<N> {
         &self.nodes
     }
 
-    /// What was sent between them.
+    /// The messages sent between them.
     pub(crate) fn letters(&self) -> &Letters
         ensures { result.now ≡ self.now.letters }
     {
         &self.letters
     }
 
-    /// Answers a line, which comes without its line feed. The reply has its line end.
+    /// Answers a line, which is given without its line feed. The reply has its line end.
     ///
-    /// A line that is refused changes nothing. A `deliver` takes the time of its message and of its answer, and
-    /// of looking up whether its addressee wants the blob, or each file that it is told of; how many messages
-    /// there are is no part of it, and no list of what is wanted is made.
+    /// A line that is refused changes nothing. A `deliver` takes the time of its message and of its
+    /// answer, and of a lookup whether its addressee wants the blob, or each listed file. The time
+    /// does not depend on the number of messages, and no list of wanted files is made.
     pub fn answer(
         self,
         alloc: Global,

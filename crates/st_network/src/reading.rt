@@ -28,7 +28,7 @@ const INJECT: &[u8] = b"inject";
 
 const DELIVER: &[u8] = b"deliver";
 
-// What a line asks for. Nothing changes by that.
+// The step of a line. It changes nothing.
 pub fn read_step<N: Peer>(
     alloc: Global,
     network: &Network<N>,
@@ -147,7 +147,7 @@ pub fn node_at<N: Peer>(network: &Network<N>, i: u32) -> Result<&N, StepRefused>
     }
 }
 
-// The spelling of what a node asks for.
+// The encoding of a node's request.
 fn asked<N: Peer>(alloc: Global, node: &N) -> Result<Bytes, WantOfMemory>
     ensures { IfOk result (λ bytes. bytes ≡ spelling (ask_of (N.peer.wanted node.now))) }
 {
@@ -156,7 +156,6 @@ fn asked<N: Peer>(alloc: Global, node: &N) -> Result<Bytes, WantOfMemory>
     encode(alloc, &message)
 }
 
-// The spelling of an offer.
 fn offered(alloc: Global, uri: Hash) -> Result<Bytes, WantOfMemory>
     ensures { IfOk result (λ bytes. bytes ≡ spelling (Have (uri ∷ []))) }
 {

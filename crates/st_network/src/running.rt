@@ -10,10 +10,10 @@ use st_exchange::Peer;
 use st_io::{Sink, Source};
 use std::alloc::Global;
 
-/// Answers the lines of a source of at most `limit` bytes as four nodes, each as it starts, with the messages
+/// Answers the lines of a source of at most `limit` bytes as four new nodes, with the messages
 /// between them.
 ///
-/// No disk is at work, so the status is never 4.
+/// It uses no disk, so the status is never 4.
 pub fn run_exchange<N: Peer, S: Source, K: Sink>(
     alloc: Global,
     limit: usize,

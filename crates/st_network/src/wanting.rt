@@ -3,7 +3,7 @@ use st_exchange::{Peer, Wants};
 use st_hash::Hash;
 use std::alloc::Global;
 
-/// What a node wants, looked up in it.
+/// The wanted files of a node, by lookup in it.
 #[derive(Drop)]
 pub(crate) struct WantedBy<'a, N> {
     pub(crate) node: &'a N,

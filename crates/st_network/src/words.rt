@@ -5,7 +5,7 @@ ghost use Rattle.st_network.specs.Exchange.{cause_of, number_or, three_of, two_o
 use crate::cause::{Cause, StepRefused};
 use st_base::{cut_at, read_number};
 
-// A word, and what stands behind it and a space.
+// A word, and the text after it and a space.
 pub fn two(behind: Option<&[u8]>) -> Result<(&[u8], &[u8]), StepRefused>
     ensures { GivesAs (λ words. (words.0.now, words.1.now)) cause_of (two_of (option_copied behind.entry)) result }
 {
@@ -18,7 +18,7 @@ pub fn two(behind: Option<&[u8]>) -> Result<(&[u8], &[u8]), StepRefused>
     Ok(words)
 }
 
-// Two words, and what stands behind them.
+// Two words, and the text after them.
 pub fn three(behind: Option<&[u8]>) -> Result<(&[u8], &[u8], &[u8]), StepRefused>
     ensures { GivesAs (λ words. (words.0.now, (words.1.now, words.2.now))) cause_of
         (three_of (option_copied behind.entry)) result }
@@ -30,7 +30,7 @@ pub fn three(behind: Option<&[u8]>) -> Result<(&[u8], &[u8], &[u8]), StepRefused
     Ok((first, second, others))
 }
 
-// The number that a word is.
+// The number in a word.
 pub fn number(word: &[u8]) -> Result<u32, StepRefused>
     ensures { Gives cause_of (number_or word.now) result }
 {

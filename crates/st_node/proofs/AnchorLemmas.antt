@@ -1,4 +1,4 @@
--- An anchor string that fails a rule says nothing.
+-- An anchor string that fails a rule has no content.
 use Rattle.std.proofs.Common.{◌≡◌, ℕ, List, [], ◌∷◌, Option, Some, None, false, option_map, option_and_then, refl}
 use Rattle.std.specs.Prelude.{is_none}
 use Rattle.st_base.specs.Rules.{first_failing}

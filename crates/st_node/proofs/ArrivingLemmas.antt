@@ -1,7 +1,7 @@
--- Files that come one after the other: what is decided, opened and counted.
+-- Files that are received one after another: what is decided, opened and counted.
 --     arrivals_none        nothing
---     arrivals_next        of the first file, and then of the others
---     arrivals_files       what the files decide is no longer due
+--     arrivals_next        for the first file, and then for the others
+--     arrivals_files       the roles that the files decide are no longer due
 --     arrivals_proofs      nor are the signed texts that are opened then
 --     arrivals_schedule    the schedule stays
 use Rattle.std.proofs.Common.{◌≡◌, ℕ, ◌+◌, ◌-◌, ◌≤◌, List, [], ◌∷◌, refl, sym, subst, arith}
@@ -22,7 +22,7 @@ use Rattle.st_observer.specs.Work.{decided_in, opened_in}
 -- ---- one file
 
 module _ (observed : Observed) where
-  -- what is decided and opened of an entry now
+  -- what is decided and opened for an entry now
   abbrev decided_of : Entry → ℕ
   decided_of entry = decided_roles (known_of observed.schedule observed.files entry)
 
@@ -30,7 +30,7 @@ module _ (observed : Observed) where
   opened_of entry = opened_proofs (known_of observed.schedule observed.files entry)
 
   module _ (file : List ℕ) where
-    -- and once a file has come
+    -- and after a file was received
     abbrev decided_then : Entry → ℕ
     decided_then entry = decided_roles (known_of observed.schedule (with_file file observed.files) entry)
 
@@ -53,7 +53,7 @@ module _ (observed : Observed) where
         done_besides (declared_count observed.schedule) opened_of opened_then observed.ledger (opened-up observed.schedule file observed.files)
         (opened-few observed.schedule (with_file file observed.files))
 
--- ---- files one after the other
+-- ---- files one after another
 
 all-decided-rise : (files : List BatchFile) (observed : Observed) → decided_in observed ≤ decided_in (all_arrived files observed)
 all-decided-rise [] observed = omega arith
@@ -89,7 +89,7 @@ pub arrivals_schedule : (files : List BatchFile) (observed : Observed) → (all_
 arrivals_schedule [] observed = refl
 arrivals_schedule (file ∷ files) observed = arrivals_schedule files (arrived file.bytes observed)
 
--- ---- what is counted
+-- ---- counts
 
 pub arrivals_none : (observed : Observed) (files : List BatchFile) (work : Counts) → ArrivalsCounts observed files work work
 arrivals_none observed files work = record { least = fell-none work; read = omega arith; opened = omega arith; applied = omega arith }
@@ -104,7 +104,7 @@ arrivals_more observed file files first others = record {
   applied = omega (arith, first.applied, others.applied);
 }
 
--- the same of files that are left, the first of which came
+-- the same for the remaining files, the first of which was received
 pub arrivals_next : (observed : Observed) (file : BatchFile) (rest : List BatchFile) {next : Observed} {left : List BatchFile} {old mid new : Counts}
     → left ≡ file ∷ rest → next ≡ arrived file.bytes observed → ArrivalCounts observed file.bytes old mid
     → ArrivalsCounts next rest mid new → ArrivalsCounts observed left old new

@@ -1,4 +1,4 @@
--- Each reply tells whether the line has changed the machine.
+-- Each reply tells whether the line changed the machine.
 use Rattle.std.proofs.Common.{◌≡◌, ◌∙◌, ◌≢◌, ℕ, ◌≤◌, ◌-◌, Bool, true, false, nat_le, List, [], ◌∷◌, ◌++◌, length, take, codes, is_some, if◌then◌else◌, Option, Some, None, Result, Ok, Err, refl, sym, ap, subst, arith, length-take, take_all, length-append, length-drop}
 use Rattle.std.proofs.lemmas.Bool.{false≢true}
 use Rattle.std.proofs.lemmas.Bool.Decides.{nat_tests}
@@ -46,7 +46,7 @@ as_changed form differs = record { changed = λ e. differs; same = λ e. absurd 
 as_same : {old new : Machine} {text : List ℕ} → is_changing text ≡ false → new ≡ old → TellsChange old new text
 as_same form stays = record { changed = λ e. absurd (false≢true (sym form ∙ e)); same = λ e. stays }
 
--- what is refused changes nothing
+-- a refusal changes nothing
 refused_tells : (machine : Machine) (cause : List ℕ) → Tells machine (refused machine cause)
 refused_tells machine cause = as_same refl refl
 
@@ -111,13 +111,13 @@ rollback_tells machine n few = rollback_by machine n few (nat_le n (length machi
 
 -- ---- `submit`
 
--- an answer that gave a value went over its first step
+-- an answer with a value has a first step with a value
 went_on : {First Last Refusal : Type 0} (first : Result First Refusal) (next : First → Result Last Refusal) (last : Last) → (first >>= next) ≡ Ok last
     → (value : First) × (next value ≡ Ok last)
 went_on (Ok value) next last e = (value, e)
 went_on (Err refusal) next last e = absurd cc
 
--- what was submitted stands at the end of the queue
+-- the submitted operation is at the end of the queue
 queued_last : (limits : Limits) (queue : List PlainOperation) (request : List ℕ) (done : List PlainOperation × HashValue)
     → submitted limits queue request ≡ Ok done → (operation : PlainOperation) × (done.0 ≡ queue ++ operation ∷ [])
 queued_last limits queue request done e =
@@ -168,7 +168,7 @@ report_by : (machine : Machine) (states : Option (List RoleState)) → Tells mac
 report_by machine (Some states) = as_same refl refl
 report_by machine None = refused_tells machine (codes "range")
 
--- a command that finds what it needs tells whether it has changed the machine
+-- a command whose condition holds tells whether it changed the machine
 pub command_tells : (machine : Machine) (command : Command) → Serves machine command → Tells machine (answered_command machine command)
 command_tells machine (Content bytes) serves = content_tells machine bytes
 command_tells machine (Anchor height text) serves =
@@ -181,9 +181,9 @@ command_tells machine (Report n) serves = report_by machine (report n machine.ob
 command_tells machine (Submit request) serves = submit_tells machine request
 command_tells machine Flush serves = flush_tells machine serves
 
--- ---- machines that a node is
+-- ---- machines of nodes
 
--- a batch takes the first operation of what waits
+-- a batch takes the first of the waiting operations
 takes_some : TakesTheFirst → (observed : Observed) (queue : List PlainOperation) → AllByRecursion IsQueued queue
     → TakesSome (record { observed = observed; queue = queue })
 takes_some first observed [] queued = λ some. absurd (omega (arith, some))
@@ -207,13 +207,13 @@ read_tells : TakesTheFirst → (machine : Machine) (read : Result Command LineCa
 read_tells first machine (Ok command) is = command_tells machine command (serves first machine command is)
 read_tells first machine (Err cause) is = as_same refl refl
 
--- where a batch takes the first operation of each queue, the reply of each machine that a node is tells
+-- if a batch takes the first operation of each queue, the replies of each node's machine tell
 pub tells_changes : TakesTheFirst → TellsChanges
 tells_changes first machine line is = read_tells first machine (command_of line) is
 
 -- ---- nodes
 
--- a node that answers so tells what the answer does
+-- a node with this answer tells what the answer tells
 pub tells_as : (machine : Machine) (answer : Answered) (done : Machine × List ℕ) → AnswersWith answer done → Tells machine answer
     → TellsChange machine done.0 done.1
 tells_as machine answer done same tells =

@@ -1,4 +1,4 @@
--- What is answered of an identifier follows from the ledger and from what stands under each URI:
+-- The answers about an identifier follow from the ledger and from the file of each URI:
 --     operations-same, all-operations-same    its operations
 --     resolve-same, explain-same              the replies of two nodes
 use Rattle.std.proofs.Common.{◌≡◌, ◌∙◌, ℕ, List, Option, Some, None, Result, Ok, Err, option_map, ap, sym, refl}
@@ -84,7 +84,7 @@ module _ (files files' : Files) (same : (uri : HashValue) → file_at uri files 
   operations-same suffix schedule ledger =
       ap (λ anchored. given_from anchored 0 ledger) (fun_ext (λ number. fun_ext (λ entry. anchored-same suffix schedule number entry)))
 
--- two nodes with one ledger, whose files are the same under each URI
+-- two nodes with equal ledgers, and the same file for each URI
 module _ (first second : Observed) (schedules : first.schedule ≡ second.schedule) (ledgers : first.ledger ≡ second.ledger)
     (same : (uri : HashValue) → file_at uri first.files ≡ file_at uri second.files) where
   pub all-operations-same : (suffix : HashValue) → operations suffix first ≡ operations suffix second
@@ -111,7 +111,7 @@ module _ (first second : Observed) (schedules : first.schedule ≡ second.schedu
   explanation-same : (text : List ℕ) → explain_reply first (asked_did first text) ≡ explain_reply second (asked_did second text)
   explanation-same text = explained-same (asked_did first text) ∙ ap (explain_reply second) (asked-same text)
 
--- two machines that are alike reply alike to a line, where they do to its command
+-- two machines that are alike give the same reply to a line, if they do to its command
 by-command : (first second : Machine) (line : List ℕ) (command : Command) → command_of line ≡ Ok command
     → (answered_command first command).reply ≡ (answered_command second command).reply
     → (answered first line).reply ≡ (answered second line).reply

@@ -1,4 +1,4 @@
--- What the calls of the observer say of counted work, said of the node.
+-- The observer's bounds on counted work, as bounds of the node.
 use Rattle.std.proofs.Common.{◌≡◌, ℕ, ◌*◌, ◌≤◌, true, nat_le, List, length, sym, subst, arith}
 use Rattle.std.proofs.lemmas.Bool.Decides.{nat_tests}
 use Rattle.st_base.specs.Work.{AppliesAtMost, Counts}
@@ -8,7 +8,7 @@ use Rattle.st_observer.specs.Observed.{Observed}
 use Rattle.st_observer.specs.Work.{losing}
 use Rattle.st_ops.specs.Operation.{PlainOperation}
 
--- what a cut to the first n entries counts
+-- the counts of a cut to the first n entries
 fitting_counts : (observed : Observed) {n : ℕ} {old new : Counts} → n ≤ length observed.ledger → AppliesAtMost (7 * length (losing n observed)) old new
     → RollbackCounts observed n old new
 fitting_counts observed {n = n} {old = old} {new = new} inside counts =

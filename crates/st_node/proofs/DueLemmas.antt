@@ -1,8 +1,8 @@
--- What is counted of a command or a line is paid by what is no longer due, and by what an accepted
--- anchor or a submission brings.
---     command_due      of a command
---     line_due         of a line
---     none_counted     where nothing is counted, the bounds of whatever line are kept
+-- The counts of a command or a line are paid by work that is no longer due, and by what an accepted anchor or a
+-- submission adds.
+--     command_due      for a command
+--     line_due         for a line
+--     none_counted     if nothing is counted, the bounds of any line hold
 use Rattle.std.proofs.Common.{◌≡◌, ℕ, ◌*◌, Bool, true, false, nat_le, List, [], ◌∷◌, length, Option, Some, None, Result, Ok, Err, refl, ap, arith, if◌then◌else◌}
 use Rattle.std.proofs.lemmas.List.Sums.{sum_by-take-le, sum_by_push}
 use Rattle.std.specs.Prelude.{codes}
@@ -80,7 +80,7 @@ module _ (machine : Machine) (old new : Counts) where
   reported_due (Some states) same = same_due machine.observed old new same
   reported_due None same = same_due machine.observed old new same
 
-  -- the batch of what is queued, at the limits of now
+  -- the batch of the queue, at the present limits
   abbrev batch_now : Batch
   batch_now = batch_of (limits_now machine.observed) machine.queue
 
@@ -108,7 +108,7 @@ module _ (machine : Machine) (old new : Counts) where
   line_due (Ok command) counts = command_due command counts
   line_due (Err cause) same = same_due machine.observed old new same
 
--- ---- where nothing is counted
+-- ---- if nothing is counted
 
 module _ (machine : Machine) (work : Counts) where
   none_admitted : (entry : Entry) (answer : Result Unit LedgerRefused) → AdmittedCounts machine.observed entry answer work work

@@ -1,4 +1,4 @@
--- What is decided and opened of an entry, within its bounds.
+-- What is decided and opened for an entry, within its bounds.
 --     decided-small, opened-few     at most five roles, and as many signed texts as operations declared
 --     decided-up, opened-up         a file undoes nothing
 use Rattle.std.proofs.Common.{◌≡◌, ℕ, ◌≤◌, List, Option, Some, None, option_map, refl, sym, ap, subst}
@@ -38,7 +38,7 @@ unfolding known_of_text
 count-text limits text =
     count-judged limits (first_failing (anchor_rules limits text)) (anchor_of limits text) (λ rule fails. anchor_of_rejected limits text rule fails)
 
--- what is known of an entry has the count that it declares
+-- what is known about an entry has the count that it declares
 count-known : (files : Files) (limits : Limits) (text : List ℕ) → (known files limits text).context.count ≡ count_said (anchor_of limits text)
 unfolding known known_from
 count-known files limits text = count-text limits text
@@ -55,7 +55,7 @@ opened-few schedule files entry =
     subst (λ count. opened_proofs (known files limits entry.text) ≤ count) (count-known files limits entry.text)
     (opened_proofs-few files limits entry.text)
 
--- ---- a file more
+-- ---- one more file
 
 again : (file : List ℕ) (files : Files) (limits : Limits) (text : List ℕ)
     → known_from (with_file file files) (known files limits text) ≡ known (with_file file files) limits text

@@ -1,4 +1,4 @@
--- Items that are told one by one, and items that are made of the operations of an observer.
+-- Items written one by one, and items made from the operations of an observer.
 use Rattle.std.proofs.Common.{codes, decimal, Option, ◌≡◌, ◌∙◌, ℕ, ◌+◌, ◌≤◌, List, [], ◌∷◌, ◌++◌, length, drop, map, sym, ap, append_assoc, append-nil}
 use Rattle.std.proofs.lemmas.List.{drop_all, length-map, map-append}
 use Rattle.st_cert.specs.Certificate.{IsCertificate, anchored_item, anchored_items, verdicts}
@@ -13,11 +13,11 @@ use Rattle.st_observer.specs.States.{plain_held}
 use Rattle.st_observer.specs.declared.states.Held.{Held}
 
 module _ (items : List CertItem) (verdicts : List Verdict) where
-  -- a text, with the lines of the items from a place on behind it
+  -- a text, followed by the lines of the items from a place on
   abbrev pub with_lines : List ℕ → ℕ → List ℕ
   with_lines text at = text ++ item_lines (anchored_items (drop at items)) (drop at verdicts)
 
-  -- the line of the item at the place was put behind it
+  -- the line of the item at the place was appended to it
   pub next_line : (text put : List ℕ) (at : ℕ) (item : CertItem) (verdict : Verdict) → drop at items ≡ item ∷ drop (at + 1) items
       → drop at verdicts ≡ verdict ∷ drop (at + 1) verdicts → put ≡ text ++ item_line (anchored_item item) verdict
       → with_lines put (at + 1) ≡ with_lines text at
@@ -33,7 +33,7 @@ module _ (items : List CertItem) (verdicts : List Verdict) where
   last_line text at over =
       ap (λ (left : List CertItem). text ++ item_lines (anchored_items left) (drop at verdicts)) (drop_all at items over) ∙ append-nil text
 
--- one item more is made of an operation
+-- one more item is made from an operation
 pub one_made : (made new : List CertItem) (held : Held) (left rest : List Held) (item : CertItem) → left ≡ held ∷ rest → new ≡ made ++ item ∷ []
     → anchored_item item ≡ plain_held held
     → anchored_items new ++ map plain_held rest ≡ anchored_items made ++ map plain_held left
@@ -50,20 +50,20 @@ pub each_judged : (schedule : Option ℕ) (items : List CertItem) (certificate :
 each_judged schedule items certificate is =
     sym (ap length is.verdicts ∙ one_each schedule (anchored_items items) ∙ length-map items anchored_item)
 
--- how many items there are, and a line for each
+-- the number of items, and a line for each
 abbrev pub said : List CertItem → List Verdict → List ℕ
 said items stated = reply (codes "explained ") (decimal (length items)) ++ item_lines (anchored_items items) stated
 
 module _ (schedule known : Option ℕ) (items given shown : List CertItem) (stated : List Verdict) (certificate : Certificate)
     (same : schedule ≡ known) (gives : given ≡ items) (shows : shown ≡ items) (states : stated ≡ certificate.verdicts)
     (is : IsCertificate schedule (anchored_items given) certificate) where
-  -- the items that are told have one verdict each
+  -- the items written have one verdict each
   pub each_told : length shown ≡ length stated
   each_told =
       ap (λ (xs : List CertItem). length xs) (shows ∙ sym gives) ∙ each_judged schedule given certificate is
       ∙ ap (λ (vs : List Verdict). length vs) (sym states)
 
-  -- and what is told explains the operations
+  -- and the text explains the operations
   pub told : (operations : List Anchored) → anchored_items items ≡ operations → said shown stated ≡ explained known operations
   told operations made =
       ap (λ (xs : List CertItem). said xs stated) shows

@@ -1,6 +1,6 @@
--- A batch of what was queued, whose files have come: it is what the reference machine makes of a flush.
---     flush_counts     what is counted
---     flush_answer     what the machine is then, and the reply
+-- A batch of the queue, whose files were received: it is the reference machine's result of a flush.
+--     flush_counts     the counts
+--     flush_answer     the machine afterwards, and the reply
 use Rattle.std.proofs.Common.{◌≡◌, ◌∙◌, ℕ, ◌≤◌, Bool, true, nat_le, List, [], ◌∷◌, length, sym, ap, subst, arith, if◌then◌else◌, codes}
 use Rattle.std.proofs.lemmas.Bool.Decides.{nat_tests}
 use Rattle.st_base.specs.Work.{Counts}
@@ -13,7 +13,7 @@ use Rattle.st_observer.specs.Observed.{Observed}
 use Rattle.st_ops.specs.Operation.{PlainOperation}
 use Rattle.st_params.specs.Limits.{Limits}
 
--- a batch takes nothing of an empty queue
+-- a batch takes nothing from an empty queue
 some_queued : (limits : Limits) (queue : List PlainOperation) → 1 ≤ batch_count limits queue → 1 ≤ length queue
 unfolding batch_count
 some_queued limits [] some = some

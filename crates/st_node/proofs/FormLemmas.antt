@@ -1,5 +1,5 @@
--- That a reply to a rollback has the form of a change where entries went (`cut_form`). Of the other replies their
--- first letters decide.
+-- A reply to a rollback has the form of a change if entries were removed (`cut_form`). The first letters decide for
+-- the other replies.
 use Rattle.std.proofs.Common.{◌≡◌, ◌∙◌, ℕ, ◌<◌, ◌≤◌, ◌^◌, ◌+◌, ◌/◌, ◌%◌, Bool, ◌||◌, true, false, nat_le, List, [], ◌∷◌, ◌++◌, codes, refl, ap, arith, append_assoc}
 use Rattle.std.proofs.lemmas.Bool.Decides.{nat_tests}
 use Rattle.std.proofs.lemmas.Fmt.{decimal_by_steps}
@@ -7,7 +7,7 @@ use Rattle.std.specs.Fmt.{decimal}
 use Rattle.st_base.specs.Replies.{reply}
 use Rattle.st_node.specs.Changing.{is_changing, is_positive}
 
--- the digits begin with one that is not 0 exactly where the number is not
+-- the first digit is not 0 if and only if the number is not
 abbrev Begins : ℕ → List ℕ → Type 0
 Begins n digits = (more : List ℕ) → is_positive (digits ++ more) ≡ nat_le 1 n
 
@@ -19,7 +19,7 @@ more_digits n digits great begins more =
     let first : nat_le 1 (n / 10) ≡ nat_le 1 n = grind (arith, nat_tests) in
     ap is_positive (append_assoc digits ((48 + n % 10) ∷ []) more) ∙ (begins (((48 + n % 10) ∷ []) ++ more) ∙ first)
 
--- the decimal text of a number begins with a digit other than 0 exactly where the number is not 0
+-- the first digit of a number's decimal text is not 0 if and only if the number is not 0
 pub positive_decimal : (n : ℕ) → n < 2 ^ 64 → (more : List ℕ) → is_positive (decimal n ++ more) ≡ nat_le 1 n
 positive_decimal = decimal_by_steps Begins one_digit more_digits
 
@@ -27,6 +27,6 @@ or_false : (test : Bool) → (test || false) ≡ test
 or_false true = refl
 or_false false = refl
 
--- a reply to a rollback has the form of a change exactly where an entry went
+-- a reply to a rollback has the form of a change if and only if an entry was removed
 pub cut_form : (n : ℕ) → n < 2 ^ 64 → is_changing (reply (codes "cut ") (decimal n)) ≡ nat_le 1 n
 cut_form n small = rw (positive_decimal n small (codes "\n")) (or_false (nat_le 1 n))

@@ -1,5 +1,5 @@
--- A line whose reply has not the form of a change leaves each machine that lines bring back: `ChangedLemmas` needs of a
--- machine what a node is, since it says the other direction too; here a ledger that isn't too long is enough.
+-- A line whose reply does not have the form of a change leaves each machine that replay restores. `ChangedLemmas`
+-- requires the properties of a node, since it also proves the converse; here a ledger that isn't too long is enough.
 use Rattle.std.proofs.Common.{◌≡◌, ◌∙◌, ℕ, ◌≤◌, ◌-◌, ◌+◌, Bool, true, false, nat_le, nat_lt, nat_eq, List, [], ◌∷◌, length, codes, is_some, if◌then◌else◌, Option, Some, None, Result, Ok, Err, refl, sym, ap, subst, arith, length-take, length-append, take_all}
 use Rattle.std.proofs.lemmas.Bool.{false≢true}
 use Rattle.std.proofs.lemmas.Bool.Decides.{nat_tests}
@@ -30,7 +30,7 @@ use Rattle.st_ops.specs.Operation.{PlainOperation}
 
 -- ---- a ledger is never too long
 
--- what an answer leaves of a machine that has few entries, and of one that it doesn't tell as changed
+-- the machine after an answer: it has few entries if it had, and is the same if the reply reports no change
 pub record Keeps (machine : Machine) (answer : Answered) : Type 0 where
   pub few : HasFew machine → HasFew answer.next
   pub idle : HasFew machine → is_changing answer.reply ≡ false → answer.next ≡ machine
@@ -132,6 +132,6 @@ read_keeps : (machine : Machine) (read : Result Command LineCause) → Keeps mac
 read_keeps machine (Ok command) = command_keeps machine command
 read_keeps machine (Err cause) = record { few = λ few. few; idle = λ few none. refl }
 
--- a line keeps the ledger within its bound, and leaves the machine where its reply has not the form of a change
+-- a line keeps the ledger within its bound, and leaves the machine if its reply does not have the form of a change
 pub line_keeps : (machine : Machine) (line : List ℕ) → Keeps machine (answered machine line)
 line_keeps machine line = read_keeps machine (command_of line)

@@ -1,4 +1,4 @@
--- What is answered of an identifier follows from its own operations.
+-- The answers about an identifier follow from its own operations.
 use Rattle.std.proofs.Common.{◌≡◌, ◌∙◌, ℕ, List, Option, Result, Ok, sym, ap}
 use Rattle.st_apply.specs.Anchored.{Anchored, resolved}
 use Rattle.st_base.specs.Answers.{◌>>=◌}
@@ -17,19 +17,19 @@ use Rattle.st_resolve.specs.Result.{result_of}
 abbrev result_by : Option ℕ → List Anchored → PlainDid → Result Plain (List ℕ)
 result_by schedule operations did = or_word result_word (result_of (newest_of schedule) did (resolved schedule operations))
 
--- the reply by them: the result, or what became of each
+-- the reply from them: the result, or the verdict on each
 abbrev reply_by : {text : List ℕ} {read : Result Command LineCause} → AsksAbout text read → Option ℕ → List Anchored → PlainDid → List ℕ
 reply_by to_resolve schedule operations did = resolve_reply (result_by schedule operations did)
 reply_by to_explain schedule operations did = explained schedule operations
 
--- what is read so is answered so
+-- the answer to a line that was read as such
 read-by : (machine : Machine) {text : List ℕ} {read : Result Command LineCause} (asks : AsksAbout text read) (did : PlainDid)
     → did_of (newest machine.observed).version text ≡ Ok did
     → (answered_read machine read).reply ≡ reply_by asks machine.observed.schedule (operations did.suffix machine.observed) did
 read-by machine to_resolve did is = ap (λ found. resolve_reply (or_word did_word found >>= result_for machine.observed)) is
 read-by machine to_explain did is = ap (λ found. explain_reply machine.observed (or_word did_word found)) is
 
--- a machine's reply to a line that asks for an identifier
+-- a machine's reply to a line about an identifier
 reply-by : (machine : Machine) (suffix : HashValue) (line : List ℕ) (asks : AsksFor machine suffix line)
     → (answered machine line).reply ≡ reply_by asks.asks machine.observed.schedule (operations suffix machine.observed) asks.did
 reply-by machine suffix line asks =

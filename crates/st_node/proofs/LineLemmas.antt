@@ -1,9 +1,9 @@
--- A line that is cut behind its first byte too many is answered as it is:
---     cut_command       it is read as the same command, or refused alike
+-- A line that is truncated after its first excess byte is answered like the whole line:
+--     cut_command       it is read as the same command, or refused for the same cause
 --     cut_answered      its answer
---     cut_replies       the replies to it and to the lines behind it
---     cut_after         the machine that it leaves
---     cut_entries       the entry that comes of it
+--     cut_replies       the replies to it and to the lines after it
+--     cut_after         the machine after it
+--     cut_entries       the entry that it adds
 --     cut_submitted     whether it submits a request
 use Rattle.std.proofs.Common.{◌≡◌, ◌∙◌, ℕ, ◌+◌, ◌≤◌, Bool, true, false, nat_le, List, ◌∷◌, ◌++◌, length, take, Result, Err, refl, sym, ap, arith, length-take, take_all}
 use Rattle.std.proofs.lemmas.Bool.Decides.{nat_tests}
@@ -18,7 +18,7 @@ use Rattle.st_node.specs.declared.command.Command.{Command}
 use Rattle.st_node.specs.declared.command.LineCause.{LineCause}
 use Rattle.st_node.specs.declared.command.LineCause.TheVariants as line_is
 
--- a line that is short enough is not cut
+-- a line that is short enough is not truncated
 uncut : (most : ℕ) (line : List ℕ) → nat_le (length line) most ≡ true → take (most + 1) line ≡ line
 uncut most line short =
     let fits : length line ≤ most + 1 = grind (arith, nat_tests) in
@@ -45,7 +45,7 @@ module _ (machine : Machine) (line : List ℕ) where
   pub cut_answered : answered machine (take (longest_line + 1) line) ≡ answered machine line
   cut_answered = ap (answered_read machine) (cut_command line)
 
-  -- what follows of an answer, and the replies to lines behind it
+  -- the reply of an answer, and the replies to the lines after it
   abbrev replies_behind : List (List ℕ) → Answered → List ℕ
   replies_behind more answer = answer.reply ++ replies answer.next more
 

@@ -1,4 +1,4 @@
--- What a line reads is paid by the anchor that it brings, where its reply says that it was accepted:
+-- The reads of a line are paid by the anchor that it adds, if its reply says that it was accepted:
 --     line_paid
 use Rattle.std.proofs.Common.{◌≡◌, ℕ, ◌+◌, ◌*◌, ◌≤◌, List, length, Result, Ok, Err, arith}
 use Rattle.st_exchange.specs.Peer.{anchors_told}
@@ -12,7 +12,7 @@ use Rattle.st_node.specs.declared.command.Command.{Command}
 use Rattle.st_node.specs.declared.command.Command.TheVariants.{Content, Anchor, Rollback, Resolve, Explain, Wanted, Report, Submit, Flush}
 use Rattle.st_node.specs.declared.command.LineCause.{LineCause}
 
--- ---- an entry comes of a line only where the reply says so
+-- ---- a line adds an entry only if the reply says so
 
 none_comes : (said : ℕ) → 0 ≤ said
 none_comes said = omega arith
@@ -44,7 +44,7 @@ module _ (machine : Machine) where
   anchor_told : (line : List ℕ) → length (entry_of_line machine line) ≤ anchors_told (answered machine line).reply
   anchor_told line = read_told (command_of line)
 
--- ---- so it pays what is read
+-- ---- so it pays for the reads
 
 paid_by : (entries said now later read due : ℕ) → now + later ≤ read + due + 5 * entries → entries ≤ said → now + later ≤ read + due + 5 * said
 paid_by entries said now later read due counts few = omega arith

@@ -1,6 +1,6 @@
 -- The reply to a text that resolves, or doesn't, from the canonical text of the result.
---     resolved_by      the result is behind the word
---     unresolved_by    the cause is
+--     resolved_by      the result follows the word
+--     unresolved_by    the cause does
 use Rattle.std.specs.Prelude.{Result, Ok, Err}
 use Rattle.std.proofs.Common.{◌≡◌, ℕ, List, codes, ap}
 use Rattle.st_base.specs.Replies.{reply}
@@ -10,13 +10,13 @@ use Rattle.st_node.specs.Machine.{or_word, resolve_reply, result_word}
 use Rattle.st_resolve.specs.Texts.{text_of}
 use Rattle.st_resolve.specs.declared.refused.RenderRefused.{RenderRefused}
 
--- what has a result is answered by its text
+-- a result is answered by its text
 pub resolved_by : (says : Result Plain RenderRefused) (text : List ℕ) → text_of says ≡ Ok text
     → resolve_reply (or_word result_word says) ≡ reply (codes "resolved ") text
 resolved_by (Ok result) text is = let same : canonical result ≡ text = cc in ap (reply (codes "resolved ")) same
 resolved_by (Err refusal) text is = absurd (cc)
 
--- what has none is answered by the cause
+-- a missing one by the cause
 pub unresolved_by : (says : Result Plain RenderRefused) (refusal : RenderRefused) → text_of says ≡ Err refusal
     → resolve_reply (or_word result_word says) ≡ reply (codes "unresolved ") (result_word refusal)
 unresolved_by (Ok result) refusal is = absurd (cc)

@@ -1,9 +1,9 @@
--- What is counted over a run of lines, for who adds lines up.
---     due_none       over no lines nothing is counted
---     due_more       over some lines, and then over more
---     run_counts     over all lines from the beginning on
---     cut_due        over a line that is cut behind its first byte too many, what the line says
---     after-append   the machine behind some lines and then more
+-- Counts over several lines, for callers that add up lines.
+--     due_none       no lines count nothing
+--     due_more       some lines, and then more
+--     run_counts     all lines from the start
+--     cut_due        for a line that is truncated after its first excess byte, the bound of the whole line
+--     after-append   the machine after some lines and then more
 use Rattle.std.proofs.Common.{◌≡◌, ◌∙◌, ℕ, ◌+◌, Bool, true, false, nat_le, List, [], ◌∷◌, ◌++◌, length, take, sum_by, Option, Some, None, Result, Ok, Err, refl, sym, ap, subst, arith, append_assoc, length-append, if◌then◌else◌, codes}
 use Rattle.std.proofs.lemmas.List.Sums.{sum_by-append}
 use Rattle.st_anchor.specs.declared.role_state.RoleState.{RoleState}
@@ -97,7 +97,7 @@ stays_then {before = before} {between = between} {entries = entries} {more = mor
       proofs = omega (arith, first.proofs, second.proofs, sum_by-append (declared_count before.schedule) entries more, counts);
     }
 
--- the same of as many submissions
+-- the same for equally many submissions
 stays_as : {before last : Observed} {entries : List Entry} {some others : ℕ} {old new : Counts}
     → some ≡ others → StaysDue before last entries some old new → StaysDue before last entries others old new
 stays_as {before = before} {last = last} {entries = entries} {old = old} {new = new} same due =
@@ -127,7 +127,7 @@ cut_due machine line old new due =
     (submitted_in (line ∷ [])) old new)
     (cut_entries machine line []) (stays_as (cut_submitted machine line []) due))
 
--- before anything has come nothing is due
+-- before anything was received nothing is due
 pub run_counts : (schedule : Option ℕ) (lines : List (List ℕ)) (old new : Counts) → DueOver (new_machine schedule) lines old new
     → RunCounts schedule (entries_of (new_machine schedule) lines) (submitted_in lines) old new
 run_counts schedule lines old new due = record { files = omega (arith, due.files); proofs = omega (arith, due.proofs) }

@@ -1,8 +1,8 @@
--- Sums of what is done and of what is still due.
+-- Sums of work done and work still due.
 use Rattle.std.proofs.Common.{◌≡◌, ℕ, ◌+◌, ◌-◌, ◌≤◌, List, [], ◌∷◌, sum_by, refl, arith}
 use Rattle.std.proofs.lemmas.List.Sums.{sum_by-cons, sum_by-le-sum_by}
 
--- what is done and what is due is the most
+-- what is done and what is due add up to the most
 pub done_and_due : {X : Type 0} (most done : X → ℕ) (xs : List X) → ((x : X) → done x ≤ most x)
     → sum_by done xs + sum_by (λ x. most x - done x) xs ≡ sum_by most xs
 done_and_due most done [] fits = refl
@@ -16,7 +16,7 @@ done_and_due most done (x ∷ xs) fits =
       done_and_due most done xs fits,
     )
 
--- what is done besides is no longer due
+-- further work done is no longer due
 pub done_besides : {X : Type 0} (most before after : X → ℕ) (xs : List X) → ((x : X) → before x ≤ after x) → ((x : X) → after x ≤ most x)
     → (sum_by after xs - sum_by before xs) + sum_by (λ x. most x - after x) xs ≤ sum_by (λ x. most x - before x) xs
 done_besides most before after xs more fits =

@@ -1,16 +1,16 @@
--- Which replies tell that the line has changed the machine.
+-- Which replies say that the line changed the machine.
 use Rattle.std.specs.Prelude.{ℕ, Bool, false, ◌&&◌, ◌||◌, nat_le, List, [], ◌∷◌, bytes_eq, codes, length, take, drop}
 
--- a text begins with this front
+-- a text has this prefix
 abbrev pub begins_with : List ℕ → List ℕ → Bool
 begins_with front text = bytes_eq (take (length front) text) front
 
--- a digit other than 0 comes first
+-- the first byte is a digit other than 0
 abbrev pub is_positive : List ℕ → Bool
 is_positive [] = false
 is_positive (digit ∷ more) = nat_le 49 digit && nat_le digit 57
 
--- a reply tells of a change: a new file, an entry, entries that went, an operation that is queued, or a batch
+-- a reply reports a change: a new file, an entry, removed entries, a queued operation, or a batch
 abbrev pub is_changing : List ℕ → Bool
 is_changing reply =
     begins_with (codes "have ") reply

@@ -1,4 +1,4 @@
--- How the logic stores a machine. Nothing that is said of machines turns on it.
+-- How the logic stores a machine. No statement about machines depends on it.
 use Rattle.std.specs.Prelude.{ℕ, List, Option, refl}
 use Rattle.std.specs.Coded.{Coded, code_by, coded_list, coded_option, coded_ℕ, coded×}
 use Rattle.st_batch.specs.Codes.{coded_operations}
@@ -24,7 +24,7 @@ coded_observed =
     (λ p. record { schedule = p.0; ledger = p.1.0; files = p.1.1 })
     (λ _. refl)
 
--- a machine by the pair of its fields
+-- a machine as the pair of its fields
 abbrev pub coded_machine : Coded Machine
 coded_machine =
     code_by (Observed × List PlainOperation) (coded× coded_observed coded_operations)

@@ -1,4 +1,4 @@
--- What a line asks for.
+-- The command of a line.
 use Rattle.std.specs.Prelude.{ℕ, ◌-◌, ◌^◌, nat_le, List, length, bytes_eq, codes, is_none, if◌then◌else◌, Option, Some, None, Result, Ok, Err}
 use Rattle.std.specs.Option.{ok_or}
 use Rattle.st_base.specs.Answers.{◌>>=◌, ◌>>◌, holds_or}
@@ -11,7 +11,7 @@ use Rattle.st_node.specs.declared.command.LineCause.TheVariants as cause
 use Rattle.st_node.specs.declared.command.LineRefused.{LineRefused}
 use Rattle.st_node.specs.declared.command.LineRefused.TheVariants.{BadLine, WantOfMemory}
 
--- how many bytes a line has at most
+-- the largest number of bytes of a line
 abbrev pub longest_line : ℕ
 longest_line = 24000000
 
@@ -19,11 +19,11 @@ longest_line = 24000000
 abbrev pub space : ℕ
 space = 32
 
--- the number that a word is: decimal, from 0 to 4,294,967,295
+-- the number in a word: decimal, from 0 to 4,294,967,295
 abbrev pub number_in : List ℕ → Option ℕ
 number_in word = number_of (2 ^ 32 - 1) word
 
--- ---- each command, by what stands behind its word and a space
+-- ---- each command, from the text after its word and a space
 
 -- `content <base64url>`
 abbrev pub content_of : Option (List ℕ) → Result Command LineCause
@@ -59,7 +59,7 @@ explain_of behind = do
   did ← ok_or behind cause.Words
   Ok (Explain did)
 
--- `wanted`, and no space behind it
+-- `wanted`, without a space after it
 abbrev pub wanted_of : Option (List ℕ) → Result Command LineCause
 wanted_of behind = do
   holds_or (is_none behind) cause.Words
@@ -78,7 +78,7 @@ submit_of behind = do
   request ← ok_or behind cause.Words
   Ok (Submit request)
 
--- `flush`, and no space behind it
+-- `flush`, without a space after it
 abbrev pub flush_of : Option (List ℕ) → Result Command LineCause
 flush_of behind = do
   holds_or (is_none behind) cause.Words
@@ -100,14 +100,14 @@ command_of_words word behind =
     else if bytes_eq word (codes "flush") then flush_of behind
     else Err cause.Command
 
--- The command of a line, or the first cause for which it is none. The command word is what stands
--- before the first space, or the whole line.
+-- The command of a line, or the first cause why it is not one. The command word is the part before the first space,
+-- or the whole line.
 abbrev pub command_of : List ℕ → Result Command LineCause
 command_of line = do
   holds_or (nat_le (length line) longest_line) cause.Long
   command_of_words (first_word space line) (other_words space line)
 
--- the cause that an error names
+-- the cause of an error, if it has one
 abbrev pub cause_of : LineRefused → Option LineCause
 cause_of (BadLine cause) = Some cause
 cause_of WantOfMemory = None

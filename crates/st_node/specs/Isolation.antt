@@ -1,4 +1,4 @@
--- Isolation: what is answered of an identifier follows from its own operations.
+-- Isolation: the answers about an identifier follow from its own operations.
 use Rattle.std.specs.Prelude.{◌≡◌, ℕ, List, Result, Ok}
 use Rattle.st_hash.specs.Hash.{HashValue}
 use Rattle.st_node.specs.Command.{command_of}
@@ -9,12 +9,12 @@ use Rattle.st_node.specs.declared.command.Command.TheVariants.{Resolve, Explain}
 use Rattle.st_observer.specs.Observed.{operations}
 use Rattle.st_resolve.specs.Identifier.{PlainDid, did_of}
 
--- what was read of a line asks to resolve a text, or to explain it
+-- a line is a command to resolve a text, or to explain it
 pub data AsksAbout (text : List ℕ) : Result Command LineCause → Type 0 where
   to_resolve : AsksAbout text (Ok (Resolve text))
   to_explain : AsksAbout text (Ok (Explain text))
 
--- the line asks a machine to resolve or to explain an identifier of this suffix
+-- the line is a command to a machine to resolve or to explain an identifier of this suffix
 pub record AsksFor (machine : Machine) (suffix : HashValue) (line : List ℕ) : Type 0 where
   pub text : List ℕ
   pub did : PlainDid
@@ -22,15 +22,15 @@ pub record AsksFor (machine : Machine) (suffix : HashValue) (line : List ℕ) : 
   pub identifies : did_of (newest machine.observed).version text ≡ Ok did
   pub by_suffix : did.suffix ≡ suffix
 
--- two machines under one schedule of limits know the same operations of a suffix
+-- two machines under one schedule of limits have the same operations of a suffix
 pub record AgreeOn (suffix : HashValue) (first second : Machine) : Type 0 where
   pub same_schedule : first.observed.schedule ≡ second.observed.schedule
   pub same_operations : operations suffix first.observed ≡ operations suffix second.observed
 
--- Two machines that know the same operations of a suffix reply alike to each line that asks to resolve or
--- to explain an identifier of it. So no entry that gives no operation for it, no cut of such entries and no
--- file that leaves its operations changes a reply for it (by `isolation_law` of st_observer), and neither
--- does what is queued: no submission, and of a flush nothing but its files.
+-- Two machines with the same operations of a suffix give the same reply to each line that resolves or explains an
+-- identifier of it. So a reply about it is not changed by an entry that gives no operation for it, a cut of such
+-- entries, or a file that leaves its operations (by `isolation_law` of st_observer). Nor is it changed by the queue:
+-- no submission changes it, and a flush only through its files.
 abbrev pub IsolatesIdentifiers : Type 0
 IsolatesIdentifiers = (suffix : HashValue) (first second : Machine) (line : List ℕ) → AgreeOn suffix first second
     → AsksFor first suffix line → (answered first line).reply ≡ (answered second line).reply

@@ -1,5 +1,5 @@
--- The reference machine: what a node answers to a line, and what it is then. Nothing is kept but the
--- ledger, the files and the queue; each answer is said from these, from nothing.
+-- The reference machine: the answer of a node to a line, and its state afterwards. The state is only the ledger, the
+-- files and the queue; each answer is defined from these.
 use Rattle.std.specs.Prelude.{◌≡◌, ℕ, ◌-◌, nat_le, List, [], ◌∷◌, ◌++◌, codes, flat_map, length, map, is_some, if◌then◌else◌, Option, Some, None, Result, Ok, Err}
 use Rattle.std.specs.Fmt.{decimal}
 use Rattle.st_anchor.specs.RuleNames.{rule_name}
@@ -50,11 +50,11 @@ pub record Machine : Type 0 where
   pub observed : Observed
   pub queue : List PlainOperation
 
--- under a schedule of limits, before anything has come
+-- under a schedule of limits, before anything was received
 abbrev pub new_machine : Option ℕ → Machine
 new_machine schedule = record { observed = nothing_yet schedule; queue = [] }
 
--- what a line leaves, and the reply to it
+-- the machine after a line, and the reply to it
 pub record Answered : Type 0 where
   pub next : Machine
   pub reply : List ℕ
@@ -67,27 +67,27 @@ replied machine text = record { next = machine; reply = text }
 abbrev pub refused : Machine → List ℕ → Answered
 refused machine cause = replied machine (reply (codes "refused ") cause)
 
--- ---- `content`: the file stays, where none of its URI is there
+-- ---- `content`: the file stays, unless one of its URI is there
 
--- `had` where a file of this URI is there, else `have`
+-- `had` if a file of this URI is there, else `have`
 abbrev pub have_or_had : Files → List ℕ → List ℕ
 have_or_had files bytes = if is_some (file_at (uri_of bytes) files) then codes "had " else codes "have "
 
--- the file under its URI
+-- the file by its URI
 abbrev pub answered_content : Machine → List ℕ → Answered
 answered_content machine bytes = record {
   next = record machine { observed = arrived bytes machine.observed };
   reply = reply (have_or_had machine.observed.files bytes) (hash_text (uri_of bytes));
 }
 
--- ---- `anchor`: the entry comes last, where the ledger admits its height
+-- ---- `anchor`: the entry is appended, if the ledger admits its height
 
 -- why the ledger refuses an entry
 abbrev pub ledger_word : LedgerRefused → List ℕ
 ledger_word (HeightFalls last) = codes "height"
 ledger_word LedgerFull = codes "full"
 
--- the entry, where it is admitted
+-- the entry, if it is admitted
 abbrev pub answered_admitted : Machine → Entry → Result Unit LedgerRefused → Answered
 answered_admitted machine entry (Ok _) = record {
   next = record machine { observed = appended entry machine.observed };
@@ -99,23 +99,23 @@ answered_admitted machine entry (Err cause) = refused machine (ledger_word cause
 abbrev pub answered_anchor : Machine → Entry → Answered
 answered_anchor machine entry = answered_admitted machine entry (admitted machine.observed.ledger entry.height)
 
--- ---- `rollback`: the first n entries stay, where there are so many, and all files
+-- ---- `rollback`: the first n entries stay, if there are that many, and all files
 
--- the first entries stay, and the reply tells how many went
+-- the first entries stay, and the reply has the number of removed ones
 abbrev pub rolled_back : Machine → ℕ → Answered
 rolled_back machine n = record {
   next = record machine { observed = cut_to n machine.observed };
   reply = reply (codes "cut ") (decimal (length machine.observed.ledger - n));
 }
 
--- where there are so many
+-- if there are that many
 abbrev pub answered_rollback : Machine → ℕ → Answered
 answered_rollback machine n =
     if nat_le n (length machine.observed.ledger) then rolled_back machine n else refused machine (codes "range")
 
 -- ---- `resolve`
 
--- why a text is no identifier; that memory is wanting is never said here
+-- why a text is not an identifier; running out of memory never appears here
 abbrev pub did_word : DidRefused → List ℕ
 did_word did_is.BadDid = codes "badDid"
 did_word did_is.BadLongForm = codes "badLongForm"
@@ -123,7 +123,7 @@ did_word did_is.NotCanonical = codes "notCanonical"
 did_word did_is.SuffixDiffers = codes "suffixDiffers"
 did_word did_is.WantOfMemory = []
 
--- why an identifier has no result; that memory is wanting is never said here
+-- why an identifier has no result; running out of memory never appears here
 abbrev pub result_word : RenderRefused → List ℕ
 result_word result_is.NotFound = codes "notFound"
 result_word result_is.WantOfMemory = []
@@ -137,15 +137,15 @@ or_word word (Err refusal) = Err (word refusal)
 abbrev pub newest : Observed → Limits
 newest observed = newest_of observed.schedule
 
--- The result of an identifier: of the state of its suffix, which follows from the ledger and the files.
+-- The result of an identifier: from the state of its suffix, which follows from the ledger and the files.
 abbrev pub result_for : Observed → PlainDid → Result Plain (List ℕ)
 result_for observed did = or_word result_word (result_of (newest observed) did (state_of did.suffix observed))
 
--- The identifier that a text is, or the word of the first cause for which it is none.
+-- The identifier of a text, or the word for the first cause why it is not one.
 abbrev pub asked_did : Observed → List ℕ → Result PlainDid (List ℕ)
 asked_did observed text = or_word did_word (did_of (newest observed).version text)
 
--- What a text resolves to, or the word of the first cause for which it doesn't.
+-- The result of resolving a text, or the word for the first cause why there is none.
 abbrev pub resolution : Observed → List ℕ → Result Plain (List ℕ)
 resolution observed text = do
   did ← asked_did observed text
@@ -156,11 +156,11 @@ abbrev pub resolve_reply : Result Plain (List ℕ) → List ℕ
 resolve_reply (Ok result) = reply (codes "resolved ") (canonical result)
 resolve_reply (Err cause) = reply (codes "unresolved ") cause
 
--- what the text resolves to; nothing changes
+-- the result of resolving the text; nothing changes
 abbrev pub answered_resolve : Machine → List ℕ → Answered
 answered_resolve machine text = replied machine (resolve_reply (resolution machine.observed text))
 
--- ---- `explain`: what became of each operation of an identifier
+-- ---- `explain`: the verdict on each operation of an identifier
 
 -- the kind of an operation
 abbrev pub kind_word : PlainOperation → List ℕ
@@ -169,7 +169,7 @@ kind_word (updating target proof delta) = codes "update"
 kind_word (recovering target proof delta) = codes "recover"
 kind_word (deactivating target proof) = codes "deactivate"
 
--- what became of an operation
+-- the verdict on an operation
 abbrev pub verdict_word : Verdict → List ℕ
 verdict_word verdict_is.Before = codes "before"
 verdict_word verdict_is.Again = codes "again"
@@ -183,7 +183,7 @@ verdict_word verdict_is.Updated = codes "updated"
 verdict_word verdict_is.Recovered = codes "recovered"
 verdict_word verdict_is.Deactivated = codes "deactivated"
 
--- a line for an operation: its place, its height, its kind, and what became of it
+-- a line for an operation: its place, its height, its kind, and the verdict on it
 abbrev pub item_line : Anchored → Verdict → List ℕ
 item_line item verdict =
     reply (codes "item")
@@ -194,40 +194,40 @@ abbrev pub item_lines : List Anchored → List Verdict → List ℕ
 item_lines (item ∷ items) (verdict ∷ verdicts) = item_line item verdict ++ item_lines items verdicts
 item_lines items verdicts = []
 
--- how many operations there are, and a line for each
+-- the number of operations, and a line for each
 abbrev pub explained : Option ℕ → List Anchored → List ℕ
 explained schedule items =
     reply (codes "explained ") (decimal (length items)) ++ item_lines items (verdicts schedule items)
 
--- what became of the operations of an identifier that entries gave, or why a text is none
+-- the verdicts on the operations of an identifier that entries gave, or why a text is not one
 abbrev pub explain_reply : Observed → Result PlainDid (List ℕ) → List ℕ
 explain_reply observed (Ok did) = explained observed.schedule (operations did.suffix observed)
 explain_reply observed (Err cause) = reply (codes "unresolved ") cause
 
--- what became of those of the identifier that the text is; nothing changes
+-- the verdicts on those of the text's identifier; nothing changes
 abbrev pub answered_explain : Machine → List ℕ → Answered
 answered_explain machine text = replied machine (explain_reply machine.observed (asked_did machine.observed text))
 
--- ---- `wanted`: how many files are missing, and the URI of each
+-- ---- `wanted`: the number of missing files, and the URI of each
 
 -- their number, and each
 abbrev pub wanted_reply : List HashValue → List ℕ
 wanted_reply uris = reply (codes "wanted ") (decimal (length uris) ++ spaced (map hash_text uris))
 
--- the files that are wanted; nothing changes
+-- the wanted files; nothing changes
 abbrev pub answered_wanted : Machine → Answered
 answered_wanted machine = replied machine (wanted_reply (wanted machine.observed))
 
--- ---- `report`: how it stands with the five roles of an entry
+-- ---- `report`: the states of the five roles of an entry
 
--- how it stands with a role; a rule that failed by its name
+-- the state of a role; a failed rule by its name
 abbrev pub state_word : RoleState → List ℕ
 state_word role_is.Unneeded = codes "unneeded"
 state_word (role_is.Missing uri) = codes "missing"
 state_word (role_is.Rejected rule) = rule_name rule
 state_word role_is.Read = codes "read"
 
--- a word for each role, or `refused range` where there is no such entry
+-- a word for each role, or `refused range` if there is no such entry
 abbrev pub reported : Machine → Option (List RoleState) → Answered
 reported machine (Some states) = replied machine (reply (codes "report") (spaced (map state_word states)))
 reported machine None = refused machine (codes "range")
@@ -236,13 +236,13 @@ reported machine None = refused machine (codes "range")
 abbrev pub answered_report : Machine → ℕ → Answered
 answered_report machine n = reported machine (report n machine.observed)
 
--- ---- `submit`: the operation of a request comes last in the queue
+-- ---- `submit`: the operation of a request is appended to the queue
 
--- the limits at the height of the last entry, or at height 0 where there is none
+-- the limits at the height of the last entry, or at height 0 if there is none
 abbrev pub limits_now : Observed → Limits
 limits_now observed = params_at observed.schedule (last_height observed.ledger)
 
--- why a request is refused; that memory is wanting is never said here
+-- why a request is refused; running out of memory never appears here
 abbrev pub submit_word : SubmitRefused → List ℕ
 submit_word submit_is.NotJson = codes "notJson"
 submit_word submit_is.NotWhole = codes "notWhole"
@@ -254,7 +254,7 @@ submit_word submit_is.AlreadyQueued = codes "alreadyQueued"
 submit_word submit_is.QueueFull = codes "full"
 submit_word submit_is.WantOfMemory = []
 
--- the queue with an operation more, or as it was
+-- the queue with one more operation, or unchanged
 abbrev pub queue_after : List PlainOperation → Result (List PlainOperation × HashValue) SubmitRefused → List PlainOperation
 queue_after queue (Ok done) = done.0
 queue_after queue (Err cause) = queue
@@ -264,21 +264,21 @@ abbrev pub submit_reply : Result (List PlainOperation × HashValue) SubmitRefuse
 submit_reply (Ok done) = reply (codes "queued ") (hash_text done.1)
 submit_reply (Err cause) = reply (codes "refused ") (submit_word cause)
 
--- what submitting left, with the reply
+-- the result of submitting, with the reply
 abbrev pub answered_submitted : Machine → Result (List PlainOperation × HashValue) SubmitRefused → Answered
 answered_submitted machine done = record {
   next = record machine { queue = queue_after machine.queue done };
   reply = submit_reply done;
 }
 
--- a request at the limits of now
+-- a request at the present limits
 abbrev pub answered_submit : Machine → List ℕ → Answered
 answered_submit machine request =
     answered_submitted machine (submitted (limits_now machine.observed) machine.queue request)
 
--- ---- `flush`: a batch of the first operations of the queue, whose files come as by `content`
+-- ---- `flush`: a batch of the first operations of the queue; its files are received as by `content`
 
--- what a file is to the entry of its batch
+-- the role of a file in the entry of its batch
 abbrev pub role_word : Role → List ℕ
 role_word Core = codes "core"
 role_word CoreProof = codes "coreProof"
@@ -291,7 +291,7 @@ abbrev pub file_line : BatchFile → List ℕ
 file_line file =
     reply (codes "file") (spaced (role_word file.role ∷ hash_text file.uri ∷ base64url file.bytes ∷ []))
 
--- a line for a batch: its anchor string, and how many files it has
+-- a line for a batch: its anchor string, and the number of its files
 abbrev pub batch_line : List ℕ → ℕ → List ℕ
 batch_line anchor files = reply (codes "batch") (spaced (anchor ∷ decimal files ∷ []))
 
@@ -299,19 +299,19 @@ batch_line anchor files = reply (codes "batch") (spaced (anchor ∷ decimal file
 abbrev pub batch_reply : Batch → List ℕ
 batch_reply batch = batch_line batch.anchor (length batch.files) ++ flat_map file_line batch.files
 
--- once these files have come, one after the other
+-- after these files were received, one after another
 abbrev pub all_arrived : List BatchFile → Observed → Observed
 all_arrived [] observed = observed
 all_arrived (file ∷ files) observed = all_arrived files (arrived file.bytes observed)
 
--- a batch, and what stays queued
+-- a batch, and the operations that stay queued
 abbrev pub answered_batch : Machine → Batch → List PlainOperation → Answered
 answered_batch machine batch rest = record {
   next = record { observed = all_arrived batch.files machine.observed; queue = rest };
   reply = batch_reply batch;
 }
 
--- where something is queued, a batch of the queue at the limits of now
+-- if something is queued, a batch of the queue at the present limits
 abbrev pub answered_flush : Machine → Answered
 answered_flush machine =
     if nat_le 1 (length machine.queue)
@@ -334,7 +334,7 @@ answered_command machine Flush = answered_flush machine
 
 -- ---- lines
 
--- why a line is no command
+-- why a line is not a command
 abbrev pub cause_word : LineCause → List ℕ
 cause_word line_is.Long = codes "long"
 cause_word line_is.Command = codes "command"
@@ -342,7 +342,7 @@ cause_word line_is.Words = codes "words"
 cause_word line_is.Number = codes "number"
 cause_word line_is.Base64 = codes "base64"
 
--- the command of a line, or why it is none
+-- the command of a line, or why it is not one
 abbrev pub answered_read : Machine → Result Command LineCause → Answered
 answered_read machine (Ok command) = answered_command machine command
 answered_read machine (Err cause) = replied machine (reply (codes "refused line ") (cause_word cause))
@@ -351,18 +351,18 @@ answered_read machine (Err cause) = replied machine (reply (codes "refused line 
 abbrev pub answered : Machine → List ℕ → Answered
 answered machine line = answered_read machine (command_of line)
 
--- the replies to lines, one after the other
+-- the replies to lines, one after another
 abbrev pub replies : Machine → List (List ℕ) → List ℕ
 replies machine [] = []
 replies machine (line ∷ lines) = (answered machine line).reply ++ replies (answered machine line).next lines
 
--- the machine behind these lines
+-- the machine after these lines
 abbrev pub after : Machine → List (List ℕ) → Machine
 after machine [] = machine
 after machine (line ∷ lines) = after (answered machine line).next lines
 
 -- ---- nodes
 
--- The node that comes of it is what the answer leaves, and its reply is given.
+-- The node is the one after the answer, and its reply is returned.
 abbrev pub AnswersWith : Answered → Machine × List ℕ → Type 0
 AnswersWith answer done = (done.0 ≡ answer.next) × (done.1 ≡ answer.reply)

@@ -1,4 +1,4 @@
--- The reference machine as others see it: it begins under version 1 of the limits at every height, and keeps a file as by
+-- The reference machine as a peer: it starts under version 1 of the limits at every height, and stores a file as by
 -- `content`.
 use Rattle.std.specs.Prelude.{None}
 use Rattle.st_exchange.specs.Peer.{Peer}
@@ -6,6 +6,7 @@ use Rattle.st_node.specs.Machine.{Machine, answered, answered_content, new_machi
 use Rattle.st_node.specs.Work.{files_due}
 use Rattle.st_observer.specs.Wanted.{wanted}
 
+-- the reference machine, by the answers to its lines
 abbrev pub node_peer : Peer Machine
 node_peer = record {
   start = new_machine None;

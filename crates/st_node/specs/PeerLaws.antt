@@ -1,5 +1,5 @@
--- What is promised of the reference machine as others see it: a file that it wants isn't there, and it may read none before
--- anything has come.
+-- Laws of the reference machine as a peer: it doesn't have a file that it wants, and it may read none before anything
+-- was received.
 use Rattle.std.proofs.Common.{◌≡◌, ℕ, true, List, [], ◌∷◌, Ordering, Less, Equal, Greater, Option, None, refl, sym, subst, ⊎_elim}
 use Rattle.std.proofs.lemmas.Bool.{or_cases, true≢false}
 use Rattle.std.specs.BTreeSet.{insert_key}
@@ -24,7 +24,7 @@ use Rattle.st_observer.specs.Wanted.{missed_files, missed_in, text_cmp, wanted}
 use Rattle.st_params.specs.Limits.{Limits}
 use Rattle.st_params.specs.Schedule.{params_at}
 
--- ---- keys that are put in one by one: what holds of each that is put in holds of all
+-- ---- keys inserted one by one: a property of each that is inserted is one of all
 
 module _ {K : Type 0} (cmp : K → K → Ordering) (P : K → Type 0) where
   put_by : (order : Ordering) (key first : K) (keys after : List K) → AllByRecursion P (first ∷ keys) → P key
@@ -42,20 +42,20 @@ module _ {K : Type 0} (cmp : K → K → Ordering) (P : K → Type 0) where
   put_all keys [] all new = all
   put_all keys (key ∷ more) all new = put_all (insert_key cmp keys key) more (put keys key all new.0) new.1
 
--- what holds of each hash holds of one that is among them
+-- a property of each hash holds for one that is among them
 among : (P : HashValue → Type 0) (hashes : List HashValue) (hash : HashValue) → AllByRecursion P hashes → is_among hashes hash ≡ true → P hash
 among P [] hash all is = absurd (true≢false (sym is))
 among P (first ∷ hashes) hash all is =
     ⊎_elim (λ here. subst P (sym (same_hash-is hash first here)) all.0) (λ there. among P hashes hash all.1 there)
     (or_cases (same_hash hash first) (is_among hashes hash) is)
 
--- ---- files that entries miss
+-- ---- missing files of entries
 
 module _ (files : Files) where
   abbrev IsAbsent : HashValue → Type 0
   IsAbsent uri = file_at uri files ≡ None
 
-  -- what a role misses isn't there
+  -- the missing file of a role isn't there
   abbrev MissesAbsent : RoleState → Type 0
   MissesAbsent state = (uri : HashValue) → state ≡ Missing uri → IsAbsent uri
 

@@ -1,4 +1,4 @@
--- Bounds on the work that is counted: of one line, and of a run of lines.
+-- Bounds on the work that is counted: for one line, and for several lines.
 use Rattle.std.specs.Prelude.{◌≡◌, ℕ, ◌+◌, ◌-◌, ◌*◌, ◌≤◌, nat_le, Bool, true, false, List, [], ◌∷◌, ◌++◌, length, sum_by, Option, option_map, unwrap_or, Result, Ok, Err}
 use Rattle.st_anchor.specs.States.{decided_roles, opened_proofs}
 use Rattle.st_apply.specs.Anchored.{Anchored}
@@ -19,10 +19,10 @@ use Rattle.st_observer.specs.Work.{GrewAtMost, arrival_cost, decided_in, entry_c
 use Rattle.st_resolve.specs.Identifier.{PlainDid}
 use Rattle.st_params.specs.Schedule.{params_at}
 
--- ---- what a command may cost
+-- ---- the cost of a command
 
--- A file costs one reading for each role that it decides, of whatever entry, and one opening for each
--- signed text in the proof files that are read now.
+-- A file costs one reading for each role of any entry that it decides, and one opening for each signed text in newly
+-- read proof files.
 abbrev pub ArrivalCounts : Observed → List ℕ → Counts → Counts → Type 0
 ArrivalCounts observed bytes old new =
     GrewAtMost
@@ -31,7 +31,7 @@ ArrivalCounts observed bytes old new =
     (arrival_cost bytes observed)
     old new
 
--- An entry costs the same of its own roles.
+-- An entry costs the same for its own roles.
 abbrev pub EntryCounts : Observed → Entry → Counts → Counts → Type 0
 EntryCounts observed entry old new =
     GrewAtMost
@@ -40,28 +40,28 @@ EntryCounts observed entry old new =
     (entry_cost (length observed.ledger) entry (appended entry observed))
     old new
 
--- nothing is counted of one that is refused
+-- nothing is counted for a refused one
 abbrev pub AdmittedCounts : Observed → Entry → Result Unit LedgerRefused → Counts → Counts → Type 0
 AdmittedCounts observed entry (Ok _) old new = EntryCounts observed entry old new
 AdmittedCounts observed entry (Err cause) old new = new ≡ old
 
--- A cut reads and opens nothing, and costs at most 7 applied operations for each identifier that loses
--- one; and where it is refused, nothing is counted.
+-- A cut reads and opens nothing, and costs at most 7 applied operations for each identifier that loses one; if it is
+-- refused, nothing is counted.
 abbrev pub FittingCounts : Observed → ℕ → Bool → Counts → Counts → Type 0
 FittingCounts observed n true old new = AppliesAtMost (7 * length (losing n observed)) old new
 FittingCounts observed n false old new = new ≡ old
 
--- the same by the number of entries that are kept
+-- the same by the number of entries kept
 abbrev pub RollbackCounts : Observed → ℕ → Counts → Counts → Type 0
 RollbackCounts observed n old new = FittingCounts observed n (nat_le n (length observed.ledger)) old new
 
--- what files may cost as they come, one after the other
+-- the cost of files that are received one after another
 abbrev pub arrivals_cost : List BatchFile → Observed → ℕ
 arrivals_cost [] observed = 0
 arrivals_cost (file ∷ files) observed = arrival_cost file.bytes observed + arrivals_cost files (arrived file.bytes observed)
 
--- Files that come one after the other cost one reading for each role that they decide together, and
--- one opening for each signed text in the proof files that are read now.
+-- Files received one after another cost one reading for each role that they decide together, and one opening for each
+-- signed text in newly read proof files.
 abbrev pub ArrivalsCounts : Observed → List BatchFile → Counts → Counts → Type 0
 ArrivalsCounts observed files old new =
     GrewAtMost
@@ -70,7 +70,7 @@ ArrivalsCounts observed files old new =
     (arrivals_cost files observed)
     old new
 
--- nothing is counted where nothing is queued
+-- nothing is counted if nothing is queued
 abbrev pub QueueCounts : Machine → Bool → Counts → Counts → Type 0
 QueueCounts machine true old new =
     ArrivalsCounts machine.observed (batch_of (limits_now machine.observed) machine.queue).files old new
@@ -80,19 +80,18 @@ QueueCounts machine false old new = new ≡ old
 abbrev pub FlushCounts : Machine → Counts → Counts → Type 0
 FlushCounts machine old new = QueueCounts machine (nat_le 1 (length machine.queue)) old new
 
--- the operations of an identifier, or none where there is none
+-- the operations of an identifier, or none if there is no identifier
 abbrev pub operations_of_found : Observed → Result PlainDid (List ℕ) → List Anchored
 operations_of_found observed (Ok did) = operations did.suffix observed
 operations_of_found observed (Err cause) = []
 
--- the operations of the identifier that a text is
+-- the operations of a text's identifier
 abbrev pub asked_operations : Observed → List ℕ → List Anchored
 asked_operations observed text = operations_of_found observed (asked_did observed text)
 
--- What is counted while a command is carried out, and no count falls. An identifier is resolved without a
--- reading, and with one applied operation at most; it is explained without a reading, and with as many applied
--- operations at most as entries give for it; for a request that is submitted, one signed text is opened at
--- most, also where it is refused; what asks how things stand costs nothing.
+-- The counts of executing a command; no count falls. Resolving an identifier reads nothing and applies at most one
+-- operation. Explaining one reads nothing and applies at most as many operations as entries give for it. Submitting a
+-- request opens at most one signed text, also if it is refused. Queries of the state cost nothing.
 abbrev pub CommandCounts : Machine → Command → Counts → Counts → Type 0
 CommandCounts machine (Content bytes) old new = ArrivalCounts machine.observed bytes old new
 CommandCounts machine (Anchor height text) old new =
@@ -105,23 +104,23 @@ CommandCounts machine (Report n) old new = new ≡ old
 CommandCounts machine (Submit request) old new = ProofsAtMost 1 old new
 CommandCounts machine Flush old new = FlushCounts machine old new
 
--- and while a line is answered: nothing is counted of one that is no command
+-- and of answering a line: nothing is counted for a line that is not a command
 abbrev pub LineCounts : Machine → Result Command LineCause → Counts → Counts → Type 0
 LineCounts machine (Ok command) old new = CommandCounts machine command old new
 LineCounts machine (Err cause) old new = new ≡ old
 
--- ---- what is still due
+-- ---- work still due
 
 -- how many files may still be read for an entry: one for each of its five roles that isn't decided
 abbrev pub files_due_for : Observed → Entry → ℕ
 files_due_for observed entry = 5 - decided_roles (known_of observed.schedule observed.files entry)
 
--- how many operations an anchor string declares, or 0 where it fails a rule
+-- how many operations an anchor string declares, or 0 if it fails a rule
 abbrev pub declared_count : Option ℕ → Entry → ℕ
 declared_count schedule entry = unwrap_or (option_map (λ anchor. anchor.count) (anchor_of (params_at schedule entry.height) entry.text)) 0
 
--- how many signed texts may still be opened for an entry: as many as it declares operations, but for
--- those that were
+-- how many signed texts may still be opened for an entry: as many as it declares operations, less those already
+-- opened
 abbrev pub proofs_due_for : Observed → Entry → ℕ
 proofs_due_for observed entry =
     declared_count observed.schedule entry - opened_proofs (known_of observed.schedule observed.files entry)
@@ -136,7 +135,7 @@ proofs_due observed = sum_by (proofs_due_for observed) observed.ledger
 
 -- ---- over lines
 
--- the entry that comes of an anchor, where it is accepted
+-- the entry of an anchor, if it is accepted
 abbrev pub entry_admitted : Entry → Result Unit LedgerRefused → List Entry
 entry_admitted entry (Ok _) = entry ∷ []
 entry_admitted entry (Err cause) = []
@@ -156,12 +155,12 @@ entry_of_read machine (Err cause) = []
 abbrev pub entry_of_line : Machine → List ℕ → List Entry
 entry_of_line machine line = entry_of_read machine (command_of line)
 
--- the entries that come of lines: one for each accepted anchor among them
+-- the entries of lines: one for each accepted anchor among them
 abbrev pub entries_of : Machine → List (List ℕ) → List Entry
 entries_of machine [] = []
 entries_of machine (line ∷ lines) = entry_of_line machine line ++ entries_of (answered machine line).next lines
 
--- how many requests a command submits: one, where it is a `submit`
+-- how many requests a command submits: one, if it is a `submit`
 abbrev pub submitted_by : Command → ℕ
 submitted_by (Submit request) = 1
 submitted_by command = 0
@@ -179,20 +178,20 @@ submitted_by_line line = submitted_by_read (command_of line)
 abbrev pub submitted_in : List (List ℕ) → ℕ
 submitted_in lines = sum_by submitted_by_line lines
 
--- What was counted, with what is due afterwards, is no more than what was due before and what came:
--- these entries bring each five files, and as many signed texts as it declares operations, and each of
--- so many submissions brings one signed text.
+-- The counts plus the work still due afterwards are at most the earlier counts, the work due before, and the new
+-- work: each of these entries adds five files and as many signed texts as it declares operations, and each submission
+-- adds one signed text.
 pub record StaysDue (before later : Observed) (entries : List Entry) (submissions : ℕ) (old new : Counts) : Type 0 where
   pub files : new.files + files_due later ≤ old.files + files_due before + 5 * length entries
   pub proofs : new.proofs + proofs_due later ≤ old.proofs + proofs_due before + sum_by (declared_count before.schedule) entries + submissions
 
--- the same over a run of lines
+-- the same over several lines
 abbrev pub DueOver : Machine → List (List ℕ) → Counts → Counts → Type 0
 DueOver machine lines old new =
     StaysDue machine.observed (after machine lines).observed (entries_of machine lines) (submitted_in lines) old new
 
--- A run of lines from the beginning on reads at most five files for each anchor that is accepted, and
--- opens at most as many signed texts as these declare operations, and one for each `submit` line.
+-- From the start, several lines read at most five files for each accepted anchor, and open at most as many signed
+-- texts as these declare operations, and one for each `submit` line.
 pub record RunCounts (schedule : Option ℕ) (entries : List Entry) (submissions : ℕ) (old new : Counts) : Type 0 where
   pub files : new.files ≤ old.files + 5 * length entries
   pub proofs : new.proofs ≤ old.proofs + sum_by (declared_count schedule) entries + submissions

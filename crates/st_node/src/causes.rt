@@ -4,7 +4,7 @@ ghost use Rattle.st_node.specs.Machine.{cause_word, ledger_word};
 use crate::command::LineCause;
 use st_ledger::LedgerRefused;
 
-// The words of causes, as they stand in replies.
+// The words for causes in replies.
 
 pub fn cause_word(cause: LineCause) -> &'static str
     ensures { result.now ≡ cause_word cause }

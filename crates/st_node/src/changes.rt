@@ -1,7 +1,7 @@
 ghost use Rattle.std.specs.Prelude.{◌≡◌, ◌&&◌, codes, drop};
 ghost use Rattle.st_node.specs.Changing.{begins_with, is_changing, is_positive};
 
-/// Whether a reply tells that its line has changed the node: it begins with `have `, `anchored `,
+/// Whether a reply says that its line changed the node: it starts with `have `, `anchored `,
 /// `queued ` or `batch `, or with `cut ` and a digit other than 0.
 pub fn changing(reply: &[u8]) -> bool
     ensures { result ≡ is_changing reply.now }
@@ -13,7 +13,7 @@ pub fn changing(reply: &[u8]) -> bool
         || begins_with(b"batch ", reply)
 }
 
-// Whether a reply tells of entries that went.
+// Whether a reply says that entries were removed.
 fn cuts(reply: &[u8]) -> bool
     ensures { result ≡ begins_with (codes "cut ") reply.now && is_positive (drop 4 reply.now) }
 {

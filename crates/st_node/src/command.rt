@@ -8,7 +8,7 @@ use st_hash::{DecRefused, dec};
 use std::alloc::Global;
 use thiserror::Error;
 
-/// How many bytes a line has at most.
+/// The largest number of bytes of a line.
 pub const LONGEST_LINE: usize = 24_000_000;
 
 const CONTENT: &[u8] = b"content";
@@ -29,51 +29,52 @@ const SUBMIT: &[u8] = b"submit";
 
 const FLUSH: &[u8] = b"flush";
 
-/// What a line asks for. Texts and requests are parts of the line, lent; the bytes of a file are decoded.
+/// The command of a line. Texts and requests are borrowed from the line; the bytes of a file are
+/// decoded.
 #[derive(Debug, Drop)]
 pub enum Command<'a> {
-    /// `content <base64url>`: here are the bytes of a file.
+    /// `content <base64url>`: store these bytes as a file.
     Content(Bytes),
     /// `anchor <height> <text>`: append this entry to the ledger.
     Anchor { height: u32, text: Lent<'a> },
     /// `rollback <n>`: keep the first `n` entries of the ledger.
     Rollback(u32),
-    /// `resolve <did>`: what does this identifier resolve to?
+    /// `resolve <did>`: resolve this identifier.
     Resolve(Lent<'a>),
-    /// `explain <did>`: what became of each operation of this identifier?
+    /// `explain <did>`: list the verdict on each operation of this identifier.
     Explain(Lent<'a>),
-    /// `wanted`: which files are missing?
+    /// `wanted`: list the missing files.
     Wanted,
-    /// `report <n>`: how does it stand with the five roles of this entry?
+    /// `report <n>`: the states of the five roles of this entry.
     Report(u32),
-    /// `submit <request>`: queue the operation that this request asks for.
+    /// `submit <request>`: queue the operation of this request.
     Submit(Lent<'a>),
-    /// `flush`: make a batch of what is queued.
+    /// `flush`: make a batch of the queued operations.
     Flush,
 }
 
-/// Why a line is no command: the first of these that holds, in this order.
+/// Why a line is not a command: the first of these that holds, in this order.
 #[derive(Clone, Copy, Debug, PartialEq, Eq)]
 pub enum LineCause {
     /// The line has more than 24,000,000 bytes.
     Long,
-    /// The command word is unknown. It is what stands before the first space, or the whole line.
+    /// The command word is unknown. It is the part before the first space, or the whole line.
     Command,
-    /// A space is missing, or stands behind `wanted` or `flush`.
+    /// A space is missing, or follows `wanted` or `flush`.
     Words,
-    /// A number is not decimal from 0 to 4,294,967,295 without a leading zero.
+    /// A number is not decimal from 0 to 4,294,967,295 without leading zeros.
     Number,
-    /// A text is the base64url of no bytes.
+    /// A text is not the base64url of any bytes.
     Base64,
 }
 
 /// Why a line was not read as a command.
 #[derive(Clone, Copy, Debug, PartialEq, Eq, Error)]
 pub enum LineRefused {
-    /// The line is no command, for this cause.
+    /// The line is not a command, for this cause.
     #[error("not a command")]
     BadLine(LineCause),
-    /// Memory could not be had.
+    /// Out of memory.
     #[error("out of memory")]
     WantOfMemory,
 }
@@ -89,9 +90,10 @@ impl From<WantOfMemory> for LineRefused {
     }
 }
 
-/// The command of a line, which comes without its line feed.
+/// The command of a line, which is given without its line feed.
 ///
-/// `BadLine` comes exactly where the line is no command, with the first cause that holds.
+/// The result is `BadLine` if and only if the line is not a command; it has the first cause that
+/// holds.
 pub fn read_command(alloc: Global, line: &[u8]) -> Result<Command<'_>, LineRefused>
     ensures { Gives cause_of (command_of line.now) result }
 {
@@ -102,7 +104,7 @@ pub fn read_command(alloc: Global, line: &[u8]) -> Result<Command<'_>, LineRefus
     read_words(alloc, word, behind)
 }
 
-// The command of this command word, and of what stands behind it and a space.
+// The command with this word, from the text after it and a space.
 fn read_words<'a>(
     alloc: Global,
     word: &[u8],

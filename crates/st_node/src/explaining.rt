@@ -19,8 +19,8 @@ use st_ops::Operation;
 use st_resolve::{DidRefused, read_did};
 use std::alloc::Global;
 
-// The reply to a text that is to be explained. No file is read, and an operation of the identifier is applied
-// at most once. The create in a long form is none that an entry gave, so nothing is said of it.
+// The reply to `explain`. No file is read, and each operation of the identifier is applied at most
+// once. The create in a long form is not an operation of an entry, so it is not listed.
 pub fn explain(
     alloc: Global,
     observer: &Observer,
@@ -58,7 +58,7 @@ fn explain_suffix(
     tell_items(alloc, items.as_slice(), certificate.verdicts.as_slice())
 }
 
-// The operations as items that can be certified.
+// The operations as items to certify.
 fn cert_items(alloc: Global, held: List<Held>) -> Result<List<CertItem>, WantOfMemory>
     ensures { IfOk result (λ items. anchored_items items ≡ map plain_held held) }
 {
@@ -76,7 +76,7 @@ fn cert_items(alloc: Global, held: List<Held>) -> Result<List<CertItem>, WantOfM
     Ok(items)
 }
 
-// How many items there are, and a line for each with its verdict.
+// The number of items, and a line for each with its verdict.
 fn tell_items(
     alloc: Global,
     items: &[CertItem],
@@ -92,7 +92,7 @@ fn tell_items(
     Ok(Bytes::from_vec(text))
 }
 
-// Puts the line of a number of items behind the text.
+// Appends the line of a number of items to the text.
 fn push_count(text: &mut Vec<u8>, items: usize) -> Result<(), WantOfMemory>
     ensures { OnOk result (text.new.items ≡ text.old.items ++ reply (codes "explained ") (decimal items)) }
 {
@@ -102,7 +102,6 @@ fn push_count(text: &mut Vec<u8>, items: usize) -> Result<(), WantOfMemory>
     Ok(())
 }
 
-// Puts a line for each item behind the text.
 fn push_items(
     text: &mut Vec<u8>,
     items: &[CertItem],
@@ -117,7 +116,6 @@ fn push_items(
     Ok(())
 }
 
-// Puts the line of an item behind the text.
 fn push_item(text: &mut Vec<u8>, item: &CertItem, verdict: Verdict) -> Result<(), WantOfMemory>
     ensures { OnOk result (text.new.items ≡ text.old.items ++ item_line (anchored_item item.now) verdict) }
 {
@@ -130,7 +128,6 @@ fn push_item(text: &mut Vec<u8>, item: &CertItem, verdict: Verdict) -> Result<()
     Ok(())
 }
 
-// The kind of an operation, as it stands in replies.
 fn kind_word(operation: &Operation) -> &'static str
     ensures { result.now ≡ kind_word (plain_operation operation.now) }
 {
@@ -142,7 +139,6 @@ fn kind_word(operation: &Operation) -> &'static str
     }
 }
 
-// What became of an operation, as it stands in replies.
 fn verdict_word(verdict: Verdict) -> &'static str
     ensures { result.now ≡ verdict_word verdict }
 {

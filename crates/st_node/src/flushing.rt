@@ -11,7 +11,7 @@ use st_hash::{enc, hash_text};
 use st_observer::Observer;
 use std::alloc::Global;
 
-// The reply to a flush: the anchor string and how many files there are, and a line for each file.
+// The reply to a flush: the anchor string and the number of files, and a line for each file.
 pub fn tell_batch(alloc: Global, batch: &Batch) -> Result<Bytes, WantOfMemory>
     ensures { IfOk result (λ text. text ≡ batch_reply batch.now) }
 {
@@ -21,7 +21,7 @@ pub fn tell_batch(alloc: Global, batch: &Batch) -> Result<Bytes, WantOfMemory>
     Ok(Bytes::from_vec(text))
 }
 
-// Puts the line of an anchor string and a number of files behind the text.
+// Appends the line of an anchor string and a number of files to the text.
 fn push_batch(text: &mut Vec<u8>, anchor: &str, files: usize) -> Result<(), WantOfMemory>
     ensures { OnOk result (text.new.items ≡ text.old.items ++ batch_line anchor.now files) }
 {
@@ -32,7 +32,6 @@ fn push_batch(text: &mut Vec<u8>, anchor: &str, files: usize) -> Result<(), Want
     Ok(())
 }
 
-// Puts a line for each file behind the text.
 fn push_files(alloc: Global, text: &mut Vec<u8>, files: &[BatchFile]) -> Result<(), WantOfMemory>
     ensures { OnOk result (text.new.items ≡ text.old.items ++ flat_map file_line files.now) }
 {
@@ -42,7 +41,7 @@ fn push_files(alloc: Global, text: &mut Vec<u8>, files: &[BatchFile]) -> Result<
     Ok(())
 }
 
-// Puts the line of a file behind the text: its role, its URI and its bytes.
+// Appends the line of a file to the text: its role, its URI and its bytes.
 fn push_file(alloc: Global, text: &mut Vec<u8>, file: &BatchFile) -> Result<(), WantOfMemory>
     ensures { OnOk result (text.new.items ≡ text.old.items ++ file_line file.now) }
 {
@@ -56,7 +55,6 @@ fn push_file(alloc: Global, text: &mut Vec<u8>, file: &BatchFile) -> Result<(), 
     Ok(())
 }
 
-// What a file is to the entry of its batch, as it stands in replies.
 fn role_word(role: Role) -> &'static str
     ensures { result.now ≡ role_word role }
 {
@@ -69,7 +67,7 @@ fn role_word(role: Role) -> &'static str
     }
 }
 
-// Hands the files to the observer, in the order in which they are listed. None is copied or hashed again.
+// Passes the files to the observer, in the order of the list. None is copied or hashed again.
 pub fn take_files(
     alloc: Global,
     observer: Observer,

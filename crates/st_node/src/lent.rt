@@ -2,7 +2,7 @@ ghost use Rattle.std.specs.Prelude.{◌≡◌};
 
 use std::marker::Model;
 
-/// A part of a line, lent: it takes no memory of its own. Contracts see its bytes.
+/// A borrowed part of a line, without memory of its own. Contracts see its bytes.
 #[derive(Debug, Drop)]
 pub struct Lent<'a> {
     bytes: &'a [u8],
@@ -24,7 +24,7 @@ impl<'a> Lent<'a> {
         Lent { bytes }
     }
 
-    /// The bytes, for as long as the line is lent.
+    /// The bytes, for as long as the line is borrowed.
     pub fn as_slice(&self) -> &'a [u8]
         ensures { result.now ≡ self.now }
     {

@@ -1,6 +1,6 @@
-//! The node as a machine of lines: it takes files and ledger entries, goes back on entries, resolves
-//! identifiers, tells which files are wanted and how it stands with an entry, and makes batches of the
-//! requests that are submitted to it.
+//! The node as a machine of lines: it receives files and ledger entries, rolls entries back,
+//! resolves identifiers, lists the wanted files and the states of an entry's roles, and makes
+//! batches of submitted requests.
 #![tactic(auto)]
 
 mod causes;

@@ -24,8 +24,8 @@ use st_params::Schedule;
 use std::alloc::Global;
 use std::marker::Model;
 
-/// A node. Contracts see the reference machine: its schedule of limits, its ledger and its files, and
-/// the operations that wait for a batch.
+/// A node. Contracts see the reference machine: its schedule of limits, its ledger and its files,
+/// and the operations that wait for a batch.
 #[derive(Drop)]
 pub struct Node {
     pub(crate) observer: Observer,
@@ -44,7 +44,7 @@ impl Model for Node {
 }
 
 impl Node {
-    /// A node under this schedule of limits, before anything has come.
+    /// A node under this schedule of limits, without entries and files.
     pub fn new(alloc: Global, schedule: Schedule) -> Result<Node, WantOfMemory>
         ensures { IfOk result (λ node. node ≡ new_machine schedule) }
     {
@@ -55,26 +55,26 @@ impl Node {
         })
     }
 
-    /// What it has seen: its ledger and its files, and what follows from them.
+    /// The ledger and the files received, and all that follows from them.
     pub fn observer(&self) -> &Observer
         ensures { result.now ≡ self.now.observed }
     {
         &self.observer
     }
 
-    /// How many operations wait for a batch.
+    /// The number of operations that wait for a batch.
     pub fn queued(&self) -> usize
         ensures { result ≡ length self.now.queue }
     {
         self.queue.len()
     }
 
-    /// Answers a line, which comes without its line feed. The reply has its line end. It has the form that
-    /// `changing` knows exactly where the line has changed the node.
+    /// Answers a line, which is given without its line feed. The reply has its line end. It has the
+    /// form that `changing` recognizes if and only if the line changed the node.
     ///
-    /// What is counted is bounded by the line's command, and nothing is counted of a line that is no
-    /// command. Over all lines, at most five files are read for each anchor that is accepted, and at
-    /// most as many signed texts opened as these declare operations, and one for each `submit`.
+    /// The counts are bounded by the line's command, and nothing is counted for a line that is not
+    /// a command. Over all lines, at most five files are read for each accepted anchor, and at most
+    /// as many signed texts opened as these declare operations, and one for each `submit`.
     pub fn answer(
         self,
         alloc: Global,
@@ -97,15 +97,16 @@ impl Node {
         }
     }
 
-    /// Carries a command out, and gives the reply with its line end. It has the form that `changing` knows
-    /// exactly where the command has changed the node.
+    /// Executes a command, and returns the reply with its line end. It has the form that `changing`
+    /// recognizes if and only if the command changed the node.
     ///
-    /// A `content` and an `anchor` count at most one file for each role that they decide, and at most the
-    /// signed texts of the proof files that they read; a `rollback` counts neither; a `resolve` counts
-    /// neither, and one applied operation at most; an `explain` counts neither, and at most as many applied
-    /// operations as entries give for its identifier; `wanted` and `report` count nothing. A `submit` counts
-    /// one signed text at most, also where it is refused; a `flush` counts as its files do when they come
-    /// one after the other, and nothing where nothing is queued. No count ever falls.
+    /// A `content` and an `anchor` count at most one file for each role that they decide, and at
+    /// most the signed texts of the proof files that they read. A `rollback` counts neither. A
+    /// `resolve` counts neither, and at most one applied operation; an `explain` counts neither,
+    /// and at most as many applied operations as entries give for its identifier. `wanted` and
+    /// `report` count nothing. A `submit` counts at most one signed text, also if it is refused. A
+    /// `flush` counts what its files do when they are received one after another, and nothing if
+    /// nothing is queued. No count ever falls.
     pub fn step(
         self,
         alloc: Global,
@@ -118,8 +119,8 @@ impl Node {
         ensures due { StaysDue self.observed (answered_command self command.entry).next.observed
             (entry_of_command self command.entry) (submitted_by command.entry) work.old work.new }
     {
-        // In two steps, so that what is due is proved once, from what is counted, and what the reply tells
-        // once, from what it is.
+        // In two steps, so that the bound on the remaining work is proved once, from the counts,
+        // and the form of the reply once, from the reply.
         match self.carry_out(alloc, command, work) {
             Ok(done) => Ok(done),
             Err(want) => Err(want),
@@ -218,7 +219,6 @@ impl Node {
         Ok((node, text))
     }
 
-    // `wanted`
     fn wanted(self, alloc: Global) -> Result<(Node, Bytes), WantOfMemory>
         ensures { IfOk result (AnswersWith (answered_wanted self)) }
     {
@@ -227,7 +227,6 @@ impl Node {
         Ok((self, text))
     }
 
-    // `report`
     fn report(self, alloc: Global, n: u32) -> Result<(Node, Bytes), WantOfMemory>
         ensures { IfOk result (AnswersWith (answered_report self n)) }
     {
@@ -238,7 +237,6 @@ impl Node {
         Ok((self, text))
     }
 
-    // `submit`
     fn submit(
         self,
         alloc: Global,
@@ -258,7 +256,6 @@ impl Node {
         Ok((node, text))
     }
 
-    // `flush`
     fn flush(self, alloc: Global, work: &mut Work) -> Result<(Node, Bytes), WantOfMemory>
         ensures answer { IfOk result (AnswersWith (answered_flush self)) }
         ensures takes { OnOk result (TakesSome self) }

@@ -9,7 +9,7 @@ use st_hash::Hash;
 use st_params::Schedule;
 use std::alloc::Global;
 
-/// It begins under version 1 of the limits at every height.
+/// It starts under version 1 of the limits at every height.
 impl Peer for Node {
     ghost peer = { node_peer };
 

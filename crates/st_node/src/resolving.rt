@@ -8,8 +8,8 @@ use st_observer::Observer;
 use st_resolve::{Did, DidRefused, RenderRefused, read_did, render};
 use std::alloc::Global;
 
-// The reply to a text that is to be resolved. No file and no signed text is counted, and at most one operation:
-// the create of a long form that no entry gave, or a delta that is looked at where the state is opened.
+// The reply to `resolve`. No file and no signed text is counted, and at most one operation: the
+// create of a long form that no entry gave, or a delta that is read when the state is opened.
 pub fn resolve(
     alloc: Global,
     observer: &Observer,

@@ -10,7 +10,7 @@ use st_observer::Observer;
 use st_params::Params;
 use std::alloc::Global;
 
-// The limits at the height of the last entry, or at height 0 where there is none.
+// The limits at the height of the last entry, or at height 0 if there is none.
 pub fn limits_now(observer: &Observer) -> Params
     ensures { result ≡ limits_now observer.now }
 {
@@ -18,7 +18,7 @@ pub fn limits_now(observer: &Observer) -> Params
 }
 
 // The reply to a request that is submitted to the queue at these limits. At most one signed text is
-// opened, also where the request is refused.
+// opened, also if the request is refused.
 pub fn submit(
     alloc: Global,
     queue: &mut Queue,

@@ -9,7 +9,7 @@ use st_base::{Bytes, WantOfMemory, push_word, reply};
 use st_hash::{Hash, hash_text};
 use std::alloc::Global;
 
-// The reply to `wanted`: how many URIs there are, and each.
+// The reply to `wanted`: the number of URIs, and each.
 pub fn tell_wanted(alloc: Global, uris: &[Hash]) -> Result<Bytes, WantOfMemory>
     ensures { IfOk result (λ text. text ≡ wanted_reply uris.now) }
 {
@@ -22,7 +22,7 @@ pub fn tell_wanted(alloc: Global, uris: &[Hash]) -> Result<Bytes, WantOfMemory>
     reply(alloc, "wanted ", rest.as_slice())
 }
 
-// The reply to `report` of an entry: how it stands with its five roles.
+// The reply to `report` for an entry: the states of its five roles.
 pub fn tell_states(alloc: Global, states: &[RoleState; 5]) -> Result<Bytes, WantOfMemory>
     ensures { IfOk result (λ text. text ≡ reply (codes "report") (spaced (map state_word states.now))) }
 {

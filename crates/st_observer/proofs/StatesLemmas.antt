@@ -61,11 +61,9 @@ module _ (place : ℕ) (items : List (Held Item)) where
   with-items height operation =
       map-append anchored_item (before place items) ((place, (height, operation)) ∷ after place items) ∙ rw (before-items, after-items) refl
 
--- a suffix ties with itself
 tied : (suffix : HashValue) → is_at (hash_cmp suffix) suffix ≡ true
 tied suffix = sym (same_hash-ties suffix suffix) ∙ same_hash-itself suffix
 
--- hashes that tie are the same
 same-at : (key other : HashValue) → is_at (hash_cmp key) other ≡ same_hash other key
 same-at key other = sym (same_hash-ties key other) ∙ same_hash-equivalence.symm key other
 
@@ -85,7 +83,6 @@ module _ (place height : ℕ) (key : HashValue) (operation : Operation) where
       ∙ ap (λ b. map anchored_item (cond b (with_item place (height, operation) items) items)) (same-at key suffix)
       ∙ choose (same_hash suffix key) items
 
--- the items of a suffix are its operations
 pub kept_operations : (suffix : HashValue) (items : BySuffix) → map anchored_item (items_at hash_cmp suffix items) ≡ operations_at suffix items
 unfolding operations_at
 kept_operations suffix items = refl

@@ -21,7 +21,7 @@ use Rattle.st_hash.proofs.SameHash.{same_hash-is, same_hash-itself}
 use Rattle.st_observer.specs.Waiting.{AreRead, AreRows, IsRead, IsRow, IsWaitedFor, SetsMissed, is_waiting, seen, text_cmp-total, waiting_for}
 use Rattle.st_observer.specs.Wanted.{one_misses, text_cmp}
 
--- ---- texts tell hashes apart
+-- ---- different hashes have different texts
 
 inside : (first second : HashValue) → Some first ≡ Some second → first ≡ second
 inside first second same = ap (λ found. unwrap_or found first) same

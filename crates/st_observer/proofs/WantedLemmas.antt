@@ -106,7 +106,6 @@ module _ {K : Type 0} {cmp : K → K → Ordering} (order : IsTotalOrder cmp) wh
 
 module _ {K : Type 0} {same : K → K → Bool} (is : (first second : K) → same first second ≡ true → first ≡ second)
     (itself : (key : K) → same key key ≡ true) where
-  -- each key is among its list
   each_among : (keys : List K) → AllByRecursion (λ key. list_any (same key) keys ≡ true) keys
   each_among [] = tt
   each_among (first ∷ keys) = (

@@ -98,6 +98,7 @@ CoversWhere test observed names = (n : ℕ) (entry : Entry) → Some entry ≡ s
 
 -- ---- pending changes are folded
 
+-- no change is pending any longer, and all else is unchanged
 pub record Folds (before after : Kept) : Type 0 where
   pub bounds : after.bounds.items ≡ before.bounds.items
   pub waiting : after.waiting ≡ before.waiting

@@ -48,7 +48,7 @@ impl Kept {
         })
     }
 
-    // With one more entry, with this knowledge.
+    // Adds an entry, with what is known about it.
     pub fn push(
         self,
         alloc: Global,
@@ -152,7 +152,7 @@ fn put_given(
     Ok(index)
 }
 
-// Takes out the knowledge of an entry. That of the last entry is at its place until it is put back.
+// Takes out what is known about an entry. The last entry's fills the gap until `put_back`.
 fn take_out(bounds: &mut Vec<Bound>, n: u32) -> Bound
     requires { n < length bounds.old.items }
     ensures value { result ≡ bound_at n bounds.old.items }
@@ -162,7 +162,7 @@ fn take_out(bounds: &mut Vec<Bound>, n: u32) -> Bound
     bounds.swap_remove(n as usize)
 }
 
-// Puts it back, as known now.
+// Puts it back, as it is known now.
 fn put_back(bounds: &mut Vec<Bound>, n: u32, bound: Bound) -> Result<(), WantOfMemory>
     requires { n ≤ length bounds.old.items }
     ensures { OnOk result ((all : List Known) (out : Known) → n < length all → bounds.old.items ≡ swap_remove all n out

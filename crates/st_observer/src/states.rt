@@ -14,8 +14,8 @@ use st_opindex::Index;
 use st_ops::Operation;
 use std::alloc::Global;
 
-/// An operation of an identifier: the number of its entry in the ledger, the height of that, and the
-/// operation.
+/// An operation of an identifier: the number of its entry in the ledger, the height of that, and
+/// the operation.
 #[derive(Drop)]
 pub struct Held {
     pub place: u32,
@@ -56,7 +56,6 @@ pub fn put_all(
     Ok(done)
 }
 
-// Puts one operation at the place.
 fn put_one(
     alloc: Global,
     index: Index<Hash, Steps>,

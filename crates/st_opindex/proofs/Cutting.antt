@@ -21,7 +21,6 @@ module _ {K Item : Type 0} {cmp : K → K → Ordering} (order : IsTotalOrder cm
   ]
 
   module _ (new : ByKey K Item) (cuts : ChangesAt cmp key (before place) rows new) where
-    -- one more key is cut
     pub cut_more : AreCut cmp place (keys ++ key ∷ []) old new
     cut_more = record { each = each }
       where

@@ -161,7 +161,6 @@ module _ {K State Item : Type 0} {cmp : K → K → Ordering} (order : IsTotalOr
             | inr apart ↦ let stays : left_at cmp name.0 new ≡ left_at cmp name.0 now = folds name.0 ∙ rw apart refl in omega (arith, stays)
           ]
 
-  -- one more key is folded
   pub folding_more : (place : ℕ) (new : List (K × Row Item State)) → FoldsKey cmp key now new
       → ChangesAt cmp key (λ items. items) (seen_items now) (seen_items new)
       → IsFolding cmp (taken ++ (key, place) ∷ []) old new

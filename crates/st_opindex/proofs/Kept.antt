@@ -25,7 +25,6 @@ module _ {State Item : Type 0} {next : State → Item → State} {start : State}
       → Reached next start other row.done row.kept.items row.last
   row_alike {row} is other at within alike = reached_alike other (sym (take_alike row.items.items other row.done at within alike)) is.reached
 
-  -- if all are folded, the last state of a row is the one its items fold to
   pub row_folds : {row : Row Item State} → IsRow next start row → left_of row ≡ 0 → row.last ≡ folded next start row.items.items
   row_folds {row} is none = is.reached.now ∙ ap (folded next start) (take_all row.done row.items.items (omega (arith, is.within, none)))
 

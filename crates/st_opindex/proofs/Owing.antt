@@ -16,7 +16,6 @@ use Rattle.st_opindex.proofs.Ascending.{le_of_lt}
 use Rattle.st_opindex.proofs.Keyed.{items_at-same, left_at-same}
 
 module _ {Item : Type 0} where
-  -- an item is before a place, or from it on
   parts : (place : ℕ) (items : List (Held Item)) → length (before place items) + length (from place items) ≡ length items
   parts place items = length-filter_both (λ held. ltb held.0 place) (λ held. leb place held.0) (λ held. one held.0) items
     where
@@ -26,7 +25,6 @@ module _ {Item : Type 0} where
         | inr le ↦ rw (le-ltb n place le, le-leb place n le) refl
       ]
 
-  -- a later place has no more items from it on
   pub from-falls : (place later : ℕ) (items : List (Held Item)) → place ≤ later → length (from later items) ≤ length (from place items)
   from-falls place later items le =
       omega (

@@ -82,7 +82,6 @@ pub fn cut_row<F: Folder>(
     Ok(true)
 }
 
-// How many items are before this place.
 fn count_before<I>(items: &[(u32, I)], place: u32) -> usize
     requires { Ascend items.now }
     ensures { SplitsAt place items.now result }

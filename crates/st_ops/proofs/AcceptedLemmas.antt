@@ -18,7 +18,6 @@ use Rattle.st_params.specs.Limits.{Limits}
 use Rattle.st_ops.proofs.AskedLemmas.{Asked, SignedAsked, create, update, recover, deactivate, asked_is, delta_of_change, delta_of_create, request_is}
 use Rattle.st_ops.proofs.HashLemmas.{read_again, suffix_data_read, target_read}
 
--- the text of a proof opens to it
 own_text : (limit : ℕ) (text : List ℕ) (proof : Proof) (opening : Option Opened)
     → option_and_then (λ found. Some (record { text = text; payload = found.payload; key = found.key })) opening ≡ Some proof → text ≡ proof.text
 own_text limit text proof None e = absurd cc
@@ -37,7 +36,6 @@ pub proof_opens : (limit : ℕ) (request : Option Plain) (proof : Proof) → pro
 unfolding proof_in
 proof_opens limit request proof e = opens_again limit (text_at (codes "signedData") request) proof e
 
--- an operation with a claim has one
 claim_is : (limits : Limits) (operation : PlainOperation) (claim : Option Claim) → claim_of limits operation ≡ claim
     → with_claim limits operation ≡ Ok operation → IsSome claim
 unfolding with_claim

@@ -142,7 +142,6 @@ complete_is limits request operation (recover target proof form asked same) =
     subst IsComplete same (refl, there_is (member_in (codes "delta") request) (delta_of_change request form))
 complete_is limits request operation (deactivate target proof form asked same) = subst IsComplete same refl
 
--- the JSON of a request for an operation
 pub request_is : (limits : Limits) (bytes : List ℕ) (operation : PlainOperation) → request_of limits bytes ≡ Ok operation
     → (request : Plain) × (json_of bytes ≡ Ok request) × (asked limits request ≡ Ok operation)
 request_is limits bytes operation e =

@@ -33,8 +33,8 @@ pub(crate) fn create_parts<'a>(request: &Scanned<'a>) -> Option<CreateParts<'a>>
     Some(CreateParts { suffix_data, delta })
 }
 
-/// The parts of a create whose members are in the order of canonical texts, in one walk. Without
-/// them, the caller checks the request member by member.
+/// The parts of a create whose members are in the order of canonical texts, in one walk. For `None`
+/// the caller checks the request member by member.
 #[tactic(auto, unfolding(crate::specs::RequestForm::is_create_form))]
 pub(crate) fn parts_in_turn<'a>(request: &Scanned<'a>) -> Option<CreateParts<'a>>
     ensures kind { IfSome result (λ _. text_at (codes "type") (Some request.now) ≡ Some (codes "create")) }
@@ -94,7 +94,6 @@ fn has_signed_texts(request: &Scanned<'_>) -> bool
         && has_text(request, "signedData")
 }
 
-// Whether the member of this name is a text.
 fn has_text(value: &Scanned<'_>, name: &str) -> bool
     ensures { result ≡ is_some (text_at name.now (Some value.now)) }
 {
@@ -104,7 +103,6 @@ fn has_text(value: &Scanned<'_>, name: &str) -> bool
     }
 }
 
-// Whether the member of this name is an object.
 fn has_object(value: &Scanned<'_>, name: &str) -> bool
     ensures { result ≡ is_some (object_at name.now (Some value.now)) }
 {

@@ -116,7 +116,6 @@ fn create_asked(
     }
 }
 
-// The create of these parts.
 fn create_of(
     alloc: Global,
     parts: &CreateParts<'_>,
@@ -230,7 +229,6 @@ fn deactivate_asked(
     }
 }
 
-// The delta of a request.
 fn delta_in(alloc: Global, request: &Scanned<'_>) -> Result<Option<PackedJson>, WantOfMemory>
     ensures { IfOk result (λ delta. delta ≡ member_in (codes "delta") (Some request.now)) }
 {

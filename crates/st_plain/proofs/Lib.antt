@@ -11,7 +11,7 @@ mod RespellingLemmas
 mod RewritingLemmas
 mod RunLemmas
 mod StopLanes
--- For the crates above. canonical text reads back as its value, and no two values have the same text
+-- For the crates above: canonical text reads back as its value, and no two values have the same text
 pub mod Back
 -- data that is read from tokens
 pub mod DirectLemmas

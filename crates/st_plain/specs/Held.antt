@@ -48,6 +48,7 @@ name_at text place = name_in (drop 1 (drop place text))
 abbrev pub rank : ℕ → ℕ
 rank b = if nat_lt b 238 then b else if nat_lt b 240 then b + 7 else b
 
+-- the order of two names given by their bytes in UTF-8: that of their UTF-16 code units
 abbrev pub ranks_cmp : List ℕ → List ℕ → Ordering
 ranks_cmp first second = slice_cmp nat_cmp (map rank first) (map rank second)
 

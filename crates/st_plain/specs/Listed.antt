@@ -43,6 +43,7 @@ abbrev pub fits : List ℕ → List (List ℕ × Option Plain) → Bool
 fits name [] = true
 fits name (pair ∷ pairs) = match_ordering (name_cmp name pair.0) (is_below name pairs) false (fits name pairs)
 
+-- each of these fits among the others and those before it
 abbrev pub all_fit : List (List ℕ × Option Plain) → List (List ℕ × Option Plain) → Bool
 all_fit [] others = true
 all_fit (pair ∷ pairs) others = fits pair.0 others && all_fit pairs (inserted pair.0 pair.1 others)

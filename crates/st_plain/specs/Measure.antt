@@ -22,7 +22,7 @@ is_equal p q = bytes_eq (canonical p) (canonical q)
 abbrev pub saturated : ℕ → ℕ
 saturated n = min n (2 ^ 64 - 1)
 
--- the room that remains after so many bytes of text
+-- the room that remains after a text of this size
 abbrev pub less : ℕ → ℕ → Option ℕ
 less room size = if nat_le size room then Some (room - size) else None
 

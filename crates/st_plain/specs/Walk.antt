@@ -34,7 +34,7 @@ pub data Place : Type 0 where
   outside : Place
   in_text : Bool → Place
 
--- The rest after the bracket that closes this one, so many brackets deeper. Brackets in a text do not count.
+-- The rest after the bracket that closes this one, at this depth inside it. Brackets in a text do not count.
 unfoldable pub behind_brackets : ℕ → Place → List ℕ → List ℕ
 behind_brackets depth place [] = []
 behind_brackets depth (in_text escaped) (b ∷ bs) =

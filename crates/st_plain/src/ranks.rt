@@ -16,7 +16,6 @@ pub(crate) fn compare_at(text: &[u8], first: u32, second: u32) -> Ordering
     )
 }
 
-// The bytes from a place on.
 pub(crate) fn behind(bytes: &[u8], place: u32) -> &[u8]
     ensures { result.now ≡ drop place bytes.now }
 {

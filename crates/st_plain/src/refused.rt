@@ -1,6 +1,7 @@
 use std::alloc::{AllocError, AllocFailed};
 use thiserror::Error;
 
+/// Why bytes are not read as JSON.
 #[derive(Clone, Copy, Debug, Drop, Error, PartialEq, Eq)]
 pub enum ReadRefused {
     /// The bytes are not a JSON text in UTF-8 (RFC 8259), nest deeper than 127 lists and objects,

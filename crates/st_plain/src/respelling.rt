@@ -65,7 +65,6 @@ fn respell_text(alloc: Global, text: &str) -> Result<Vec<u8>, ReadRefused>
     }
 }
 
-// Whether a text has no mark.
 pub(crate) fn is_whole(text: &[u8]) -> bool
     ensures yes { result ≡ true → HasNoMark text.now }
     ensures no { result ≡ false → HasNoMark text.now → ⊥ }

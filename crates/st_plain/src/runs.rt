@@ -97,7 +97,6 @@ fn run_from(bytes: &[u8], start: usize) -> usize
     at
 }
 
-// Whether none of these bytes is escaped.
 fn are_plain<const N: usize>(bytes: &[u8], at: usize) -> bool
     requires few { N ≤ 64 }
     requires within { at + N ≤ length bytes.now }

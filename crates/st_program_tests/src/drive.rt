@@ -14,9 +14,10 @@ const INPUT: &[u8] = b"ab\n\nabcdef\nq\r\nabcd\nabcde\n\n\nxyz";
 
 const REPLIES: &[u8] = b"0ab\n1\n2abcd\n3q\r\n4abcd\n5abcd\n6\n7\n8xyz\n";
 
-// In these tables a line has the most bytes a call, the call that fails to read and the one that fails to
-// write, or 0, the lines that the device allows, and the most bytes that are taken; then how a run of the
-// numbering machine over the input ends, and how many bytes of the replies it has written.
+// A line of these tables has the most bytes per call, the call that fails to read and the one that
+// fails to write, or 0, the lines that the device allows, and the most bytes that are accepted;
+// then the result of a run of the numbering machine over the input, and the number of bytes of the
+// replies that it has written.
 
 const PIECES: &str = "\
 1 0 0 9 100 whole 37
@@ -84,8 +85,8 @@ fn one(alloc: Global, number: u64) -> Result<List<u64>, WantOfMemory> {
     Ok(list)
 }
 
-// How a run ends that is written so in a table, and how many bytes of the replies it has written, if no
-// others.
+// The result of a run, by its word in a table, and the number of bytes of the replies that it has
+// written, if it wrote no others.
 fn ran(
     alloc: Global,
     piece: usize,
@@ -132,7 +133,7 @@ fn is_so(alloc: Global, line: &str) -> Result<bool, WantOfMemory> {
     }
 }
 
-// The first line of a table that is otherwise.
+// The first line of a table with another result.
 fn first_other(alloc: Global, table: &'static str) -> Result<Option<&'static str>, WantOfMemory> {
     for line in table.lines() {
         if !is_so(alloc, line)? {

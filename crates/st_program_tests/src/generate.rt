@@ -5,11 +5,11 @@ use st_node::Node;
 use std::alloc::Global;
 use std::test::Fail;
 
-// The smallest workload, as it was computed by hand.
+// The summary of the smallest workload, computed by hand.
 const SMALLEST: &str =
     "dids 1\nbatches 1\noperations 1\nanchors 1\nrollbacks 0\nfiles 3\nresolved 1\nagreed 1\nfilesWithin yes\n";
 
-// Words behind what they are: a plan, or none.
+// Words after what they are: a plan, or none.
 const PLANS: &str = "plan 0 1 0
 plan 18446744073709551615 200 30
 none 18446744073709551616 1 0
@@ -38,7 +38,7 @@ fn writes_the_smallest(alloc: Global, work: &mut Work) -> bool {
     run(alloc, &mut sink, work) == 0 && sink.written().as_slice() == SMALLEST.as_bytes()
 }
 
-// A sink that takes three bytes a call, and fails at the second.
+// A sink that takes three bytes per call, and fails at the second.
 fn stops_where_the_sink_fails(alloc: Global, work: &mut Work) -> Result<bool, WantOfMemory> {
     let mut failing = List::new(alloc);
     failing.push(alloc, 2)?;
@@ -54,7 +54,7 @@ fn is_plan(alloc: Global, words: &str) -> Result<bool, WantOfMemory> {
     Ok(read_plan(list.as_slice()).is_some())
 }
 
-// Whether the words of this line are what stands before them.
+// Whether the words of this line are what its first word says.
 fn is_read(alloc: Global, line: &str) -> Result<bool, WantOfMemory> {
     match line.split_once(' ') {
         Some((kind, words)) => Ok(is_plan(alloc, words)? == (kind == "plan")),
@@ -62,7 +62,7 @@ fn is_read(alloc: Global, line: &str) -> Result<bool, WantOfMemory> {
     }
 }
 
-// The first line whose words are otherwise.
+// The first line that is read differently.
 fn misread(alloc: Global) -> Result<Option<&'static str>, WantOfMemory> {
     for line in PLANS.lines() {
         if !is_read(alloc, line)? {

@@ -1,4 +1,5 @@
-//! The tests of the driver, of a node, of generated workloads, and of four nodes and their messages.
+//! The tests of the driver, of a node, of generated workloads, and of four nodes and their
+//! messages.
 #![tactic(auto)]
 
 #[cfg(test)]

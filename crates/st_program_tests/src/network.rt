@@ -7,7 +7,7 @@ use st_node::{Node, alike_law};
 use std::alloc::Global;
 use std::test::Fail;
 
-// Each line stands before its reply. The hash text is that of `abc`.
+// Each line precedes its reply. The hash text is that of `abc`.
 const LINES: &str = "\
 at 0 content YWJj
 have EiC6eBa_jwHP6kFBQN5driIjsANho5YXepy0EP9h8gAVrQ
@@ -89,7 +89,6 @@ refused line command
 refused line command
 ";
 
-// Four nodes.
 type Nodes = Network<Node>;
 
 // The nodes after a line, if it gives this reply.
@@ -109,7 +108,7 @@ fn told(
     })
 }
 
-// The first line that has another reply than the one behind it.
+// The first line with another reply than the one after it.
 fn first_other(
     alloc: Global,
     session: &'static str,

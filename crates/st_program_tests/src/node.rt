@@ -4,10 +4,11 @@ use st_params::Schedule;
 use std::alloc::Global;
 use std::test::Fail;
 
-// A core index file with one create, its URI, the suffix of that create, and the long form that has its
-// delta, then the request for another create and what its batch says, each computed by Python's hashlib,
-// base64 and json. Version 2, in which a batch may declare more than 1,000 operations, begins at height
-// 10. Each line stands before its reply; BATCH stands for the reply of that name.
+// A core index file with one create, its URI, the suffix of that create, and the long form that has
+// its delta, then the request for another create and the parts of its batch, each computed with
+// Python's hashlib, base64 and json. Version 2, in which a batch may declare more than 1,000
+// operations, starts at height
+// 10. Each line precedes its reply; BATCH is the reply of that name.
 const SESSION: &str = "\
 anchor 9 1001.EiDdm4nmM3a--pujoWQeY8rkmIKAWTB8tXpAJAg2HC128g
 anchored 0
@@ -110,8 +111,8 @@ fn told(
     })
 }
 
-// The first line of the session to which a new node gives another reply than stands behind it, or what is
-// otherwise at the end: the last request waits for a batch.
+// The first line of the session with another reply from a new node than the one after it, or
+// another fault at the end: the last request waits for a batch.
 fn first_other(alloc: Global, work: &mut Work) -> Result<Option<&'static str>, WantOfMemory> {
     let mut node = Node::new(alloc, Schedule::with_second(10))?;
     let mut lines = SESSION.lines();
@@ -129,12 +130,12 @@ fn first_other(alloc: Global, work: &mut Work) -> Result<Option<&'static str>, W
     })
 }
 
-// Lines of the session by their places in it, in another order; each has the reply that it has there. A
-// long form is asked twice before its entry has its file and twice behind that, once when the entry is gone,
-// and once when it is there again.
+// Lines of the session by their places in it, in another order; each has the reply that it has
+// there. A long form is requested twice before its entry has its file and twice after that, once
+// when the entry is removed, and once when it is there again.
 const AGAIN: &[usize] = &[0, 2, 16, 16, 18, 26, 26, 34, 16, 2, 26];
 
-// The first of these lines to which a new node gives another reply.
+// The first of these lines with another reply from a new node.
 fn first_other_again(alloc: Global, work: &mut Work) -> Result<Option<&'static str>, WantOfMemory> {
     let mut node = Node::new(alloc, Schedule::with_second(10))?;
     for place in AGAIN {
@@ -160,7 +161,8 @@ fn each_line_has_its_reply(rt: HostRuntime) -> Result<(), Fail> {
     if let Some(line) = first_other(rt.alloc(), &mut work)? {
         return Err(Fail::from(line));
     }
-    // One file was read for the first entry whose anchor string passes, and three for that of the batch.
+    // One file was read for the first entry whose anchor string passes, and three for that of the
+    // batch.
     assert!(rt; work.files() == 4 && work.proofs() == 0);
     Ok(())
 }

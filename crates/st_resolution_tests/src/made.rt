@@ -1,5 +1,5 @@
-//! Operations made by hand. Each key is named by a letter, with which its nonce begins. Nothing here is
-//! signed, since a step looks at claims alone.
+//! Operations made by hand. Each key is named by a letter, the first character of its nonce.
+//! Nothing here is signed, since a step uses only claims.
 
 use crate::words::three;
 use st_base::{KeptText, Shared, Text};
@@ -53,13 +53,12 @@ fn revealed(alloc: Global, name: &str) -> Option<Hash> {
     reveal(alloc, &key).ok()
 }
 
-// The text with the text of this hash at the word.
 fn with_hash(alloc: Global, text: &str, word: &str, hash: &Hash) -> Option<String> {
     let hash = hash_text(alloc, hash).ok()?;
     text.replace(alloc, word, hash.as_str()).ok()
 }
 
-// The delta that commits to a key and adds a service of this name, or fails where that is `x`.
+// The delta that commits to a key and adds a service of this name, or fails if that is `x`.
 fn delta_text(alloc: Global, update: &str, adds: &str) -> Option<String> {
     let commitment = committed(alloc, update)?;
     let delta = if adds == "x" { FAILING } else { DELTA };
@@ -67,13 +66,12 @@ fn delta_text(alloc: Global, update: &str, adds: &str) -> Option<String> {
     with_hash(alloc, named.as_str(), "UPDATE", &commitment)
 }
 
-/// The JSON of this text, in little memory.
+/// The packed JSON of this text.
 pub(crate) fn packed(alloc: Global, text: &str) -> Option<PackedJson> {
     let value = value(alloc, text)?;
     PackedJson::pack(alloc, &value).ok()
 }
 
-// The payload of a template.
 fn payload(alloc: Global, template: &str, name: &str, delta: &str) -> Option<PackedJson> {
     let key_text = key_text(alloc, name)?;
     let with_key = template.replace(alloc, "KEY", key_text.as_str()).ok()?;
@@ -82,7 +80,7 @@ fn payload(alloc: Global, template: &str, name: &str, delta: &str) -> Option<Pac
     packed(alloc, text.as_str())
 }
 
-// It is as if it were signed by the key.
+// A signed text as if the key had signed it.
 fn signed(alloc: Global, template: &str, name: &str, delta: &str) -> Option<Shared<Signed>> {
     let payload = payload(alloc, template, name, delta)?;
     let key = key(alloc, name)?;
@@ -153,7 +151,7 @@ fn deactivate(alloc: Global, name: &str) -> Option<Operation> {
     })
 }
 
-// The operation of this kind, with a delta of this text beside it where it adds something but `-`.
+// The operation of this kind, with a delta of this text unless it adds `-`.
 fn with_delta(
     alloc: Global,
     kind: &str,
@@ -175,9 +173,9 @@ fn with_delta(
     }
 }
 
-/// The operation of a line: its kind, the key that it reveals, the keys of its recovery commitment and
-/// of the update commitment of its delta, and the service that this adds. A delta that adds `x` fails,
-/// and where it adds `-` there is none.
+/// The operation of a line: its kind, the key that it reveals, the keys of its recovery commitment
+/// and of the update commitment of its delta, and the service that this adds. A delta that adds `x`
+/// fails, and there is none if it adds `-`.
 pub(crate) fn operation(alloc: Global, line: &str) -> Option<Operation> {
     let (kind, name, rest) = three(line)?;
     let (recovery, next, adds) = three(rest)?;

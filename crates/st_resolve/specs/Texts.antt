@@ -20,12 +20,14 @@ use Rattle.st_resolve.specs.Services.{service_of}
 unfoldable pub value_text : Plain → List ℕ
 value_text value = canonical value
 
+-- of a service in a DID document
 unfoldable pub service_text : Plain → List ℕ
 service_text service =
     codes "{\"id\":" ++ (quoted (reference_to service)
     ++ (text_there (codes ",\"serviceEndpoint\":") (member_in (codes "serviceEndpoint") (Some service)) []
     ++ (text_there (codes ",\"type\":") (member_in (codes "type") (Some service)) [] ++ codes "}")))
 
+-- of a key as a verification method of the identifier `did`
 unfoldable pub method_text : List ℕ → Plain → List ℕ
 method_text did key =
     codes "{\"controller\":" ++ (value_text (controller_of did key) ++ (codes ",\"id\":" ++ (quoted (reference_to key)
@@ -52,25 +54,30 @@ back_text did document =
     ++ (text_there (codes ",\"service\":") (some_list (map service_of document.services)) []
     ++ (text_there (codes ",\"verificationMethod\":") (some_list (map (method_of did) document.keys)) [] ++ codes "}"))
 
+-- of the DID document of an active identifier
 unfoldable pub described_text : List ℕ → PlainDocument → List ℕ
 described_text did document =
     codes "{" ++ (front_text document ++ (codes "\"id\":" ++ (quoted did ++ back_text did document)))
 
+-- of the DID document of any other identifier
 unfoldable pub alone_text : List ℕ → List ℕ
 alone_text did = codes "{\"id\":" ++ (quoted did ++ codes "}")
 
+-- of the `method` member of the metadata
 unfoldable pub method_metadata_text : Bool → State HashValue PlainDocument → List ℕ
 method_metadata_text published state =
     codes "{\"published\":" ++ (value_text (boolean published)
     ++ (text_there (codes ",\"recoveryCommitment\":") (option_map hash_json (recovery_in state)) []
     ++ (text_there (codes ",\"updateCommitment\":") (option_map hash_json (update_in state)) [] ++ codes "}")))
 
+-- of the document's metadata
 unfoldable pub metadata_text : Bool → PlainDid → State HashValue PlainDocument → List ℕ
 metadata_text published did state =
     codes "{" ++ (text_there (codes "\"canonicalId\":") (canonical_id published did.suffix) (codes ",")
     ++ (text_there (codes "\"deactivated\":") (deactivated_mark state) (codes ",")
     ++ (codes "\"method\":" ++ (value_text (method_metadata published state) ++ codes "}"))))
 
+-- of the whole result
 unfoldable pub said_text : Bool → PlainDid → State HashValue PlainDocument → List ℕ
 said_text published did state =
     codes "{\"didDocument\":" ++ (value_text (did_document did.text state)

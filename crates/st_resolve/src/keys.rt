@@ -116,7 +116,6 @@ pub(crate) fn append_references(
     }
 }
 
-// Whether a key serves this purpose.
 #[tactic(auto, unfolding(st_plain::specs::Objects::some_list))]
 fn serves_any(purpose: &str, keys: &[Json]) -> bool
     ensures { result ≡ is_some (some_list (references_for purpose.now (map plain keys.now))) }
@@ -186,7 +185,6 @@ fn has_purpose(purpose: &str, key: &Json) -> bool
     has_text(entries_in(key.member("purposes")), purpose)
 }
 
-// Whether the text is one of these.
 fn has_text(values: &[Json], text: &str) -> bool
     ensures { result ≡ is_among (texts_of (map plain values.now)) text.now }
 {

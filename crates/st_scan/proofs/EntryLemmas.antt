@@ -104,11 +104,9 @@ no_items_in : (there : Option Items) → is_some there ≡ false → unwrap_or (
 no_items_in None none = refl
 no_items_in (Some ps) none = cc
 
--- a value that is no list has no entries
 pub no_list : (bytes : List ℕ) → IsText bytes → starts 91 bytes ≡ false → entries_in (Some (value_of bytes)) ≡ []
 no_list bytes is apart = no_items_in (items_in (value_of bytes)) (sym (list_kind bytes is) ∙ apart)
 
--- the text of an empty list
 pub empty_list : IsText (91 ∷ 93 ∷ [])
 empty_list = is_text (91 ∷ 93 ∷ []) (list no_items) (record { proper = tt; shallow = omega arith; spelled = refl })
 

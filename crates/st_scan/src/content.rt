@@ -31,7 +31,6 @@ pub(crate) fn bare_text(canonical: &[u8]) -> Option<&[u8]>
     }
 }
 
-// Whether it is this text.
 pub(crate) fn is_text_of(canonical: &[u8], word: &str) -> bool
     requires { IsText canonical.now }
     ensures { result ≡ is_text_of word.now (value_of canonical.now) }

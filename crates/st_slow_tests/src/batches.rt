@@ -1,5 +1,5 @@
-//! Batches that end where a file would be too long. How many operations they take was computed by another
-//! program, which signed the update too.
+//! Batches that end because a file would be too long. Another program computed how many operations
+//! they take, and signed the update.
 mod samples;
 
 use crate::batches::samples::{LONG_CREATE, SIGNED_UPDATE};
@@ -10,13 +10,13 @@ use st_params::{Params, Schedule};
 use std::alloc::Global;
 use std::test::Fail;
 
-// A request of a kind. The number tells its suffix from those of others.
+// A request of a kind. Different numbers give different suffixes.
 fn request(alloc: Global, kind: &str, number: u32) -> Result<String, WantOfMemory> {
     let text = hash_text(alloc, &hash256(&number.to_be_bytes()))?;
     Ok(kind.replace(alloc, "*", text.as_str())?)
 }
 
-// A queue of so many.
+// A queue of this many requests.
 fn queue_of(
     rt: &HostRuntime,
     params: &Params,
@@ -32,8 +32,8 @@ fn queue_of(
     Ok(queue)
 }
 
-// Whether a batch of so many requests of a kind, at the limits of version 2, has this beginning of its
-// anchor string and so many files, and leaves so many queued.
+// Whether a batch of this many requests of a kind, at the limits of version 2, has an anchor string
+// with this prefix and this many files, and leaves this many queued.
 fn cuts(
     rt: &HostRuntime,
     kind: &str,

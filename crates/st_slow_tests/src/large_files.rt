@@ -1,4 +1,4 @@
-//! Proof files of as many bytes as they may have, and of one more.
+//! Proof files of the largest size, and of one byte more.
 
 use st_base::{Bytes, FileRefused, Shared, WantOfMemory, Work};
 use st_datafiles::{ProofRefused, read_core_proof, read_provisional_proof};
@@ -6,7 +6,6 @@ use st_params::{Params, Schedule};
 use std::alloc::Global;
 use std::test::Fail;
 
-// So many spaces.
 fn spaces(alloc: Global, count: usize) -> Result<Shared<Bytes>, WantOfMemory> {
     let bytes = vec![in alloc; b' '; count]?;
     Shared::new(alloc, Bytes::from_slice(alloc, bytes.as_slice())?)
@@ -19,7 +18,7 @@ fn is_rejected<Read: Drop>(answer: Result<Read, ProofRefused>, rule: &str) -> bo
     }
 }
 
-// Whether the file is rejected so as a core proof file and as a provisional one.
+// Whether this rule rejects the file as a core proof file and as a provisional one.
 fn is_rejected_as_both(
     alloc: Global,
     file: &Shared<Bytes>,
@@ -31,7 +30,7 @@ fn is_rejected_as_both(
         && is_rejected(read_provisional_proof(alloc, file, 1, params, work), rule)
 }
 
-// Whether files of so many spaces are rejected by this rule.
+// Whether this rule rejects files of this many spaces.
 fn spaces_are(rt: &HostRuntime, size: usize, rule: &str) -> Result<bool, WantOfMemory> {
     let file = spaces(rt.alloc(), size)?;
     let params = Schedule::new().newest();

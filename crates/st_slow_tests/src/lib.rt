@@ -1,4 +1,4 @@
-//! The tests that take over 20 seconds where they are compiled without optimization.
+//! The tests that take over 20 seconds if they are compiled without optimization.
 #![tactic(auto)]
 
 #[cfg(test)]

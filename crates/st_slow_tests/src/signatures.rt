@@ -11,7 +11,7 @@ use st_base::{Bytes, WantOfMemory, read_number};
 use st_lms::{Public, Secret, Signer, sign_at, verify};
 use std::alloc::Global;
 
-/// Whether the signature still holds after these bits of one of its bytes were turned.
+/// Whether the signature still holds after these bits of one of its bytes were flipped.
 fn holds_turned(
     public: &Public,
     message: &[u8],
@@ -28,8 +28,8 @@ fn holds_turned(
     holds
 }
 
-/// Each field of the signature is damaged in turn: q, the LM-OTS type, the randomizer, the first and
-/// the last value, the LMS type, the path at both ends.
+/// Each field of the signature is damaged in turn: q, the LM-OTS type, the randomizer, the first
+/// and the last value, the LMS type, the path at both ends.
 fn no_damage_holds(public: &Public, message: &[u8], signature: &mut [u8], path_len: usize) -> bool
     requires { path_len ≤ 320 }
 {
@@ -46,7 +46,7 @@ fn no_damage_holds(public: &Public, message: &[u8], signature: &mut [u8], path_l
     true
 }
 
-/// The secret key of a line, and its public key as it is written.
+/// The secret key of a line, and its public key as bytes.
 fn keys_of(line: &str) -> Option<(Secret, [u8; 56])> {
     let mut words = line.split(' ');
     let ots = read_number(words.next()?.as_bytes(), 4)?;
@@ -68,7 +68,8 @@ fn case_of(line: &str) -> Option<(u32, &str, [u8; 32])> {
     ))
 }
 
-/// Whether this is the signature: it is as long as its types say, and holds as long as none of it is damaged.
+/// Whether this is the signature: its length is that of its types, and it holds only if it is
+/// undamaged.
 fn is_signature(secret: &Secret, public: &Public, message: &[u8], signature: Bytes) -> bool {
     let right = signature.as_slice().len() == public.signature_len()
         && verify(public, message, signature.as_slice());
@@ -82,7 +83,7 @@ fn is_signature(secret: &Secret, public: &Public, message: &[u8], signature: Byt
         )
 }
 
-/// Whether the key signs the message so, with and without its nodes.
+/// Whether this is the key's signature of the message, with and without its nodes.
 fn signs(
     alloc: Global,
     secret: &Secret,
@@ -132,7 +133,7 @@ fn signs_all(alloc: Global, secret: &Secret, signer: &Signer, lines: &str) -> bo
     true
 }
 
-/// Whether the public key is written so, read again, and the same with the nodes.
+/// Whether these are the bytes of the public key, which is read again, and the same with the nodes.
 fn is_public(secret: &Secret, signer: &Signer, written: &[u8; 56]) -> bool {
     let public = secret.public();
     public.write() == *written && Public::read(written) == Ok(public) && signer.public() == public

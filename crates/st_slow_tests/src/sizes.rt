@@ -11,7 +11,7 @@ use st_params::Schedule;
 use std::alloc::Global;
 use std::test::Fail;
 
-// The line of a file of three times so many spaces and two more.
+// The line of a file of three times this many spaces and two more.
 fn spaces(alloc: Global, threes: u32) -> Result<Bytes, WantOfMemory> {
     let mut line = Bytes::from_slice(alloc, b"content ")?;
     for _n in 0..threes {
@@ -21,7 +21,7 @@ fn spaces(alloc: Global, threes: u32) -> Result<Bytes, WantOfMemory> {
     Ok(line)
 }
 
-// What a node replies to these lines, behind what it has replied.
+// The replies of a node to these lines, after its earlier replies.
 fn replies_behind(
     alloc: Global,
     started: (Node, Bytes),
@@ -37,7 +37,8 @@ fn replies_behind(
     Ok(replies)
 }
 
-// Whether a node replies so to a file of three times so many spaces and two more, and then to these lines.
+// Whether these are the replies of a node to a file of three times this many spaces and two more,
+// and then to these lines.
 fn replies_so(
     rt: &HostRuntime,
     threes: u32,

@@ -8,11 +8,11 @@ use st_workload::{Identity, all_identities};
 use std::alloc::Global;
 use std::test::Fail;
 
-// What another program made of seed 1 for three identifiers and four rounds of updates: the hash text of all
-// its `submit` lines, each with its line feed.
+// The `submit` lines of another program for seed 1, three identifiers and four rounds of updates:
+// the hash text of all of them, each with its line feed.
 const REQUESTS: &str = "EiCsIS_sAEhfGHe0jhDNpFiTjn0CdmfM7QJjDQcIu9G8xw";
 
-// Its summary, as it was counted in the lines of that program's second node.
+// Its summary, counted in the lines of that program's second node.
 const SUMMARY: &str =
     "dids 3\nbatches 5\noperations 15\nanchors 7\nrollbacks 2\nfiles 19\nresolved 3\nagreed 3\nfilesWithin yes\n";
 

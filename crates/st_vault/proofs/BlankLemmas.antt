@@ -1,4 +1,4 @@
--- What formatting leaves of a blank disk.
+-- The images of a blank disk while it is formatted.
 use Rattle.std.proofs.Common.{◌≡◌, ◌∙◌, inl, inr, ⊎_elim, ℕ, List, Err, ap}
 use Rattle.st_io.specs.Past.{Past, AddsNone, GoesOn, Leaves}
 use Rattle.st_lms.specs.Keys.{SecretKey}

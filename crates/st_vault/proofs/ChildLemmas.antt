@@ -6,7 +6,7 @@ use Rattle.st_lms.specs.Keys.{SecretKey, IsSecretKey}
 use Rattle.st_lms.specs.Parameters.{IsOneTimeType}
 use Rattle.st_vault.specs.Children.{child_hash, child_of}
 
--- a child of a key of a known one-time type has the values of a key
+-- a child of a key of a known one-time type satisfies the rules of a key
 pub known_child : (key : SecretKey) (n : ℕ) → IsOneTimeType key.ots → IsSecretKey (child_of key n)
 unfolding child_of child_hash
 known_child key n known = record {

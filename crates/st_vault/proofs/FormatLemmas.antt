@@ -1,4 +1,4 @@
--- What the parts of formatting leave.
+-- The effects of the steps of formatting.
 use Rattle.std.proofs.Common.{◌≡◌, inl, inr, ⊎_elim, ◌∙◌, ℕ, ◌+◌, ◌<◌, ◌≤◌, Bool, true, false, List, [], ◌∷◌, ◌++◌, length, get_or, take, drop, replicate, not, Ok, Err, ap, sym, subst, refl, arith, append_assoc, length-append}
 use Rattle.std.proofs.Math.Seq.{take-append-add}
 use Rattle.std.proofs.lemmas.Bool.{cases_eq}
@@ -33,12 +33,12 @@ shut old image holds = record {
   gate = λ is. let zero : get_or image 0 0 ≡ 0 = ap (λ l. get_or l 0 0) holds in omega (arith, is, zero);
 }
 
--- ---- all is written behind it
+-- ---- everything after it is written
 
 take-front : (n m : ℕ) (xs ys : List ℕ) → n ≡ length xs + m → take n (xs ++ ys) ≡ xs ++ take m ys
 take-front n m xs ys is = ap (λ k. take k (xs ++ ys)) is ∙ take-append-add xs ys m
 
--- what is written is a header and zeros
+-- the written bytes are a header and zeros
 pub row_is : (key : SecretKey) → IsSecretKey key → count_of key ≤ 1024
     → take (63 + count_of key) (header_of key ++ drop 56 (zeros 1087)) ≡ header_of key ++ zeros (7 + count_of key)
 unfolding zeros
@@ -83,7 +83,7 @@ filled key old image known is holds =
       map_is = ap (take count) after ∙ take_at map rest count map_long;
     }
 
--- and what stands behind the gate then
+-- and the bytes after the gate
 pub filled_behind : (key : SecretKey) (old image : List ℕ) → IsSecretKey key → IsShut old → Holds 1 (header_of key ++ zeros (7 + count_of key)) old image
     → drop 1 image ≡ behind_gate key old
 unfolding zeros
@@ -138,12 +138,12 @@ opened_bytes old image holds = holds
 
 -- ---- the whole
 
--- what is written behind the gate, and then the gate
+-- the bytes after the gate, and then the gate
 pub made_bytes : (key : SecretKey) (old filled image : List ℕ) → drop 1 filled ≡ behind_gate key old → image ≡ open_gate ∷ drop 1 filled
     → image ≡ formatted_image key old
 made_bytes key old filled image behind opened = opened ∙ ap (λ l. open_gate ∷ l) behind
 
--- where the gate was shut first
+-- if the gate was shut first
 pub formatted_bytes : (key : SecretKey) (old mid image : List ℕ) → drop 1 mid ≡ drop 1 old → image ≡ formatted_image key mid
     → image ≡ formatted_image key old
 formatted_bytes key old mid image same made =
@@ -153,11 +153,11 @@ formatted_bytes key old mid image same made =
     = sym (drop-drop (63 + count) 1 mid) ∙ ap (drop (63 + count)) same ∙ drop-drop (63 + count) 1 old in
     made ∙ ap (λ l. open_gate ∷ ((header_of key ++ zeros (7 + count)) ++ l)) (rw sum at rest)
 
--- where the gate was shut at first, what is fresh may come of it
+-- if the gate was shut at first, the result may be fresh
 pub blank_or_fresh : (key : SecretKey) (old image : List ℕ) → IsOldOrBlank old image → IsOldOrFresh key old image
 blank_or_fresh key old image = ⊎_elim (λ same. inl same) (λ blank. inr (blank.0, inl blank.1))
 
--- and what was spent stays spent: on a blank disk nothing was, and another stays the same
+-- and spent counters stay spent: a blank disk has none, and another stays the same
 pub spent_on : (key : SecretKey) (old image : List ℕ) (q : ℕ) → IsSpent old q → IsOldOrFresh key old image → IsSpent image q
 spent_on key old image q there = ⊎_elim
     (λ same. subst (λ l. IsSpent l q) (sym same) there)
@@ -187,7 +187,7 @@ short-ok image short = unformatted-ok image (unformatted-short image short)
 pub shut-ok : (image : List ℕ) → IsShut image → unformatted image ≡ Ok tt
 shut-ok image is = unformatted-ok image (unformatted-shut image is.gate)
 
--- the look at a short disk, and the write over it
+-- reading a short disk, and the write over it
 pub shut_moments : (a b c : Past) (old : List ℕ) → Only a old → AddsNoImage a b → length old < 64 → GoesOn b c → Follow (Torn 0 1) b c
     → Leaves (IsOldOrBlank old) a c
 shut_moments a b c old only looked short goes follow =

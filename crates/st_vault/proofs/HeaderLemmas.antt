@@ -1,4 +1,4 @@
--- The header of a key, as it is written and read.
+-- The header of a key, written and read.
 use Rattle.std.proofs.Common.{◌≡◌, ◌∙◌, ℕ, ◌<◌, ◌^◌, List, ◌++◌, length, take, drop, ap, sym, refl, arith, append_assoc, length-append}
 use Rattle.std.proofs.lemmas.List.{drop-drop, drop-take, drop_at, take-take, take_at}
 use Rattle.st_lms.proofs.StringLemmas.{length-u32str}
@@ -7,7 +7,7 @@ use Rattle.st_lms.specs.Keys.{SecretKey, IsSecretKey}
 use Rattle.st_lms.specs.Strings.{u32str, str_to_u32}
 use Rattle.st_vault.specs.Image.{header_of, key_in, key_of_header}
 
--- the first 56 bytes say the key
+-- the first 56 bytes determine the key
 pub key_of_header-take : (header : List ℕ) → key_of_header (take 56 header) ≡ key_of_header header
 unfolding key_of_header
 key_of_header-take header =
@@ -17,7 +17,7 @@ key_of_header-take header =
     let seed : take 32 (drop 24 (take 56 header)) ≡ take 32 (drop 24 header) = ap (take 32) (drop-take 24 32 header) ∙ take-take 32 32 (drop 24 header) (omega arith) in
     rw (ots, tree, id, seed) refl
 
--- two images that begin with the same 57 bytes have the same key
+-- two images with the same first 57 bytes have the same key
 pub same_key : (a b : List ℕ) → take 57 a ≡ take 57 b → key_in a ≡ key_in b
 same_key a b same =
     let heads : take 56 (drop 1 a) ≡ take 56 (drop 1 b) = sym (drop-take 1 56 a) ∙ ap (drop 1) same ∙ drop-take 1 56 b in
@@ -30,7 +30,7 @@ length-header_of key known =
     let tree = u32str key.tree in
     omega (arith, length-append (ots ++ tree ++ key.id) key.seed, length-append (ots ++ tree) key.id, length-append ots tree, length-u32str key.ots, length-u32str key.tree, known.id, known.seed)
 
--- what was written is read again
+-- a written header is read again
 pub key_of_header-header_of : (key : SecretKey) (rest : List ℕ) → IsSecretKey key → key_of_header (header_of key ++ rest) ≡ key
 unfolding key_of_header header_of
 key_of_header-header_of key rest known =

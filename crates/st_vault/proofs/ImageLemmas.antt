@@ -1,4 +1,4 @@
--- What an image is, by its bytes.
+-- The kind of an image, by its bytes.
 use Rattle.std.proofs.Common.{◌≡◌, ◌≢◌, ◌∙◌, ℕ, ◌+◌, ◌<◌, ◌≤◌, Bool, true, false, ◌==◌, ◌&&◌, nat_le, cond, List, length, get_or, sym, refl}
 use Rattle.std.proofs.lemmas.Bool.{and_from, and_left, and_parts, and_right, cond-false, cond-true, eq-eqb, eqb-true, false_from_ne_true, le-leb, leb-true, lt-leb, ne_eqb}
 use Rattle.st_lms.specs.Decided.{is_one_time_type, is_tree_type}
@@ -31,7 +31,7 @@ unformatted-shut image shut = and_right (nat_le 64 (length image)) (get_or image
 
 -- ---- the kind
 
--- what the header and the length of a vault have
+-- properties of the header and the length of a vault
 pub record IsVault (key : SecretKey) (len : ℕ) : Type 0 where
   pub ots : IsOneTimeType key.ots
   pub tree : IsTreeType key.tree
@@ -76,7 +76,7 @@ kind-whole image parts =
     cond-true (is_formatted image) _ Blank (formatted-open image parts.opened)
     ∙ cond-true (is_whole (key_in image) (length image)) _ Damaged (whole-vault (key_in image) (length image) parts.vault)
 
--- what an image that is a vault's has as its key and its map
+-- the key and the map of a vault's image
 pub record IsWholeOf (image : List ℕ) (key : SecretKey) (map : List ℕ) : Type 0 where
   pub parts : Parts image
   pub key_is : key_in image ≡ key
@@ -106,6 +106,6 @@ not_blank image is blank = by_test (is_whole (key_in image) (length image)) (sym
     by_test true same = cc
     by_test false same = cc
 
--- and one that is blank is not formatted
+-- and a blank one is not formatted
 pub blank-unformatted : (image : List ℕ) → kind_of image ≡ Blank → is_formatted image ≡ false
 blank-unformatted image blank = false_from_ne_true (is_formatted image) (λ is. not_blank image is blank)

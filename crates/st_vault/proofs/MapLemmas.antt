@@ -1,4 +1,4 @@
--- The places of nonzero bytes in a map, and the next one behind them.
+-- The places of nonzero bytes in a map, and the next one after them.
 use Rattle.std.proofs.Common.{◌≡◌, ◌≢◌, ◌⊎◌, inl, inr, ⊎_elim, ◌∙◌, ℕ, zero, suc, ◌+◌, ◌<◌, ◌≤◌, max, Bool, true, false, ◌==◌, cond, List, [], ◌∷◌, ◌++◌, length, get_or, take, replicate, refl, ap, subst, arith}
 use Rattle.std.proofs.lemmas.Bool.{cond_both, eqb-false, ne_eqb}
 use Rattle.std.proofs.lemmas.List.{append-nil, length-take-le, take_more}
@@ -95,7 +95,7 @@ one_past-least [] m below = omega arith
 one_past-least (n ∷ ns) m below =
     omega (arith, below n (first_in n ns), one_past-least ns m (λ q there. below q (later_in n q ns there)))
 
--- what is spent up to a last one
+-- counters spent up to a last one
 pub one_past-last : (ns : List ℕ) (last : ℕ) → Contains ns last → ((q : ℕ) → Contains ns q → q < last + 1) → one_past ns ≡ last + 1
 one_past-last ns last there below = omega (arith, one_past-above ns last there, one_past-least ns (last + 1) below)
 

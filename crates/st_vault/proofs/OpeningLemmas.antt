@@ -1,4 +1,4 @@
--- What an image is opened as, by what it is.
+-- The result of opening an image, by its kind.
 use Rattle.std.proofs.Common.{◌≡◌, ◌≢◌, ◌∙◌, ℕ, ◌+◌, ◌≤◌, ◌<◌, false, List, length, get_or, drop, take, IfSome, Result, Ok, Err, ap, refl, sym, subst, arith}
 use Rattle.std.proofs.lemmas.Bool.{false_from_ne_true}
 use Rattle.std.proofs.lemmas.List.{drop-take, get_or-take, take-take}
@@ -96,12 +96,12 @@ opened-map image key next has is =
     = next_counter-whole image from.parts ∙ ap (λ k. one_past (nonzero_from 0 (map_in (count_of k) image))) from.key_is ∙ sym is in
     rw (has, counts) refl
 
--- an image that is no vault's is not opened
+-- an image that is not a vault is not opened
 pub opened-err : (image : List ℕ) (refusal : OpenRefused) → key_of image ≡ Err refusal → opened image ≡ Err refusal
 unfolding opened
 opened-err image refusal none = rw none refl
 
--- what an image is opened as, in parts
+-- the result of opening an image, in parts
 pub record OpensAs (vault : VaultValue) (image : List ℕ) : Type 0 where
   pub parts : Parts image
   pub key_is : key_in image ≡ vault.key

@@ -1,4 +1,4 @@
--- One counter is spent: what the write and the sync leave.
+-- One counter is spent: the effects of the write and the sync.
 use Rattle.std.proofs.Common.{◌≡◌, ⊎_elim, ◌∙◌, ℕ, suc, ◌+◌, ◌<◌, ◌≤◌, List, [], ◌∷◌, ◌++◌, length, get_or, take, drop, set, ap, sym, subst, arith, append_assoc}
 use Rattle.std.proofs.lemmas.Bool.{cases_eq}
 use Rattle.std.proofs.lemmas.List.{get_or-set_other, get_or-set_same, length-set, set_split, take-set-le}
@@ -16,7 +16,7 @@ use Rattle.st_vault.specs.Spent.{KeepsSpent}
 use Rattle.st_vault.specs.Values.{VaultValue, count_of, vault_after}
 use Rattle.std.specs.Prelude.{Ok}
 
--- the next counter lies behind a last one that is spent
+-- the next counter is after a last spent one
 pub next_behind : (image : List ℕ) (last : ℕ) → IsSpent image last → ((q : ℕ) → IsSpent image q → q < last + 1) → next_counter image ≡ last + 1
 unfolding next_counter
 next_behind image last there below = one_past-last (spent image) last there below
@@ -28,7 +28,7 @@ module _ (vault : VaultValue) (old : List ℕ) (opens : opened old ≡ Ok vault)
   long : vault.next < count_of vault.key → 64 + vault.next < length old
   long left = omega (arith, left, subst (λ k. 64 + count_of k ≤ length old) is_open.key_is is_open.parts.vault.long)
 
-  -- the byte of the next counter lies in the image
+  -- the byte of the next counter is in the image
   pub fits : vault.next < count_of vault.key → 64 + vault.next ≤ length old
   fits left = omega (arith, long left)
 
@@ -79,7 +79,7 @@ module _ (vault : VaultValue) (old : List ℕ) (opens : opened old ≡ Ok vault)
       omega (arith, spent_below old q was, is_open.next_is))
       (cases_eq q vault.next)
 
-  -- after the write the disk reads as the vault after its next counter, and that is spent
+  -- after the write the contents are the vault after its next counter, and that is spent
   pub written : (place : ℕ) (new : List ℕ) → place ≡ vault.next → vault.next < count_of vault.key → Holds (64 + place) (1 ∷ []) old new
       → (opened new ≡ Ok (vault_after vault)) × IsSpent new vault.next
   written place new here left holds =
@@ -91,7 +91,7 @@ module _ (vault : VaultValue) (old : List ℕ) (opens : opened old ≡ Ok vault)
       }) in
       (subst (λ l. opened l ≡ Ok (vault_after vault)) is opens_after, subst (λ l. IsSpent l vault.next) is (next_spent left))
 
-  -- done or cut short, the write leaves spent what was spent in every image
+  -- complete or interrupted, the write keeps the counters spent in every image
   pub after_write : (place : ℕ) (a b : Past) → place ≡ vault.next → Images a old → GoesOn a b → Follow (Torn (64 + place) 1) a b → KeepsSpent a b
   after_write place a b here image goes follow = record {
     goes = goes;

@@ -1,4 +1,4 @@
--- Over runs that begin where the one before stopped, no counter comes out twice.
+-- In runs that start where the previous one stopped, no counter is released twice.
 use Rattle.std.proofs.Common.{◌≡◌, ⊎_elim, ℕ, zero, suc, ◌<◌, subst, arith}
 use Rattle.st_io.proofs.PastLemmas.{le_or_lt}
 use Rattle.st_io.specs.Past.{Past}
@@ -7,7 +7,7 @@ use Rattle.st_vault.specs.Runs.{Runs, SpendsFirst, GoesOnFrom, NoneTwice}
 use Rattle.st_vault.specs.Spent.{SpentInAll}
 
 module _ {Device : Type 0} (past : Device → Past) (runs : Runs Device) (spends : (n : ℕ) → SpendsFirst past runs n) (begins : (n : ℕ) → GoesOnFrom past runs n) (i q : ℕ) where
-  -- what is spent where a run stopped is so where each later one begins
+  -- a counter spent where a run stopped is spent where each later one starts
   carried : (j : ℕ) → i < j → SpentInAll (past (runs.stop i)) q → SpentInAll (past (runs.start j)) q
   carried zero lt all image there = absurd (omega (arith, lt))
   carried (suc m) lt all image there = ⊎_elim

@@ -15,7 +15,7 @@ pub spent-whole : (image : List ℕ) → Parts image → spent image ≡ nonzero
 unfolding spent
 spent-whole image parts = ap spent_by_kind (kind-whole image parts)
 
--- of an image that is no vault nothing is spent
+-- an image that is not a vault has no spent counter
 pub spent-none : (image : List ℕ) (q : ℕ) → kind_of image ≡ Blank → IsSpent image q → ⊥
 unfolding spent
 spent-none image q blank there = none_in q (subst (λ kind. Contains (spent_by_kind kind) q) blank there)
@@ -61,18 +61,18 @@ is_spent image q is =
     subst (λ l. Contains l q) (sym (spent-whole image is.parts))
     (subst (Contains (nonzero_from 0 (map_in count image))) at (nonzero-marked 0 (map_in count image) q within nonzero))
 
--- ---- a write into the map that is cut short
+-- ---- an interrupted write into the map
 
--- what lies before the write stays
+-- bytes before the write stay
 before_torn : (at n : ℕ) (old new : List ℕ) → Torn at n old new → (i : ℕ) → i < at → get_or new i 0 ≡ get_or old i 0
 before_torn at n old new torn i below =
     sym (get_or-take at new i 0 below) ∙ ap (λ l. get_or l i 0) torn.before ∙ get_or-take at old i 0 below
 
--- the two begin with the same bytes
+-- the two have the same first bytes
 pub same_front : (at n : ℕ) (old new : List ℕ) → n ≤ at → take at new ≡ take at old → take n new ≡ take n old
 same_front at n old new le same = sym (take-take n at new le) ∙ ap (take n) same ∙ take-take n at old le
 
--- an image that is longer and begins with the same 64 bytes is a vault too
+-- a longer image with the same first 64 bytes is a vault too
 pub same_parts : (old new : List ℕ) → take 64 new ≡ take 64 old → length old ≤ length new → Parts old → Parts new
 same_parts old new same longer parts =
     let key : key_in new ≡ key_in old = same_key new old (same_front 64 57 old new (omega arith) same) in

@@ -1,4 +1,4 @@
--- What a reservation that is cut short leaves: the vault as it was, or after its next counter.
+-- The possible images after an interrupted reservation: the vault unchanged, or after its next counter.
 use Rattle.std.proofs.Common.{◌≡◌, ◌≢◌, inl, inr, ⊎_elim, ◌∙◌, ℕ, ◌+◌, ◌-◌, ◌<◌, ◌≤◌, List, [], ◌∷◌, ◌++◌, length, get_or, take, drop, Ok, ap, sym, subst, arith}
 use Rattle.std.proofs.lemmas.Bool.{cases_eq}
 use Rattle.std.proofs.lemmas.List.{get_or-drop, take_more, take-append-drop}
@@ -58,7 +58,7 @@ module _ (vault : VaultValue) (old : List ℕ) (opens : opened old ≡ Ok vault)
       absurd (omega (arith, spent_below old vault.next there, was.next_is)))
       (cases_eq (get_or old (64 + vault.next) 0) 0)
 
-  -- where it is 0 again, nothing has changed
+  -- if it is 0 again, nothing has changed
   unchanged : get_or new (64 + vault.next) 0 ≡ 0 → new ≡ old
   unchanged zero =
       same_around (64 + vault.next) new old (omega (arith, inside, torn.no_shorter)) inside torn.before (zero ∙ sym was_zero) torn.after
@@ -70,7 +70,7 @@ module _ (vault : VaultValue) (old : List ℕ) (opens : opened old ≡ Ok vault)
       ap (λ p. get_or new p 0) (sym place) ∙ sym (get_or-drop (64 + vault.next + 1) new n 0) ∙ ap (λ (l : List ℕ). get_or l n 0) torn.after
       ∙ get_or-drop (64 + vault.next + 1) old n 0 ∙ ap (λ p. get_or old p 0) place
 
-  -- where it is not, the next counter is spent, and none behind it
+  -- if it is not, the next counter is spent, and none after it
   below_next : (q : ℕ) → IsSpent new q → q < vault.next + 1
   below_next q there = ⊎_elim
       (λ le. omega (arith, le))

@@ -1,5 +1,5 @@
--- For crates above: what is spent over several calls, which counters are, and what an image is by what it is
--- opened as.
+-- For crates above: spent counters over several calls, which they are, and the kind of an image from the result of
+-- opening it.
 use Rattle.std.proofs.Common.{◌≡◌, ◌∙◌, ◌<◌, ℕ, List, not, Result, Ok, Err, ap, refl, sym}
 use Rattle.st_base.specs.Answers.{◌>>=◌, ◌>>◌, holds_or}
 use Rattle.st_io.specs.Past.{Past}
@@ -18,31 +18,31 @@ use Rattle.st_vault.specs.declared.refused.FormatRefused.TheVariants.{Formatted}
 use Rattle.st_vault.specs.declared.refused.OpenRefused.{OpenRefused}
 use Rattle.st_vault.specs.declared.refused.OpenRefused.TheVariants as refused
 
--- what is spent in every image is spent in every image after a run that keeps it
+-- a counter spent in every image is spent in every image after a run that keeps it
 pub still_spent : (a b : Past) (q : ℕ) → KeepsSpent a b → SpentInAll a q → SpentInAll b q
 still_spent a b q keeps all x image = keeps.stays q all x (b.earlier a.now b.now x keeps.goes.later image)
 
 -- ---- which counters are spent
 
--- what is spent lies below the next counter
+-- spent counters are below the next counter
 pub spent_below : (image : List ℕ) (q : ℕ) → IsSpent image q → q < next_counter image
 unfolding next_counter
 spent_below image q there = one_past-above (spent image) q there
 
--- which is that of the vault that the image is opened as
+-- which is that of the vault in the image
 pub next_opened : (image : List ℕ) (vault : VaultValue) → opened image ≡ Ok vault → next_counter image ≡ vault.next
 next_opened image vault is = (opens_as image vault is).next_is
 
--- of an image that is not opened nothing is spent
+-- an image that does not open has no spent counter
 pub none_spent : (image : List ℕ) (q : ℕ) (refusal : OpenRefused) → opened image ≡ Err refusal → IsSpent image q → ⊥
 none_spent image q refusal none there =
     let vault : VaultValue = record { key = key_in image; next = next_counter image } in
     let is : opened image ≡ Ok vault = opened-parts image vault (record { parts = (marked image q there).parts; key_is = refl; next_is = refl }) in
     cc
 
--- ---- what an image is
+-- ---- the kind of an image
 
--- what an image of this kind is opened as
+-- the result of opening an image of this kind
 abbrev opened_kind : List ℕ → Kind → Result VaultValue OpenRefused
 opened_kind image kind = do
   key ← key_by_kind kind
@@ -53,7 +53,6 @@ opened-by : (image : List ℕ) → opened image ≡ opened_kind image (kind_of i
 unfolding opened key_of
 opened-by image = refl
 
--- opened as blank, it is blank
 pub opened-blank : (image : List ℕ) → opened image ≡ Err refused.Blank → kind_of image ≡ Blank
 opened-blank image is = by_kind (kind_of image) refl (sym (opened-by image) ∙ is)
   where
@@ -62,7 +61,7 @@ opened-blank image is = by_kind (kind_of image) refl (sym (opened-by image) ∙ 
     by_kind Damaged damaged same = absurd (cc)
     by_kind (Whole key map) whole same = absurd (cc)
 
--- no image is opened with a fault
+-- opening an image never gives a fault
 pub never_faulty : (image : List ℕ) → opened image ≡ Err refused.DiskFault → ⊥
 never_faulty image is = by_kind (kind_of image) (sym (opened-by image) ∙ is)
   where
@@ -75,7 +74,7 @@ pub blank-opened : (image : List ℕ) → kind_of image ≡ Blank → opened ima
 unfolding key_of
 blank-opened image blank = opened-err image refused.Blank (ap key_by_kind blank)
 
--- a disk that is opened as blank may be formatted
+-- a disk that opens as blank may be formatted
 pub formatted-blank : (key : SecretKey) (image : List ℕ) → opened image ≡ Err refused.Blank → formatted key image ≡ Ok (new_vault key)
 formatted-blank key image is =
     ap (λ test. holds_or (not test) Formatted >> Ok (new_vault key)) (blank-unformatted image (opened-blank image is))

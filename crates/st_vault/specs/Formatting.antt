@@ -1,4 +1,4 @@
--- How a disk is formatted: the gate is shut, all that stands behind it is written, the gate is opened.
+-- Formatting a disk: the gate is shut, everything after it is written, the gate is opened.
 use Rattle.std.specs.Prelude.{◌≡◌, ◌≢◌, ◌⊎◌, ℕ, ◌+◌, ◌≤◌, not, List, [], ◌∷◌, ◌++◌, length, drop, replicate, slice_index, Option, Some, None, Result, Ok, Err}
 use Rattle.st_base.specs.Answers.{◌>>◌, holds_or}
 use Rattle.st_lms.specs.Keys.{SecretKey, IsSecretKey}
@@ -10,7 +10,7 @@ use Rattle.st_vault.specs.declared.refused.FormatRefused.{FormatRefused}
 use Rattle.st_vault.specs.declared.refused.FormatRefused.TheVariants.{Formatted, DiskFault}
 use Rattle.st_vault.specs.declared.refused.OpenRefused.TheVariants as open_refused
 
--- a disk may be formatted where it is not yet
+-- a disk may be formatted if it is not yet
 abbrev pub unformatted : List ℕ → Result (Unit {0}) FormatRefused
 unformatted image = holds_or (not (is_formatted image)) Formatted
 
@@ -20,30 +20,30 @@ formatted key image = do
   unformatted image
   Ok (new_vault key)
 
--- the refusal that an error is
+-- the refusal of an error, if it is one
 abbrev pub refusal_of : FormatRefused → Option FormatRefused
 refusal_of Formatted = Some Formatted
 refusal_of DiskFault = None
 
--- so many bytes that are 0
+-- this many zero bytes
 unfoldable pub zeros : ℕ → List ℕ
 zeros n = replicate n 0
 
--- what stands behind the gate of a new vault on a disk that read so: the header, zeros up to the end of
--- the map, and then what stood there
+-- the bytes after the gate of a new vault on a disk with these contents: the header, zeros up to the end of the map,
+-- and then the earlier bytes
 abbrev pub behind_gate : SecretKey → List ℕ → List ℕ
 behind_gate key old = (header_of key ++ zeros (7 + count_of key)) ++ drop (64 + count_of key) old
 
--- what a disk that read so reads as once it is formatted: an open gate, and that
+-- the contents after formatting a disk with these contents: an open gate, and those bytes
 abbrev pub formatted_image : SecretKey → List ℕ → List ℕ
 formatted_image key old = open_gate ∷ behind_gate key old
 
--- a vault of this key of which nothing is spent
+-- a vault of this key with no spent counter
 pub record IsNew (key : SecretKey) (image : List ℕ) : Type 0 where
   pub opens : opened image ≡ Ok (new_vault key)
   pub unspent : spent image ≡ []
 
--- blank, or a vault of this key of which nothing is spent
+-- blank, or a vault of this key with no spent counter
 abbrev pub IsFresh : SecretKey → List ℕ → Type 0
 IsFresh key image = (kind_of image ≡ Blank) ⊎ IsNew key image
 
@@ -51,13 +51,13 @@ IsFresh key image = (kind_of image ≡ Blank) ⊎ IsNew key image
 abbrev pub IsBlankOrNew : SecretKey → List ℕ → Type 0
 IsBlankOrNew key image = (opened image ≡ Err open_refused.Blank) ⊎ (opened image ≡ Ok (new_vault key))
 
--- what formatting may leave of a disk that read so: the same, or where that was blank what is fresh
+-- the possible images after formatting a disk with these contents: the same, or fresh ones if they were blank
 abbrev pub IsOldOrFresh : SecretKey → List ℕ → List ℕ → Type 0
 IsOldOrFresh key old image = (image ≡ old) ⊎ ((kind_of old ≡ Blank) × IsFresh key image)
 
 -- ---- between the steps
 
--- what shutting the gate may leave
+-- the possible images after shutting the gate
 abbrev pub IsOldOrBlank : List ℕ → List ℕ → Type 0
 IsOldOrBlank old image = (image ≡ old) ⊎ ((kind_of old ≡ Blank) × (kind_of image ≡ Blank))
 
@@ -66,13 +66,13 @@ pub record IsShut (image : List ℕ) : Type 0 where
   pub there : 1 ≤ length image
   pub gate : slice_index image 0 ≢ open_gate
 
--- all that stands behind the gate is that of a new vault
+-- everything after the gate is that of a new vault
 pub record IsFilled (key : SecretKey) (image : List ℕ) : Type 0 where
   pub known : IsSecretKey key
   pub long : 64 + count_of key ≤ length image
   pub key_is : key_in image ≡ key
   pub map_is : map_in (count_of key) image ≡ zeros (count_of key)
 
--- opening the gate makes a new vault of what was filled
+-- opening the gate makes a new vault of the filled image
 abbrev pub OpensTo : List ℕ → List ℕ → Type 0
 OpensTo old image = (key : SecretKey) → IsFilled key old → IsNew key image

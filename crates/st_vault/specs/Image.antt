@@ -1,7 +1,6 @@
--- What the bytes of a disk stand for as a vault's image. It begins with a gate byte; a header follows,
--- with the types, the identifier I and the seed of an LMS key (RFC 8554, appendix A), and zeros up to
--- byte 63, which no one reads; from byte 64 on stands a map, with a byte for each counter of the key.
--- What stands behind the map is ignored.
+-- The bytes of a disk as a vault's image. The first byte is a gate; a header follows, with the types, the identifier
+-- I and the seed of an LMS key (RFC 8554, appendix A), and zeros up to byte 63, which no one reads; a map from byte
+-- 64 on has a byte for each counter of the key. Bytes after the map are ignored.
 use Rattle.std.specs.Prelude.{ℕ, ◌+◌, Bool, ◌==◌, ◌&&◌, nat_le, if◌then◌else◌, List, [], ◌∷◌, ◌++◌, length, take, drop, slice_index, max, Contains}
 use Rattle.st_lms.specs.Decided.{is_one_time_type, is_tree_type}
 use Rattle.st_lms.specs.Keys.{SecretKey}
@@ -18,7 +17,7 @@ open_gate = 0xa5
 abbrev pub is_formatted : List ℕ → Bool
 is_formatted image = nat_le 64 (length image) && (slice_index image 0 == open_gate)
 
--- the key that a header says: its LM-OTS type, its LMS type, I, and the seed
+-- the key in a header: its LM-OTS type, its LMS type, I, and the seed
 unfoldable pub key_of_header : List ℕ → SecretKey
 key_of_header header = record {
   ots = str_to_u32 (take 4 header);
@@ -31,15 +30,15 @@ key_of_header header = record {
 unfoldable pub header_of : SecretKey → List ℕ
 header_of key = u32str key.ots ++ u32str key.tree ++ key.id ++ key.seed
 
--- the key of an image, whose header stands behind the gate
+-- the key of an image, whose header follows the gate
 abbrev pub key_in : List ℕ → SecretKey
 key_in image = key_of_header (drop 1 image)
 
--- the map of an image for so many counters
+-- the map of an image for this many counters
 abbrev pub map_in : ℕ → List ℕ → List ℕ
 map_in count image = take count (drop 64 image)
 
--- ---- what an image is
+-- ---- the kinds of images
 
 -- blank, damaged, or a vault with its key and its map
 pub data Kind : Type 0 where
@@ -47,13 +46,13 @@ pub data Kind : Type 0 where
   Damaged : Kind
   Whole : (key : SecretKey) (map : List ℕ) → Kind
 
--- both types of a key are known here (RFC 8554, sections 4.1 and 5.1), and its map fits into a length
+-- both types of a key are known (RFC 8554, sections 4.1 and 5.1), and its map fits into a length
 abbrev pub is_whole : SecretKey → ℕ → Bool
 is_whole key len =
     (is_one_time_type key.ots && is_tree_type key.tree) && nat_le (64 + count_of key) len
 
--- an image that is not formatted is blank; else it is a vault, with its key and its map, where both
--- types are known and the map is there whole; else it is damaged
+-- an image that is not formatted is blank; else it is a vault, with its key and its map, if both types are known and
+-- the map is complete; else it is damaged
 unfoldable pub kind_of : List ℕ → Kind
 kind_of image =
     if is_formatted image
@@ -64,13 +63,13 @@ kind_of image =
 
 -- ---- spent counters
 
--- the places of the bytes of a map that are not 0, where its first byte has this place
+-- the places of the nonzero bytes of a map, whose first byte has this place
 abbrev pub nonzero_from : ℕ → List ℕ → List ℕ
 nonzero_from place [] = []
 nonzero_from place (byte ∷ map) =
     if byte == 0 then nonzero_from (place + 1) map else place ∷ nonzero_from (place + 1) map
 
--- the places of the nonzero bytes of a vault's map; of what is no vault there are none
+-- the places of the nonzero bytes of a vault's map; an image that is not a vault has none
 abbrev pub spent_by_kind : Kind → List ℕ
 spent_by_kind (Whole key map) = nonzero_from 0 map
 spent_by_kind Blank = []
@@ -84,11 +83,11 @@ spent image = spent_by_kind (kind_of image)
 abbrev pub IsSpent : List ℕ → ℕ → Type 0
 IsSpent image q = Contains (spent image) q
 
--- one more than the greatest of some numbers, or 0 where there are none
+-- one more than the greatest of some numbers, or 0 if there are none
 abbrev pub one_past : List ℕ → ℕ
 one_past [] = 0
 one_past (n ∷ ns) = max (n + 1) (one_past ns)
 
--- the next counter: one more than the greatest that is spent, or 0
+-- the next counter: one more than the greatest spent one, or 0
 unfoldable pub next_counter : List ℕ → ℕ
 next_counter image = one_past (spent image)

@@ -1,4 +1,4 @@
--- What `reserve` answers.
+-- The answer of `reserve`.
 use Rattle.std.specs.Prelude.{◌≡◌, ◌⊎◌, ℕ, ◌<◌, List, Result, Ok, Err}
 use Rattle.st_io.specs.Causes.{Rose}
 use Rattle.st_vault.specs.Opening.{opened}
@@ -8,8 +8,8 @@ use Rattle.st_vault.specs.declared.refused.ReserveRefused.{ReserveRefused}
 use Rattle.st_vault.specs.declared.refused.ReserveRefused.TheVariants.{Exhausted, DiskFault}
 use Rattle.st_vault.specs.declared.vault.Vault.{Vault}
 
--- the vault after its next counter, and that counter; the vault itself exactly where none is left; a
--- fault only where the disk's count of faults rose
+-- the vault after its next counter, and that counter; the vault itself if and only if none is left; a fault only if
+-- the disk's count of faults rose
 abbrev pub ReserveGives : Vault → ℕ → ℕ → Result (Vault × Counter) ReserveRefused → Type 0
 ReserveGives vault before now (Ok given) =
     (0 < left_of vault) × (given.0 ≡ vault_after vault) × (given.1 ≡ counter_of vault)

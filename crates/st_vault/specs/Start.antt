@@ -1,11 +1,11 @@
--- How a disk stands before it is formatted.
+-- The state of a disk before it is formatted.
 use Rattle.std.specs.Prelude.{◌≡◌, true, ◌<◌, List, ℕ, length}
 use Rattle.st_vault.specs.Formatting.{IsShut}
 use Rattle.st_vault.specs.Image.{is_formatted}
 use Rattle.st_vault.specs.declared.formatting.Start.{Start}
 use Rattle.st_vault.specs.declared.formatting.Start.TheVariants.{Formatted, Short, Shut}
 
--- formatted; of too few bytes; or with a gate that is shut
+-- formatted; too few bytes; or a shut gate
 abbrev pub Begins : Start → List ℕ → Type 0
 Begins Formatted image = is_formatted image ≡ true
 Begins Short image = length image < 64

@@ -8,7 +8,7 @@ pub record VaultValue : Type 0 where
   pub key : SecretKey
   pub next : ℕ
 
--- a counter: the key that it is of, and its number
+-- a counter: its key and its number
 pub record CounterValue : Type 0 where
   pub key : SecretKey
   pub number : ℕ

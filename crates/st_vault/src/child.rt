@@ -10,12 +10,12 @@ use st_lms::Secret;
 /// The LMS type of a child, whose tree has height 5.
 const CHILD_TREE: u32 = 5;
 
-// What the hash of a child is for.
+// Separates the hashes of a child by purpose.
 const D_CHILD_ID: u16 = 0xfff0;
 
 const D_CHILD_SEED: u16 = 0xfff1;
 
-/// A number as 2 bytes, high first.
+/// A number as 2 bytes, big-endian.
 #[tactic(auto, unfolding(st_lms::specs::Strings::u16str))]
 fn u16str(n: u16) -> [u8; 2]
     ensures { result ≡ u16str n }
@@ -47,7 +47,7 @@ pub(crate) fn child_of(secret: &Secret, n: u32) -> Secret
     child
 }
 
-/// A key that is held has the values of a key.
+/// A key value satisfies the rules of a key.
 fn know_key(secret: &Secret)
     ensures { IsSecretKey secret.now }
 {

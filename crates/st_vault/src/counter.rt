@@ -7,8 +7,8 @@ use st_lms::{Secret, Signer, sign_at};
 use std::alloc::Global;
 use std::marker::Model;
 
-/// A counter of a vault, which is spent on its disk: the right to sign one message with the one-time
-/// key of that number. It comes from `Vault::reserve` alone, and can't be copied.
+/// A counter of a vault, spent on its disk: the right to sign one message with the one-time key of
+/// that number. Only `Vault::reserve` makes one, and it can't be copied.
 #[derive(Drop)]
 pub struct Counter {
     secret: Secret,
@@ -35,7 +35,7 @@ impl Counter {
         Counter { secret, number }
     }
 
-    /// Its number, from 0 on: below 32 or 1,024, as the vault's key has it.
+    /// Its number, from 0 on: below 32 or 1,024, by the vault's key.
     pub fn number(&self) -> u32
         ensures value { result ≡ self.now.number }
         ensures known { self.now.number < count_of self.now.key }
@@ -44,15 +44,15 @@ impl Counter {
     }
 
     /// The signature of a message by the one-time key of this number (RFC 8554, section 5.4.1). It
-    /// computes nearly all leaves of the tree. After want of memory the counter is lost.
+    /// computes nearly all leaves of the tree. If it runs out of memory, the counter is lost.
     pub fn sign(self, alloc: Global, message: &[u8]) -> Result<Bytes, WantOfMemory>
         ensures value { IfOk result (λ signature. signature ≡ signature_of self.key self.number message.now) }
         ensures verifies { IfOk result (IsSignature (public_of self.key) message.now) }
     {
         sign_at(alloc, &self.secret, self.number, message)
     }
-    /// The same signature, with a signer of the vault's key, as `Vault::signer` gives it: it computes this
-    /// key's chains and no leaf of the tree. After want of memory the counter is lost.
+    /// The same signature, with a signer of the vault's key from `Vault::signer`: it computes this
+    /// key's chains and no leaf of the tree. If it runs out of memory, the counter is lost.
     pub fn sign_with(
         self,
         alloc: Global,

@@ -19,39 +19,42 @@ use crate::vault::Vault;
 use st_io::{Disk, Failed, write_synced};
 use st_lms::Secret;
 
-/// Makes a new vault of a key on a blank disk, and gives it. It takes no memory, and computes no key.
+/// Makes a new vault of a key on a blank disk, and returns it. It allocates nothing, and computes
+/// no key.
 ///
-/// `Formatted` comes exactly where the disk, as it reads after a sync, has at least 64 bytes and an
-/// open gate; then nothing is written. `DiskFault` comes only where the disk's count of faults rose:
-/// the disk may then be as it was, blank, or the new vault, and is to be opened.
+/// The result is `Formatted` if and only if the disk's contents, after a sync, have at least 64
+/// bytes and an open gate; then nothing is written. It is `DiskFault` only if the disk's count of
+/// faults rose: the disk may then be unchanged, blank, or the new vault; open it to find out.
 pub fn format_vault<D: Disk>(disk: &mut D, secret: Secret) -> Result<Vault, FormatRefused>
     ensures gives { IfTold (D.reads disk.old) (λ old. Gives refusal_of (formatted secret old) result) }
     ensures value { IfOk result (λ vault. vault ≡ new_vault secret) }
     ensures untouched { IsErrOf result FormatRefused.Formatted
         → (D.reads disk.new ≡ D.reads disk.old) × AddsNoImage (D.past disk.old) (D.past disk.new) }
 
-    // An open gate, the header, zeros up to the end of the map, and then what stood there: so the disk reads
-    // then. That is the vault that is given, and a stop leaves it.
+    // An open gate, the header, zeros up to the end of the map, and then the earlier bytes: these
+    // are the contents afterwards. They are the returned vault, also after a stop.
     ensures written { OnOk result (Turns (D.reads disk.old) (D.reads disk.new) (λ old image. image ≡ formatted_image secret old)) }
     ensures reads { IfOk result (ReadsAs (D.reads disk.new)) }
     ensures told { OnOk result (IfTold (D.reads disk.old) (λ old. IsSome (D.reads disk.new))) }
     ensures durable { OnOk result (IfTold (D.reads disk.new) (Only (D.past disk.new))) }
 
-    // What is refused so was looked at behind a good sync: a stop leaves what the disk reads as.
+    // A refusal of this kind follows a successful sync: a stop leaves the contents.
     ensures settled { IsErrOf result FormatRefused.Formatted → IfTold (D.reads disk.new) (Only (D.past disk.new)) }
 
-    // What was spent in every image stays so at each moment of the call.
+    // Counters that were spent in every image stay so at each moment of the call.
     ensures stays { IfTold (D.reads disk.old) (λ old. KeepsSpent (D.past disk.old) (D.past disk.new)) }
 
-    // Where a stop before the call leaves a blank disk, a stop at any moment of it leaves that or the new vault.
+    // If a stop before the call leaves a blank disk, a stop at any moment of it leaves that or the
+    // new vault.
     ensures moments { IfTold (D.reads disk.old) (λ old. AllOpenAs (Err OpenRefused.Blank) (D.past disk.old)
         → Leaves (IsBlankOrNew secret) (D.past disk.old) (D.past disk.new)) }
 
-    // On a blank disk every image is blank or the new vault, at each moment from the first good sync on.
+    // On a blank disk every image is blank or the new vault, at each moment from the first
+    // successful sync on.
     ensures fresh { IfTold (D.reads disk.old) (λ old. kind_of old ≡ Blank → (image : List ℕ)
         → LeftSinceSync (D.past disk.new) (D.past disk.old).now image → IsFresh secret image) }
-    // On any disk every image is what the disk read as, or where that was blank as `fresh` has it, at each
-    // moment from the first good sync on.
+    // On any disk every image is the earlier contents or, if these were blank, as in `fresh`, at
+    // each moment from the first successful sync on.
     ensures synced { IfTold (D.reads disk.old) (λ old. (image : List ℕ)
         → LeftSinceSync (D.past disk.new) (D.past disk.old).now image → IsOldOrFresh secret old image) }
     ensures fault { IsErrOf result FormatRefused.DiskFault → Rose (D.faults disk.old) (D.faults disk.new) }
@@ -62,7 +65,7 @@ pub fn format_vault<D: Disk>(disk: &mut D, secret: Secret) -> Result<Vault, Form
     Ok(Vault::new(secret, 0))
 }
 
-/// Formats a disk of which a stop leaves just what it reads as.
+/// Formats a disk whose only image is its contents.
 fn format_synced<D: Disk>(disk: &mut D, secret: &Secret) -> Result<(), FormatRefused>
     requires { IfTold (D.reads disk.old) (Only (D.past disk.old)) }
     ensures gives { IfTold (D.reads disk.old) (λ old. Gives refusal_of (unformatted old) result) }
@@ -81,14 +84,14 @@ fn format_synced<D: Disk>(disk: &mut D, secret: &Secret) -> Result<(), FormatRef
     Ok(())
 }
 
-/// How a disk stands before it is formatted.
+/// The state of a disk before it is formatted.
 #[derive(Clone, Copy, Debug, PartialEq, Eq)]
 enum Start {
     /// It has at least 64 bytes, and the gate is open.
     Formatted,
-    /// It has fewer.
+    /// It has fewer than 64 bytes.
     Short,
-    /// It has a gate, which is shut.
+    /// The gate is shut.
     Shut,
 }
 
@@ -113,7 +116,7 @@ fn look<D: Disk>(disk: &mut D) -> Result<Start, Failed>
     Ok(Start::Formatted)
 }
 
-/// Sees to it that there is a gate which is shut: over too few bytes it is written so.
+/// Makes sure that there is a gate and that it is shut: over too few bytes it is written so.
 fn shut_gate<D: Disk>(disk: &mut D) -> Result<(), FormatRefused>
     requires { IfTold (D.reads disk.old) (Only (D.past disk.old)) }
     ensures gives { IfTold (D.reads disk.old) (λ old. Gives refusal_of (unformatted old) result) }
@@ -150,7 +153,7 @@ fn make<D: Disk>(disk: &mut D, secret: &Secret) -> Result<(), Failed>
     open_gate(disk)
 }
 
-/// Writes all behind a gate that is shut. A stop leaves the gate as it is.
+/// Writes everything after a shut gate. A stop leaves the gate unchanged.
 fn fill<D: Disk>(disk: &mut D, secret: &Secret) -> Result<(), Failed>
     requires { IfTold (D.reads disk.old) (λ old. IsShut old × Only (D.past disk.old) old) }
     ensures filled { OnOk result (Turns (D.reads disk.old) (D.reads disk.new) (λ old image. IsFilled secret.now image)) }
@@ -164,7 +167,7 @@ fn fill<D: Disk>(disk: &mut D, secret: &Secret) -> Result<(), Failed>
     write_synced(disk, HEADER_AT, &row[..len])
 }
 
-/// Room for all behind the gate, with the largest map.
+/// Room for everything after the gate, with the largest map.
 const ROW_LEN: usize = 63 + MOST_COUNTERS;
 
 #[tactic(auto, unfolding(crate::specs::Formatting::zeros))]
@@ -174,7 +177,7 @@ fn no_row() -> [u8; ROW_LEN]
     [0; ROW_LEN]
 }
 
-/// Writes these bytes over the first of a row.
+/// Overwrites the first bytes of a row.
 fn begin_with(row: &mut [u8], bytes: &[u8])
     requires { length bytes.now ≤ length row.old }
     ensures { row.new ≡ bytes.now ++ drop (length bytes.now) row.old }
@@ -182,8 +185,8 @@ fn begin_with(row: &mut [u8], bytes: &[u8])
     row[..bytes.len()].copy_from_slice(bytes);
 }
 
-/// Writes the header of a key into a row of zeros, and says how much of the row a vault has behind its
-/// gate: up to the end of the map.
+/// Writes the header of a key into a row of zeros, and returns how much of the row a vault has
+/// after its gate: up to the end of the map.
 fn fill_row(row: &mut [u8], secret: &Secret) -> usize
     requires long { length row.old ≡ 1087 }
     requires zeros { row.old ≡ zeros 1087 }
@@ -195,7 +198,8 @@ fn fill_row(row: &mut [u8], secret: &Secret) -> usize
     63 + secret.leaf_count() as usize
 }
 
-/// Opens the gate. Where all is written behind it, a stop leaves it shut, or open over a new vault.
+/// Opens the gate. If everything after it is written, a stop leaves it shut, or open over a new
+/// vault.
 fn open_gate<D: Disk>(disk: &mut D) -> Result<(), Failed>
     requires { IfTold (D.reads disk.old) (Only (D.past disk.old)) }
     ensures opens { OnOk result (Turns (D.reads disk.old) (D.reads disk.new) OpensTo) }

@@ -16,7 +16,7 @@ pub(crate) fn copied<const N: usize>(bytes: &[u8]) -> [u8; N]
     copied
 }
 
-/// Writes these bytes over what stands from a place on.
+/// Overwrites the bytes from a place on.
 fn put_in(row: &mut [u8], at: usize, bytes: &[u8])
     requires { at + length bytes.now ≤ length row.old }
     ensures { take (at + length bytes.now) row.new ≡ take at row.old ++ bytes.now }
@@ -24,7 +24,7 @@ fn put_in(row: &mut [u8], at: usize, bytes: &[u8])
     row[at..at + bytes.len()].copy_from_slice(bytes);
 }
 
-/// A number as 4 bytes, high first (RFC 8554, section 3.1.1).
+/// A number as 4 bytes, big-endian (RFC 8554, section 3.1.1).
 #[tactic(auto, unfolding(st_lms::specs::Strings::u32str))]
 pub(crate) fn u32str(n: u32) -> [u8; 4]
     ensures { result ≡ u32str n }
@@ -32,7 +32,7 @@ pub(crate) fn u32str(n: u32) -> [u8; 4]
     n.to_be_bytes()
 }
 
-/// The number that 4 bytes are.
+/// The number in 4 bytes.
 #[tactic(auto, unfolding(st_lms::specs::Strings::str_to_u32))]
 fn str_to_u32(bytes: &[u8]) -> u32
     requires { length bytes.now ≡ 4 }
@@ -47,7 +47,7 @@ fn zeros() -> [u8; HEADER_LEN]
     [0; HEADER_LEN]
 }
 
-/// The header of a key, without the zeros behind it.
+/// The header of a key, without the zeros after it.
 pub(crate) fn write_header(secret: &Secret) -> [u8; HEADER_LEN]
     ensures { result ≡ header_of secret.now }
 {
@@ -59,7 +59,7 @@ pub(crate) fn write_header(secret: &Secret) -> [u8; HEADER_LEN]
     header
 }
 
-/// The key that a header says. `BadType` comes exactly where one of its types is not known.
+/// The key in a header. The result is `BadType` if and only if one of its types is not known.
 #[tactic(auto, unfolding(crate::specs::Image::key_of_header))]
 pub(crate) fn read_header(header: &[u8]) -> Result<Secret, BadType>
     requires { 56 ≤ length header.now }

@@ -1,5 +1,5 @@
-//! A vault keeps an LMS secret key on a disk, and spends each of its counters there before it gives
-//! it: a one-time key of RFC 8554 must not sign twice, whatever a stop leaves of the disk.
+//! A vault keeps an LMS secret key on a disk, and spends each of its counters there before it
+//! releases it: a one-time key of RFC 8554 must not sign twice, whatever a stop leaves of the disk.
 #![tactic(auto)]
 
 mod child;

@@ -15,11 +15,11 @@ use crate::vault::Vault;
 use st_io::{Disk, Failed};
 use st_lms::Secret;
 
-/// The vault that a disk reads as after a sync. It takes no memory, and computes no key.
+/// The vault in a disk's contents after a sync. It allocates nothing, and computes no key.
 ///
-/// `Blank` comes exactly where the disk has fewer than 64 bytes or its gate is shut; `Damaged` exactly
-/// where else a type of the key is not known or the map is not there whole. `DiskFault` comes only
-/// where the disk's count of faults rose. Nothing is written.
+/// The result is `Blank` if and only if the disk has fewer than 64 bytes or its gate is shut;
+/// otherwise `Damaged` if and only if a type of the key is not known or the map is incomplete. It
+/// is `DiskFault` only if the disk's count of faults rose. Nothing is written.
 pub fn open_vault<D: Disk>(disk: &mut D) -> Result<Vault, OpenRefused>
     ensures gives { IfTold (D.reads disk.old) (λ image. Gives refusal_of (opened image) result) }
     ensures reads_as { IfOk result (ReadsAs (D.reads disk.new)) }
@@ -27,7 +27,7 @@ pub fn open_vault<D: Disk>(disk: &mut D) -> Result<Vault, OpenRefused>
     ensures durable { (IsErrOf result OpenRefused.DiskFault → ⊥) → IfTold (D.reads disk.new) (Only (D.past disk.new)) }
     ensures images { AddsNoImage (D.past disk.old) (D.past disk.new) }
 
-    // From the first good sync on, a stop leaves what the disk read as.
+    // From the first successful sync on, a stop leaves the earlier contents.
     ensures synced { IfTold (D.reads disk.old) (λ old. (image : List ℕ)
         → LeftSinceSync (D.past disk.new) (D.past disk.old).now image → image ≡ old) }
     ensures stays { KeepsSpent (D.past disk.old) (D.past disk.new) }
@@ -38,7 +38,7 @@ pub fn open_vault<D: Disk>(disk: &mut D) -> Result<Vault, OpenRefused>
     open_synced(disk)
 }
 
-/// The vault of a disk of which a stop leaves just what it reads as.
+/// The vault of a disk whose only image is its contents.
 fn open_synced<D: Disk>(disk: &mut D) -> Result<Vault, OpenRefused>
     requires { IfTold (D.reads disk.old) (Only (D.past disk.old)) }
     ensures gives { IfTold (D.reads disk.old) (λ image. Gives refusal_of (opened image) result) }
@@ -60,7 +60,7 @@ fn no_head() -> [u8; 64]
     [0; 64]
 }
 
-/// The key of the vault that the disk reads as.
+/// The key of the vault in the disk's contents.
 fn read_key<D: Disk>(disk: &mut D) -> Result<Secret, OpenRefused>
     ensures gives { IfTold (D.reads disk.old) (λ image. Gives refusal_of (key_of image) result) }
     ensures reads { D.reads disk.new ≡ D.reads disk.old }
@@ -80,7 +80,7 @@ fn read_key<D: Disk>(disk: &mut D) -> Result<Secret, OpenRefused>
     }
 }
 
-/// The key of an image of this length that begins with these 64 bytes.
+/// The key of an image of this length that starts with these 64 bytes.
 fn key_of_head(head: &[u8], len: u64) -> Result<Secret, OpenRefused>
     requires head { length head.now ≡ 64 }
     requires long { 64 ≤ len }
@@ -107,7 +107,7 @@ fn no_map() -> [u8; MOST_COUNTERS]
     [0; MOST_COUNTERS]
 }
 
-/// The next counter by the map for so many counters.
+/// The next counter, from a map for this many counters.
 fn read_next<D: Disk>(disk: &mut D, count: u32) -> Result<u32, Failed>
     requires there { IfTold (D.reads disk.old) (λ image. 64 + count ≤ length image) }
     requires small { count ≤ 1024 }

@@ -8,7 +8,7 @@ pub enum FormatRefused {
     /// It has at least 64 bytes, and the gate is open.
     #[error("the disk is formatted")]
     Formatted,
-    /// The disk has failed.
+    /// The disk failed.
     #[error("the disk has failed")]
     DiskFault,
 }
@@ -19,10 +19,10 @@ pub enum OpenRefused {
     /// It has fewer than 64 bytes, or the gate is shut.
     #[error("the disk is blank")]
     Blank,
-    /// The gate is open, and a type is not known or the map is not there whole.
+    /// The gate is open, and a type is not known or the map is incomplete.
     #[error("the vault is damaged")]
     Damaged,
-    /// The disk has failed.
+    /// The disk failed.
     #[error("the disk has failed")]
     DiskFault,
 }
@@ -30,10 +30,10 @@ pub enum OpenRefused {
 /// Why no counter is reserved.
 #[derive(Debug, Drop, Error)]
 pub enum ReserveRefused {
-    /// No counter is left. The vault is handed back.
+    /// No counter is left. The vault is returned.
     #[error("no counter is left")]
     Exhausted(Vault),
-    /// The disk has failed, and the vault is gone: the disk is to be opened again.
+    /// The disk failed, and the vault is lost: open the disk again.
     #[error("the disk has failed")]
     DiskFault,
 }

@@ -20,9 +20,9 @@ use std::alloc::Global;
 use std::fmt;
 use std::marker::Model;
 
-/// A vault that a disk was read as: an LMS secret key, and the next of its counters.
+/// A vault, read from a disk: an LMS secret key, and its next counter.
 ///
-/// It is handed from call to call with its disk, which nobody else may write to in between.
+/// It is passed from call to call with its disk, which nobody else may write to in between.
 #[derive(Drop)]
 pub struct Vault {
     secret: Secret,
@@ -41,7 +41,7 @@ impl Model for Vault {
 }
 
 impl fmt::Debug for Vault {
-    // The seed is not written.
+    // The seed is not printed.
     fn fmt<W: fmt::Write>(&self, f: &mut fmt::Formatter<W>) -> fmt::Result {
         write!(f, "Vault")
     }
@@ -58,8 +58,8 @@ impl Vault {
         Vault { secret, next }
     }
 
-    /// How many counters can still be reserved: 2^h less the next counter, h being the height of the
-    /// key's tree, so at most 32 or 1,024.
+    /// How many counters can still be reserved: 2^h less the next counter, where h is the height of
+    /// the key's tree, so at most 32 or 1,024.
     pub fn left(&self) -> u32
         ensures value { result ≡ left_of self.now }
         ensures known { self.now.next ≤ count_of self.now.key }
@@ -68,8 +68,8 @@ impl Vault {
         self.secret.leaf_count() - self.next
     }
 
-    /// The public key that the vault's signatures are verified with. It computes all leaves of the tree;
-    /// what needs it often keeps it, or a signer.
+    /// The public key that verifies the vault's signatures. It computes all leaves of the tree, so
+    /// store the result, or a signer, for frequent use.
     pub fn public(&self) -> Public
         ensures { result ≡ public_of self.now.key }
     {
@@ -84,8 +84,8 @@ impl Vault {
         self.secret.tree()
     }
 
-    /// The vault's key with the nodes of its tree, with which `Counter::sign_with` takes the time of one
-    /// one-time key. It computes all of them, and fails where there is no memory for the nodes.
+    /// The vault's key with the nodes of its tree, with which `Counter::sign_with` takes the time
+    /// of one one-time key. It computes all of them, and fails if there is no memory for the nodes.
     pub fn signer(&self, alloc: Global) -> Result<Signer, WantOfMemory>
         ensures { IfOk result (λ signer. signer ≡ self.now.key) }
     {
@@ -93,7 +93,7 @@ impl Vault {
     }
 
     /// Child `n` of the vault's key: a secret key with a tree of height 5 and with the same LM-OTS
-    /// type, whose identifier and seed are hashes of the vault's key. It takes no memory.
+    /// type, whose identifier and seed are hashes of the vault's key. It allocates nothing.
     pub fn child(&self, n: u32) -> Secret
         ensures value { result ≡ child_of self.now.key n }
         ensures known { IsSecretKey result }
@@ -101,35 +101,37 @@ impl Vault {
         child_of(&self.secret, n)
     }
 
-    /// Spends the next counter on the disk, and then gives it, with the vault that has one less.
+    /// Spends the next counter on the disk, and then returns it, with the vault that has one less.
     ///
-    /// `Exhausted` comes exactly where none is left; it hands the vault back, and the disk is as it
-    /// was. `DiskFault` comes only where the disk's count of faults rose: the vault is gone, the
-    /// counter may be spent or not, and the disk is to be opened again. It takes no memory.
+    /// The result is `Exhausted` if and only if no counter is left; it returns the vault, and the
+    /// disk is unchanged. It is `DiskFault` only if the disk's count of faults rose: the vault is
+    /// lost, the counter may be spent or not, and the disk must be opened again. It allocates
+    /// nothing.
     pub fn reserve<D: Disk>(self, disk: &mut D) -> Result<(Vault, Counter), ReserveRefused>
         requires { ReadsAs (D.reads disk.old) self }
 
         ensures gives { ReserveGives self (D.faults disk.old) (D.faults disk.new) result }
         ensures untouched { left_of self ≡ 0 → disk.new ≡ disk.old }
 
-        // The counter was not spent. The disk reads as the vault that comes back, and the counter is
-        // spent in every image.
+        // The counter was not spent. The contents are the returned vault, and the counter is spent
+        // in every image.
         ensures unspent { OnOk result (IfTold (D.reads disk.old) (λ image. IsSpent image self.next → ⊥)) }
         ensures reads { IfOk result (λ given. ReadsAs (D.reads disk.new) given.0) }
         ensures told { OnOk result (IfTold (D.reads disk.old) (λ image. IsSome (D.reads disk.new))) }
         ensures durable { OnOk result (IfTold (D.reads disk.new) (Only (D.past disk.new))) }
         ensures spent { OnOk result (IfTold (D.reads disk.old) (λ image. SpentInAll (D.past disk.new) self.next)) }
 
-        // The counter's byte is written as 1, and no other byte is, at any moment and whatever comes.
+        // The counter's byte is written as 1, and no other byte is, at any moment and for any
+        // result.
         ensures written { OnOk result (Turns (D.reads disk.old) (D.reads disk.new) (Holds (64 + self.next) (1 ∷ []))) }
         ensures images { 0 < left_of self → Follow (Torn (64 + self.next) 1) (D.past disk.old) (D.past disk.new) }
 
-        // Where a stop before the call leaves the vault, a stop at any moment of the call leaves the vault
-        // before its next counter was spent, or after.
+        // If a stop before the call leaves the vault, a stop at any moment of the call leaves the
+        // vault before its next counter was spent, or after.
         ensures moments { AllOpenAs (Ok self) (D.past disk.old)
             → Leaves (IsBeforeOrAfter self) (D.past disk.old) (D.past disk.new) }
 
-        // What was spent in every image stays so at each moment of the call.
+        // Counters that were spent in every image stay so at each moment of the call.
         ensures stays { IfTold (D.reads disk.old) (λ image. KeepsSpent (D.past disk.old) (D.past disk.new)) }
         ensures later { D.faults disk.old ≤ D.faults disk.new }
     {

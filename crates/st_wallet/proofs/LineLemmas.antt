@@ -1,4 +1,4 @@
--- A line that is cut behind its first byte too many is answered as it is (`cut_answered`).
+-- A line that is truncated after its first excess byte is answered like the whole line (`cut_answered`).
 use Rattle.std.proofs.Common.{◌≡◌, ◌∙◌, ℕ, ◌+◌, ◌≤◌, Bool, true, false, nat_le, List, length, take, Result, Err, refl, sym, ap, arith, length-take, take_all}
 use Rattle.std.proofs.lemmas.Bool.Decides.{nat_tests}
 use Rattle.st_base.specs.Answers.{◌>>◌, holds_or}
@@ -10,7 +10,7 @@ use Rattle.st_wallet.specs.declared.command.Command.{Command}
 use Rattle.st_wallet.specs.declared.command.LineCause.{LineCause}
 use Rattle.st_wallet.specs.declared.command.LineCause.TheVariants as line_is
 
--- a line that is short enough is not cut
+-- a line that is short enough is not truncated
 uncut : (most : ℕ) (line : List ℕ) → nat_le (length line) most ≡ true → take (most + 1) line ≡ line
 uncut most line short =
     let fits : length line ≤ most + 1 = grind (arith, nat_tests) in

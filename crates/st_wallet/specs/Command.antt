@@ -1,4 +1,4 @@
--- What a line of the wallet asks for.
+-- The command of a line of the wallet.
 use Rattle.std.specs.Prelude.{ℕ, nat_le, List, length, bytes_eq, codes, is_none, if◌then◌else◌, Option, Some, None, Result, Ok, Err}
 use Rattle.std.specs.Option.{ok_or}
 use Rattle.st_base.specs.Answers.{◌>>=◌, ◌>>◌, holds_or}
@@ -13,7 +13,7 @@ use Rattle.st_wallet.specs.declared.command.LineCause.TheVariants as cause
 use Rattle.st_wallet.specs.declared.command.LineRefused.{LineRefused}
 use Rattle.st_wallet.specs.declared.command.LineRefused.TheVariants.{BadLine, WantOfMemory}
 
--- how many bytes a line has at most
+-- the largest number of bytes of a line
 abbrev pub longest_line : ℕ
 longest_line = 24000000
 
@@ -21,8 +21,8 @@ longest_line = 24000000
 abbrev pub space : ℕ
 space = 32
 
--- ---- each command, by what stands behind its word and a space: first the words, then the numbers, then
--- what is hexadecimal, then what is base64url; the last word is all the rest
+-- ---- each command, from the text after its word and a space: first the words, then the numbers, then
+-- hexadecimal digits, then base64url; the last word is all the rest
 
 -- `format <ots> <tree> <id> <seed>`: an LM-OTS type, an LMS type, 32 digits, 64 digits
 abbrev pub format_of : Option (List ℕ) → Result Command LineCause
@@ -44,7 +44,7 @@ key_of behind = do
   nonce ← ok_or (nonce_of word) cause.Hex
   Ok (Key nonce)
 
--- `left`, and no space behind it
+-- `left`, without a space after it
 abbrev pub left_of : Option (List ℕ) → Result Command LineCause
 left_of behind = do
   holds_or (is_none behind) cause.Words
@@ -113,14 +113,14 @@ command_of_words word behind =
     else if bytes_eq word (codes "sign-hss") then sign_hss_of behind
     else Err cause.Command
 
--- The command of a line, or the first cause for which it is none. The command word is what stands
--- before the first space, or the whole line.
+-- The command of a line, or the first cause why it is not one. The command word is the part before the first space,
+-- or the whole line.
 abbrev pub command_of : List ℕ → Result Command LineCause
 command_of line = do
   holds_or (nat_le (length line) longest_line) cause.Long
   command_of_words (first_word space line) (other_words space line)
 
--- the cause that an error names
+-- the cause of an error, if it has one
 abbrev pub cause_of : LineRefused → Option LineCause
 cause_of (BadLine cause) = Some cause
 cause_of WantOfMemory = None

@@ -1,4 +1,4 @@
--- The vault that a wallet holds, alone or with what it keeps for signatures of two levels.
+-- The vault of a wallet, alone or with the data stored for signatures of two levels.
 use Rattle.st_vault.specs.Values.{VaultValue}
 use Rattle.st_wallet.specs.declared.signing_vault.Held.{Held}
 use Rattle.st_wallet.specs.declared.signing_vault.Held.TheVariants.{Plain, TwoLevels}

@@ -1,5 +1,5 @@
--- The reference machine of the wallet: what it answers to a line, and what its disk is then. It keeps
--- what the disk was found to be, and nothing else.
+-- The reference machine of the wallet: its answer to a line, and the state of its disk afterwards. It has no other
+-- state.
 use Rattle.std.specs.Prelude.{◌≡◌, ◌⊎◌, ⊤, ℕ, ◌==◌, IsSome, nat_le, List, [], ◌∷◌, ◌++◌, codes, if◌then◌else◌, Option, Some, None, Result, Ok, Err}
 use Rattle.std.specs.Fmt.{decimal}
 use Rattle.st_base.specs.Replies.{reply, spaced}
@@ -31,7 +31,7 @@ use Rattle.st_wallet.specs.declared.planning.Plan.TheVariants.{Tell, Sign, SignM
 use Rattle.st_wallet.specs.declared.refused.DraftRefused.{DraftRefused}
 use Rattle.st_wallet.specs.declared.refused.DraftRefused.TheVariants.{BadHash, NotJson, NotWhole, BadDelta, WantOfMemory}
 
--- what a line leaves, the reply to it, and the counter that the reply took, where it took one
+-- the state after a line, the reply to it, and the counter that the reply used, if any
 pub record Answered : Type 0 where
   pub next : Found
   pub reply : List ℕ
@@ -64,7 +64,7 @@ request_reply operation = reply (codes "request") (spaced (hash_text (suffix_of 
 abbrev pub hss_reply : HssPublic → List ℕ → List ℕ
 hss_reply public signature = reply (codes "hss") (spaced (base64url (hss_public_text public) ∷ base64url signature ∷ []))
 
--- why a line is no command
+-- why a line is not a command
 abbrev pub cause_word : LineCause → List ℕ
 cause_word line_is.Long = codes "long"
 cause_word line_is.Command = codes "command"
@@ -73,7 +73,7 @@ cause_word line_is.Number = codes "number"
 cause_word line_is.Hex = codes "hex"
 cause_word line_is.Base64 = codes "base64"
 
--- why no operation comes of it; that memory is wanting is never said here
+-- why there is no operation; running out of memory never appears here
 abbrev pub draft_word : DraftRefused → List ℕ
 draft_word BadHash = codes "badHash"
 draft_word NotJson = codes "notJson"
@@ -91,7 +91,7 @@ replied found text = record { next = found; reply = text; counter = None }
 abbrev pub refused : Found → List ℕ → Answered
 refused found cause = replied found (refused_reply cause)
 
--- the disk becomes a vault of this key, of which no counter is spent
+-- the disk becomes a vault of this key, with no spent counter
 abbrev pub answered_format : SecretKey → Answered
 answered_format key = record {
   next = Opened (new_vault key);
@@ -99,7 +99,7 @@ answered_format key = record {
   counter = None;
 }
 
--- this reply, which takes the next counter: that is spent
+-- this reply, which uses the next counter: that is spent
 abbrev pub taken : VaultValue → List ℕ → Answered
 taken vault text = record {
   next = Opened (vault_after vault);
@@ -107,7 +107,7 @@ taken vault text = record {
   counter = Some vault.next;
 }
 
--- the same, where a counter is left
+-- the same, if a counter is left
 abbrev pub taken_if_left : VaultValue → List ℕ → Answered
 taken_if_left vault text = if nat_le 1 (left_of vault) then taken vault text else refused (Opened vault) (codes "exhausted")
 
@@ -120,7 +120,7 @@ abbrev pub answered_hss : VaultValue → List ℕ → Answered
 answered_hss vault message =
     taken_if_left vault (hss_reply (hss_public_of vault.key) (hss_signature_of vault.key vault.next message))
 
--- ---- what a command comes to over a vault: a reply, or what is signed
+-- ---- the plan of a command over a vault: a reply, or something to sign
 
 -- a request that needs no signature, or why there is none
 abbrev pub created_reply : Result PlainOperation DraftRefused → List ℕ
@@ -131,12 +131,12 @@ created_reply (Err refusal) = refused_reply (draft_word refusal)
 abbrev pub create_reply : PublicKey → Option (List ℕ) → List ℕ → List ℕ
 create_reply public nonce delta = created_reply (create_asked public nonce delta)
 
--- an operation that is signed, or why there is none
+-- an operation to sign, or why there is none
 abbrev pub planned : Result Draft DraftRefused → Plan
 planned (Ok draft) = Sign draft
 planned (Err refusal) = Tell (refused_reply (draft_word refusal))
 
--- a message that is signed with two levels, which takes a vault with 1,024 counters
+-- a message to sign with two levels, which requires a vault with 1,024 counters
 abbrev pub planned_hss : VaultValue → List ℕ → Plan
 planned_hss vault message = if vault.key.tree == 6 then SignMessage message else Tell (refused_reply (codes "tree"))
 
@@ -151,13 +151,13 @@ plan_of vault (Recover suffix nonce next delta) = planned (recover_asked (public
 plan_of vault (Deactivate suffix nonce) = planned (deactivate_asked (public_of vault.key) suffix nonce)
 plan_of vault (SignHss message) = planned_hss vault message
 
--- a reply alone changes nothing
+-- a plain reply changes nothing
 abbrev pub answered_plan : VaultValue → Plan → Answered
 answered_plan vault (Tell text) = replied (Opened vault) text
 answered_plan vault (Sign draft) = answered_draft vault draft
 answered_plan vault (SignMessage message) = answered_hss vault message
 
--- what is signed of an operation is its payload, and two levels take a vault with 1,024 counters
+-- the signed input of an operation is its payload, and two levels require a vault with 1,024 counters
 abbrev pub IsReady : VaultValue → Plan → Type 0
 IsReady vault (Tell text) = ⊤
 IsReady vault (Sign draft) = HasInput draft
@@ -165,12 +165,12 @@ IsReady vault (SignMessage message) = vault.key.tree ≡ 6
 
 -- ---- commands
 
--- over a blank disk only a `format` is answered
+-- on a blank disk only a `format` is accepted
 abbrev pub answered_blank : Option SecretKey → Answered
 answered_blank (Some key) = answered_format key
 answered_blank None = refused Blank (codes "blank")
 
--- by what the disk is
+-- by the state of the disk
 abbrev pub answered_command : Found → Command → Answered
 answered_command Damaged command = refused Damaged (codes "damaged")
 answered_command Blank command = answered_blank (format_in command)
@@ -178,7 +178,7 @@ answered_command (Opened vault) command = answered_plan vault (plan_of vault com
 
 -- ---- lines
 
--- the command of a line, or why it is none
+-- the command of a line, or why it is not one
 abbrev pub answered_read : Found → Result Command LineCause → Answered
 answered_read found (Ok command) = answered_command found command
 answered_read found (Err cause) = replied found (reply (codes "refused line ") (cause_word cause))
@@ -187,37 +187,36 @@ answered_read found (Err cause) = replied found (reply (codes "refused line ") (
 abbrev pub answered : Found → List ℕ → Answered
 answered found line = answered_read found (command_of line)
 
--- the replies to lines, one after the other
+-- the replies to lines, one after another
 abbrev pub replies : Found → List (List ℕ) → List ℕ
 replies found [] = []
 replies found (line ∷ lines) = (answered found line).reply ++ replies (answered found line).next lines
 
--- for each of these replies its counter, where it has one
+-- for each of these replies its counter, if it has one
 abbrev pub counters : Found → List (List ℕ) → List (Option ℕ)
 counters found [] = []
 counters found (line ∷ lines) = (answered found line).counter ∷ counters (answered found line).next lines
 
--- what is found behind these lines
+-- the state after these lines
 abbrev pub after : Found → List (List ℕ) → Found
 after found [] = found
 after found (line ∷ lines) = after (answered found line).next lines
 
--- The wallet that comes of it is what the answer leaves, and its reply is given.
+-- The wallet is the one after the answer, and its reply is returned.
 abbrev pub AnswersWith : Answered → Found × List ℕ → Type 0
 AnswersWith answer done = (done.0 ≡ answer.next) × (done.1 ≡ answer.reply)
 
--- A disk that does not tell what it reads as was found blank, and is formatted after all: that is refused,
--- and nothing changes.
+-- A disk that does not reveal its contents seemed blank but is formatted: that is refused, and nothing changes.
 pub record IsRefusedUntold (told : Option (List ℕ)) (found : Found) (done : Found × List ℕ) : Type 0 where
   pub untold : told ≡ None
   pub blank : found ≡ Blank
   pub answers : AnswersWith (refused Blank (codes "formatted")) done
 
--- the answer, but for that where a vault of some key was asked for
+-- the answer, or that refusal if the line is a `format`
 abbrev pub AnswersOrRefuses : Option (List ℕ) → Found → (asked : Option SecretKey) → Answered → Found × List ℕ → Type 0
 AnswersOrRefuses told found asked answer done = AnswersWith answer done ⊎ (IsSome asked × IsRefusedUntold told found done)
 
--- the key of the vault that a line asks for by `format`
+-- the key of a line's `format`
 abbrev pub asked_by : Result Command LineCause → Option SecretKey
 asked_by (Ok command) = format_in command
 asked_by (Err cause) = None

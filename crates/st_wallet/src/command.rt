@@ -12,7 +12,7 @@ use st_hash::{DecRefused, dec};
 use st_lms::Secret;
 use std::alloc::Global;
 
-/// How many bytes a line has at most.
+/// The largest number of bytes of a line.
 pub const LONGEST_LINE: usize = 24_000_000;
 
 const FORMAT: &[u8] = b"format";
@@ -31,14 +31,14 @@ const DEACTIVATE: &[u8] = b"deactivate";
 
 const SIGN_HSS: &[u8] = b"sign-hss";
 
-/// What a line asks for. Suffixes and deltas are not looked at yet.
+/// The command of a line. Suffixes and deltas are not checked yet.
 #[derive(Drop)]
 pub(crate) enum Command {
     /// `format <ots> <tree> <id> <seed>`: make a vault of this key.
     Format(Secret),
-    /// `key <nonce>`: show the key with this nonce.
+    /// `key <nonce>`: give the key with this nonce.
     Key(Nonce),
-    /// `left`: how many counters are left?
+    /// `left`: give the number of counters left.
     Left,
     /// `create <recovery nonce> <delta>`
     Create {
@@ -67,29 +67,29 @@ pub(crate) enum Command {
     SignHss(Bytes),
 }
 
-/// Why a line is no command: the first of these that holds, in this order.
+/// Why a line is not a command: the first of these that holds, in this order.
 #[derive(Clone, Copy, Debug, PartialEq, Eq)]
 pub(crate) enum LineCause {
     /// The line has more than 24,000,000 bytes.
     Long,
-    /// The command word is unknown. It is what stands before the first space, or the whole line.
+    /// The command word is unknown. It is the part before the first space, or the whole line.
     Command,
-    /// A space is missing, or stands behind `left`.
+    /// A space is missing, or follows `left`.
     Words,
-    /// A number is not one of those of its kind, in decimal.
+    /// A number is not an allowed one, in decimal.
     Number,
-    /// An id, a seed or a nonce has not as many hexadecimal digits as it should.
+    /// An id, a seed or a nonce does not have its number of hexadecimal digits.
     Hex,
-    /// A message is the base64url of no bytes.
+    /// A message is not the base64url of any bytes.
     Base64,
 }
 
 /// Why a line was not read as a command.
 #[derive(Clone, Copy, Debug, PartialEq, Eq)]
 pub(crate) enum LineRefused {
-    /// The line is no command, for this cause.
+    /// The line is not a command, for this cause.
     BadLine(LineCause),
-    /// Memory could not be had.
+    /// Out of memory.
     WantOfMemory,
 }
 
@@ -104,7 +104,7 @@ impl From<WantOfMemory> for LineRefused {
     }
 }
 
-/// The command of a line, which comes without its line feed.
+/// The command of a line, which is given without its line feed.
 pub(crate) fn read_command(alloc: Global, line: &[u8]) -> Result<Command, LineRefused>
     ensures { Gives cause_of (command_of line.now) result }
 {
@@ -115,7 +115,7 @@ pub(crate) fn read_command(alloc: Global, line: &[u8]) -> Result<Command, LineRe
     read_words(alloc, word, behind)
 }
 
-// The command of this command word, and of what stands behind it and a space.
+// The command with this word, from the text after it and a space.
 fn read_words(alloc: Global, word: &[u8], behind: Option<&[u8]>) -> Result<Command, LineRefused>
     ensures { Gives cause_of (command_of_words word.now (option_copied behind.entry)) result }
 {
@@ -170,7 +170,7 @@ fn read_format(behind: Option<&[u8]>) -> Result<Command, LineRefused>
     Ok(Command::Format(secret_of(ots, tree, id, seed)))
 }
 
-// The key of types that are known.
+// The key of known types.
 fn secret_of(ots: u32, tree: u32, id: [u8; 16], seed: [u8; 32]) -> Secret
     requires ots { IsOneTimeType ots }
     requires tree { IsTreeType tree }

@@ -12,7 +12,7 @@ use st_plain::ReadRefused;
 use st_scan::CanonicalText;
 use std::alloc::Global;
 
-/// The suffix that a text is.
+/// The suffix in a text.
 pub(crate) fn read_suffix(text: &[u8]) -> Result<Hash, DraftRefused>
     ensures { Gives refusal_of (suffix_asked text.now) result }
 {
@@ -22,7 +22,7 @@ pub(crate) fn read_suffix(text: &[u8]) -> Result<Hash, DraftRefused>
     }
 }
 
-/// The delta that bytes are.
+/// The delta in bytes.
 pub(crate) fn read_delta(alloc: Global, bytes: &[u8]) -> Result<PackedJson, DraftRefused>
     ensures { Gives refusal_of (delta_asked bytes.now) result }
 {
@@ -45,7 +45,7 @@ fn read_text(alloc: Global, bytes: &[u8]) -> Result<CanonicalText, DraftRefused>
     }
 }
 
-/// The hash of a delta, which is that of its canonical text.
+/// The hash of a delta's canonical text.
 pub(crate) fn delta_hash(alloc: Global, delta: &PackedJson) -> Result<Hash, WantOfMemory>
     ensures { IfOk result (λ hash. hash ≡ delta_hash delta.now) }
 {

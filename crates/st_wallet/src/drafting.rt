@@ -19,27 +19,27 @@ use st_jws::{Jwk, commitment, reveal, signing_input};
 use st_ops::Operation;
 use std::alloc::Global;
 
-/// An operation that is signed next: all that it is but its signature.
+/// An operation that is signed next: everything except its signature.
 #[derive(Drop)]
 pub(crate) struct Draft {
-    /// The suffix that it is for, and the reveal value of its key.
+    /// Its suffix, and the reveal value of its key.
     pub(crate) target: Target,
     /// The key that it reveals.
     pub(crate) key: Jwk,
-    /// What is claimed.
+    /// The claim.
     pub(crate) payload: PackedJson,
-    /// What is signed: the payload behind a header.
+    /// The input of the signature: a header and the payload.
     pub(crate) input: Bytes,
-    /// What it changes.
+    /// Its change.
     pub(crate) change: Change,
 }
 
-/// What an operation that is signed changes.
+/// The change of a signed operation.
 #[derive(Drop)]
 pub(crate) enum Change {
     /// The document, by this delta.
     Update(PackedJson),
-    /// All, by this delta.
+    /// Everything, by this delta.
     Recover(PackedJson),
     /// The identifier ends.
     Deactivate,
@@ -94,7 +94,7 @@ pub(crate) fn draft_update(
     Ok(draft)
 }
 
-/// A recover under the key with this nonce, which commits to the key with the next one.
+/// A recover under the key with this nonce, with a commitment to the key with the next one.
 pub(crate) fn draft_recover(
     alloc: Global,
     vault: &mut SigningVault,
@@ -143,7 +143,7 @@ pub(crate) fn draft_deactivate(
     Ok(draft)
 }
 
-// What comes of a suffix, a key, what is claimed and what it changes. No value of JSON lives on in it.
+// The draft from a suffix, a key, a claim and a change. It keeps no JSON tree.
 fn draft_of(
     alloc: Global,
     key: Jwk,

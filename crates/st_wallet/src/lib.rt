@@ -1,6 +1,6 @@
-//! The wallet as a machine of lines over a disk: it makes a vault, shows its keys, writes requests for
-//! operations, and signs messages with two levels. Each signature has a counter that was spent on the disk
-//! before.
+//! The wallet as a machine of lines over a disk: it makes a vault, gives its keys, writes requests
+//! for operations, and signs messages with two levels. The counter of each signature was spent on
+//! the disk before.
 #![tactic(auto)]
 
 mod command;

@@ -19,18 +19,18 @@ use std::alloc::Global;
 /// The LMS type of a vault that signs with two levels.
 const HSS_TREE: u32 = 6;
 
-/// What a command comes to over a vault, before the disk is called.
+/// The plan of a command over a vault, before the disk is called.
 #[derive(Drop)]
 pub(crate) enum Plan {
     /// This reply, and nothing changes.
     Tell(Bytes),
-    /// A request for this operation, once it is signed.
+    /// A request for this operation, after it is signed.
     Sign(Draft),
     /// The signature of this message with two levels.
     SignMessage(Bytes),
 }
 
-/// What the command comes to. Of the vault no more is computed than the command asks for.
+/// The plan of the command. It computes only what the command needs of the vault.
 pub(crate) fn plan_of(
     alloc: Global,
     vault: &mut SigningVault,
@@ -63,7 +63,6 @@ pub(crate) fn plan_of(
     }
 }
 
-// The reply that shows the key with this nonce.
 fn tell_nonce(alloc: Global, vault: &mut SigningVault, nonce: Nonce) -> Result<Bytes, WantOfMemory>
     ensures value { IfOk result (λ text. text ≡ key_reply (key_with (public_of vault.old.key) nonce)) }
     ensures same { vault.new ≡ vault.old }
@@ -170,7 +169,7 @@ fn plan_hss(alloc: Global, vault: &SigningVault, message: Bytes) -> Result<Plan,
     Ok(Plan::SignMessage(message))
 }
 
-// The reply with the cause of a refusal, but for want of memory.
+// The reply with the cause of a refusal, unless it is running out of memory.
 fn refuse(alloc: Global, refused: DraftRefused) -> Result<Plan, WantOfMemory>
     ensures value { IfOk result (λ plan. plan ≡ planned (Err refused)) }
     ensures known { OnOk result (IsSome (refusal_of refused)) }

@@ -16,7 +16,7 @@ use st_lms::Public;
 use st_ops::{Operation, suffix, write_request};
 use std::alloc::Global;
 
-/// The word of a cause, as it stands in a reply.
+/// The word of a cause in a reply.
 pub(crate) fn cause_word(cause: LineCause) -> &'static str
     ensures { result.now ≡ cause_word cause }
 {
@@ -38,7 +38,7 @@ pub(crate) fn tell_formatted(alloc: Global, public: &Public) -> Result<Bytes, Wa
     reply(alloc, "formatted ", text.as_str().as_bytes())
 }
 
-/// The reply that shows a key: its reveal value, its commitment, and its JSON.
+/// The reply with a key: its reveal value, its commitment, and its JSON.
 pub(crate) fn tell_key(alloc: Global, key: &Jwk) -> Result<Bytes, WantOfMemory>
     ensures { IfOk result (λ text. text ≡ key_reply key.now) }
 {
@@ -72,7 +72,6 @@ fn tell_three(
     reply(alloc, word, words.as_slice())
 }
 
-// The canonical text of a key.
 fn key_text(alloc: Global, key: &Jwk) -> Result<Bytes, WantOfMemory>
     ensures { IfOk result (λ text. text ≡ canonical (jwk_json key.now)) }
 {
@@ -80,7 +79,7 @@ fn key_text(alloc: Global, key: &Jwk) -> Result<Bytes, WantOfMemory>
     Ok(write(alloc, &json)?)
 }
 
-/// The reply with the request for an operation, which has its proof and its delta where its kind has
+/// The reply with the request for an operation, which has its proof and its delta if its kind has
 /// them: the suffix, and the request.
 pub(crate) fn tell_request(alloc: Global, operation: &Operation) -> Result<Bytes, WantOfMemory>
     requires { IsComplete (plain_operation operation.now) }
@@ -94,7 +93,7 @@ pub(crate) fn tell_request(alloc: Global, operation: &Operation) -> Result<Bytes
     reply(alloc, "request", words.as_slice())
 }
 
-/// The reply with a signature of two levels, behind the public key that it holds under.
+/// The reply with a signature of two levels, after the public key that verifies it.
 pub(crate) fn tell_hss(
     alloc: Global,
     public: &HssPublic,

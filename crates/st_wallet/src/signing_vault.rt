@@ -10,8 +10,8 @@ use st_vault::Vault;
 use std::alloc::Global;
 use std::marker::Model;
 
-/// A vault, with what has been computed of its keys once something has asked for it. That serves all lines
-/// behind that one.
+/// A vault, with the data computed for its keys at the first line that needed them. Later lines
+/// reuse it.
 #[derive(Drop)]
 pub(crate) struct SigningVault {
     held: Held,
@@ -19,7 +19,7 @@ pub(crate) struct SigningVault {
     signer: Option<Signer>,
 }
 
-/// A vault, alone or with what it keeps for signatures of two levels.
+/// A vault, alone or with the data stored for signatures of two levels.
 #[derive(Drop)]
 pub(crate) enum Held {
     Plain(Vault),
@@ -38,7 +38,7 @@ impl Model for SigningVault {
     ghost invariant = { λ v. IfSome v.signer (λ signer. signer ≡ (held_vault v.held).key) };
 }
 
-/// The vault that is held.
+/// The vault.
 fn vault_in(held: &Held) -> &Vault
     ensures { result.now ≡ held_vault held.now }
 {
@@ -48,7 +48,7 @@ fn vault_in(held: &Held) -> &Vault
     }
 }
 
-/// The vault that was held. What it kept for signatures of two levels is gone.
+/// The vault, without the data stored for signatures of two levels.
 fn vault_of(held: Held) -> Vault
     ensures { result ≡ held_vault held }
 {
@@ -70,7 +70,7 @@ fn hss_of(held: Held) -> HssVault
 }
 
 impl SigningVault {
-    /// The vault, of whose keys nothing is computed yet.
+    /// The vault, with nothing computed for its keys.
     pub(crate) fn new(vault: Vault) -> SigningVault
         ensures { result ≡ vault }
     {
@@ -91,7 +91,7 @@ impl SigningVault {
         }
     }
 
-    /// The vault, with what it keeps for signatures of two levels, and with its key, if that is there.
+    /// The vault, with the data stored for signatures of two levels, and with its key, if present.
     pub(crate) fn with_hss(hss: HssVault, signer: Option<Signer>) -> SigningVault
         requires { IfSome signer (λ signer. signer ≡ hss.key) }
         ensures { result ≡ hss }
@@ -102,7 +102,7 @@ impl SigningVault {
         }
     }
 
-    /// How many counters are left.
+    /// The number of counters left.
     pub(crate) fn left(&self) -> u32
         ensures { result ≡ left_of self.now }
     {
@@ -116,7 +116,7 @@ impl SigningVault {
         vault_in(&self.held).tree()
     }
 
-    /// The public key of the vault's key. It makes the tree, where nothing has asked for it before.
+    /// The public key of the vault's key. It computes the tree, if no line needed it before.
     pub(crate) fn public(&mut self, alloc: Global) -> Result<Public, WantOfMemory>
         ensures value { IfOk result (λ public. public ≡ public_of self.old.key) }
         ensures same { self.new ≡ self.old }
@@ -130,8 +130,8 @@ impl SigningVault {
         Ok(public)
     }
 
-    /// The vault, and its key with the nodes of its tree. It makes the tree, where nothing has asked for
-    /// it before. What the vault kept for signatures of two levels is gone.
+    /// The vault, and its key with the nodes of its tree. It computes the tree, if no line needed
+    /// it before. The data stored for signatures of two levels is dropped.
     pub(crate) fn into_parts(self, alloc: Global) -> Result<(Vault, Signer), WantOfMemory>
         ensures vault { IfOk result (λ parts. parts.0 ≡ self) }
         ensures signer { IfOk result (λ parts. parts.1 ≡ self.key) }
@@ -147,7 +147,7 @@ impl SigningVault {
         }
     }
 
-    /// The vault, for signatures of two levels, and its key, if that is there.
+    /// The vault, for signatures of two levels, and its key, if present.
     pub(crate) fn into_hss(self) -> (HssVault, Option<Signer>)
         requires { self.key.tree ≡ 6 }
         ensures vault { result.0 ≡ self }

@@ -26,18 +26,18 @@ use st_vault::{FormatRefused, OpenRefused, ReserveRefused, format_vault, open_va
 use std::alloc::Global;
 use std::marker::Model;
 
-/// A wallet. Contracts see what its disk was found to be: blank, damaged, or a vault with its key and its
+/// A wallet. Contracts see the state of its disk: blank, damaged, or a vault with its key and its
 /// next counter.
 ///
-/// It is handed from line to line with its disk, which nobody else may write to in between. It keeps the
-/// nodes of its key's tree once a line has asked for them, 2,016 or 65,504 bytes, and what `HssVault` keeps
-/// once one was signed with two levels, until a request is signed.
+/// It is passed from line to line with its disk, which nobody else may write to in between. After a
+/// line has needed them it stores the nodes of its key's tree, 2,016 or 65,504 bytes, and after a
+/// signature of two levels the data of `HssVault`, until a request is signed.
 #[derive(Drop)]
 pub struct Wallet {
     kept: Kept,
 }
 
-/// What is kept of a disk.
+/// The state of a disk.
 #[derive(Drop)]
 pub(crate) enum Kept {
     Blank,
@@ -79,19 +79,20 @@ impl Wallet {
         }
     }
 
-    /// The wallet of a disk, as it reads after a sync. It takes no memory, and nothing is written.
+    /// The wallet of a disk, by its contents after a sync. It allocates nothing, and nothing is
+    /// written.
     ///
-    /// The one refusal is `DiskFault`, which comes only where the disk's count of faults rose.
+    /// The only refusal is `DiskFault`, which is returned only if the disk's count of faults rose.
     #[tactic(auto, using(crate::proofs::StepLemmas::only_found))]
     pub fn open<D: Disk>(disk: &mut D) -> Result<Wallet, WalletRefused>
-        // It is what the disk reads as, and every image is found to be that.
+        // It is the state of the contents, and of every image.
         ensures found { IfOk result (IsFoundOn (D.reads disk.old)) }
         ensures found_now { IfOk result (IsFoundOn (D.reads disk.new)) }
         ensures reads { D.reads disk.new ≡ D.reads disk.old }
         ensures all_found { IfOk result (λ wallet.
             IfTold (D.reads disk.new) (λ image. AllFound wallet (D.past disk.new))) }
 
-        // A stop at any moment of the call leaves nothing that it did not leave before.
+        // A stop at any moment of the call leaves only what it might have left before.
         ensures images { AddsNoImage (D.past disk.old) (D.past disk.new) }
         ensures synced { IfTold (D.reads disk.old) (λ old. (image : List ℕ)
             → LeftSinceSync (D.past disk.new) (D.past disk.old).now image → opened image ≡ opened old) }
@@ -108,16 +109,16 @@ impl Wallet {
         }
     }
 
-    /// Answers a line, which comes without its line feed. The reply has its line end, and the wallet that
-    /// comes back goes with the disk as it is then.
+    /// Answers a line, which is given without its line feed. The reply has its line end, and the
+    /// returned wallet belongs to the disk as it is then.
     ///
-    /// `DiskFault` comes only where the disk's count of faults rose, `WantOfMemory` where memory could not
-    /// be had. In both cases the wallet is gone and the disk is to be opened again: it is as before the
-    /// line or as behind it, and a counter whose reply did not come is lost. All but the signature and the
-    /// text of its reply is made before the counter is reserved. The first line that names a key, or asks
-    /// for a request to be signed, computes all leaves of the tree; the first that is signed with two levels
-    /// those of two trees of height 5, and one of 32 those of one. Else a signature computes its own chains
-    /// alone.
+    /// The result is `DiskFault` only if the disk's count of faults rose, and `WantOfMemory` if
+    /// memory ran out. In both cases the wallet is lost and the disk must be opened again: its
+    /// state is that before the line or after it, and a counter without a reply is lost. Everything
+    /// except the signature and the text of its reply is made before the counter is reserved. The
+    /// first line that needs a key, or a signed request, computes all leaves of the tree; the first
+    /// signature of two levels those of two trees of height 5, and then one of 32 those of one.
+    /// Otherwise a signature computes only its own chains.
     #[tactic(auto, using(crate::proofs::StepLemmas::keeps_standing, crate::proofs::StepLemmas::moments_standing))]
     pub fn step<D: Disk>(
         self,
@@ -127,8 +128,8 @@ impl Wallet {
     ) -> Result<(Wallet, Bytes), WalletRefused>
         requires { IsFoundOn (D.reads disk.old) self }
 
-        // The reply of the reference machine, and what it leaves, which the disk then reads as. On a disk that
-        // doesn't tell, a `format` may be refused instead.
+        // The reply of the reference machine, and its next state, which is then that of the disk's
+        // contents. On a disk that doesn't reveal them, a `format` may be refused instead.
         ensures answer { IfOk result (AnswersOrRefuses (D.reads disk.old) self
             (asked_by (command_of line.now)) (answered self line.now)) }
         ensures answer_told { IfTold (D.reads disk.old) (λ image.
@@ -136,23 +137,24 @@ impl Wallet {
         ensures reads { IfOk result (λ done. IsFoundOn (D.reads disk.new) done.0) }
         ensures told { OnOk result (IfTold (D.reads disk.old) (λ image. IsSome (D.reads disk.new))) }
 
-        // What leaves the machine as it was leaves the disk as it was.
+        // A line that leaves the machine unchanged leaves the disk unchanged.
         ensures untouched { (answered self line.now).next ≡ self → disk.new ≡ disk.old }
 
-        // The counter of the reply was not spent before, and is spent in every image when the reply is given.
+        // The counter of the reply was not spent before, and is spent in every image when the reply
+        // is given.
         ensures fresh { OnOk result (IfTold (D.reads disk.old) (λ image.
             IsCounterFresh (answered self line.now).counter image)) }
         ensures spent { OnOk result (IfTold (D.reads disk.old) (λ image.
             IsCounterSpent (answered self line.now).counter (D.past disk.new))) }
 
-        // Where a stop before the line leaves this wallet, a stop at any moment of it leaves this wallet or
-        // the next one, and behind the reply the next one alone.
+        // If a stop before the line leaves this wallet, a stop at any moment of it leaves this
+        // wallet or the next one, and after the reply only the next one.
         ensures moments { IfTold (D.reads disk.old) (λ image. AllFound self (D.past disk.old)
             → Leaves (IsBeforeOrAfter self (answered self line.now).next) (D.past disk.old) (D.past disk.new)) }
         ensures all_found { IfTold (D.reads disk.new) (λ image. AllFound self (D.past disk.old)
             → IfOk result (λ done. AllFound done.0 (D.past disk.new))) }
 
-        // What was spent in every image stays so at each moment of the line.
+        // Counters that were spent in every image stay so at each moment of the line.
         ensures stays { IfTold (D.reads disk.old) (λ image. KeepsSpent (D.past disk.old) (D.past disk.new)) }
         ensures fault { IsErrOf result WalletRefused.DiskFault → Rose (D.faults disk.old) (D.faults disk.new) }
         ensures later { D.faults disk.old ≤ D.faults disk.new }
@@ -206,7 +208,6 @@ impl Wallet {
     }
 }
 
-// A command over a blank disk.
 #[tactic(auto, using(crate::proofs::StepLemmas::keeps_standing, crate::proofs::StepLemmas::moments_standing))]
 fn carry_out_blank<D: Disk>(
     alloc: Global,
@@ -242,7 +243,8 @@ fn carry_out_blank<D: Disk>(
     }
 }
 
-// A `format` of a blank disk. The reply is made before the vault, so a vault that is made is answered.
+// A `format` of a blank disk. The reply is made before the vault, so making a vault is always
+// answered.
 #[tactic(auto, using(crate::proofs::StepLemmas::only_found, crate::proofs::StepLemmas::keeps_standing, crate::proofs::StepLemmas::moments_standing))]
 fn format<D: Disk>(
     alloc: Global,
@@ -281,7 +283,6 @@ fn format<D: Disk>(
     }
 }
 
-// A command over a vault.
 #[tactic(auto, using(crate::proofs::StepLemmas::keeps_standing, crate::proofs::StepLemmas::moments_standing))]
 fn carry_out_over<D: Disk>(
     alloc: Global,

@@ -1,7 +1,7 @@
 -- A run of the wallet, from before its disk is opened:
---     replies_are       what the driver's rules reply is what the reference machine replies
---     opened_run        what is promised where the disk was opened
---     unopened_run      and where it could not be opened
+--     replies_are       the replies by the driver's rules are those of the reference machine
+--     opened_run        the properties if the disk was opened
+--     unopened_run      and if it could not be opened
 use Rattle.std.proofs.Common.{◌≡◌, ◌∙◌, inl, inr, ◌++◌, ◌≤◌, ℕ, List, [], ◌∷◌, Option, Some, None, is_some, refl, ap, sym, subst, arith}
 use Rattle.std.proofs.lemmas.Bool.{false≢true}
 use Rattle.std.specs.Prelude.{IsSome}
@@ -43,7 +43,7 @@ replies_told found (Some image) some is lines =
 
 -- ---- the end of a run
 
--- what a run leaves of the numbers that it found spent, and of the wallet
+-- the effects of a run on the spent numbers and on the wallet
 pub record Leaving (image : List ℕ) (lines : List (List ℕ)) (written : List ℕ) (old new : Past) : Type 0 where
   pub numbers : (k : List ℕ) → AllHold (spending wallet_spender) (inl k) old
       → RunLeaves (spending wallet_spender) (found_in image) (inl k) lines written old new
@@ -62,8 +62,8 @@ vault_of : {image written : List ℕ} {old new : Past} (input : List ℕ) → Le
 vault_of {image} {written} {old} {new} input leaving =
     keeps_standing wallet_spender (found_in image) (all_lines input) written old new leaving.wallet
 
--- how the disk was opened: no image was added, from the first good sync on each is what the disk read as, and what was
--- spent stays so
+-- the opening of the disk: no image was added, from the first successful sync on each is the earlier contents, and
+-- spent counters stay so
 pub record OpensAs (image : List ℕ) (old new : Past) : Type 0 where
   pub images : AddsNoImage old new
   pub synced : (x : List ℕ) → LeftSinceSync new old.now x → opened x ≡ opened image
@@ -100,7 +100,7 @@ unopened_run {limit} {io} {disk} failed unread opens =
 
 -- ---- it was opened, and lines were answered
 
--- the disk of a was opened, as b: it is this, and reads as it did
+-- the disk of a was opened, as b: it has this state, and the same contents
 pub record OpenedOn {D : Type 0} (store : Store D) (a b : D) (found : Found) : Type 0 where
   pub same : store.reads b ≡ store.reads a
   pub found_is : IsFoundOn (store.reads a) found

@@ -15,12 +15,12 @@ use Rattle.st_wallet.specs.Machine.{AnswersWith, answered}
 use Rattle.st_wallet.specs.Steps.{AllFound, IsBeforeOrAfter, IsCounterSpent}
 use Rattle.st_wallet_lines.specs.Spender.{wallet_spender}
 
--- a fact that doesn't speak of what is told
+-- a fact that does not depend on the contents
 told_of : (P : Type 0) (told : Option (List ℕ)) → IsSome told → IfTold told (λ image. P) → P
 told_of P None some fact = absurd (false≢true some)
 told_of P (Some image) some fact = fact image refl
 
--- what was spent stays so, in the words of the driver
+-- spent counters stay so, in the driver's definitions
 pub as_stays : (a b : Past) → KeepsSpent a b → StaysSpent IsSpent a b
 as_stays a b keeps = record { goes = keeps.goes; stays = keeps.stays }
 
@@ -28,7 +28,7 @@ as_stays a b keeps = record { goes = keeps.goes; stays = keeps.stays }
 spent_by : (counter : Option ℕ) (past : Past) → IsCounterSpent counter past → (q : ℕ) → counter ≡ Some q → SpentInAll IsSpent past q
 spent_by counter past spent q is = subst (λ c. IsCounterSpent c past) is spent
 
--- what each image is found to be is what the disk reads as
+-- the state of each image is that of the contents
 same_found : (told : Option (List ℕ)) (past : Past) (found before : Found) → IsSome told → IfTold told (Images past) → IsFoundOn told found
     → AllFound before past → opens before ≡ opens found
 same_found None past found before some is_image is all = absurd (false≢true some)
@@ -42,7 +42,7 @@ module _ {D : Type 0} (store : Store D) (found : Found) (line : List ℕ) (a b :
   stays : IsTold store a → StaysSpent IsSpent (store.past a) (store.past b)
   stays told = as_stays (store.past a) (store.past b) (told_of (KeepsSpent (store.past a) (store.past b)) (store.reads a) told keeps)
 
-  -- all images are found to be this wallet, where they are found to be one
+  -- all images have the state of this wallet, if they have one
   all_found : IsTold store a → (before : Found) → AllFound before (store.past a) → AllFound found (store.past a)
   all_found told before all image left =
       all image left ∙ same_found (store.reads a) (store.past a) found before told is_image is all
@@ -55,7 +55,6 @@ module _ {D : Type 0} (store : Store D) (found : Found) (line : List ℕ) (a b :
       let same = same_found (store.reads a) (store.past a) found before told is_image is all in
       record { goes = left.goes; each = λ image since. ⊎_elim (λ was. inl (was ∙ sym same)) inr (left.each image since) }
 
-  -- it was answered
   pub ran_line : (next : Found) → IfTold (store.reads a) (λ image. IsSome (store.reads b))
       → IfTold (store.reads a) (λ image. next ≡ (answered found line).next)
       → IfTold (store.reads a) (λ image. IsCounterSpent (answered found line).counter (store.past b))
@@ -75,11 +74,10 @@ module _ {D : Type 0} (store : Store D) (found : Found) (line : List ℕ) (a b :
         subst (λ (f : Found). AllFound f (store.past b)) (told_of (next ≡ (answered found line).next) (store.reads a) t came) then;
   })
 
-  -- the wallet gave up at it
   pub gave_line : GaveUpOnDisk (spending wallet_spender) store found (tt, a) (line ∷ []) (tt, b)
   gave_line = gave_up_spending wallet_spender (record { effect = tt; stays = stays; moments = moments })
 
--- the reply, and what comes behind it, of a wallet that is seen as another and goes on as one that is
+-- the reply, and the later ones, of a wallet with an equal state that continues with an equal one
 pub replied_line : (told : Option (List ℕ)) (found self next after : Found) (line reply : List ℕ) → found ≡ self → after ≡ next
     → IfTold told (λ image. AnswersWith (answered found line) (next, reply)) → IsSome told
     → (more : List (List ℕ)) → replies (spending wallet_spender) self (line ∷ more) ≡ reply ++ replies (spending wallet_spender) after more
@@ -88,13 +86,13 @@ replied_line told found self next after line reply is came answers some =
     replied (spending wallet_spender) self after line reply
     (both.1 ∙ ap (λ (f : Found). (answered f line).reply) is) (came ∙ both.0 ∙ ap (λ (f : Found). (answered f line).next) is)
 
--- the same of where it gave up
+-- the same if it gave up
 pub gave_as : {D : Type 0} {store : Store D} {found self : Found} {c d : Unit {0} × D} {lines : List (List ℕ)} → found ≡ self
     → GaveUpOnDisk (spending wallet_spender) store found c lines d → GaveUpOnDisk (spending wallet_spender) store self c lines d
 gave_as {store = store} {c = c} {d = d} {lines = lines} is gave =
     subst (λ (x : Found). GaveUpOnDisk (spending wallet_spender) store x c lines d) is gave
 
--- the same of what it did
+-- the same if it ran
 pub ran_as : {D : Type 0} {store : Store D} {found self next after : Found} {c d : Unit {0} × D} {lines : List (List ℕ)} → found ≡ self → after ≡ next
     → RanOnDisk (spending wallet_spender) store found c lines next d → RanOnDisk (spending wallet_spender) store self c lines after d
 ran_as {store = store} {found = found} {after = after} {c = c} {d = d} {lines = lines} is came ran =

@@ -1,5 +1,5 @@
--- A run of the wallet over an input: what it replies, the counters that it gives out, and the vault that the disk
--- holds behind it.
+-- A run of the wallet over an input: its replies, the counters that it releases, and the vault on the disk
+-- afterwards.
 use Rattle.std.specs.Prelude.{◌≡◌, ⊤, ℕ, List, Some, None, IsSome}
 use Rattle.std.specs.declared.option.Option.{Option}
 use Rattle.st_io.specs.Past.{Images, Only, Past}
@@ -22,12 +22,12 @@ use Rattle.st_wallet_lines.specs.Spender.{wallet_spender}
 abbrev pub wallet_replies : (image : List ℕ) → List (List ℕ) → List ℕ
 wallet_replies image lines = replies (found_in image) lines
 
--- what a disk is found to be by what it reads as; where it doesn't tell that, nothing is said of replies
+-- the state of a disk by its contents; if it doesn't reveal them, nothing is said about replies
 abbrev pub found_told : Option (List ℕ) → Found
 found_told None = Blank
 found_told (Some image) = found_in image
 
--- The course of a run from a disk that reads so: each reply is written before the next line is carried out.
+-- The course of a run from a disk with these contents: each reply is written before the next line is executed.
 abbrev pub wallet_course : Option (List ℕ) → Course
 wallet_course told = record {
   told = IsSome told;
@@ -37,8 +37,8 @@ wallet_course told = record {
   gave_up_over = λ lines. ⊤;
 }
 
--- A counter is released where at least the first byte of its reply is among those that were written. No counter
--- that is released was spent at the start, no two are equal, and each is spent in every image at the end.
+-- A counter is released if at least the first byte of its reply was written. No released counter was spent at the
+-- start, no two are equal, and each is spent in every image at the end.
 abbrev pub KeptCounters : (image input written : List ℕ) → Past → Type 0
 KeptCounters image input written new = KeptNumbers wallet_spender (found_in image) image (all_lines input) written new
 
@@ -46,44 +46,45 @@ KeptCounters image input written new = KeptNumbers wallet_spender (found_in imag
 abbrev pub wallet_run : (image input written left : List ℕ) → Run
 wallet_run image input written left = run_of wallet_spender (found_in image) image (all_lines input) written left
 
--- The vault is there. At each moment an image is one of the start, or is opened as what the wallet is behind some
--- first lines: blank, or a vault with that key and that next counter. From the first good sync on it is the latter.
+-- The vault is durable. At each moment an image is one of the start, or opens as the state of the wallet after a
+-- prefix of the lines: blank, or a vault with that key and that next counter. From the first successful sync on it is
+-- the latter.
 abbrev pub KeepsVault : (image input : List ℕ) → (old new : Past) → Type 0
 KeepsVault image input old new = KeepsStanding wallet_spender (found_in image) (all_lines input) old new
 
--- At the end these lines have each line of whose reply a byte was written, and at most one besides.
+-- At the end that prefix has each line with a written byte of its reply, and at most one more.
 abbrev pub EndsWithVault : (image input written : List ℕ) → (old new : Past) → Type 0
 EndsWithVault image input written old new = EndsStanding wallet_spender (found_in image) (all_lines input) written old new
 
--- A stop costs at most one: a counter that is spent at the end lay below the next one at the start, or was released,
--- or is the one behind those.
+-- A stop loses at most one counter: one that is spent at the end was below the next one at the start, or was
+-- released, or is the one after those.
 abbrev pub LosesOneCounter : (image input written : List ℕ) → (old new : Past) → Type 0
 LosesOneCounter image input written old new = LosesOne wallet_spender next_in (found_in image) (all_lines input) written old new
 
--- ---- what is promised of a run
+-- ---- the properties of a run
 
--- by its end, of an input and what was written
+-- at its end, from an input and the written bytes
 pub record WalletEnds (image input written : List ℕ) (old new : Past) : Type 0 where
-  -- the counters that were released were not spent before, no two are equal, and each is spent in every image
+  -- the released counters were not spent before, no two are equal, and each is spent in every image
   pub counters : KeptCounters image input written new
-  -- the disk holds what the wallet is behind all lines of whose reply a byte was written, and at most one besides
+  -- the disk has the state of the wallet after all lines with a written byte of their reply, and at most one more
   pub vault : EndsWithVault image input written old new
-  -- so a stop costs at most one counter
+  -- so a stop loses at most one counter
   pub loses_one : LosesOneCounter image input written old new
-  -- so it is one of the runs over which no counter comes twice, to each image that a stop at its end may leave
+  -- so it is one of the runs that release no counter twice, to each image that a stop at its end may leave
   pub runs : Only old image → (left : List ℕ) → Images new left → KeepsNumbers IsSpent (wallet_run image input written left)
 
--- from a disk that reads as this image
+-- from a disk whose contents are this image
 pub record WalletFrom (image : List ℕ) (io : Streams) (disk : Storage) : Type 0 where
-  -- what was spent in every image before the run is so in every image at each moment of it
+  -- counters spent in every image before the run are so in every image at each moment of it
   pub stays : KeepsSpent disk.before disk.behind
-  -- at each moment the disk holds what it held before, or what the wallet is behind some first lines
+  -- at each moment the disk has its earlier state, or that of the wallet after a prefix of the lines
   pub vault : (input : List ℕ) → io.had ≡ Some input → KeepsVault image input disk.before disk.behind
-  -- and at the end, whatever the status
+  -- and at the end, for any status
   pub ends : (input written : List ℕ) → Tells io input written → WalletEnds image input written disk.before disk.behind
 
--- What is promised of each run of the wallet: that it answers the lines of the source, and what follows where the disk
--- tells what it reads as.
+-- The properties of each run of the wallet: it answers the lines of the source, and more if the disk reveals its
+-- contents.
 pub record WalletRun (limit : ℕ) (io : Streams) (disk : Storage) (status : ℕ) : Type 0 where
   pub lines : AnswersLines (wallet_course disk.reads) limit io disk.failed status
   pub from : IfTold disk.reads (λ image. WalletFrom image io disk)

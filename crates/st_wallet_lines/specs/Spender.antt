@@ -1,4 +1,4 @@
--- The wallet as a machine that spends a number on its disk, the counter, before it gives it out with a reply.
+-- The wallet as a machine that spends a number on its disk, the counter, before it releases it with a reply.
 use Rattle.std.specs.Prelude.{◌≡◌, ℕ, ◌+◌}
 use Rattle.st_drive.specs.OnDisk.{any_effect}
 use Rattle.st_drive.specs.Spending.{Spender}
@@ -8,12 +8,12 @@ use Rattle.st_wallet.specs.Command.{longest_line}
 use Rattle.st_wallet.specs.Found.{Found, opens}
 use Rattle.st_wallet.specs.Machine.{answered}
 
--- how many bytes of a line are kept: one more than a line may have, by which a longer one is known
+-- how many bytes of a line are kept: one more than a line may have, to recognize a longer one
 abbrev pub kept_of_line : ℕ
 kept_of_line = longest_line + 1
 
--- Its replies, what is found next and the counters are those of the reference machine, and an image is that of what it
--- is opened as: blank, damaged, or a vault with its key and its next counter.
+-- Its replies, states and counters are those of the reference machine, and an image has the state that it opens as:
+-- blank, damaged, or a vault with its key and its next counter.
 abbrev pub wallet_spender : Spender Found (Unit {0})
 wallet_spender = record {
   reply = λ found line. (answered found line).reply;

@@ -1,4 +1,4 @@
--- What is promised of the wallet as a machine on a disk.
+-- The laws of the wallet as a machine on a disk.
 use Rattle.std.specs.Prelude.{◌≡◌, ◌⊎◌, ℕ, List, ◌++◌, take}
 use Rattle.std.proofs.Common.{inl, inr, ap, arith}
 use Rattle.st_drive.specs.DiskLaws.{disk_laws}
@@ -34,7 +34,7 @@ machine_laws store = disk_laws (spending wallet_spender) store wallet_laws
 pub number_laws : NumberLaws wallet_spender next_in
 number_laws = record { rises = next_rises; given = counter_given }
 
--- each counter is the next one, which is one above it then; its reply has a byte, and what is spent lies below
+-- each counter is the next one, which then rises by one; its reply has a byte, and all spent counters are below it
 pub next_laws : NextLaws wallet_spender next_in
 next_laws = record {
   stays = counter_none;

@@ -1,5 +1,5 @@
-//! The wallet, driven by lines over its disk: each counter is spent there before the reply that has it is
-//! given.
+//! The wallet, driven by lines over its disk: each counter is spent there before its reply is
+//! returned.
 #![tactic(auto)]
 
 mod lines;

@@ -12,9 +12,9 @@ use st_wallet::{LONGEST_LINE, Wallet, WalletRefused};
 use std::alloc::Global;
 use std::marker::{Model, PhantomData};
 
-/// A wallet that is driven by lines. It looks at one byte more of a line than a line may have, by which
-/// it knows one that is too long. It goes with the disk that it was opened on, which nobody else may
-/// write to.
+/// A wallet that is driven by lines. It reads one byte more of a line than a line may have, to
+/// recognize one that is too long. It belongs to the disk on which it was opened, which nobody else
+/// may write to.
 #[derive(Drop)]
 pub struct WalletLines<D> {
     wallet: Wallet,

@@ -10,9 +10,9 @@ use std::alloc::Global;
 
 /// Opens the wallet of the disk, and answers the lines of a source of at most `limit` bytes.
 ///
-/// Each reply is written before the next line is carried out. The status is 4 only where the disk's count
-/// of faults rose, and else that of `run_machine`. What is said of replies and of the disk stands where it
-/// tells what it reads as.
+/// Each reply is written before the next line is executed. The status is 4 only if the disk's count
+/// of faults rose, and else that of `run_machine`. Clauses about replies and the disk hold if it
+/// reveals its contents.
 pub fn run_wallet<S: Source, K: Sink, D: Disk>(
     alloc: Global,
     limit: usize,

@@ -43,7 +43,6 @@ pub fn all_identities(
     Ok(identities)
 }
 
-// The identifier with this number.
 fn make_identity(
     alloc: Global,
     seed: u64,

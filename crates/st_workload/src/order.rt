@@ -42,7 +42,6 @@ pub fn events(
     Ok(lines)
 }
 
-// One turn.
 #[tactic(auto, unfolding(crate::specs::Order::turn))]
 fn turn(alloc: Global, anchors: &[Bytes], w: u32, feed: Feed) -> Result<Feed, WantOfMemory>
     ensures { IfOk result (λ next. next ≡ turn anchors.now w feed) }
@@ -66,7 +65,6 @@ fn feeds_anchor(anchors: &[Bytes], w: u32, feed: &Feed) -> bool
     feed.next < anchors.len() && (w % 2 == 1 || feed.files.len() == 0)
 }
 
-// Feeds the next anchor.
 fn feed_anchor(alloc: Global, anchors: &[Bytes], feed: Feed) -> Result<Feed, WantOfMemory>
     requires { feed.next < length anchors.now }
     ensures { IfOk result (λ more. more ≡ anchor_fed anchors.now feed) }

@@ -161,7 +161,6 @@ fn payload_members(alloc: Global, revealed: &Jwk, delta: &Json) -> Result<Object
     Ok(members)
 }
 
-// A payload, signed at this counter.
 #[tactic(auto, unfolding(crate::specs::Identifier::signed))]
 fn signed(
     alloc: Global,
@@ -179,7 +178,6 @@ fn signed(
 
 // ---- lines
 
-// The line that submits the request for an operation.
 fn submit_line(alloc: Global, operation: &Operation) -> Result<Bytes, WantOfMemory>
     requires { IsComplete (plain_operation operation.now) }
     ensures { IfOk result (λ line. line ≡ codes "submit " ++ request_text (plain_operation operation.now)) }

@@ -5,7 +5,6 @@ use rand_chacha::ChaCha8Rng;
 use rand_core::SeedableRng;
 use rand_core::utils::{NextWord, fill_bytes_via_u32};
 
-// The 32 bytes of the key.
 fn key_bytes(seed: u64) -> [u8; 32]
     ensures { result ≡ key_bytes seed }
 {
@@ -14,7 +13,6 @@ fn key_bytes(seed: u64) -> [u8; 32]
     key
 }
 
-// A stream from its word with this number on.
 #[tactic(auto, unfolding(crate::specs::Words::words_from))]
 fn words_from(seed: u64, stream: u32, n: u64) -> ChaCha8Rng
     ensures { result ≡ words_from seed stream n }

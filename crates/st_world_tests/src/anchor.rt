@@ -9,7 +9,8 @@ use st_datafiles::Role;
 use st_params::Schedule;
 use std::alloc::Global;
 
-// What is known of an entry of version 1 with this text, after these files have come one by one.
+// What is known about an entry of version 1 with this text, after these files were received one by
+// one.
 fn after(
     alloc: Global,
     text: &str,
@@ -26,7 +27,6 @@ fn after(
     Ok(bound)
 }
 
-// How it stands with a role, in a word.
 fn word(state: RoleState) -> &'static str {
     match state {
         RoleState::Unneeded => "unneeded",
@@ -36,7 +36,7 @@ fn word(state: RoleState) -> &'static str {
     }
 }
 
-// Whether it stands so with the core index file, and with the other four roles.
+// Whether these are the states of the core index file, and of the other four roles.
 fn shows(bound: &Bound, core: &str, others: &str) -> bool {
     let mut words = others.split(' ');
     word(bound.state(Role::Core)) == core
@@ -46,7 +46,8 @@ fn shows(bound: &Bound, core: &str, others: &str) -> bool {
         && words.next() == Some(word(bound.state(Role::Chunk)))
 }
 
-// Whether the entry then stands so with its roles, after so many files read and texts opened.
+// Whether these are then the states of the entry's roles, after this many files were read and texts
+// opened.
 fn stands(
     rt: &HostRuntime,
     text: &str,

@@ -7,7 +7,7 @@ use std::test::Fail;
 // The hash text of `abc`.
 const OF_ABC: &str = "EiC6eBa_jwHP6kFBQN5driIjsANho5YXepy0EP9h8gAVrQ";
 
-// Whether a file of these bytes is put under this URI, and was there or not.
+// Whether a file of these bytes is put at this URI, and was there or not.
 fn is_put(
     alloc: Global,
     content: &mut Content,

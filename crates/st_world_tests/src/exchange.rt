@@ -7,9 +7,10 @@ use std::alloc::Global;
 use std::collections::BTreeSet;
 use std::test::Fail;
 
-// A message, the URIs that are wanted, the messages that are sent back, and the bytes that are kept, or `bad`
-// for bytes that are no message. Messages and files stand in base64url; the files that are there are `abc`,
-// `{}` and the empty one. All was computed by Python's hashlib, base64 and struct.
+// A message, the wanted URIs, the messages that are sent back, and the bytes that are stored, or
+// `bad` for bytes that are not a message. Messages and files are in base64url; the files that are
+// there are `abc`, `{}` and the empty one. All was computed with Python's hashlib, base64 and
+// struct.
 const ANSWERS: &str = "\
 AQAAAAG6eBa_jwHP6kFBQN5driIjsANho5YXepy0EP9h8gAVrQ - A2FiYw -
 AQAAAAZEE2-jVbNnihFGrRb36GSelPtPwh_nfoMQwGD2HKr_irp4Fr-PAc_qQUFA3l2uIiOwA2Gjlhd6nLQQ_2HyABWtRBNvo1WzZ4oRRq0W9-hknpT7T8If536DEMBg9hyq_4rZKYoQ0bBzWDfcS9hdrGQbDzzvJ6R-XVOlTy8_Wy_P-rp4Fr-PAc_qQUFA3l2uIiOwA2Gjlhd6nLQQ_2HyABWt47DEQpj8HBSa-_TImW-5JCeuQeRkm5NMpJWZG3hSuFU EiC6eBa_jwHP6kFBQN5driIjsANho5YXepy0EP9h8gAVrQ A3t9,A2FiYw,Aw -
@@ -50,7 +51,7 @@ fn a_message_keeps_to_its_limits(rt: HostRuntime) -> Result<(), Fail> {
     Ok(())
 }
 
-// The first line of which something else is true.
+// The first line with another answer.
 fn first_other(alloc: Global) -> Result<Option<&'static str>, WantOfMemory> {
     let mut content = Content::new(alloc);
     for file in ["abc", "{}", ""] {
@@ -81,7 +82,7 @@ fn is_answered(alloc: Global, content: &Content, line: &str) -> Result<bool, Wan
     }
 }
 
-// Whether this is sent and kept.
+// Whether this is sent and stored.
 fn is_told(alloc: Global, answer: &Answer, told: &str) -> Result<bool, WantOfMemory> {
     let Some((sent, kept)) = told.split_once(' ') else {
         return Ok(false);
@@ -123,7 +124,7 @@ fn is_same(first: &Message, second: &Message) -> bool {
     }
 }
 
-// The bytes that a text is the base64url of, or none.
+// The bytes of a base64url text, or none.
 fn decoded(alloc: Global, text: &str) -> Result<Bytes, WantOfMemory> {
     match dec(alloc, text.as_bytes()) {
         Ok(bytes) => Ok(bytes),
@@ -132,7 +133,7 @@ fn decoded(alloc: Global, text: &str) -> Result<Bytes, WantOfMemory> {
     }
 }
 
-// The hashes of these texts, of which `-` is none.
+// The hashes of these texts; `-` is none.
 fn uris(alloc: Global, texts: &str) -> Result<BTreeSet<Hash>, WantOfMemory> {
     let mut uris = BTreeSet::new(alloc);
     for text in texts.split(',') {
@@ -143,7 +144,8 @@ fn uris(alloc: Global, texts: &str) -> Result<BTreeSet<Hash>, WantOfMemory> {
     Ok(uris)
 }
 
-// A list has at most 1,000 digests and a blob at most 16,000,000 bytes, and a node asks for at most 1,000 files.
+// A list has at most 1,000 digests and a blob at most 16,000,000 bytes, and a node asks for at most
+// 1,000 files.
 fn limits_hold(alloc: Global) -> Result<bool, WantOfMemory> {
     Ok(
         lists(alloc, b"\x01\x00\x00\x00\x00", 0)?
@@ -156,7 +158,7 @@ fn limits_hold(alloc: Global) -> Result<bool, WantOfMemory> {
     )
 }
 
-// Whether so many digests behind these bytes are a message, which then lists so many.
+// Whether this many digests after these bytes are a message, which then lists as many.
 fn lists(alloc: Global, head: &[u8], digests: usize) -> Result<bool, WantOfMemory> {
     let mut bytes = Vec::from_slice(alloc, head)?;
     bytes.resize(head.len().saturating_add(digests.saturating_mul(32)), 7)?;
@@ -168,7 +170,7 @@ fn lists(alloc: Global, head: &[u8], digests: usize) -> Result<bool, WantOfMemor
     }
 }
 
-// Whether so many bytes are a blob.
+// Whether this many bytes are a blob.
 fn is_blob(alloc: Global, length: usize) -> Result<bool, WantOfMemory> {
     let bytes = vec![in alloc; 3u8; length.saturating_add(1)]?;
     match decode(alloc, bytes.as_slice()) {
@@ -177,7 +179,7 @@ fn is_blob(alloc: Global, length: usize) -> Result<bool, WantOfMemory> {
     }
 }
 
-// Whether a node that wants so many files asks for so many.
+// Whether a node that wants this many files asks for that many.
 fn asks_for(alloc: Global, wanted: usize, asked: usize) -> Result<bool, WantOfMemory> {
     let wanted = vec![in alloc; Hash::of_sha256([7; 32]); wanted]?;
     match ask(alloc, wanted.as_slice())? {

@@ -13,7 +13,6 @@ const URI: &str = "EiBEE2-jVbNnihFGrRb36GSelPtPwh_nfoMQwGD2HKr_ig";
 const SHA_512: &str =
     "E0DdrzWhk2F6usxBc0muIEExEub6TompfqIKnu7mS1XTmiGSmSonT8GoNro8I6P-671FTUQjZDzoDiqayU-lTKSf";
 
-// Whether an entry of this height is appended with this number.
 fn is_appended(
     alloc: Global,
     ledger: &mut Ledger,
@@ -76,7 +75,7 @@ fn heights_never_fall_and_a_cut_takes_them_back(rt: HostRuntime) -> Result<(), F
     Ok(())
 }
 
-// The version, the rule or the count, and the text, in which * stands for the URI and # for a hash text of
+// The version, the rule or the count, and the text, in which * is the URI and # a hash text of
 // SHA-512.
 const CASES: &str = "1 A1 
 1 A1 1

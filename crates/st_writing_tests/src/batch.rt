@@ -9,7 +9,8 @@ use st_hash::{Hash, hash_text};
 use st_params::Schedule;
 use std::test::Fail;
 
-/// Submits the requests of a line, in this order, at the limits of version 1. Gives the last answer.
+/// Submits the requests of a line, in this order, at the limits of version 1. Returns the last
+/// answer.
 pub(crate) fn submit_all(
     rt: &HostRuntime,
     queue: &mut Queue,
@@ -27,7 +28,6 @@ pub(crate) fn submit_all(
     answer
 }
 
-// An answer as a word.
 fn word_of(answer: Result<(), SubmitRefused>) -> &'static str {
     match answer {
         Ok(()) => "queued",
@@ -43,7 +43,8 @@ fn word_of(answer: Result<(), SubmitRefused>) -> &'static str {
     }
 }
 
-// The last answer to these requests, how many are queued then, and how many proofs were counted.
+// The last answer to these requests, the number of operations then queued, and the number of proofs
+// counted.
 fn seen_after(rt: &HostRuntime, requests: &str) -> (&'static str, usize, u64) {
     let mut work = Work::new(rt);
     let mut queue = Queue::new(rt.alloc());
@@ -51,7 +52,7 @@ fn seen_after(rt: &HostRuntime, requests: &str) -> (&'static str, usize, u64) {
     (word_of(answer), queue.len(), work.proofs())
 }
 
-// Requests, and what is seen once they were submitted to an empty queue.
+// Requests, and what is seen after they are submitted to an empty queue.
 const LINES: &str = "{ => not-json 0 0
 {\"a\":1.5} => not-whole 0 0
 {} => bad-form 0 0
@@ -62,7 +63,6 @@ create create => already-queued 1 0
 create => queued 1 0
 deactivate update create recover => queued 4 3";
 
-// The first line at which something else is seen.
 fn first_wrong(rt: &HostRuntime) -> Result<Option<&'static str>, Fail> {
     for line in LINES.lines() {
         let (requests, wanted) = line.split_once(" => ").ok_or("no answer")?;
@@ -83,7 +83,7 @@ fn a_request_is_queued_or_refused_by_its_first_cause(rt: HostRuntime) -> Result<
     }
 }
 
-// The suffix that a request is queued for, by an empty queue.
+// The suffix of a request that is queued in an empty queue.
 fn suffix_of(rt: &HostRuntime, request: &str) -> Option<Hash> {
     let mut work = Work::new(rt);
     let mut queue = Queue::new(rt.alloc());

@@ -8,7 +8,7 @@ use st_io::ScriptDisk;
 use st_journal::{AppendRefused, Journal, open_journal};
 use std::alloc::Global;
 
-/// A disk with this image, of whose calls those behind the `last` fail.
+/// A disk with this image, whose calls after `last` fail.
 fn disk_of(alloc: Global, image: &[u8], last: u64) -> Result<ScriptDisk, WantOfMemory> {
     let image = Bytes::from_slice(alloc, image)?;
     Ok(ScriptDisk::new(alloc, image, List::new(alloc), last))
@@ -21,7 +21,7 @@ fn is_done(appended: Result<Journal, AppendRefused>) -> bool {
     }
 }
 
-/// Opens a disk and appends a line, and says whether both were done.
+/// Opens a disk and appends a line, and returns whether both were done.
 fn append_line(alloc: Global, disk: &mut ScriptDisk, line: &[u8]) -> bool
     requires { length line.now ≤ 24000000 }
 {

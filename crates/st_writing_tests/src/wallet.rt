@@ -7,7 +7,7 @@ use st_wallet::{Wallet, WalletRefused};
 use std::alloc::Global;
 use std::test::Fail;
 
-// The first line of a session whose reply is another than the line behind it, where there is one.
+// The first line of a session with another reply than the line after it, if there is one.
 fn first_other<D: Disk>(
     alloc: Global,
     disk: &mut D,

@@ -4,12 +4,12 @@ use st_workload::events;
 use std::alloc::Global;
 use std::test::Fail;
 
-// The lines of the second node that another program made of seed 1 for three identifiers and four rounds of
+// The lines of another program's second node for seed 1, three identifiers and four rounds of
 // updates: anchors and files by their numbers.
 const EVENTS: &str =
     "a0 a1 rollback 1 a1 f8 f18 f3 a2 f12 f17 a3 rollback 3 a3 a4 f1 f5 f11 f2 f16 f13 f4 f14 f6 f7 f15 f0 f10 f9 ";
 
-// So many short lines: a letter and a number from 0 on.
+// This many short lines: a letter and a number from 0 on.
 fn numbered(alloc: Global, letter: &[u8], count: u32) -> Result<List<Bytes>, WantOfMemory> {
     let mut lines = List::new(alloc);
     for number in 0..count {

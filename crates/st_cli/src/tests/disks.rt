@@ -16,7 +16,7 @@ const RECORD: &[u8] = b"\xa5\x00\x00\x00\x0ccontent YWJj\x00";
 // A gate is open, and one byte too few follow it.
 const DAMAGED: &[u8] = b"\xa5\x00\x00\x00\x0dcontent YWJj\x00";
 
-// Whether a run over this disk ends so.
+// Whether a run over this disk ends like this.
 fn ends_on<D: Disk>(
     rt: &HostRuntime,
     words: &str,
@@ -29,7 +29,7 @@ fn ends_on<D: Disk>(
     Ok(ending == status && bytes.as_slice() == written.as_bytes())
 }
 
-// Whether a run from this image ends so, and leaves that one.
+// Whether a run from this image ends like this, and leaves that one.
 fn leaves(
     rt: &HostRuntime,
     image: &[u8],
@@ -67,7 +67,7 @@ refused line number
 refused blank
 ";
 
-// A whole gate byte, and nothing behind it.
+// A whole gate byte, and nothing after it.
 fn open_gate(alloc: Global) -> Result<Bytes, WantOfMemory> {
     let mut image = vec![in alloc; 0u8; 64]?;
     image[0] = 0xa5;

@@ -5,8 +5,8 @@ use st_io::{Pick, PlainSink, ScriptDisk, ScriptSource};
 use std::alloc::Global;
 use std::test::Fail;
 
-// A file, the same file again, which changes nothing, and another file. Python's hashlib and base64 computed the
-// URIs.
+// A file, the same file again, which changes nothing, and another file. Python's hashlib and base64
+// computed the URIs.
 const SESSION: &str = "content YWJj\ncontent YWJj\ncontent YWJk\n";
 
 const REPLIES: &str = "have EiC6eBa_jwHP6kFBQN5driIjsANho5YXepy0EP9h8gAVrQ
@@ -14,8 +14,8 @@ had EiC6eBa_jwHP6kFBQN5driIjsANho5YXepy0EP9h8gAVrQ
 have EiClLRWfJissbdtySmGEC-_DbrMMiId6QDC2XL6GKYRJyQ
 ";
 
-// What a node is asked that starts again, and what it replies where the journal has neither file, the first
-// one, and both.
+// The lines for a node that starts again, and its replies if the journal has neither file, the
+// first one, and both.
 const AGAIN: &str = "content YWJj\ncontent YWJk\n";
 
 const NEITHER: &str = "have EiC6eBa_jwHP6kFBQN5driIjsANho5YXepy0EP9h8gAVrQ
@@ -30,9 +30,10 @@ const BOTH: &str = "had EiC6eBa_jwHP6kFBQN5driIjsANho5YXepy0EP9h8gAVrQ
 had EiClLRWfJissbdtySmGEC-_DbrMMiId6QDC2XL6GKYRJyQ
 ";
 
-// A disk that is empty at first is opened by four calls, and a record takes four. Where all calls behind so many
-// fail: the status, how many replies are written, and how many files a node has that starts again on what a stop
-// leaves, which is of each unsynced byte what was there before, what was written, 0, 1, or an open gate.
+// A disk that is empty at first takes four calls to open, and a record takes four. If all later
+// calls fail: the status, the number of written replies, and the number of files of a node that
+// starts again on what a stop leaves: each unsynced byte is the earlier one, the written one, 0, 1,
+// or an open gate.
 const STOPS: &str = "\
 0: 4 0, 0 0 0 0 0
 1: 4 0, 0 0 0 0 0
@@ -48,7 +49,7 @@ const STOPS: &str = "\
 11: 4 2, 1 2 1 1 2
 12: 0 3, 2 2 2 2 2";
 
-// The status of the session and what it writes, where each read gives one line.
+// The status of the session and its output, if each read returns one line.
 fn run_session(rt: &HostRuntime, disk: &mut ScriptDisk) -> Result<(u8, Bytes), WantOfMemory> {
     let alloc = rt.alloc();
     let words = words_of(alloc, "node --journal")?;
@@ -67,7 +68,7 @@ fn run_session(rt: &HostRuntime, disk: &mut ScriptDisk) -> Result<(u8, Bytes), W
     Ok((status, sink.written().copy(alloc)?))
 }
 
-// How many replies of the session these are, or 9 where they are none.
+// How many replies of the session these are, or 9 if they are others.
 fn replies_in(written: &[u8]) -> u8 {
     if !REPLIES.as_bytes().starts_with(written) {
         return 9;
@@ -81,7 +82,8 @@ fn replies_in(written: &[u8]) -> u8 {
     }
 }
 
-// How many files the journal of this image has, or 9 where a node that starts again replies otherwise.
+// The number of files in the journal of this image, or 9 if a node that starts again has other
+// replies.
 fn files_in(rt: &HostRuntime, image: &[u8]) -> Result<u8, WantOfMemory> {
     let mut disk = disk_of(rt.alloc(), image, u64::MAX)?;
     let (status, written) = run_on(rt, "node --journal", AGAIN.as_bytes(), &mut disk)?;
@@ -104,7 +106,7 @@ fn files_after(rt: &HostRuntime, disk: &ScriptDisk, pick: Pick) -> Result<u8, Wa
     files_in(rt, image.as_slice())
 }
 
-// What the table has in a line, but for the number before the colon.
+// The table's line, without the number before the colon.
 fn told(rt: &HostRuntime, last: u64) -> Result<String, WantOfMemory> {
     let mut disk = disk_of(rt.alloc(), b"", last)?;
     let (status, written) = run_session(rt, &mut disk)?;
@@ -127,7 +129,7 @@ fn is_so(rt: &HostRuntime, line: &str) -> Result<bool, WantOfMemory> {
     }
 }
 
-// The first line at which a stop leaves something else.
+// The first line at which a stop leaves another result.
 fn first_other(rt: &HostRuntime) -> Result<Option<&'static str>, WantOfMemory> {
     'lines: for line in STOPS.lines() {
         if !is_so(rt, line)? {
@@ -137,7 +139,7 @@ fn first_other(rt: &HostRuntime) -> Result<Option<&'static str>, WantOfMemory> {
     Ok(None)
 }
 
-// A record is found again as soon as its reply is written, and perhaps just before.
+// A record is found again after its reply is written, and perhaps just before.
 #[test]
 fn what_was_replied_to_is_there_after_a_stop(rt: HostRuntime) -> Result<(), Fail> {
     match first_other(&rt)? {

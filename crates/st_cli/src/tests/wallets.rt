@@ -3,8 +3,8 @@ use st_base::{Bytes, WantOfMemory};
 use std::alloc::Global;
 use std::test::Fail;
 
-// A key whose seed everybody knows makes an identifier, changes it and recovers it. Here and below, a Python
-// program computed each hash text.
+// A key whose seed is public makes an identifier, changes it and recovers it. Here and below, a
+// Python program computed each hash text.
 const WALLET: &str = concat!(
     "format 3 5 000102030405060708090a0b0c0d0e0f 202122232425262728292a2b2c2d2e2f303132333435363738393a3b3c3d3e3f\n",
     "create - {\"patches\":[{\"action\":\"add-services\",\"services\":[{\"id\":\"home\",\"serviceEndpoint\":\"https://example.com/\",\"type\":\"Home\"}]}],",
@@ -20,7 +20,8 @@ const WALLET: &str = concat!(
 
 const RESOLVE: &str = "resolve did:sidetree:EiCZDKR9P9gxyknSWWRwK86QelvkMh5D7oHcWq4tdIw3Ww\n";
 
-// What the node replies to the anchors of the three batches, each with a look at the identifier behind it.
+// The replies of the node to the anchors of the three batches, each followed by a resolution of the
+// identifier.
 const RESOLVED: &str = concat!(
     "anchored 0\n",
     "resolved {\"didDocument\":{\"id\":\"did:sidetree:EiCZDKR9P9gxyknSWWRwK86QelvkMh5D7oHcWq4tdIw3Ww\",",
@@ -39,21 +40,20 @@ const RESOLVED: &str = concat!(
     ",\"updateCommitment\":\"EiBwILo1hnHuzmW9MztdmK0ckgyvorLqlom2Q4tP9RRy1A\"}}}\n",
 );
 
-// The request in a reply of the wallet, behind its suffix.
+// The request in a reply of the wallet, after its suffix.
 fn request_in(line: &str) -> Option<&str> {
     let rest = line.strip_prefix("request ")?;
     let (_suffix, request) = rest.split_once(' ')?;
     Some(request)
 }
 
-// The anchor string in a reply of the node.
 fn anchor_in(line: &str) -> Option<&str> {
     let rest = line.strip_prefix("batch ")?;
     let (anchor, _files) = rest.split_once(' ')?;
     Some(anchor)
 }
 
-// The lines by which a node makes a batch of each request that a wallet has replied.
+// The lines with which a node makes a batch of each request in the replies of a wallet.
 fn submits(alloc: Global, replies: &str) -> Result<Bytes, WantOfMemory> {
     let mut lines = Bytes::new(alloc);
     'replies: for reply in replies.lines() {
@@ -66,7 +66,8 @@ fn submits(alloc: Global, replies: &str) -> Result<Bytes, WantOfMemory> {
     Ok(lines)
 }
 
-// The lines that anchor each batch that a node has replied, at height 1, and look at the identifier behind it.
+// The lines that anchor each batch in the replies of a node, at height 1, and then resolve the
+// identifier.
 fn anchors(alloc: Global, replies: &str) -> Result<Bytes, WantOfMemory> {
     let mut lines = Bytes::new(alloc);
     'replies: for reply in replies.lines() {
@@ -80,7 +81,7 @@ fn anchors(alloc: Global, replies: &str) -> Result<Bytes, WantOfMemory> {
     Ok(lines)
 }
 
-// The lines that a node is given for these replies of a wallet: it makes the batches, and they are anchored.
+// The lines for a node from these replies of a wallet: it makes the batches, and they are anchored.
 fn lines_for(rt: &HostRuntime, signed: &str) -> Result<Bytes, WantOfMemory> {
     let mut lines = submits(rt.alloc(), signed)?;
     let (_status, batches) = run_words(rt, "node", lines.as_slice())?;
@@ -97,7 +98,8 @@ fn are_taken(rt: &HostRuntime, signed: &str) -> Result<bool, WantOfMemory> {
     Ok(status == 0 && replies.as_slice().ends_with(RESOLVED.as_bytes()))
 }
 
-// Whether a node takes, anchors and resolves what the wallet signs, of whose 32 signatures 30 are left.
+// Whether a node accepts, anchors and resolves the wallet's signed requests; it has 30 of 32
+// signatures left.
 fn resolves_what_is_signed(rt: &HostRuntime) -> Result<bool, WantOfMemory> {
     let (status, replies) = run_words(rt, "wallet", WALLET.as_bytes())?;
     match str::from_utf8(replies.as_slice()) {

@@ -25,7 +25,7 @@ const CASES: &str = r#"1  {}  []  {"publicKeys":[],"services":[]}
 2  {}  [{"action":"ietf-json-patch","patches":[{"op":"add","path":"/alsoKnownAs","value":["a"]}]}]  {"alsoKnownAs":["a"],"publicKeys":[],"services":[]}
 1  {}  [{"action":"ietf-json-patch","patches":[{"op":"add","path":"/alsoKnownAs","value":["a"]}]}]  failed 0"#;
 
-// A document, and patches of which the second fails on it.
+// A document, and patches the second of which fails on it.
 const SERVICE: &str = r#"{"services":[{"id":"s0","serviceEndpoint":"e","type":"T"}]}"#;
 
 const FAILING: &str =
@@ -38,7 +38,7 @@ fn texts_make(alloc: Global, value: &str, patches: &str, version: &str, made: &s
     }
 }
 
-// Whether it comes out as the line says, whose parts stand two spaces apart.
+// Whether the result is that of the line, whose parts are two spaces apart.
 fn comes_out(alloc: Global, line: &str) -> bool {
     let Some((version, rest)) = line.split_once("  ") else {
         return false;
@@ -60,7 +60,7 @@ fn each_patch_does_what_its_action_says(rt: HostRuntime) -> Result<(), Fail> {
     Ok(())
 }
 
-// Whether the second of its two patches fails, and the document stays.
+// Whether the second of its two patches fails, and the document is unchanged.
 fn second_fails(alloc: Global, document: &Document, delta: &Delta, params: &Params) -> bool {
     delta.patches.len() == 2
         && copies_make(alloc, document, delta, params, "failed 1")

@@ -5,8 +5,8 @@ use st_doc::Document;
 use std::alloc::Global;
 use std::test::Fail;
 
-// What patches are made of: `x` as often as it takes for the whole to have so many bytes, or objects that nest
-// so deep.
+// The parts of the patches: `x` repeated until the whole has the wanted number of bytes, or objects
+// that nest to the wanted depth.
 const LONG: &str = r#"{"id":"s","serviceEndpoint":{"a":"%"},"type":"T"}"#;
 
 const DEEP: &str = r#"{"id":"s","serviceEndpoint":%,"type":"T"}"#;
@@ -18,13 +18,14 @@ const REPLACES: &str = r#"[{"action":"replace","document":{"services":[%]}}]"#;
 const ADDS_LONG: &str =
     r#"{"patches":[{"action":"add-services","services":[{"id":"s","serviceEndpoint":{"a":"%"},"type":"T"}]}],"updateCommitment":"EiC6eBa_jwHP6kFBQN5driIjsANho5YXepy0EP9h8gAVrQ"}"#;
 
-// Version, how a delta of so many bytes is taken, that number.
+// Version, the answer to a delta of this many bytes, that number.
 const SIZES: &str = "1  accepted  1000
 1  too long  1001
 2  accepted  2000
 2  too long  2001";
 
-// What a patch does with a service whose endpoint nests so deep, how its delta is taken, that number.
+// The use of a service whose endpoint nests this deep in a patch, the answer to its delta, that
+// number.
 const DEPTHS: &str = "adds  accepted  59
 adds  bad delta  60
 replaces  accepted  29
@@ -35,7 +36,7 @@ fn number(text: &str) -> Option<usize> {
     Some(read_number(text.as_bytes(), 100_000)? as usize)
 }
 
-// The frame, with `x` in place of `%` as often as it takes for the whole to have so many bytes.
+// The frame, with `x` repeated in place of `%` until the whole has this many bytes.
 fn of_size(alloc: Global, frame: &str, size: usize) -> Option<String> {
     let signs = "x"
         .repeat(alloc, size.saturating_add(1).saturating_sub(frame.len()))
@@ -43,7 +44,7 @@ fn of_size(alloc: Global, frame: &str, size: usize) -> Option<String> {
     frame.replace(alloc, "%", signs.as_str()).ok()
 }
 
-// An object in an object, and so on, so deep.
+// An object in an object, and so on, this deep.
 fn nested(alloc: Global, depth: usize) -> Option<String> {
     let around = depth.saturating_sub(1);
     let before = "{\"a\":".repeat(alloc, around).ok()?;
@@ -51,7 +52,7 @@ fn nested(alloc: Global, depth: usize) -> Option<String> {
     format!(in alloc; "{}{{}}{}", before.as_str(), behind.as_str()).ok()
 }
 
-// A patch that adds a service whose endpoint nests so deep, or a document with it.
+// A patch that adds a service whose endpoint nests this deep, or a document with it.
 fn deep_patch(alloc: Global, does: &str, depth: usize) -> Option<String> {
     let endpoint = nested(alloc, depth)?;
     let service = DEEP.replace(alloc, "%", endpoint.as_str()).ok()?;
@@ -121,7 +122,7 @@ fn a_delta_and_a_document_in_it_keep_their_bounds_on_depth(rt: HostRuntime) -> R
     Ok(())
 }
 
-// The document without keys, whose only service is so long.
+// The document without keys, whose only service is this long.
 fn with_long_service(alloc: Global, size: usize) -> Option<Json> {
     let service = of_size(alloc, LONG, size)?;
     framed(alloc, r#"{"services":[%]}"#, service.as_str())
@@ -140,7 +141,7 @@ fn a_document_has_at_most_16384_bytes(rt: HostRuntime) -> Result<(), Fail> {
     Ok(())
 }
 
-// What is added meets the bounds of a document when it is applied.
+// A service that is added must fit the bounds of a document when the patch is applied.
 fn deep_service_fails(alloc: Global, value: &Json) -> bool {
     match deep_patch(alloc, "adds", 30) {
         Some(patches) => patches_make(alloc, value, patches.as_str(), &params("1"), "failed 0"),
@@ -172,7 +173,7 @@ fn what_is_added_meets_the_bounds_of_a_document_when_it_is_applied(
     Ok(())
 }
 
-// One patch that adds a list, and copies it twenty times behind its own last entry.
+// One patch that adds a list, and copies it twenty times after its own last entry.
 fn growing(alloc: Global) -> Option<String> {
     let copied = r#",{"from":"/a","op":"copy","path":"/a/-"}"#
         .repeat(alloc, 20)

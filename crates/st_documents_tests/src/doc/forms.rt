@@ -11,7 +11,8 @@ const ADDS_SERVICES: &str =
 const ADDS_NAMES: &str =
     r#"{"patches":[{"action":"add-also-known-as","uris":[%]}],"updateCommitment":"EiC6eBa_jwHP6kFBQN5driIjsANho5YXepy0EP9h8gAVrQ"}"#;
 
-// Each line is a version, what becomes of a patch that adds this, and what it adds: keys, services, names.
+// Each line is a version, the answer to a patch that adds these, and what it adds: keys, services,
+// names.
 const KEYS: &str = r#"2  accepted  {"id":"k","publicKeyJwk":{},"type":"T"}
 2  accepted  {"controller":"c","id":"-_Az09","publicKeyJwk":{"x":1},"purposes":["authentication","assertionMethod","keyAgreement","capabilityInvocation","capabilityDelegation"],"type":"T"}
 2  accepted  {"id":"k","publicKeyJwk":{},"purposes":[],"type":"T"}
@@ -65,7 +66,7 @@ const NAMES: &str = r#"2  accepted  "https://a/"
 2  bad patch 0  "a","a"
 2  accepted  "a","b""#;
 
-// Version, what becomes of them, patches.
+// Version, the answer, patches.
 const FORMS: &str = r#"1  accepted  [{"action":"replace","document":{}}]
 1  bad patch 0  [{}]
 1  bad patch 0  [7]
@@ -90,7 +91,7 @@ const FORMS: &str = r#"1  accepted  [{"action":"replace","document":{}}]
 2  bad patch 0  [{"action":"replace","document":{"alsoKnownAs":["a","a"]}}]
 2  bad patch 0  [{"action":"replace","document":{"alsoKnownAs":[7]}}]"#;
 
-// Version, what becomes of it, delta. The last two have a hash text of SHA-512.
+// Version, the answer, delta. The last two have a hash text of SHA-512.
 const DELTAS: &str =
     r#"1  accepted  {"patches":[],"updateCommitment":"EiC6eBa_jwHP6kFBQN5driIjsANho5YXepy0EP9h8gAVrQ"}
 1  bad delta  []
@@ -104,7 +105,8 @@ const DELTAS: &str =
 1  bad delta  {"patches":[],"updateCommitment":"E0DdrzWhk2F6usxBc0muIEExEub6TompfqIKnu7mS1XTmiGSmSonT8GoNro8I6P-671FTUQjZDzoDiqayU-lTKSf"}
 2  accepted  {"patches":[],"updateCommitment":"E0DdrzWhk2F6usxBc0muIEExEub6TompfqIKnu7mS1XTmiGSmSonT8GoNro8I6P-671FTUQjZDzoDiqayU-lTKSf"}"#;
 
-// Whether the frame is taken as the line says: a version, how it is taken, and what stands in the frame.
+// Whether the answer to the frame is that of the line: a version, the answer, and the text for the
+// frame.
 fn is_so(alloc: Global, frame: &str, line: &str) -> bool {
     let Some((version, rest)) = line.split_once("  ") else {
         return false;

@@ -5,7 +5,7 @@ use st_jsonpatch::{Pointer, PointerRefused, find};
 use std::alloc::Global;
 use std::test::Fail;
 
-// A pointer, and its tokens, each with a bar behind it; `bad` is no pointer.
+// A pointer, and its tokens, each followed by a bar; `bad` is not a pointer.
 const POINTERS: &str = "/a~1b/m~0n = a/b|m~n|
  = none
 // = ||
@@ -17,7 +17,7 @@ a = bad
 /b/~/c = bad
 /~~0 = bad";
 
-// RFC 6901, section 5: the value, and what its pointers lead to. The last ones lead to nothing.
+// RFC 6901, section 5: the value, and the values at its pointers. The last ones have none.
 const DOCUMENT: &str =
     r#"{"foo":["bar","baz"],"":0,"a/b":1,"c%d":2,"e^f":3,"g|h":4,"i\\j":5,"k\"l":6," ":7,"m~n":8}"#;
 
@@ -43,7 +43,6 @@ const ENTRIES: &str =
 /foo/0/0 = nothing
 /nope = nothing"#;
 
-// Whether the pointer has these tokens, each with a bar behind it.
 fn are_tokens(pointer: &Pointer, text: &str) -> bool {
     let mut rest = text;
     for token in pointer.tokens() {

@@ -5,7 +5,7 @@ use st_jsonpatch::{Step, StepRefused};
 use std::alloc::Global;
 use std::test::Fail;
 
-// Value, step, what it makes.
+// Value, step, result.
 const CASES: &str = r#"{"l":[1,2]}  [{"op":"add","path":"/l/1","value":9}]  {"l":[1,9,2]}
 {"l":[1,2]}  [{"op":"add","path":"/l/2","value":9}]  {"l":[1,2,9]}
 {"l":[1,2]}  [{"op":"add","path":"/l/3","value":9}]  failed 0
@@ -41,7 +41,7 @@ no  {"op":"Add","path":"","value":1}
 no  {"op":["add"],"path":"","value":1}
 yes  {"op":"test","path":"","value":null,"from":7}"#;
 
-// A list is added, and twenty times copied behind its own last entry.
+// A list is added, and copied twenty times after its own last entry.
 const ADDED: &str = r#"[{"op":"add","path":"/a","value":[]}]"#;
 
 const COPIED: &str = r#"[{"from":"/a","op":"copy","path":"/a/-"}]"#;
@@ -109,7 +109,7 @@ fn copies_grow_past_the_bound_on_size(rt: HostRuntime) -> Result<(), Fail> {
     }
 }
 
-// Whether the value is read as a step, or refused as none, as the line says.
+// Whether the value is read as a step, or refused, as the line says.
 fn is_read_so(alloc: Global, value: &Json, is_step: bool) -> bool {
     match Step::read(alloc, value) {
         Ok(_) => is_step,

@@ -6,8 +6,8 @@ use st_params::Schedule;
 use std::alloc::Global;
 use std::test::Fail;
 
-// How many deltas are wanted, the answer, and the file: the rule that rejects it, or `read` and each delta as
-// its canonical text behind a comma.
+// The wanted number of deltas, the answer, and the file: the rule that rejects it, or `read` and
+// each delta as its canonical text after a comma.
 const CASES: &str = r#"1 K2 x
 1 K2 {"deltas":[1.5]}
 3 K2 {"deltas":[1]}}
@@ -31,7 +31,6 @@ const CASES: &str = r#"1 K2 x
 2 read,{"a":1,"b":"x"},[2] {"deltas": [ {"a":1, "b":"\u0078"},[ 2 ] ] }
 2 read,{"a":1,"b":"x"},[2] {"deltas": [ {"b":"\u0078" , "a":1},[ 2 ] ] }"#;
 
-// Whether the deltas are these.
 fn are_shown(alloc: Global, deltas: &[PackedJson], texts: &str) -> Result<bool, WantOfMemory> {
     let mut shown = Bytes::new(alloc);
     for delta in deltas {
@@ -42,7 +41,7 @@ fn are_shown(alloc: Global, deltas: &[PackedJson], texts: &str) -> Result<bool, 
     Ok(shown.as_slice() == texts.as_bytes())
 }
 
-// Whether the file is answered so where so many deltas are wanted.
+// Whether this is the answer to the file if this many deltas are wanted.
 fn is_answered(
     rt: &HostRuntime,
     file: Bytes,
@@ -80,7 +79,6 @@ fn a_chunk_file_fails_its_first_rule(rt: HostRuntime) -> Result<(), Fail> {
     Ok(())
 }
 
-// So many spaces.
 fn spaces(alloc: Global, count: usize) -> Result<Bytes, WantOfMemory> {
     let bytes = vec![in alloc; b' '; count]?;
     Bytes::from_slice(alloc, bytes.as_slice())
@@ -101,7 +99,7 @@ fn unpacked(alloc: Global, deltas: &[PackedJson]) -> Result<List<Json>, WantOfMe
     Ok(unpacked)
 }
 
-// Whether deltas that are read so are written as their canonical text, and one of them is as it is read.
+// Whether these packed deltas are written as their canonical text, and one of them as it is read.
 fn are_written(alloc: Global, packed: &[PackedJson]) -> Result<bool, WantOfMemory> {
     let deltas = unpacked(alloc, packed)?;
     let written = write_chunk(alloc, deltas.as_slice())?;
@@ -140,7 +138,7 @@ fn deltas_are_written_and_read_again_in_their_order(rt: HostRuntime) -> Result<(
     Ok(())
 }
 
-// Whether a role comes before another, and is as its copy.
+// Whether a role is before another, and equals its copy.
 fn is_before(alloc: Global, first: Role, second: Role) -> Result<bool, WantOfMemory> {
     Ok(first < second && first.copy(alloc)? == first)
 }

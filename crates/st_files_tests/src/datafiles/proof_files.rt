@@ -8,7 +8,8 @@ use st_params::Schedule;
 use std::alloc::Global;
 use std::test::Fail;
 
-// How many deactivates are wanted beside no recover, the answer, and the file: the rule that rejects it, or `read`.
+// The wanted number of deactivates with no recover, the answer, and the file: the rule that rejects
+// it, or `read`.
 const CORE: &str = r#"1 Q2 x
 1 Q3 {}
 1 Q3 []
@@ -25,7 +26,7 @@ const CORE: &str = r#"1 Q2 x
 1 read {"operations":{"deactivate":[{"signedData":"x"}]}}
 0 read {"operations":{}}"#;
 
-// How many updates are wanted, the answer, and the file.
+// The wanted number of updates, the answer, and the file.
 const PROVISIONAL: &str = r#"1 Q2 1.5
 1 Q3 {}
 1 Q3 {"operations":{"recover":[]}}
@@ -43,7 +44,7 @@ fn is_told<Read: Drop>(answer: Result<Read, ProofRefused>, word: &str) -> bool {
     }
 }
 
-// Whether a core proof file is answered so where so many deactivates are wanted.
+// Whether this is the answer to a core proof file if this many deactivates are wanted.
 fn core_is(
     rt: &HostRuntime,
     file: Bytes,
@@ -57,7 +58,7 @@ fn core_is(
     Ok(is_told(found, answer))
 }
 
-// The same of a provisional proof file.
+// The same for a provisional proof file.
 fn provisional_is(
     rt: &HostRuntime,
     file: Bytes,
@@ -99,7 +100,6 @@ fn a_provisional_proof_file_fails_its_first_rule(rt: HostRuntime) -> Result<(), 
     Ok(())
 }
 
-// The texts, each in a line.
 fn texts(alloc: Global, lines: &str) -> Result<List<KeptText>, WantOfMemory> {
     let mut texts = List::new(alloc);
     for line in lines.lines() {
@@ -140,7 +140,7 @@ fn core_reads(
     }
 }
 
-// The same of a provisional proof file and these updates.
+// The same for a provisional proof file and these updates.
 fn provisional_reads(rt: &HostRuntime, file: Bytes, updates: &str) -> Result<bool, WantOfMemory> {
     let alloc = rt.alloc();
     let file = Shared::new(alloc, file)?;
@@ -177,7 +177,7 @@ fn updates_are_written(rt: &HostRuntime, updates: &str, text: &str) -> Result<bo
     Ok(file.as_slice() == text.as_bytes() && provisional_reads(rt, file, updates)?)
 }
 
-// The deactivates stand before the recovers in a file, and a kind without texts is left out.
+// The deactivates are before the recovers in a file, and a kind without texts is left out.
 #[test]
 fn signed_texts_are_written_and_read_again(rt: HostRuntime) -> Result<(), Fail> {
     let quoted = r#"{"operations":{"deactivate":[{"signedData":"a.b.c"},{"signedData":"\""}]}}"#;

@@ -45,7 +45,7 @@ const SUFFIXES: &str = "abc nothing EiATdX8Q5MV_plJJmuNAF_0nOfwoAX70r-tP5eSOPf86
 abc abc-512 EiAa33qKusQKI4OBuGyqKfht5V-cTt76PmOZJ7y3ec9AqA
 abc-512 nothing E0AmwPrThr-UCJj8CIlEm1c8x3AZhnnWXtvJT3obZtMdfcZGLTWm3PTqh86gOMSQteVqJZjZtG4ps1qCFbmpiDm_";
 
-// Whether a core index file is answered so: `read`, or the rule that rejects it.
+// Whether this is the answer to a core index file: `read`, or the rule that rejects it.
 fn is_answered(rt: &HostRuntime, file: &[u8], version: u32, count: u32, answer: &str) -> bool {
     let mut work = Work::new(rt);
     let params = Schedule::with_second(2).at(version);
@@ -90,7 +90,7 @@ fn spaces_are(rt: &HostRuntime, size: usize, answer: &str) -> bool {
     }
 }
 
-// A file whose lock id has so many bytes, each spelled so.
+// A file whose lock id has this many bytes, each with this spelling.
 fn locked(alloc: Global, byte: &str, size: usize) -> Option<String> {
     let id = byte.repeat(alloc, size).ok()?;
     r#"{"writerLockId":"%"}"#
@@ -121,7 +121,7 @@ fn sizes_are_bounded(rt: HostRuntime) -> Result<(), Fail> {
     Ok(())
 }
 
-// So many creates of as many suffixes.
+// This many creates with different suffixes.
 fn creates(alloc: Global, count: u32) -> Option<List<SuffixData>> {
     let mut creates = List::new(alloc);
     for number in 0..count {

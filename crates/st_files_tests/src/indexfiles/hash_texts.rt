@@ -9,7 +9,7 @@ use std::test::Fail;
 // The hash text of `abc` by SHA-256 with escapes.
 const ESCAPED: &str = r#""\u0045iC6eBa_jwHP6kFBQN5driIjsANho5YXepy0EP9h8gAVr\u0051""#;
 
-// What is no hash text of any version.
+// Values that are not hash texts of any version.
 const OTHERS: &str = r#"null
 true
 7
@@ -23,7 +23,6 @@ true
 "EiC6eBa_jwHP6kFBQN5driIjsANho5YXepy0EP9h8gAVrQ\""
 ["EiC6eBa_jwHP6kFBQN5driIjsANho5YXepy0EP9h8gAVrQ"]"#;
 
-// Whether the canonical text of the value is this text in quotes.
 fn is_quoted(alloc: Global, value: &Json, text: &str) -> bool {
     match write(alloc, value) {
         Ok(written) => match format!(in alloc; "\"{text}\"") {
@@ -34,7 +33,7 @@ fn is_quoted(alloc: Global, value: &Json, text: &str) -> bool {
     }
 }
 
-// Whether the value is read as the hash in the second version, and read in the first where it is said.
+// Whether the value is read as the hash in version 2, and in version 1 if expected.
 fn is_read(alloc: Global, value: &Json, hash: &Hash, in_first: bool) -> bool {
     match text_of(alloc, value) {
         Some(text) => {
@@ -45,8 +44,8 @@ fn is_read(alloc: Global, value: &Json, hash: &Hash, in_first: bool) -> bool {
     }
 }
 
-// Whether the hash is written as this text, and read again in the second version, and in the first only
-// where it is one of SHA-256.
+// Whether the hash is written as this text, and read again in version 2, and in version 1 only if
+// it is of SHA-256.
 fn is_hash_text(alloc: Global, hash: &Hash, text: &str, in_first: bool) -> bool {
     match hash_json(alloc, hash) {
         Ok(value) => is_quoted(alloc, &value, text) && is_read(alloc, &value, hash, in_first),
@@ -66,7 +65,7 @@ fn a_hash_text_stands_as_json(rt: HostRuntime) -> Result<(), Fail> {
     Ok(())
 }
 
-// The hash that this JSON is read as in the second version.
+// The hash of this JSON in version 2.
 fn read_of(alloc: Global, json: &str) -> Option<Hash> {
     let text = CanonicalText::read_json(alloc, json.as_bytes()).ok()??;
     hash_in(Some(text.root()), 2)

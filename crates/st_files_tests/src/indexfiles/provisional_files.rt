@@ -8,7 +8,7 @@ use st_params::Schedule;
 use std::alloc::Global;
 use std::test::Fail;
 
-// The version, the declared count, the answer, and the file, beside a core index without operations.
+// The version, the declared count, the answer, and the file, given a core index without operations.
 const CASES: &str = r##"1 1 P2 {"a":1.5}
 1 1 P3 []
 1 1 P3 {"chunks":[~],"a":1}
@@ -46,7 +46,7 @@ fn beside(alloc: Global, creates: List<SuffixData>) -> CoreIndex {
     }
 }
 
-// Whether a provisional index file is answered so: `read`, or the rule that rejects it.
+// Whether this is the answer to a provisional index file: `read`, or the rule that rejects it.
 fn is_answered(
     rt: &HostRuntime,
     file: &[u8],
@@ -139,7 +139,7 @@ fn is_rejected_beside_its_create(rt: &HostRuntime, file: &[u8]) -> bool {
     }
 }
 
-// The same bytes are read beside one core index, and rejected beside another that creates the suffix.
+// The same bytes are read with one core index, and rejected with another that creates the suffix.
 fn turns_on_the_core_index(rt: &HostRuntime) -> bool {
     match spelled(rt.alloc(), UPDATING) {
         Some(file) => {
@@ -178,7 +178,8 @@ fn is_same(read: &ProvisionalIndex, index: &ProvisionalIndex) -> bool {
         && read.updates.as_slice() == index.updates.as_slice()
 }
 
-// Whether the file is read as the index in version 2, by reading one file, and as none in version 1.
+// Whether the file is read as the index in version 2, by reading one file, and rejected in version
+// 1.
 fn is_read(rt: &HostRuntime, file: &[u8], index: &ProvisionalIndex) -> bool {
     let core = beside(rt.alloc(), List::new(rt.alloc()));
     let mut work = Work::new(rt);

@@ -6,8 +6,8 @@ use st_params::{Params, Schedule};
 use std::alloc::Global;
 use std::test::Fail;
 
-// The version, what is replaced in the request and by what, how it is answered, and how many signed texts were
-// opened: `read`, or why it is refused.
+// The version, the replaced text and its replacement in the request, the answer, and the number of
+// opened signed texts. The answer is `read`, or why it is refused.
 const NO_FORM: &str = r#"1 {} { NotJson 0
 1 {} [1.5, NotJson 0
 1 {} {"a":1.5} NotWhole 0
@@ -60,7 +60,7 @@ fn word(refused: RequestRefused) -> &'static str {
     }
 }
 
-// How bytes are answered at these limits: `read`, or why they are refused.
+// The answer to bytes at these limits: `read`, or why they are refused.
 fn answer_of(alloc: Global, bytes: &[u8], params: &Params, work: &mut Work) -> &'static str {
     match read_request(alloc, bytes, params, work) {
         Ok(_) => "read",
@@ -68,14 +68,15 @@ fn answer_of(alloc: Global, bytes: &[u8], params: &Params, work: &mut Work) -> &
     }
 }
 
-// Whether bytes are answered so at the limits of this version, and so many signed texts are opened.
+// Whether this is the answer to bytes at the limits of this version, with this many opened signed
+// texts.
 fn is_answered(rt: &HostRuntime, bytes: &[u8], version: u32, answer: &str, opened: u64) -> bool {
     let params = Schedule::with_second(2).at(version);
     let mut work = Work::new(rt);
     answer_of(rt.alloc(), bytes, &params, &mut work) == answer && work.proofs() == opened
 }
 
-// Whether the request of this name is answered as the case says.
+// Whether the answer to the request of this name is that of the case.
 fn is_so(rt: &HostRuntime, name: &str, case: &str) -> Result<bool, WantOfMemory> {
     let Some((version, old, rest)) = three(case) else {
         return Ok(false);
@@ -89,7 +90,7 @@ fn is_so(rt: &HostRuntime, name: &str, case: &str) -> Result<bool, WantOfMemory>
     Ok(is_answered(rt, changed.as_bytes(), version, answer, opened))
 }
 
-// The first case of the request that is answered otherwise.
+// The first case of the request with another answer.
 fn first_other(
     rt: &HostRuntime,
     name: &str,

@@ -59,7 +59,7 @@ fn is_claim(alloc: Global, claim: &Option<Claim>, words: &str) -> Result<bool, W
     }
 }
 
-// Whether the suffix and the claim of an operation are so, and the request is written of it.
+// Whether these are the suffix and the claim of an operation, and it is written as the request.
 fn is_shown(
     alloc: Global,
     operation: &Operation,
@@ -79,7 +79,7 @@ fn is_shown(
     )
 }
 
-// The same of a copy of the operation.
+// The same for a copy of the operation.
 fn is_copied(
     alloc: Global,
     operation: &Operation,
@@ -93,7 +93,7 @@ fn is_copied(
     is_shown(alloc, &copied, params, request, words)
 }
 
-// Whether what the request is read as is as the case says.
+// Whether the operation of the request is that of the case.
 fn is_so(rt: &HostRuntime, case: &str) -> Result<bool, WantOfMemory> {
     let Some((name, version, words)) = three(case) else {
         return Ok(false);

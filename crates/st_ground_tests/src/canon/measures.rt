@@ -2,7 +2,7 @@ use st_canon::{Json, depth, equal, fits, read, size};
 use std::alloc::Global;
 use std::test::Fail;
 
-// A value, the length of its canonical text and its depth, as a program in Python tells them.
+// A value, the length of its canonical text and its depth, computed by a program in Python.
 const MEASURES: &str = r#"null  4 1
 true  4 1
 false  5 1

@@ -96,7 +96,7 @@ fn a_member_is_moved(rt: HostRuntime) -> Result<(), Fail> {
     Ok(())
 }
 
-// Changes the first entry of the list under the name, where there is one.
+// Changes the first entry of the list under the name, if there is one.
 fn change_first(object: &mut Object, name: &str) {
     if let Some(value) = object.get_mut(name) {
         if let Some(list) = value.as_list_mut() {
@@ -113,7 +113,7 @@ fn change_value(value: &mut Json) {
     }
 }
 
-// Whether a copy stays as it was where the value is changed.
+// Whether a copy is unchanged when the value is changed.
 fn keeps_its_copy(alloc: Global, value: &mut Json, text: &str) -> Result<bool, WantOfMemory> {
     let copied = value.copy(alloc)?;
     change_value(value);

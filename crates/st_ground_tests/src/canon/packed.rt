@@ -7,7 +7,7 @@ use std::test::Fail;
 const DELTA: &str =
     "{\"patches\":[],\"updateCommitment\":\"EiA-HpZ-m3k-kI-OroPHTbqbzMzmpVNbS0Yr2ZlFN7_hXA\"}";
 
-// So many lists, each in the one before.
+// This many lists, each in the previous one.
 fn nested(rt: &HostRuntime, levels: u32) -> Result<Json, Fail> {
     let mut value = Json::List(List::new(rt.alloc()));
     for _ in 1..levels {
@@ -18,20 +18,19 @@ fn nested(rt: &HostRuntime, levels: u32) -> Result<Json, Fail> {
     Ok(value)
 }
 
-// A copy of what is packed.
 fn packed_copy(rt: &HostRuntime, value: &Json) -> Result<PackedJson, Fail> {
     let packed = PackedJson::pack(rt.alloc(), value)?;
     Ok(packed.copy(rt.alloc())?)
 }
 
-// Whether it comes out as a value with this canonical text.
+// Whether it is unpacked as a value with this canonical text.
 fn comes_out(rt: &HostRuntime, packed: &PackedJson, text: &Bytes) -> Result<bool, Fail> {
     let value = packed.unpack(rt.alloc())?;
     let found = write(rt.alloc(), &value)?;
     Ok(found.as_slice() == text.as_slice())
 }
 
-// Whether a value of this length comes out again, and its text, where it is kept as that.
+// Whether a value of this length is unpacked unchanged, and its text, if it is stored as text.
 fn is(rt: &HostRuntime, packed: &PackedJson, value: &Json, long: u64) -> Result<bool, Fail> {
     let text = write(rt.alloc(), value)?;
     let is_text = match packed.text() {
@@ -41,7 +40,7 @@ fn is(rt: &HostRuntime, packed: &PackedJson, value: &Json, long: u64) -> Result<
     Ok(packed.size() == long && is_text && comes_out(rt, packed, &text)?)
 }
 
-// The same of a copy.
+// The same for a copy.
 fn is_kept(rt: &HostRuntime, value: &Json, long: u64) -> Result<bool, Fail> {
     is(rt, &packed_copy(rt, value)?, value, long)
 }
@@ -61,7 +60,7 @@ fn a_value_of_any_depth_comes_out_again(rt: HostRuntime) -> Result<(), Fail> {
     Ok(())
 }
 
-// It is the same value, whether its text stands at the place or not.
+// It is the same value, whether the file has its text at the place or not.
 #[test]
 fn a_delta_may_be_kept_in_its_file(rt: HostRuntime) -> Result<(), Fail> {
     let value = read(rt.alloc(), DELTA.as_bytes())?;

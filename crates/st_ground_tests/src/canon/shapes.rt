@@ -5,7 +5,7 @@ use st_canon::{
 use std::alloc::Global;
 use std::test::Fail;
 
-// What a value is, in a word.
+// The kind of a value, in a word.
 fn header(alloc: Global, text: &str) -> &'static str {
     match read(alloc, text.as_bytes()) {
         Ok(json) => if is_header(&json) { "header" } else { "other" },
@@ -83,7 +83,7 @@ fn is_nothing_read(alloc: Global) -> bool {
     matches!(read_json(alloc, b"1.5"), Ok(None))
 }
 
-// What is left of an object, in a word.
+// The rest of an object, in a word.
 fn left(alloc: Global, text: &str) -> &'static str {
     match object(alloc, text) {
         Some(object) => word(some_object(object)),
@@ -99,7 +99,7 @@ fn word(json: Option<Json>) -> &'static str {
     }
 }
 
-// What has no member is left out.
+// Empty members are left out.
 fn are_left(alloc: Global) -> bool {
     left(alloc, "{}") == "none" && left(alloc, "{\"a\":1}") == "object"
 }

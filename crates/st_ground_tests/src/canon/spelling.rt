@@ -5,8 +5,8 @@ use st_plain::ReadRefused;
 use std::alloc::Global;
 use std::test::Fail;
 
-// A text and its canonical text, two spaces apart. The first line is the sample of RFC 8785, section
-// 3.2.2, without the numbers that are not whole.
+// A text and its canonical text, two spaces apart. The first line is the sample of RFC 8785,
+// section 3.2.2, without the numbers that are not whole.
 const SPELLINGS: &str =
     r#"{"string":"\u20ac$\u000F\u000aA'\u0042\u0022\u005c\\\"\/","literals":[null,true,false]}  {"literals":[null,true,false],"string":"€$\u000f\nA'B\"\\\\\"/"}
 {"ab":1,"":2,"a":3}  {"":2,"a":3,"ab":1}
@@ -144,7 +144,7 @@ fn what_is_not_whole_is_refused(rt: HostRuntime) -> Result<(), Fail> {
     each_is_refused(rt.alloc(), NOT_WHOLE, "not whole")
 }
 
-// Whether so many nested lists are read or refused.
+// Whether this many nested lists are read or refused.
 fn nested(alloc: Global, deep: usize) -> Result<&'static str, WantOfMemory> {
     let mut text = Bytes::new(alloc);
     for _ in 0..deep {

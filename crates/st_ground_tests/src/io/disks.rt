@@ -82,7 +82,7 @@ fn is_written(rt: &impl Files<File = File>) -> bool {
         && disk.sync() == Ok(())
 }
 
-/// Whether a new disk over the same file reads what was written, and no more.
+/// Whether a new disk over the same file reads what was written, and nothing else.
 fn is_read_again(rt: &impl Files<File = File>) -> bool {
     let mut room = [0u8; 3];
     let mut disk = FileDisk::new(rt);
@@ -113,8 +113,8 @@ fn is_refused(rt: &impl Files<File = File>) -> bool {
     disk.length().is_err() && disk.sync().is_err()
 }
 
-/// Whether a new disk over the journal makes its file, which only its owner may open, and no other disk opens it as
-/// long as the first is there.
+/// Whether a new disk over the journal creates its file, which only its owner may open, and no
+/// other disk opens it while the first exists.
 fn is_private(rt: &impl Files<File = File>) -> bool {
     let mut disk = FileDisk::journal(rt);
     disk.length() == Ok(0)

@@ -37,7 +37,7 @@ fn a_plain_sink_takes_all(rt: HostRuntime) -> Result<(), Fail> {
     Ok(())
 }
 
-/// Whether a read fails, or gives these bytes.
+/// Whether a read fails, or returns these bytes.
 fn gives(source: &mut ScriptSource, want: Result<usize, Failed>, given: &[u8]) -> bool {
     let mut room = [0u8; 4];
     source.read(&mut room) == want && room.starts_with(given)

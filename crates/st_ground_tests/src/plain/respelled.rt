@@ -2,7 +2,7 @@ use st_plain::{ReadRefused, canonical_text};
 use std::alloc::{AllocError, Global};
 use std::test::Fail;
 
-// A text and its canonical text, or how it is refused, two spaces apart. The first of two names that are
+// A text and its canonical text, or the refusal, two spaces apart. The first of two names that are
 // compared by UTF-16 is U+1F600, whose bytes are above those of U+FB33.
 const TEXTS: &str = r#"{"b":2,"a":1}  {"a":1,"b":2}
 {"b":{"d":1,"c":[true,null]},"a":[{"f":"x","e":{}},[]]}  {"a":[{"e":{},"f":"x"},[]],"b":{"c":[true,null],"d":1}}
@@ -45,7 +45,7 @@ const TEXTS: &str = r#"{"b":2,"a":1}  {"a":1,"b":2}
 {"b":1,2}  no JSON
 [1.5,"\ud800"]  no JSON"#;
 
-// Whether a canonical text is given as it is.
+// Whether a canonical text is unchanged.
 fn is_kept(alloc: Global, canonical: &[u8]) -> bool {
     match canonical_text(alloc, canonical) {
         Ok(written) => written.as_slice() == canonical,
@@ -78,7 +78,7 @@ fn each_text_has_one_answer(rt: HostRuntime) -> Result<(), Fail> {
     Ok(())
 }
 
-// So many lists round this text.
+// This many lists around this text.
 fn nested(alloc: Global, deep: usize, inside: &str) -> Result<Vec<u8>, AllocError> {
     let mut text = Vec::new(alloc);
     for _ in 0..deep {
@@ -91,7 +91,7 @@ fn nested(alloc: Global, deep: usize, inside: &str) -> Result<Vec<u8>, AllocErro
     Ok(text)
 }
 
-// With the object that is out of order inside, one level more.
+// With the unordered object inside, one more level.
 fn ends_at_127(alloc: Global) -> Result<bool, AllocError> {
     let text = nested(alloc, 126, r#"{"b":1,"a":2}"#)?;
     let wanted = nested(alloc, 126, r#"{"a":2,"b":1}"#)?;

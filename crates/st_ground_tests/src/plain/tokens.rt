@@ -2,7 +2,7 @@ use json::{Reader, Scratch};
 use st_plain::{canonical_text, rewrite};
 use std::test::Fail;
 
-// What goes out of the next value, or nothing where it is left.
+// The written text of the next value, or nothing if it is left.
 fn rewritten(rt: &HostRuntime, text: &str, depth: usize) -> Result<Vec<u8>, Fail> {
     let mut scratch = Scratch::new(rt.alloc());
     let mut reader = Reader::new(text, &mut scratch)?;
@@ -13,7 +13,7 @@ fn rewritten(rt: &HostRuntime, text: &str, depth: usize) -> Result<Vec<u8>, Fail
     }
 }
 
-// A text, and what goes out of it.
+// A text, and its written form.
 const REWRITTEN: &[(&str, &str)] = &[
     (
         r#"{"a" : [ ], "b":[1, -9007199254740991]}"#,
@@ -23,7 +23,7 @@ const REWRITTEN: &[(&str, &str)] = &[
         r#"{"a":{"b":"\u0078","c":null},"d":true}"#,
         r#"{"a":{"b":"x","c":null},"d":true}"#,
     ),
-    // The units of U+1F600 begin with D83D, which is below FB33 and above 20AC.
+    // The first unit of U+1F600 is D83D, which is below FB33 and above 20AC.
     (
         r#"{"\u20ac":1,"\ud83d\ude00":false,"\ufb33":3}"#,
         "{\"\u{20ac}\":1,\"\u{1f600}\":false,\"\u{fb33}\":3}",
@@ -49,7 +49,7 @@ fn values_go_out_as_they_come(rt: HostRuntime) -> Result<(), Fail> {
     Ok(())
 }
 
-// An object of so many members that are named by numbers of five digits, up or down.
+// An object with this many members, whose names are numbers of five digits, up or down.
 fn numbered(rt: &HostRuntime, count: u64, down: bool) -> Result<String, Fail> {
     let mut text = String::from_str(rt.alloc(), "{")?;
     for at in 0..count {
@@ -65,7 +65,7 @@ fn numbered(rt: &HostRuntime, count: u64, down: bool) -> Result<String, Fail> {
     Ok(text)
 }
 
-// Few names that are out of order are put in their places, more are sorted.
+// A few unordered names are moved to their places, more are sorted.
 #[test]
 fn names_may_come_in_the_worst_order(rt: HostRuntime) -> Result<(), Fail> {
     for count in [2, 64, 65, 66, 200] {

@@ -13,8 +13,8 @@ fn shorter(bytes: &[u8]) -> &[u8] {
     }
 }
 
-/// Whether the signature holds, and no longer where it is cut, made longer, or damaged at any of these
-/// places.
+/// Whether the signature holds, and no longer does if it is truncated, extended, or damaged at any
+/// of these places.
 fn holds(
     alloc: Global,
     public: &[u8],

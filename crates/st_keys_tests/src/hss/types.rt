@@ -3,7 +3,7 @@ use super::vectors::PUBLIC_1;
 use st_hss::{HssPublic, HssRefused};
 use std::test::Fail;
 
-/// What 60 bytes are that differ from a key in one.
+/// The answer to 60 bytes that differ from a key in one.
 fn read_changed(at: usize, byte: u8) -> Result<(), HssRefused> {
     let mut bytes = [0; 60];
     if PUBLIC_1.len() != 60 || at >= 60 {

@@ -16,8 +16,8 @@ fn disk_of(alloc: Global, image: &[u8]) -> Result<PlainDisk, WantOfMemory> {
     Ok(PlainDisk::new(alloc, Bytes::from_slice(alloc, image)?))
 }
 
-/// The vault after so many signatures, and whether they have this length and hold under this key, and
-/// hold for no other message.
+/// The vault after this many signatures, and whether they have this length and hold under this key,
+/// and for no other message.
 fn sign_all<D: Disk>(
     alloc: Global,
     disk: &mut D,
@@ -41,7 +41,8 @@ fn sign_all<D: Disk>(
     Ok((hss, right))
 }
 
-/// Whether a new vault of the types 2 and 6 signs rightly, past the 32 signatures of its first lower key.
+/// Whether a new vault of types 2 and 6 signs correctly, past the 32 signatures of its first lower
+/// key.
 fn signs_on(alloc: Global) -> Result<bool, Fail> {
     let public = HssPublic::read(QUICK_PUBLIC)?;
     let mut disk = disk_of(alloc, b"")?;
@@ -57,7 +58,7 @@ fn signs_on(alloc: Global) -> Result<bool, Fail> {
     }
 }
 
-/// The image of a vault of which one counter is left.
+/// The image of a vault with one counter left.
 fn nearly_spent(alloc: Global) -> Result<Bytes, WantOfMemory> {
     let mut image = Bytes::from_slice(alloc, &[0xa5, 0, 0, 0, 2, 0, 0, 0, 6])?;
     image.push_all(alloc, &[7; 55])?;
@@ -68,7 +69,7 @@ fn nearly_spent(alloc: Global) -> Result<Bytes, WantOfMemory> {
     Ok(image)
 }
 
-/// Whether that vault signs once, and then hands itself back.
+/// Whether that vault signs once, and then returns itself.
 fn signs_once(alloc: Global) -> Result<bool, Fail> {
     let image = nearly_spent(alloc)?;
     let mut disk = disk_of(alloc, image.as_slice())?;
@@ -85,8 +86,8 @@ fn signs_once(alloc: Global) -> Result<bool, Fail> {
     }
 }
 
-/// Whether a signature comes on a disk that fails from the call behind the `last` on. Four calls open the
-/// vault, one writes the counter's byte, and one syncs it.
+/// Whether a disk that fails after the call `last` yields a signature. Four calls open the vault,
+/// one writes the counter's byte, and one syncs it.
 fn signs_within(alloc: Global, last: u64) -> Result<bool, Fail> {
     let image = nearly_spent(alloc)?;
     let mut disk = ScriptDisk::new(alloc, image, List::new(alloc), last);
@@ -100,7 +101,7 @@ fn signs_within(alloc: Global, last: u64) -> Result<bool, Fail> {
     }
 }
 
-/// Whether a vault of LMS type 5 is handed back.
+/// Whether a vault of LMS type 5 is returned.
 fn small_is_refused(alloc: Global) -> Result<bool, Fail> {
     let mut disk = disk_of(alloc, b"")?;
     let vault = format_vault(&mut disk, Secret::new(2, 5, [7; 16], [9; 32])?)?;

@@ -7,7 +7,7 @@ use st_jws::{BadJwk, Jwk, commitment, commitment_with, meets, reveal, reveal_wit
 use std::alloc::Global;
 use std::test::Fail;
 
-// What stands for `PUB` in the tables: the key of a signer in Python.
+// The value of `PUB` in the tables: the key of a signer in Python.
 const PUBLIC: &str = "AAAABQAAAAQAAQIDBAUGBwgJCgsMDQ4P99GZhaxRFDHM-2Y073OyPKnZ1Mf6yB1qQoylqzRU-Ds";
 
 // The JSON of keys, their reveal values and commitments, by SHA-256 and by SHA-512, from Python.
@@ -19,7 +19,6 @@ const BY_SHA_512: &str =
     r#"{"alg":"LMS","kty":"LMS","pub":"PUB"} E0BUnuUvbC42BVmgAzvcYQoxTrL4piJuLm8AJboX27YFziwyAbPYB3hBuuKjRgproUP85WSZJerS47JWK33C-73f E0DlcPOZ301o2QniNOs2P7JNISXGUDwYLvRSnDQclli30FmHyRL5_65DyOr3V_uJxVfjWbMPsc_u59YqMMPMahXc
 {"alg":"LMS","kty":"LMS","nonce":"ZGVmZ2hpamtsbW5vcHFycw","pub":"PUB"} E0AaEPdZyzCDJLjc2_h8jWOcc85d7h5pFSpgtNr_czt3c0elL-ozyWxo_q2tgWd-M9UIoUzFkk0MVSa5qFrWWsK9 E0B5EkodZe1td1BQ4xe8GbZbEZmzuS6rgocM9gwswsceCaDl8pH6DdOv0cHuDqHnHYg1EiprwH11_ShtX13XtB8n"#;
 
-// The JSON value of a line of a table.
 fn json_of(alloc: Global, line: &str) -> Option<Json> {
     match line.replace(alloc, "PUB", PUBLIC) {
         Ok(text) => read(alloc, text.as_bytes()).ok(),
@@ -59,7 +58,7 @@ fn is_hash(alloc: Global, hash: &Hash, text: &str) -> bool {
     }
 }
 
-// Whether the key has this reveal value and this commitment, of which the first alone meets the second.
+// Whether the key has this reveal value and this commitment; only the first meets the second.
 fn gives(
     alloc: Global,
     key: &Jwk,
@@ -79,7 +78,7 @@ fn gives(
     )
 }
 
-// Whether the key of the line has the reveal value and the commitment beside it.
+// Whether the key of the line has the line's reveal value and commitment.
 fn has_hashes(alloc: Global, line: &str, code: u8) -> Result<bool, WantOfMemory>
     requires { IsCode code }
 {

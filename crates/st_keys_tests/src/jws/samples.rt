@@ -1,6 +1,6 @@
 //! Signed texts, made by a signer in Python whose signatures are those of Bouncy Castle.
 
-/// Of the payload of `PAYLOAD`, with the key number 3.
+/// For the payload of `PAYLOAD`, with the key number 3.
 pub(crate) const SIGNED: &str =
     "eyJhbGciOiJMTVMifQ.eyJkZWx0YUhhc2giOiJFaUJQU3BRUV84MzRsY1N0dUlCbG5wdGNEZEh5T2pCNUJvUTBDejZ\
     xeXdSVG1BIiwidXBkYXRlS2V5Ijp7ImFsZyI6IkxNUyIsImt0eSI6IkxNUyIsIm5vbmNlIjoiWkdWbVoyaHBhbXRzY\
@@ -26,14 +26,14 @@ pub(crate) const SIGNED: &str =
     CCgUMkYRPhZcX6KNw_rkhFNfSkYcGdE8RNqJuJtVv6JbRy8xnQ4Fkbbq8BCkaAg_FxnGaDwoT96YXmatbmhPZC5CQv\
     x1NfohhdwUCMq_WOnUyPSb8wwxXGlCaoAZx80Pph5dGqkn1JVFnzs";
 
-/// What was signed.
+/// The signed payload.
 pub(crate) const PAYLOAD: &str =
     "{\"deltaHash\":\"EiBPSpQQ_834lcStuIBlnptcDdHyOjB5BoQ0Cz6qywRTmA\",\"updateKey\":{\"alg\":\"LMS\",\"kt\
     y\":\"LMS\",\"nonce\":\"ZGVmZ2hpamtsbW5vcHFycw\",\"pub\":\"AAAABQAAAAQAAQIDBAUGBwgJCgsMDQ4P99GZhaxRF\
     DHM-2Y073OyPKnZ1Mf6yB1qQoylqzRU-Ds\"}}";
 
-/// With a `kid` in the header, a `recoveryKey` in the payload, and other spellings of both, with the
-/// key number 31.
+/// With a `kid` in the header, a `recoveryKey` in the payload, and non-canonical spellings of both,
+/// with the key number 31.
 pub(crate) const SPACED: &str =
     "eyAia2lkIjogImsxIiwgImFsZyI6ICJMTVMiIH0.eyAicmVjb3ZlcnlLZXkiOiB7Imt0eSI6ICJMTVMiLCAiYWxnIj\
     ogIkxNUyIsICJwdWIiOiAiQUFBQUJRQUFBQVFBQVFJREJBVUdCd2dKQ2dzTURRNFA5OUdaaGF4UkZESE0tMlkwNzNP\
@@ -81,8 +81,8 @@ eyJhbGciOiJMTVMiLCJraWQiOjEuNX0.e30.
 WyJMTVMiXQ.e30.
 eyJhbGciOiJMTVMiLCJ0eXAiOiJKV1QifQ.e30."#;
 
-/// The payloads `{}`, `[]`, an `updateKey` that is none, a number that is not whole or is too great
-/// beside a key, and two keys.
+/// The payloads `{}`, `[]`, an `updateKey` that is not a key, a number that is not whole or is too
+/// large next to a key, and two keys.
 pub(crate) const BAD_PAYLOADS: &str = r#"eyJhbGciOiJMTVMifQ.e30.
 eyJhbGciOiJMTVMifQ.W10.
 eyJhbGciOiJMTVMifQ.eyJ1cGRhdGVLZXkiOjF9.
@@ -90,7 +90,7 @@ eyJhbGciOiJMTVMifQ.eyJuIjoxLjUsInVwZGF0ZUtleSI6eyJhbGciOiJMTVMiLCJrdHkiOiJMTVMiL
 eyJhbGciOiJMTVMifQ.eyJuIjo5MDA3MTk5MjU0NzQwOTkyLCJ1cGRhdGVLZXkiOnsiYWxnIjoiTE1TIiwia3R5IjoiTE1TIiwicHViIjoiQUFBQUJRQUFBQVFBQVFJREJBVUdCd2dKQ2dzTURRNFA5OUdaaGF4UkZESE0tMlkwNzNPeVBLbloxTWY2eUIxcVFveWxxelJVLURzIn19.
 eyJhbGciOiJMTVMifQ.eyJyZWNvdmVyeUtleSI6eyJhbGciOiJMTVMiLCJrdHkiOiJMTVMiLCJwdWIiOiJBQUFBQlFBQUFBUUFBUUlEQkFVR0J3Z0pDZ3NNRFE0UDk5R1poYXhSRkRITS0yWTA3M095UEtuWjFNZjZ5QjFxUW95bHF6UlUtRHMifSwidXBkYXRlS2V5Ijp7ImFsZyI6IkxNUyIsImt0eSI6IkxNUyIsInB1YiI6IkFBQUFCUUFBQUFRQUFRSURCQVVHQndnSkNnc01EUTRQOTlHWmhheFJGREhNLTJZMDczT3lQS25aMU1mNnlCMXFRb3lscXpSVS1EcyJ9fQ."#;
 
-/// A whole number beside the key, a `kid` and a `recoveryKey`, with no signature.
+/// A whole number next to the key, a `kid` and a `recoveryKey`, with no signature.
 pub(crate) const BAD_SIGNATURES: &str =
     r#"eyJhbGciOiJMTVMifQ.eyJuIjoxLCJ1cGRhdGVLZXkiOnsiYWxnIjoiTE1TIiwia3R5IjoiTE1TIiwicHViIjoiQUFBQUJRQUFBQVFBQVFJREJBVUdCd2dKQ2dzTURRNFA5OUdaaGF4UkZESE0tMlkwNzNPeVBLbloxTWY2eUIxcVFveWxxelJVLURzIn19.
 eyJhbGciOiJMTVMiLCJraWQiOiJrMSJ9.eyJyZWNvdmVyeUtleSI6eyJhbGciOiJMTVMiLCJrdHkiOiJMTVMiLCJwdWIiOiJBQUFBQlFBQUFBUUFBUUlEQkFVR0J3Z0pDZ3NNRFE0UDk5R1poYXhSRkRITS0yWTA3M095UEtuWjFNZjZ5QjFxUW95bHF6UlUtRHMifX0."#;

@@ -10,7 +10,7 @@ use std::test::Fail;
 
 const LIMIT: usize = 13_000;
 
-// Whether the text is refused so, and one proof is counted.
+// Whether this is the refusal of the text, and one proof is counted.
 fn is_refused(rt: &HostRuntime, text: &str, limit: usize, refused: SignedRefused) -> bool {
     let Ok(text) = Text::from_text(rt.alloc(), text) else {
         return false;
@@ -89,7 +89,7 @@ fn a_signed_text_opens_to_its_payload(rt: HostRuntime) -> Result<(), Fail> {
     Ok(())
 }
 
-// What is turned, its place in the text, and the sign that stands there then.
+// The part that is changed, its place in the text, and the new character.
 const TURNED: &str = "header 11 N
 payload 45 F
 number 315 Q
@@ -100,7 +100,7 @@ tree-type 1819 9
 path 2032 k
 payload-key 258 H";
 
-// The signed text with this sign at this place.
+// The signed text with this character at this place.
 fn changed(alloc: Global, place: &str, sign: &str) -> Option<String> {
     let mut bytes = Vec::from_slice(alloc, SIGNED.as_bytes()).ok()?;
     let at = read_number(place.as_bytes(), 10_000)? as usize;
@@ -137,7 +137,7 @@ fn a_turned_bit_is_refused(rt: HostRuntime) -> Result<(), Fail> {
     Ok(())
 }
 
-/// Whether the signing input of a payload is this, and joined with a signature is the signed text.
+/// Whether this is the signing input of a payload, and joined with a signature the signed text.
 fn is_joined(
     alloc: Global,
     payload: &Json,

@@ -8,7 +8,7 @@ use st_vault::{Counter, FormatRefused, ReserveRefused, Vault, format_vault, open
 use std::alloc::Global;
 use std::test::Fail;
 
-/// The disk of a vault of the key of which so many counters are spent, where it was made.
+/// The disk of a vault of the key with this many spent counters, if it was made.
 fn spent_disk(alloc: Global, count: u32) -> Result<(ScriptDisk, bool), WantOfMemory> {
     let mut disk = disk_of(alloc, b"", u64::MAX)?;
     let made = is_formatted(&mut disk) && is_spent(&mut disk, count);
@@ -38,7 +38,7 @@ fn signs(
     )
 }
 
-/// Whether the vault gives its next counter, which has this number, and so many are left then.
+/// Whether the vault returns its next counter, which has this number, and then has this many left.
 fn gives<D: Disk>(
     alloc: Global,
     disk: &mut D,
@@ -55,7 +55,7 @@ fn gives<D: Disk>(
     }
 }
 
-/// Whether the next counter after so many has that number.
+/// Whether the next counter after this many has that number.
 fn is_next(alloc: Global, count: u32, left: u32) -> Result<bool, WantOfMemory> {
     let (mut disk, made) = spent_disk(alloc, count)?;
     match open_vault(&mut disk) {
@@ -64,7 +64,7 @@ fn is_next(alloc: Global, count: u32, left: u32) -> Result<bool, WantOfMemory> {
     }
 }
 
-/// Whether the vault hands itself back, since none of its counters is left.
+/// Whether the vault returns itself, since it has no counters left.
 fn hands_itself_back<D: Disk>(disk: &mut D, vault: Vault) -> bool
     requires { ReadsAs (D.reads disk.old) vault }
 {
@@ -141,7 +141,8 @@ fn a_counter_signs_with_a_signer_of_its_vault(rt: HostRuntime) -> Result<(), Fai
     Ok(())
 }
 
-// Identifier and seed are the SHA-256 of the key's identifier, the number, 0xfff0 or 0xfff1, and its seed.
+// Identifier and seed are the SHA-256 of the key's identifier, the number, 0xfff0 or 0xfff1, and
+// its seed.
 fn is_child(child: &Secret) -> bool {
     child.ots() == 2
         && child.tree() == 5

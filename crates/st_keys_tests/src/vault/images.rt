@@ -4,7 +4,7 @@ use st_vault::OpenRefused;
 use std::alloc::Global;
 use std::test::Fail;
 
-/// Writes a byte, where there is such a place.
+/// Writes a byte, if there is such a place.
 fn set(image: &mut [u8], place: u32, byte: u8) {
     let place = place as usize;
     if place < image.len() {
@@ -12,8 +12,9 @@ fn set(image: &mut [u8], place: u32, byte: u8) {
     }
 }
 
-// The length of an image, its gate, its one-time type and tree type, and two places at which it has bytes that are
-// not 0, where there are such places. Then how many counters are left, or what it is instead.
+// The length of an image, its gate, its one-time type and tree type, and two places with nonzero
+// bytes, if the image has such places. Then the number of remaining counters, or what else the
+// image is.
 const IMAGES: &str = "0 165 2 5 2000 2000 blank
 63 165 2 5 2000 2000 blank
 96 0 2 5 64 65 blank
@@ -56,7 +57,7 @@ fn image_of(alloc: Global, numbers: &[u32]) -> Result<Vec<u8>, WantOfMemory> {
     }
 }
 
-/// Whether the image of these numbers is opened as it is told.
+/// Whether the image of these numbers is opened as expected.
 fn opens(alloc: Global, numbers: &str, told: &str) -> Result<bool, WantOfMemory> {
     let mut read: Vec<u32> = Vec::new(alloc);
     for number in numbers.split(' ') {

@@ -12,8 +12,8 @@ fn leaves(alloc: Global, disk: &ScriptDisk, pick: Pick, left: Left) -> Result<bo
     Ok(left_of(alloc, image.as_slice())? == left)
 }
 
-/// Whether a stop leaves a disk that is opened as `old` where each byte that was not synced holds what it held before
-/// or 0, and as `new` where it holds what was written or an open gate.
+/// Whether a stop leaves a disk that is opened as `old` if each unsynced byte is the earlier one or
+/// 0, and as `new` if it is the written one or an open gate.
 fn leaves_either(
     alloc: Global,
     disk: &ScriptDisk,
@@ -28,7 +28,8 @@ fn leaves_either(
     )
 }
 
-/// Whether an empty disk whose calls behind the `last` fail is formatted, or not, and a stop then leaves this.
+/// Whether an empty disk whose calls after `last` fail is formatted, or not, and a stop then leaves
+/// this.
 fn formats(
     alloc: Global,
     last: u64,
@@ -52,7 +53,7 @@ fn a_stop_while_formatting_leaves_a_blank_disk_or_the_vault(rt: HostRuntime) -> 
     Ok(())
 }
 
-/// The image of a vault of which no counter is spent.
+/// The image of a vault with no spent counter.
 fn vault_image(alloc: Global) -> Result<Bytes, WantOfMemory> {
     let mut disk = disk_of(alloc, b"", u64::MAX)?;
     let _made = is_formatted(&mut disk);
@@ -66,7 +67,7 @@ fn is_reserved(disk: &mut ScriptDisk) -> bool {
     }
 }
 
-/// The same of opening a vault's disk and reserving a counter.
+/// The same for opening a vault's disk and reserving a counter.
 fn reserves(
     alloc: Global,
     last: u64,
@@ -92,7 +93,8 @@ fn a_stop_while_opening_or_reserving_keeps_the_vault(rt: HostRuntime) -> Result<
     Ok(())
 }
 
-/// Whether the disk that fails behind this call is left so, once so many are to be spent of its vault.
+/// Whether a disk that fails after this call is left in this state, when this many counters of its
+/// vault are to be spent.
 fn spends(
     alloc: Global,
     last: u64,

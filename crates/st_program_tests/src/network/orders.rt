@@ -1,8 +1,8 @@
-// Two networks in which node 0 has the files of two entries and each other node gets them by messages: an
-// `ask`, an offer of the provisional index file and a core index file that nobody asked for are delivered in
-// an order of their own, six orders in all, and then asked for and delivered until nothing is wanted. Each
-// line stands before its reply, and `new` makes four nodes anew. All was computed by Python's hashlib, base64,
-// struct and json.
+// Two networks in which node 0 has the files of two entries and each other node receives them by
+// messages: an `ask`, an offer of the provisional index file and a core index file that nobody
+// asked for are delivered in six different orders, and then files are asked for and delivered until
+// none is wanted. Each line precedes its reply, and `new` makes four new nodes. All was computed
+// with Python's hashlib, base64, struct and json.
 pub const ORDERS: &str = "\
 new
 at 0 content eyJvcGVyYXRpb25zIjp7ImNyZWF0ZSI6W3sic3VmZml4RGF0YSI6eyJkZWx0YUhhc2giOiJFaUM2ZUJhX2p3SFA2a0ZCUU41ZHJpSWpzQU5obzVZWGVweTBFUDloOGdBVnJRIiwicmVjb3ZlcnlDb21taXRtZW50IjoiRWlEanNNUkNtUHdjRkpyNzlNaVpiN2trSjY1QjVHU2JrMHlrbFprYmVGSzRWUSJ9fV19fQ

@@ -11,7 +11,7 @@ use st_params::Schedule;
 use std::alloc::Global;
 use std::test::Fail;
 
-// The state that operations leave: the keys of its recovery and its update commitment, and its services.
+// The state after operations: the keys of its recovery and its update commitment, and its services.
 // After the bar: the operations in the order of their places.
 const CASES: &str = "active r v (bd)|update u - v a;create - r u b;create - r u c;update u - v d
 active q v (b)|create - r u a;recover r q v b;recover r p w c
@@ -24,8 +24,8 @@ active r u (a)|create - r u a;recover u q v b;update r - v c
 deactivated|create - r u a;deactivate r - - -;recover r q v b;create - r u a
 absent|deactivate r - - -;recover r q v b";
 
-// How many operations are counted when the state is opened. The operations after the bar leave the state.
-// Opening looks at the delta of a create, unless an update has looked at it before.
+// The number of operations counted when the state is opened, and after the bar the operations.
+// Opening reads the delta of a create, unless an update has read it before.
 const OPENED: &str = "0|
 1|create - r u a
 0|create - r u a;update u - v b";
@@ -52,7 +52,7 @@ fn id_of(service: &Json) -> &str {
     }
 }
 
-// The ids of the services, one after the other, in parentheses.
+// The ids of the services, one after another, in parentheses.
 fn has_services(document: &Document, ids: &str) -> bool {
     let Some(mut rest) = ids.strip_prefix("(") else {
         return false;
@@ -96,13 +96,11 @@ fn are_shown(alloc: Global, parts: &StateParts, expected: &str) -> bool {
     }
 }
 
-// The state is the expected one.
 fn is_shown(rt: &HostRuntime, state: &DidState, expected: &str) -> Result<bool, WantOfMemory> {
     let parts = state.open(rt.alloc(), &mut Work::new(rt))?;
     Ok(are_shown(rt.alloc(), &parts, expected))
 }
 
-// The operations that are written so.
 fn operations(alloc: Global, lines: &str) -> Option<List<Operation>> {
     let mut operations = List::new(alloc);
     for line in lines.split(';') {
@@ -113,7 +111,7 @@ fn operations(alloc: Global, lines: &str) -> Option<List<Operation>> {
     Some(operations)
 }
 
-// By one step for each operation.
+// The state after one step for each operation.
 fn folded(
     alloc: Global,
     operations: &[Operation],
@@ -142,7 +140,7 @@ fn is_folded(
     )
 }
 
-// By following commitments over all of them.
+// The state by following commitments over all of them.
 fn is_walked(
     rt: &HostRuntime,
     operations: &[Operation],
@@ -178,7 +176,7 @@ fn operations_resolve_to_a_state(rt: HostRuntime) -> Result<(), Fail> {
     Ok(())
 }
 
-// How many operations are counted where the state is opened, whose parts can be copied.
+// The number of operations counted when the state is opened; its parts can be copied.
 fn counted(rt: &HostRuntime, operations: &[Operation]) -> Result<u64, WantOfMemory> {
     let state = folded(rt.alloc(), operations, &mut Work::new(rt))?;
     let mut work = Work::new(rt);

@@ -1,5 +1,5 @@
-//! Resolution from nothing as a person follows it: by searches over all operations, from the first
-//! create along recovers and deactivates, and then along the updates after the last of these.
+//! Resolution from nothing by hand: by searches over all operations, from the first create along
+//! recovers and deactivates, and then along the updates after the last of these.
 
 use st_apply::{DidState, StateParts, apply, counts_for};
 use st_base::{WantOfMemory, Work};
@@ -117,7 +117,7 @@ fn start(operations: &[Operation]) -> Option<(usize, &Operation)> {
     None
 }
 
-/// The state that the operations resolve to. The place of each is its index in the list.
+/// The resolution of the operations. The place of each is its index in the list.
 pub(crate) fn walk(
     alloc: Global,
     operations: &[Operation],

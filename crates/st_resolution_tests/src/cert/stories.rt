@@ -9,7 +9,8 @@ use st_params::Schedule;
 use std::alloc::Global;
 use std::test::Fail;
 
-// How many operations act. After the bar: the operations in the order of their places, each with its verdict.
+// The number of operations that act. After the bar: the operations in the order of their places,
+// each with its verdict.
 const STORIES: &str =
     "2|before update u - v a;created create - r u b;again create - r u c;updated update u - v d
 2|created create - r u a;recovered recover r q v b;wrongReveal recover r p w c
@@ -45,7 +46,7 @@ fn item(alloc: Global, place: u32, line: &str) -> Option<CertItem> {
     })
 }
 
-// The operations that are written so, each two places after the one before it.
+// The operations of these lines, each two places after the previous one.
 fn items(alloc: Global, lines: &str) -> Option<List<CertItem>> {
     let mut items = List::new(alloc);
     let mut place = 0;
@@ -75,7 +76,6 @@ fn with_last(
     Ok(Certificate { verdicts, finish })
 }
 
-// The certificate with another state.
 fn with_finish(
     alloc: Global,
     certificate: &Certificate,
@@ -85,7 +85,7 @@ fn with_finish(
     Ok(Certificate { verdicts, finish })
 }
 
-// Whether it is accepted, and so many operations are applied for that.
+// Whether it is accepted, with this many operations applied for that.
 fn is_accepted(
     rt: &HostRuntime,
     items: &[CertItem],

@@ -1,8 +1,9 @@
-//! Files of entries, and the anchor strings that name them. Their URIs, and the suffixes, were computed by
-//! another program.
+//! Files of entries, and the anchor strings that name them. Their URIs, and the suffixes, were
+//! computed by another program.
 
-// Suffixes by their names: those of the create, the recover, the deactivate and the update of one entry are
-// a to d, and a is that of every other create here but one, whose suffix is e. The last is that of the signed operations.
+// Suffixes by their names: those of the create, the recover, the deactivate and the update of one
+// entry are a to d, and a is that of every other create here except one, whose suffix is e. The
+// last is that of the signed operations.
 pub(super) const SUFFIXES: &str = "a EiATdX8Q5MV_plJJmuNAF_0nOfwoAX70r-tP5eSOPf86vA
 b EiDsORX1QuD4y2wYMvuwOJoBH-SLaoLjf3lA4nS_IwIHdg
 c EiBbB6xA9TNJPIAK9uA8bOPqQ1mchWW_qMlXczcQgnkndg
@@ -10,12 +11,13 @@ d EiApNwE_IYGBBgayp5mwW9ooSfPjaaIJgqQTjw4KVZhM5A
 e EiAcvzOjFJNIa14uvuDzVXte0dmxTiHvGRrsD4yOVzCjag
 signed EiD-zxDVK2hIFNpYmFI4XfycZg9p9lTgzP_7KzgnFe7F_Q";
 
-// Entries, each with its height and its anchor string: of a create; of an update of the suffix by a core
-// index file alone, and by one with the create beside it; of the create with a chunk file, whose delta does
-// not count; of an update whose signed text can't be opened; of the core index file `{}`, with several
-// counts, and of no file; of one operation of each kind; of three files that are no JSON; of two creates, early
-// and late, of which one is that of the signed operations; of a recover and an update whose proof files are one;
-// and of a proof file as a core index file.
+// Entries, each with its height and its anchor string: of a create; of an update of the suffix by a
+// core index file alone, and by one that also has the create; of the create with a chunk file,
+// whose delta does not count; of an update whose signed text can't be opened; of the core index
+// file `{}`, with several counts, and of no file; of one operation of each kind; of three files
+// that are not JSON; of two creates, early and late, one of which is that of the signed operations;
+// of a recover and an update whose proof files are one file; and of a proof file as a core index
+// file.
 pub(super) const ENTRIES: &str = "created 5 1.EiA10dvb-_d3kAW7ki4Rzo6ZaD84v2bZZ4O2fJ21bh1ChA
 alone 5 1.EiCsir62ZDH0aqKUHQ01Ma8lTAFhXsAV0ua-pqMudFd96Q
 beside 5 2.EiDKeYorqm9yliypMRptbi4Fm-jQPsUx43Y34Oh3zkJE4A

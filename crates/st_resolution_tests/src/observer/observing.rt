@@ -17,7 +17,7 @@ fn an_anchor_string_is_judged_by_its_rules(rt: HostRuntime) -> Result<(), Fail> 
     }
 }
 
-// A cut drops what entries asked for, and keeps the content.
+// A cut drops the files that entries wait for, and keeps the content.
 const LIFE: &str =
     "new +created|absent a|operations a 0|wanted EiA10dvb-_d3kAW7ki4Rzo6ZaD84v2bZZ4O2fJ21bh1ChA
 |wants EiA10dvb-_d3kAW7ki4Rzo6ZaD84v2bZZ4O2fJ21bh1ChA|spares EiCsir62ZDH0aqKUHQ01Ma8lTAFhXsAV0ua-pqMudFd96Q
@@ -56,7 +56,7 @@ const TWENTY: &str = "+created +created +created +created +created|applied 0
 +created +created +created +created +created|applied 0
 created|applied 27|operations a 20";
 
-// Once the file has come, each create is applied once.
+// After the file is received, each create is applied once.
 #[test]
 fn what_many_entries_give_is_applied_once(rt: HostRuntime) -> Result<(), Fail> {
     match first_other(&rt, TWENTY) {
@@ -65,7 +65,8 @@ fn what_many_entries_give_is_applied_once(rt: HostRuntime) -> Result<(), Fail> {
     }
 }
 
-// A create whose chunk file comes last, and eight updates; then a ninth whose files are all there.
+// A create whose chunk file is received last, and eight updates; then a ninth whose files are all
+// there.
 const LATE: &str = "+begun begun begun.index next next.index next.proof next.chunk
 +next +next +next +next +next +next +next +next
 begun.chunk|applied 16
@@ -79,8 +80,8 @@ fn a_late_file_costs_the_steps_behind_it(rt: HostRuntime) -> Result<(), Fail> {
     }
 }
 
-// Files are wanted once each, in the order of the texts of their URIs, which is not that of their digests: at
-// first those of c, a, b. Entries may miss one file, in one role or another.
+// Files are wanted once each, in the order of the texts of their URIs, which is not that of their
+// digests: at first those of c, a, b. Entries may miss one file, in one role or another.
 const WANTED: &str =
     "new +a +b +c|wanted EiA0DEN7KpqCqnY7X31XwDQsWE1NIaGXlizxR6Cv7rq0BQ EiAAUzqJcUH1oAX88YG3M_a-4_OUzVijvEYeR6DUQngubQ EiAbaxD8caPNHUZ7vvhcTFW8spj_oQRUGz3FsTgMJTK96Q
 c|wanted EiAAUzqJcUH1oAX88YG3M_a-4_OUzVijvEYeR6DUQngubQ EiAbaxD8caPNHUZ7vvhcTFW8spj_oQRUGz3FsTgMJTK96Q|entry 2 C2 unneeded unneeded unneeded unneeded
@@ -102,7 +103,8 @@ fn files_are_wanted_in_the_order_of_their_texts(rt: HostRuntime) -> Result<(), F
     }
 }
 
-// The files of a later entry come first. Of the create that both have, the delta of the earlier entry comes last.
+// The files of a later entry are received first. The delta of the create that both have is received
+// last for the earlier entry.
 const FIRST: &str =
     "new +none +early +none +late none|absent signed|absent a|absent e|places signed none
 late late.index late.chunk|services signed s0|places signed 3|active a|places a 3|absent e

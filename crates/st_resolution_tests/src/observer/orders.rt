@@ -2,8 +2,8 @@
 use super::stories::first_other_under;
 use std::test::Fail;
 
-// The entry after its five files, and then before them in each of their hundred and twenty orders, which
-// another program listed.
+// The entry after its five files, and then before them in each of their hundred and twenty orders,
+// which another program listed.
 const ORDERS: &str = "new A B C D E +each
 new +each A B C D E
 new +each A B C E D
@@ -130,7 +130,8 @@ new +each E D C B A";
 const KNOWN: &str =
     "entry 0 read read read read read|wanted none|operations a 1|operations b 1|operations c 1|operations d 1";
 
-// In every order of the files the result is that of the definition, which has all files before the entry.
+// In every order of the files the result is that of the definition, which has all files before the
+// entry.
 #[test]
 fn files_may_come_in_every_order(rt: HostRuntime) -> Result<(), Fail> {
     match first_other_under(&rt, ORDERS, KNOWN) {

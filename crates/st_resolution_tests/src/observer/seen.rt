@@ -1,4 +1,4 @@
-//! What is seen of an observer, by words.
+//! The view of an observer, in words.
 use super::files::SUFFIXES;
 use super::steps::found;
 use st_anchor::RoleState;
@@ -37,7 +37,6 @@ fn reports_so(observer: &Observer, number_and_words: &str) -> bool {
     }
 }
 
-// The suffix of a name.
 fn suffix(name: &str) -> Option<Hash> {
     match found(SUFFIXES, name) {
         Some(text) => read_hash(text.as_bytes()).ok(),
@@ -79,7 +78,7 @@ fn counts(alloc: Global, observer: &Observer, suffix: &Hash, many: &str) -> bool
     }
 }
 
-// Whether a suffix has so many operations.
+// Whether a suffix has this many operations.
 fn has_items(alloc: Global, observer: &Observer, name: &str, many: &str) -> bool {
     match suffix(name) {
         Some(suffix) => counts(alloc, observer, &suffix, many),
@@ -95,7 +94,7 @@ fn place(held: &Held) -> Option<u32> {
     Some(held.place)
 }
 
-// Whether the operations of a suffix have these places in turn, or there are none.
+// Whether the operations of a suffix have these places in this order, or there are none.
 fn stand_at(alloc: Global, observer: &Observer, suffix: &Hash, places: &str) -> bool {
     match observer.items(alloc, suffix) {
         Ok(items) => if places == "none" {
@@ -200,7 +199,7 @@ fn serves(rt: &HostRuntime, observer: &Observer, name_and_ids: &str) -> bool {
     }
 }
 
-// Whether at most so many operations were applied.
+// Whether at most this many operations were applied.
 fn is_within(applied: u64, most: &str) -> bool {
     match read_number(most.as_bytes(), 1_000) {
         Some(most) => applied <= most as u64,
@@ -208,7 +207,7 @@ fn is_within(applied: u64, most: &str) -> bool {
     }
 }
 
-// Whether this is seen where the steps before it applied so many operations.
+// Whether this is seen after steps that applied this many operations.
 fn is_seen(rt: &HostRuntime, observer: &Observer, applied: u64, look: &str) -> bool {
     let Some((what, rest)) = look.split_once(' ') else {
         return false;

@@ -2,8 +2,8 @@
 use super::stories::first_other;
 use std::test::Fail;
 
-// A create and eight updates, each of which adds a service. The deltas of the fourth come last, and then the
-// entry of a ninth update, whose files are all there.
+// A create and eight updates, each of which adds a service. The deltas of the fourth are received
+// last, and then the entry of a ninth update, whose files are all there.
 const UPDATES: &str = "begin begin.index begin.chunk +begin|services signed s0
 add1 add1.index add1.proof add1.chunk +add1
 add2 add2.index add2.proof add2.chunk +add2
@@ -25,8 +25,8 @@ fn updates_fill_a_document_in_the_order_of_the_ledger(rt: HostRuntime) -> Result
     }
 }
 
-// Two recovers reveal one key, at two heights: the first takes service s21, the second s22. The first acts;
-// once it is cut, the second acts where it is anchored again.
+// Two recovers reveal one key, at two heights: the first adds service s21, the second s22. The
+// first acts; after it is cut, the second acts when it is anchored again.
 const RECOVERS: &str = "begin begin.index begin.chunk +begin|services signed s0
 first first.proof first.index first.chunk +first|services signed s21
 second second.proof second.index second.chunk +second|services signed s21|operations signed 3

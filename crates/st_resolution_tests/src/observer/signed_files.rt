@@ -1,6 +1,6 @@
-//! The batches of a create with a service, of nine updates that add one more each, and of two recovers that
-//! reveal the create's recovery key, each with a service of its own. A Python program made each text here,
-//! with LMS keys of types 4 and 5.
+//! The batches of a create with a service, of nine updates that add one more each, and of two
+//! recovers that reveal the create's recovery key, each with its own service. A Python program made
+//! each text here, with LMS keys of types 4 and 5.
 
 // Entries, each with its height and its anchor string.
 pub(super) const SIGNED_ENTRIES: &str = "begin 5 1.EiB7VK45S5RbO3OfgHfmIaje04bYC-F644o-sxaLO7D-2Q

@@ -1,5 +1,5 @@
-//! Steps by words: at `new` nothing has come, `+NAME` appends the entry of a name, `-N` keeps the first N
-//! entries alone, and at another name its file comes.
+//! Steps by words: `new` starts an empty observer, `+NAME` appends the entry of a name, `-N` keeps
+//! only the first N entries, and any other name is a file to receive.
 use super::files::{ENTRIES, FILES};
 use super::signed_files::{SIGNED_ENTRIES, SIGNED_FILES};
 use st_base::{Bytes, Work, read_number};
@@ -41,7 +41,6 @@ fn is_known(step: &str) -> bool {
     }
 }
 
-// Whether each of these steps is one.
 pub(super) fn are_known(steps: &str) -> bool {
     for step in steps.split_whitespace() {
         if !is_known(step) {
@@ -95,7 +94,7 @@ fn arrive(alloc: Global, observer: Observer, name: &str, work: &mut Work) -> Opt
     }
 }
 
-// A step that can't be taken changes nothing.
+// A step that is refused changes nothing.
 fn stepped(alloc: Global, observer: Observer, step: &str, work: &mut Work) -> Option<Observer> {
     if step == "new" {
         return Observer::new(alloc, Schedule::new()).ok();
@@ -109,7 +108,6 @@ fn stepped(alloc: Global, observer: Observer, step: &str, work: &mut Work) -> Op
     }
 }
 
-// The observer after these further steps.
 pub(super) fn after(
     alloc: Global,
     observer: Observer,

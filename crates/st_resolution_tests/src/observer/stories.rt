@@ -1,4 +1,4 @@
-//! Stories: each line has steps, and after a bar what is seen then. A line that says nothing applies at
+//! Stories: each line has steps, and after a bar what is seen then. A line without it applies at
 //! most 8 operations.
 use super::seen::are_seen;
 use super::steps::{after, are_known};
@@ -13,7 +13,8 @@ fn steps_of(line: &str) -> &str {
     }
 }
 
-// Whether the observer is as the line says, or if the line says nothing, as the words for all lines say.
+// Whether the observer is as the line says, or if the line says nothing, as the words for all lines
+// say.
 fn is_so(rt: &HostRuntime, observer: &Observer, applied: u64, line: &str, all: &str) -> bool {
     match line.split_once('|') {
         Some((steps, looks)) => { are_known(steps) && are_seen(rt, observer, applied, looks) }
@@ -21,12 +22,12 @@ fn is_so(rt: &HostRuntime, observer: &Observer, applied: u64, line: &str, all: &
     }
 }
 
-// The first line after which the observer is otherwise.
+// The first line after which the observer differs.
 pub(super) fn first_other(rt: &HostRuntime, story: &'static str) -> Option<&'static str> {
     first_other_under(rt, story, "applied 8")
 }
 
-// The same, where this is seen after each line that says nothing.
+// The same, if this is seen after each line that says nothing.
 pub(super) fn first_other_under(
     rt: &HostRuntime,
     story: &'static str,

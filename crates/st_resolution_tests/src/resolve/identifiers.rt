@@ -2,8 +2,8 @@ use crate::words::three;
 use st_resolve::{DidRefused, read_did};
 use std::test::Fail;
 
-// The version, what the text is read as, the text. Suffixes and second parts are those that Python's
-// hashlib, json and base64 give.
+// The version, the result of reading, the text. Suffixes and second parts were computed with
+// Python's hashlib, json and base64.
 const CASES: &str = "\
 1 BadDid did:other:x
 1 BadDid did:sidetree:

@@ -19,8 +19,9 @@ const OF_NOTHING: &str = "EiDjsMRCmPwcFJr79MiZb7kkJ65B5GSbk0yklZkbeFK4VQ";
 const DESCRIBING: &str =
     r#"{"patches":[{"action":"replace","document":{"alsoKnownAs":["https://a/"],"publicKeys":[{"id":"k1","publicKeyJwk":{"x":1},"purposes":["keyAgreement","authentication"],"type":"T"},{"controller":"did:example:c","id":"k2","publicKeyJwk":{},"purposes":["authentication"],"type":"U"}],"services":[{"id":"s1","serviceEndpoint":"https://example.com/","type":"T"}]}}],"updateCommitment":"EiC6eBa_jwHP6kFBQN5driIjsANho5YXepy0EP9h8gAVrQ"}"#;
 
-// The state, how many operations are counted until its result is there, the identifier, and the result, where `$` is
-// the identifier. The long form has a delta that adds a service; of the create that was anchored no delta has come.
+// The state, the number of operations counted for its result, the identifier, and the result, in
+// which `$` is the identifier. The long form has a delta that adds a service; the delta of the
+// anchored create was not received.
 const CASES: &str =
     r##"created 1 did:sidetree:EiATdX8Q5MV_plJJmuNAF_0nOfwoAX70r-tP5eSOPf86vA {"didDocument":{"id":"$"},"didDocumentMetadata":{"canonicalId":"$","method":{"published":true,"recoveryCommitment":"EiDjsMRCmPwcFJr79MiZb7kkJ65B5GSbk0yklZkbeFK4VQ"}}}
 absent 0 did:sidetree:EiBPOn7LUBWUVhugbEAIr6R1y-FxzC7-zPzDYQOGJ1Lfyw NotFound
@@ -46,7 +47,7 @@ fn create(alloc: Global, delta_hash: Hash, delta: Option<&str>) -> Option<Operat
     Some(Operation::Create { suffix_data, delta })
 }
 
-// The state after one operation more.
+// The state after one more operation.
 fn stepped(
     alloc: Global,
     state: &DidState,
@@ -74,7 +75,6 @@ fn ended(alloc: Global, work: &mut Work) -> Option<DidState> {
     stepped(alloc, &state, &deactivate, work)
 }
 
-// The state of this name.
 fn state(alloc: Global, name: &str, work: &mut Work) -> Option<DidState> {
     match name {
         "created" => begun(alloc, hash(OF_ABC)?, None, work),
@@ -87,7 +87,7 @@ fn state(alloc: Global, name: &str, work: &mut Work) -> Option<DidState> {
     }
 }
 
-// Whether the result is the expected one, where `$` is the identifier.
+// Whether the result is the expected one, in which `$` is the identifier.
 fn is_result(
     alloc: Global,
     answer: Result<Bytes, RenderRefused>,
@@ -113,7 +113,7 @@ fn copied_did(alloc: Global, text: &str) -> Option<Did> {
     did.copy(alloc).ok()
 }
 
-// Whether a copy of the identifier is rendered so where the state is of this name.
+// Whether a copy of the identifier is rendered like this in the state of this name.
 fn is_rendered(
     alloc: Global,
     text: &str,
@@ -127,7 +127,6 @@ fn is_rendered(
     Some(is_result(alloc, answer, text, expected))
 }
 
-// Whether it is as the line says.
 pub(super) fn is_so(rt: &HostRuntime, line: &str) -> bool {
     let Some((state, counted, rest)) = three(line) else {
         return false;

@@ -1,5 +1,5 @@
-//! The public keys of RFC 8554, appendix F, test case 2, from the seeds there: the types, the identifier, the seed and
-//! the public key of each.
+//! The public keys of RFC 8554, appendix F, test case 2, from the seeds there: the types, the
+//! identifier, the seed and the public key of each.
 
 use super::keys_of;
 use std::test::Fail;

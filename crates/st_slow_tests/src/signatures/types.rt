@@ -15,7 +15,7 @@ fn all_but_last(bytes: &[u8]) -> &[u8] {
     }
 }
 
-/// Whether the signature holds for its message, and for no other, and none that is shorter or longer does.
+/// Whether the signature holds for its message and no other, and no shorter or longer one holds.
 fn holds_alone(public: &Public, signature: &[u8], longer: &[u8]) -> bool {
     signature.len() == 1292
         && verify(public, b"message", signature)
@@ -25,7 +25,7 @@ fn holds_alone(public: &Public, signature: &[u8], longer: &[u8]) -> bool {
         && !verify(public, b"message", longer)
 }
 
-// q is 3, the LM-OTS type 4, the LMS type 5: each as a number that it is elsewhere.
+// q is 3, the LM-OTS type 4, the LMS type 5: changed to 32, 3 and 6 in turn.
 fn holds_with_its_types(public: &Public, signature: &mut [u8]) -> bool {
     !holds_turned(public, b"message", signature, 3, 3 ^ 32)
         && !holds_turned(public, b"message", signature, 7, 4 ^ 3)
@@ -33,7 +33,7 @@ fn holds_with_its_types(public: &Public, signature: &mut [u8]) -> bool {
         && verify(public, b"message", signature)
 }
 
-/// Whether a signature holds for its message alone, and with its types and number alone.
+/// Whether a signature holds only for its message, and only with its types and number.
 fn holds(alloc: Global, secret: &Secret) -> Result<(bool, bool), WantOfMemory> {
     if secret.leaf_count() != 32 {
         return Ok((false, false));

@@ -1,6 +1,7 @@
-//! Keys and signatures that Bouncy Castle 1.72 made, whose secret elements and randomizers also come
-//! from a seed as in appendix A of RFC 8554. Of each key the first line has the types, the identifier, the seed and
-//! the public key; each further line has the number of a one-time key, a message and the SHA-256 of its signature.
+//! Keys and signatures that Bouncy Castle 1.72 made, whose secret elements and randomizers are also
+//! derived from a seed as in appendix A of RFC 8554. For each key the first line has the types, the
+//! identifier, the seed and the public key; each further line has the number of a one-time key, a
+//! message and the SHA-256 of its signature.
 
 use super::signs_so;
 use std::test::Fail;
@@ -117,7 +118,8 @@ fn digits_of_8_bits_in_a_tree_of_height_10(rt: HostRuntime) -> Result<(), Fail> 
     Ok(())
 }
 
-// The signing input of a payload, signed by a signer in Python whose signatures are those of Bouncy Castle.
+// The signing input of a payload, signed by a signer in Python whose signatures are those of Bouncy
+// Castle.
 #[test]
 fn a_payload_is_signed(rt: HostRuntime) -> Result<(), Fail> {
     assert!(rt;

@@ -3,8 +3,8 @@ use st_base::Bytes;
 use st_io::PlainDisk;
 use std::test::Fail;
 
-// The key that docs/FORMATS.md shows, and the life of an identifier under it. All was computed by another
-// program in Python.
+// The key in docs/FORMATS.md, and the life of an identifier under it. Another program in Python
+// computed everything.
 const LIFE: &str = "\
 format 4 5 000102030405060708090a0b0c0d0e0f 202122232425262728292a2b2c2d2e2f303132333435363738393a3b3c3d3e3f
 formatted AAAABQAAAAQAAQIDBAUGBwgJCgsMDQ4P99GZhaxRFDHM-2Y073OyPKnZ1Mf6yB1qQoylqzRU-Ds

@@ -6,8 +6,9 @@ use st_wallet::{Wallet, WalletRefused};
 use std::alloc::Global;
 use std::test::Fail;
 
-// A vault of a type whose signatures take little time, a key, and four requests that are signed. Two calls
-// of the disk open it where it is empty, eight make the vault, and two spend each counter.
+// A vault of a type whose signatures are quick to compute, a key, and four requests that are
+// signed. Two calls of the disk open it if it is empty, eight make the vault, and two spend each
+// counter.
 const LINES: &str = "\
 format 2 5 07070707070707070707070707070707 0a0a0a0a0a0a0a0a0a0a0a0a0a0a0a0a0b0b0b0b0b0b0b0b0b0b0b0b0b0b0b0b
 key -
@@ -19,7 +20,8 @@ update EiDjsMRCmPwcFJr79MiZb7kkJ65B5GSbk0yklZkbeFK4VQ - {\"patches\":[],\"update
 
 const CALLS: u64 = 2 + 8 + 4 * 2;
 
-// Two signatures of two levels, of which the first is the last of its lower key. Four calls open the vault.
+// Two signatures of two levels, the first of which is the last of its lower key. Four calls open
+// the vault.
 const HSS_LINES: &str = "\
 sign-hss YWJj
 sign-hss YWJj
@@ -35,16 +37,16 @@ const UPDATE: &str = "\
 update EiDjsMRCmPwcFJr79MiZb7kkJ65B5GSbk0yklZkbeFK4VQ - {\"patches\":[],\"updateCommitment\":\"EiDjsMRCmPwcFJr79MiZb7kkJ65B5GSbk0yklZkbeFK4VQ\"}
 ";
 
-/// What a run over lines released: `above` is greater than each counter in its replies, and where it was
-/// `whole` it answered all of them.
+/// The results of a run over lines: `above` is greater than each counter in its replies, and
+/// `whole` says whether it answered all of them.
 #[derive(Clone, Copy)]
 struct Released {
     above: u32,
     whole: bool,
 }
 
-// Runs over lines until the disk fails. `None` where the counters in the replies do not ascend from `above`
-// on.
+// Runs over lines until the disk fails. `None` if the counters in the replies do not ascend from
+// `above` on.
 fn run<D: Disk>(
     alloc: Global,
     disk: &mut D,
@@ -78,7 +80,7 @@ fn run<D: Disk>(
     Ok(Some(Released { above, whole: true }))
 }
 
-// One more than the counter of the signature in a reply, or `above` where there is none; `None` where the
+// One more than the counter of the signature in a reply, or `above` if there is none; `None` if the
 // counter is less than that.
 fn above_counter(alloc: Global, reply: &Bytes, above: u32) -> Result<Option<u32>, WantOfMemory> {
     match counter_in(alloc, reply)? {
@@ -92,7 +94,6 @@ fn above_counter(alloc: Global, reply: &Bytes, above: u32) -> Result<Option<u32>
     }
 }
 
-// The counter of the signature in a reply.
 fn counter_in(alloc: Global, reply: &Bytes) -> Result<Option<u32>, WantOfMemory> {
     let text = str::from_utf8(reply.as_slice()).unwrap_or("");
     match text.strip_prefix("hss ") {
@@ -101,8 +102,8 @@ fn counter_in(alloc: Global, reply: &Bytes) -> Result<Option<u32>, WantOfMemory>
     }
 }
 
-// The counter of a signature of two levels, which stands behind a space: 32 times the leaf of the top key,
-// and the leaf of the lower key.
+// The counter of a signature of two levels, which follows a space: 32 times the leaf of the top
+// key, plus the leaf of the lower key.
 fn counter_in_hss(alloc: Global, rest: &str) -> Result<Option<u32>, WantOfMemory> {
     let Some((_public, signature)) = rest.split_once(' ') else {
         return Ok(None);
@@ -114,15 +115,15 @@ fn counter_in_hss(alloc: Global, rest: &str) -> Result<Option<u32>, WantOfMemory
     }
 }
 
-// With LM-OTS type 2 the lower signature stands behind 4,520 bytes, and the upper one behind 4.
+// With LM-OTS type 2 the lower signature is at offset 4,520, and the upper one at 4.
 fn counter_of_leaves(signature: &[u8]) -> Option<u32> {
     let top = signature.get(4 + 3)?;
     let lower = signature.get(4520 + 3)?;
     Some(u32::from(*top) * 32 + u32::from(*lower))
 }
 
-// The counter of the signature in a request, whose text stands behind the second dot. A signature begins
-// with its counter, in four bytes.
+// The counter of the signature in a request, whose text follows the second dot. The first four
+// bytes of a signature are its counter.
 fn counter_in_request(alloc: Global, text: &str) -> Result<Option<u32>, WantOfMemory> {
     let Some((_header, rest)) = text.split_once('.') else {
         return Ok(None);
@@ -140,7 +141,8 @@ fn counter_in_request(alloc: Global, text: &str) -> Result<Option<u32>, WantOfMe
     }
 }
 
-// Whether a run over the same lines goes on behind a stop that left this, and releases no counter again.
+// Whether a run over the same lines continues after a stop that left this, and releases no counter
+// again.
 fn goes_on(
     alloc: Global,
     disk: &ScriptDisk,
@@ -156,8 +158,8 @@ fn goes_on(
     }
 }
 
-// Whether all lines were answered on this disk. `None` where a counter came twice in this run and the runs
-// behind a stop at its end.
+// Whether all lines were answered on this disk. `None` if a counter was released twice in this run
+// and the runs after a stop at its end.
 fn answered_all(
     alloc: Global,
     disk: &mut ScriptDisk,
@@ -187,8 +189,8 @@ fn stopped_after(
     answered_all(alloc, &mut disk, lines)
 }
 
-// The first number of calls, up to this one, after which all lines are answered over this image, and no other
-// stop releases a counter twice.
+// The first number of calls, up to this one, after which all lines are answered over this image,
+// and no other stop releases a counter twice.
 fn calls_of_all(
     alloc: Global,
     image: &[u8],
@@ -205,7 +207,7 @@ fn calls_of_all(
     Ok(None)
 }
 
-// Lines that ask for one request more than the vault has counters.
+// Lines that request one more counter than the vault has.
 fn more_than_all(alloc: Global) -> Result<String, WantOfMemory> {
     let mut lines = String::from_str(alloc, FORMAT)?;
     for _n in 0..33 {

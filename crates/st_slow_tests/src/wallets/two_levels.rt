@@ -5,8 +5,8 @@ use st_wallet::WalletRefused;
 use std::alloc::Global;
 use std::test::Fail;
 
-// Lines on a vault of the types 2 and 6 of which 30 counters are spent, each before its reply or that one's
-// hash text. All was computed by another program in Python.
+// Lines on a vault of types 2 and 6 with 30 spent counters, each before its reply or the reply's
+// hash text. Another program in Python computed everything.
 const SESSION: &str = "\
 sign-hss
 refused line words
@@ -38,7 +38,7 @@ left
 left 0
 ";
 
-/// The image of a vault of the types 2 and 6 whose first counters are spent, so many.
+/// The image of a vault of types 2 and 6 whose first `spent` counters are spent.
 pub(super) fn image_with(alloc: Global, spent: u32) -> Result<Bytes, WantOfMemory> {
     let mut image = Bytes::from_slice(alloc, &[0xa5, 0, 0, 0, 2, 0, 0, 0, 6])?;
     image.push_all(alloc, &[7; 16])?;

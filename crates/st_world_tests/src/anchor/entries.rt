@@ -9,12 +9,13 @@ use st_ops::Operation;
 use std::alloc::Global;
 use std::test::Fail;
 
-// Whether the entry of a recover and an update stands so once these files have come.
+// Whether these are the states of the entry of a recover and an update after these files were
+// received.
 fn serves(rt: &HostRuntime, files: &[&str]) -> Result<bool, WantOfMemory> {
     stands(rt, TEXT, files, "read", "Q3 read read K4", (5, 1))
 }
 
-// One file serves as both proof files: it is rejected as the one and read as the other.
+// One file serves as both proof files: it is rejected as the first and read as the second.
 #[test]
 fn files_come_in_any_order_and_may_serve_two_roles(rt: HostRuntime) -> Result<(), Fail> {
     assert!(rt;
@@ -57,7 +58,7 @@ fn given(alloc: Global, bound: &Bound) -> Result<Bytes, WantOfMemory> {
     Ok(text)
 }
 
-// Whether the entry of all kinds gives this after these files have come.
+// Whether the entry of all kinds gives this after these files were received.
 fn gives(rt: &HostRuntime, files: &[&str], wanted: &str) -> Result<bool, WantOfMemory> {
     let bound = after(rt.alloc(), ALL_TEXT, files, &mut Work::new(rt))?;
     let found = given(rt.alloc(), &bound)?;

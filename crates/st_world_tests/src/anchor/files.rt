@@ -1,6 +1,7 @@
-//! Files of entries, and the anchor strings that name them. Their URIs were computed by another program.
+//! Files of entries, and the anchor strings that name them. Their URIs were computed by another
+//! program.
 
-// A core index file that names a provisional index file alone, and one with a create beside it.
+// A core index file that names only a provisional index file, and one that also has a create.
 pub(crate) const LONE_TEXT: &str = r#"1.EiDwxnIdk7VHdTIYKQNSBXb8s0WirNQJ9cPQJr1l69TTUA"#;
 
 pub(crate) const LONE: &str =

@@ -16,7 +16,7 @@ x A1 {}
 1.EiC_MvViNomeE-9U24ddE2xsvMZSREZIKcVJEaqQabCuJQ C2 {"x":1.0}
 1.EiBPU82hjCuqDANUu1-aPsvl7RKrTY4Ruoc8LxEWEgK5RQ C3 []"#;
 
-// Whether the entry stands so. A bad anchor string asks for no file.
+// Whether these are the states of the entry. A bad anchor string needs no file.
 fn is_judged(rt: &HostRuntime, case: &str) -> Result<bool, WantOfMemory> {
     let Some((text, rule, file)) = three(case) else {
         return Ok(false);
@@ -34,7 +34,7 @@ fn an_anchor_string_or_a_core_file_fails_its_first_rule(rt: HostRuntime) -> Resu
     Ok(())
 }
 
-// Whether it stands so where the files of both entries have come.
+// Whether these are its states after the files of both entries were received.
 fn stands_among(
     rt: &HostRuntime,
     text: &str,

@@ -1,5 +1,5 @@
-//! Queues that are flushed. The anchor strings, the lengths of files and how many operations a batch
-//! takes were computed by another program.
+//! Flushing queues. Another program computed the anchor strings, the lengths of files and how many
+//! operations a batch takes.
 
 use crate::batch::making::{many, submit_one};
 use crate::batch::samples::{SHORT_CREATE, WIDE_CREATE};
@@ -10,7 +10,7 @@ use st_datafiles::Role;
 use st_params::{Params, Schedule};
 use std::alloc::Global;
 
-// What stays of a queue that gives a batch with this beginning of its anchor string and so many files.
+// The rest of a queue that gives a batch whose anchor string has this prefix, with this many files.
 fn rest_after(
     alloc: Global,
     queue: Queue,
@@ -30,7 +30,6 @@ fn rest_after(
     }
 }
 
-// Whether there is nothing to flush.
 fn gives_nothing(alloc: Global, queue: Queue, params: &Params) -> bool {
     match queue.flush(alloc, params) {
         Err(FlushRefused::Nothing(queue)) => queue.len() == 0,
@@ -38,7 +37,6 @@ fn gives_nothing(alloc: Global, queue: Queue, params: &Params) -> bool {
     }
 }
 
-// Whether the file at this place has this role and length.
 fn is_file(batch: &Batch, at: usize, role: Role, length: usize) -> bool {
     match batch.files.get(at) {
         Some(file) => file.role == role && file.bytes.as_slice().len() == length,
@@ -46,7 +44,6 @@ fn is_file(batch: &Batch, at: usize, role: Role, length: usize) -> bool {
     }
 }
 
-// Whether a batch has this anchor string and so many files.
 fn is_batch(batch: &Batch, anchor: &str, files: usize) -> bool {
     batch.anchor.as_str() == anchor && batch.files.len() == files
 }
@@ -117,7 +114,7 @@ fn a_batch_of_version_1_takes_a_thousand(rt: HostRuntime) {
     assert!(rt; takes_a_thousand(rt.alloc(), queue, &params));
 }
 
-// Whether one request more finds ten thousand queued, and leaves so many.
+// Whether one more request finds ten thousand queued, and leaves as many.
 fn is_full(rt: &HostRuntime, params: &Params) -> bool {
     let mut queue = many(rt, params, SHORT_CREATE, false, 10_000);
     let before = queue.len();
@@ -130,7 +127,8 @@ fn ten_thousand_are_queued_and_no_more(rt: HostRuntime) {
     assert!(rt; is_full(&rt, &Schedule::new().at(0)));
 }
 
-// Whether a batch of creates with wide hashes, at the limits of version 2, is cut by its core index file.
+// Whether the core index file limits a batch of creates with wide hashes, at the limits of version
+// 2.
 fn is_cut(rt: &HostRuntime) -> bool {
     let params = Schedule::with_second(0).at(0);
     let queue = many(rt, &params, WIDE_CREATE, true, 4_400);

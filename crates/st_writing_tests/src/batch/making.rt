@@ -6,8 +6,8 @@ use st_hash::{SHA_256, SHA_512, hash_text, hash_with};
 use st_params::Params;
 use std::alloc::Global;
 
-// The request for a create of this kind, with a commitment by SHA-512 if it is wide, else by SHA-256. The
-// number tells its suffix from those of others.
+// The request for a create of this kind, with a commitment by SHA-512 if it is wide, else by
+// SHA-256. Different numbers give different suffixes.
 fn request(alloc: Global, kind: &str, wide: bool, number: u32) -> Result<String, WantOfMemory> {
     let code = if wide { SHA_512 } else { SHA_256 };
     let commitment = hash_text(alloc, &hash_with(&number.to_be_bytes(), code))?;
@@ -33,7 +33,7 @@ pub(crate) fn submit_one(
     }
 }
 
-/// A queue of so many; those that are refused are left out.
+/// A queue of this many; refused requests are left out.
 pub(crate) fn many(rt: &HostRuntime, params: &Params, kind: &str, wide: bool, count: u32) -> Queue {
     let mut queue = Queue::new(rt.alloc());
     for number in 0..count {

@@ -5,11 +5,11 @@ use st_journal::{JournalRefused, Opening, open_journal};
 use std::alloc::Global;
 use std::test::Fail;
 
-// In these tables `@` stands for an open gate, `.` for a byte of 0, `/` and `,` for the bytes 12 and 13,
-// and every other sign for itself.
+// In these tables `@` is an open gate, `.` a byte of 0, `/` and `,` the bytes 12 and 13, and every
+// other character itself.
 
-/// An image, and behind two spaces how many records it has and where its first closed gate then is, or
-/// that it is damaged. Fewer than 2 bytes become a closed gate.
+/// An image, and after two spaces the number of its records and the place of its first closed gate,
+/// or that it is damaged. Fewer than 2 bytes become a closed gate.
 const OPENED: &str = "\
 @.../content YWJj.  1 17
 @.../content YWJj.@  1 17
@@ -35,7 +35,7 @@ x@@@@  0 0
 @....@...  damaged
 @@@@@@  damaged";
 
-/// An image, and what comes of it first and then.
+/// An image, and the results of its first two reads.
 const COMING: &str = "\
 @.../content YWJj.  record none
 @.../content YWJj@.../content YWJj.  record record
@@ -46,7 +46,7 @@ const COMING: &str = "\
   none none
 @  none none";
 
-/// An image, and what it is once the line is appended.
+/// An image, and the image after the line is appended.
 const APPENDED: &str = "\
 @  @.../content YWJj.
   @.../content YWJj.
@@ -55,7 +55,7 @@ x@@  @.../content YWJj.
 @.....@@  @....@.../content YWJj.
 @.../content YWJj..../conten  @.../content YWJj@.../content YWJj.";
 
-/// The byte that a sign of the table stands for.
+/// The byte of a character of the table.
 fn byte_of(sign: u8) -> u8 {
     match sign {
         b'@' => 0xa5,
@@ -74,7 +74,7 @@ fn image_of(alloc: Global, text: &str) -> Result<Bytes, WantOfMemory> {
     Ok(image)
 }
 
-/// What an image is opened as, in the table's words.
+/// The result of opening an image, in the table's words.
 fn seen(alloc: Global, image: &[u8]) -> Result<String, WantOfMemory> {
     let mut disk = disk_of(alloc, image, u64::MAX)?;
     match open_journal(alloc, &mut disk) {
@@ -88,7 +88,7 @@ fn seen(alloc: Global, image: &[u8]) -> Result<String, WantOfMemory> {
     }
 }
 
-/// The table's word for what came.
+/// The table's word for the result of a read.
 fn word_of(came: Result<Option<Bytes>, JournalRefused>) -> &'static str {
     match came {
         Ok(Some(_body)) => "record",
@@ -98,7 +98,7 @@ fn word_of(came: Result<Option<Bytes>, JournalRefused>) -> &'static str {
     }
 }
 
-/// What comes of an image first and then, in the table's words.
+/// The results of the first two reads of an image, in the table's words.
 fn coming(alloc: Global, image: &[u8]) -> Result<String, WantOfMemory> {
     let mut disk = disk_of(alloc, image, u64::MAX)?;
     match Opening::begin(alloc, &mut disk) {
@@ -111,14 +111,14 @@ fn coming(alloc: Global, image: &[u8]) -> Result<String, WantOfMemory> {
     }
 }
 
-/// What an image is once the line is appended.
+/// An image after the line is appended.
 fn appended(alloc: Global, image: &[u8]) -> Result<Bytes, WantOfMemory> {
     let mut disk = disk_of(alloc, image, u64::MAX)?;
     let _done = append_line(alloc, &mut disk, b"content YWJj");
     disk.crash(alloc, Pick::New)
 }
 
-/// What a table tells of an image.
+/// The results in a table for an image.
 #[derive(Clone, Copy)]
 enum Told {
     Opened,
@@ -142,7 +142,7 @@ fn is_so(alloc: Global, told: Told, line: &str) -> Result<bool, WantOfMemory> {
     }
 }
 
-/// The first line of a table that is otherwise.
+/// The first line of a table with another result.
 fn first_other(
     alloc: Global,
     told: Told,

@@ -15,12 +15,12 @@ const FIRST: &[u8] = b"content YWJj";
 
 const SECOND: &[u8] = b"content ZGVm";
 
-/// A line that comes after a stop.
+/// A line that is appended after a stop.
 const LATER: &[u8] = b"rollback 0";
 
-/// A session on an empty disk, which is opened by four calls and takes four for each line, where all
-/// calls behind so many fail: how many lines are acknowledged, and how many are found again after a stop
-/// that leaves of each unsynced byte what was there before, what was written, 0, 1, or an open gate.
+/// A session on an empty disk, which takes four calls to open and four for each line, and whose
+/// later calls fail: the number of acknowledged lines, and the number found again after a stop that
+/// leaves each unsynced byte as the earlier one, the written one, 0, 1, or an open gate.
 const STOPS: &str = "\
 0: 0, 0 0 0 0 0
 1: 0, 0 0 0 0 0
@@ -36,7 +36,7 @@ const STOPS: &str = "\
 11: 1, 1 2 1 1 2
 12: 2, 2 2 2 2 2";
 
-/// How many of both lines are appended.
+/// The number of lines that are appended, of two.
 fn append_both<D: Disk>(alloc: Global, disk: &mut D, journal: Journal) -> u8
     requires ready { IsReady journal (D.reads disk.old) (D.past disk.old) }
     requires small { journal.end < 2 ^ 40 }
@@ -53,7 +53,7 @@ fn append_both<D: Disk>(alloc: Global, disk: &mut D, journal: Journal) -> u8
     }
 }
 
-/// How many lines of the session are acknowledged.
+/// The number of acknowledged lines of the session.
 fn acknowledged(alloc: Global, disk: &mut ScriptDisk) -> u8 {
     match open_journal(alloc, disk) {
         Ok((journal, _records)) => append_both(alloc, disk, journal),
@@ -79,15 +79,15 @@ fn lines_of(alloc: Global, image: &[u8]) -> Result<Bytes, WantOfMemory> {
     }
 }
 
-/// What an image is once a later line is appended.
+/// An image after a later line is appended.
 fn gone_on(alloc: Global, image: &[u8]) -> Result<Bytes, WantOfMemory> {
     let mut disk = disk_of(alloc, image, u64::MAX)?;
     let _done = append_line(alloc, &mut disk, LATER);
     disk.crash(alloc, Pick::Old)
 }
 
-/// How many lines of the session an image has, to which a later line can be appended; or 9, where it has
-/// others, or the later line doesn't come behind them.
+/// The number of lines of the session in an image to which a later line can be appended; 9 if it
+/// has others, or if the later line isn't after them.
 fn found(alloc: Global, image: &[u8]) -> Result<usize, WantOfMemory> {
     let lines = lines_of(alloc, image)?;
     let next = gone_on(alloc, image)?;
@@ -108,7 +108,7 @@ fn found_after(alloc: Global, disk: &ScriptDisk, pick: Pick) -> Result<usize, Wa
     found(alloc, image.as_slice())
 }
 
-/// What the table has in a line, but for the number before the colon.
+/// The table's line, without the number before the colon.
 fn told(alloc: Global, last: u64) -> Result<String, WantOfMemory> {
     let mut disk = disk_of(alloc, b"", last)?;
     let done = acknowledged(alloc, &mut disk);
@@ -130,7 +130,7 @@ fn is_so(alloc: Global, line: &str) -> Result<bool, WantOfMemory> {
     }
 }
 
-/// The first line at which a stop leaves something else.
+/// The first line at which a stop leaves another result.
 fn first_other(alloc: Global) -> Result<Option<&'static str>, WantOfMemory> {
     'lines: for line in STOPS.lines() {
         if !is_so(alloc, line)? {
@@ -148,7 +148,7 @@ fn what_was_acknowledged_is_found_again(rt: HostRuntime) -> Result<(), Fail> {
     }
 }
 
-/// An image of so many records with this body, and one with 70,000 bytes behind them.
+/// An image of this many records with this body, and one with 70,000 bytes after them.
 fn long_image(alloc: Global, count: u64) -> Result<Bytes, WantOfMemory> {
     let mut image = Bytes::new(alloc);
     'records: for _n in 0..count {
@@ -162,7 +162,7 @@ fn long_image(alloc: Global, count: u64) -> Result<Bytes, WantOfMemory> {
     Ok(image)
 }
 
-/// Whether all records of it are read, whose last has 70,000 bytes.
+/// Whether all its records are read, the last with 70,000 bytes.
 fn is_read(records: &List<Bytes>, count: usize) -> bool {
     let records = records.as_slice();
     match records.last() {

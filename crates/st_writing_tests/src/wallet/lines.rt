@@ -5,8 +5,8 @@ use st_wallet::{WalletRefused, counters_law};
 use std::alloc::Global;
 use std::test::Fail;
 
-// Lines on a disk that is blank at first, each before its reply, which stands there whole or, where it is
-// long, as its hash text. All was computed by Python's hashlib, base64 and json.
+// Lines on a disk that is blank at first, each before its reply or, if that is long, its hash text.
+// All was computed with Python's hashlib, base64 and json.
 const SESSION: &str = "\
 Left
 refused line command
@@ -124,7 +124,7 @@ left
 left 26
 ";
 
-// Lines on a vault of which one counter is left.
+// Lines on a vault with one counter left.
 const LAST: &str = "\
 left
 left 1
@@ -140,7 +140,7 @@ deactivate EiDjsMRCmPwcFJr79MiZb7kkJ65B5GSbk0yklZkbeFK4VQ -
 refused exhausted
 ";
 
-// Lines on a disk whose gate is open over no vault.
+// Lines on a disk with an open gate and no vault.
 const DAMAGED: &str = "\
 left
 refused damaged
@@ -181,7 +181,7 @@ fn the_last_counter_is_given_once(rt: HostRuntime) -> Result<(), Fail> {
     judged(on_image(rt.alloc(), &spent_image(), LAST))
 }
 
-// A vault of the types 2 and 5, of whose counters all but the last are spent.
+// A vault of types 2 and 5, with all counters except the last spent.
 fn spent_image() -> [u8; 96] {
     let mut image = [0u8; 96];
     image[0] = 0xa5;

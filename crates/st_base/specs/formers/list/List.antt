@@ -24,6 +24,7 @@ use Rattle.st_base.specs.contracts.list.List.TheInside as I
 abbrev pub the_former : Former {0} → Former {0}
 the_former item = list item
 
+-- it is as deep as the deepest of its items
 abbrev pub the_weighed : {item : Former {0}} → Weighed item → Weighed (the_former item)
 the_weighed weighed = w_list weighed
 

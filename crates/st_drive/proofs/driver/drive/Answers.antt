@@ -23,7 +23,7 @@ pieces-init g c = record {
       }) c.args.limit);
 }
 
--- what was read all fits
+-- all bytes that were read fit
 read_within : (buffer : List ℕ) (room count : ℕ) (had left : Option (List ℕ)) → count ≤ length buffer → count ≤ room
     → Consumes had left (take count buffer) → Read room had left (take count buffer) []
 read_within buffer room count had left bound fits takes =
@@ -32,7 +32,7 @@ read_within buffer room count had left bound fits takes =
     let same = ap length none in
     record { takes = subst (Consumes had left) (sym none) takes; fits = omega arith; most = omega arith }
 
--- what was read is what there was room for, and one byte more
+-- the bytes that were read are those that fit, and one more
 read_over : (buffer : List ℕ) (room count : ℕ) (had left : Option (List ℕ)) → count ≤ length buffer → count ≡ room + 1
     → Consumes had left (take count buffer) → Read room had left (take room buffer) (drop room (take count buffer))
 read_over buffer room count had left bound over takes =

@@ -3,7 +3,7 @@ use Rattle.st_workload.specs.Identity.{line_of}
 use Rattle.st_generate.specs.Talk.{told}
 use Rattle.st_generate.proofs.rounds.tell_round.Given as goal
 
--- telling what is left now is telling all at first
+-- sending the rest now equals sending all from the start
 abbrev pub invariant-identities : goal.invariant-identities
 invariant-identities g l =
     told g.N.Peer.peer (map (line_of l.round) (drop l.identity-index l.identities)) l.talk

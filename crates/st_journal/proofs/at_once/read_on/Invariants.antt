@@ -4,7 +4,7 @@ use Rattle.st_io.specs.Tears.{IfTold}
 use Rattle.st_journal.specs.Coming.{IsReading, coming, left_of, put_before}
 use Rattle.st_journal.proofs.at_once.read_on.Given as goal
 
--- the records so far have come
+-- the records so far were read
 abbrev pub invariant-records : goal.invariant-records
 invariant-records g l = record {
   reading : IsReading l.opening (g.D.Disk.reads l.disk) (g.D.Disk.past l.disk);

@@ -5,7 +5,7 @@ use Rattle.st_journal.specs.Coming.{IsReading, coming, left_of}
 use Rattle.st_journal_lines.proofs.ReplayLemmas.{Replayed}
 use Rattle.st_journal_lines.proofs.opening.replay.Given as goal
 
--- the machine has gone over the records that came
+-- the machine has replayed the records read so far
 abbrev pub invariant-records : goal.invariant-records
 invariant-records g l = record {
   reading : IsReading l.opening (g.D.Disk.reads l.disk) (g.D.Disk.past l.disk);

@@ -4,7 +4,7 @@ use Rattle.st_node.specs.Machine.{item_lines}
 use Rattle.st_node.proofs.ExplainLemmas.{with_lines}
 use Rattle.st_node.proofs.explaining.push_items.Given as goal
 
--- what is there, with the lines of the items that are left, is all of it
+-- the text and the lines of the remaining items are all of it
 abbrev pub invariant-loop-at : goal.invariant-loop-at
 invariant-loop-at l =
     with_lines l.items l.verdicts l.text.items l.at ≡ l.initial.text.items ++ item_lines (anchored_items l.items) l.verdicts

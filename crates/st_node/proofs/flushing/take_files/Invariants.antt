@@ -6,7 +6,7 @@ use Rattle.st_node.specs.Machine.{all_arrived}
 use Rattle.st_node.specs.Work.{ArrivalsCounts}
 use Rattle.st_node.proofs.flushing.take_files.Given as goal
 
--- what is left is named; once it has come too, all has; and what it may then have counted is within the bound of all
+-- the remaining files are named; after they are received too, all are; and their counts are within the bound of all
 abbrev pub invariant-loop-file : goal.invariant-loop-file
 invariant-loop-file l = record {
   named : AreNamed (into_iter_items l.file-iterator);

@@ -4,6 +4,6 @@ use Rattle.st_node.specs.Machine.{state_word}
 use Rattle.st_node.proofs.TellingLemmas.{with_words}
 use Rattle.st_node.proofs.telling.tell_states.Given as goal
 
--- what is there, with the words of the roles that are left, is all of it
+-- the text and the words of the remaining roles are all of it
 abbrev pub invariant-loop-state : goal.invariant-loop-state
 invariant-loop-state l = with_words state_word l.states l.rest.items l.state-index ≡ spaced (map state_word l.states)

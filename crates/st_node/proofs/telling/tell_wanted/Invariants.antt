@@ -4,6 +4,6 @@ use Rattle.st_base.specs.Replies.{spaced}
 use Rattle.st_node.proofs.TellingLemmas.{with_words}
 use Rattle.st_node.proofs.telling.tell_wanted.Given as goal
 
--- what is there, with the words of the URIs that are left, is all of it
+-- the text and the words of the remaining URIs are all of it
 abbrev pub invariant-loop-uri : goal.invariant-loop-uri
 invariant-loop-uri l = with_words hash_text l.uris l.rest.items l.uri-index ≡ decimal (length l.uris) ++ spaced (map hash_text l.uris)

@@ -16,7 +16,7 @@ decreases-respell_items l = 2 * l.depth + 1
 abbrev pub decreases-respell_members : goal.decreases-respell_members
 decreases-respell_members l = 2 * l.depth + 1
 
--- these items were read, and so many turns suffice for the remaining tokens
+-- these items were read, and n turns suffice for the remaining tokens
 abbrev pub invariant-respell_items-items : goal.invariant-respell_items-items
 invariant-respell_items-items l =
     (ds : List Data) × (n : ℕ) × (length l.reader ≤ n)

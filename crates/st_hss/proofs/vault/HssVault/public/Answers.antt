@@ -8,11 +8,9 @@ use Rattle.st_hss.specs.Uses.{hss_public_of}
 use Rattle.st_hss.specs.declared.public.HssPublic.{HssPublic}
 use Rattle.st_hss.proofs.vault.HssVault.public.Goals as goal
 
--- the key with this top key
 abbrev with_top : PublicKey → HssPublic
 with_top top = record { top = top }
 
--- the key of the vault
 abbrev of_vault : VaultValue → HssPublic
 of_vault vault = with_top (public_of (child_of vault.key 0))
 

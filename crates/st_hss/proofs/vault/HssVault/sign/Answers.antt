@@ -9,7 +9,7 @@ use Rattle.st_vault.specs.Values.{CounterValue, VaultValue}
 use Rattle.st_hss.proofs.VaultLemmas.{next_of_left}
 use Rattle.st_hss.proofs.vault.HssVault.sign.Goals as goal
 
--- the next counter of a vault is spent; it is not; and what a stop may leave of the vault
+-- the next counter of a vault is spent; it is not; and the images of the vault after a stop
 abbrev NextSpent : Option (List ℕ) → Past → VaultValue → Type 0
 NextSpent told past vault = IfTold told (λ image. SpentInAll past vault.next)
 
