@@ -124,7 +124,8 @@ def packaged(folder):
         names = tar.getnames()
         for wanted in ("bin/sidetree", "bin/sidetree-keeper", "lib/sidetree/sidetree", "lib/systemd/system/sidetree.service",
                        "share/man/man1/sidetree.1.gz", "share/man/man1/sidetree-follow.1.gz", "share/zsh/site-functions/_sidetree",
-                       "share/fish/vendor_completions.d/sidetree.fish", "share/bash-completion/completions/sidetree"):
+                       "share/fish/vendor_completions.d/sidetree.fish", "share/fish/vendor_completions.d/sidetree-journal.fish",
+                       "share/bash-completion/completions/sidetree"):
             holds("./usr/local/" + wanted in names, wanted)
         build = tar.extractfile("./usr/local/share/doc/sidetree/BUILD").read().decode()
         tar.extractall(os.path.join(folder, "unpacked"))

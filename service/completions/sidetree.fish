@@ -18,7 +18,7 @@ complete -c sidetree-follow -l every -x -d "pause in seconds"
 complete -c sidetree-follow -l most-back -x -d "entries that may be taken back"
 complete -c sidetree-resolve -l strangers -d "entries of others are no fault"
 complete -c sidetree-why -l v2 -d "version 2 of the limits"
-complete -c sidetree-journal -n __fish_use_subcommand -a "check copy shorten"
+complete -c sidetree-journal -f -n __fish_use_subcommand -a "check copy shorten"
 for tool in keeper follow feed resolve tell shell why journal
     complete -c sidetree-$tool -l help -d "the usage"
 end
