@@ -98,10 +98,10 @@ def below(crates, name, found=None):
 
 
 def sources(folder):
-    """The files of a crate's folder but for what is built of them."""
+    """The files of a crate's folder that it is built of."""
     for at, folders, names in os.walk(folder):
         folders[:] = [name for name in folders if name != "out"]
-        yield from (os.path.join(at, name) for name in names)
+        yield from (os.path.join(at, name) for name in names if name != "README.md")
 
 
 def memory():
