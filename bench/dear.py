@@ -8,6 +8,7 @@ more than before it, what the node has afterwards, the processor time of the lin
 built one, or the one that SIDETREE names in the environment.
 """
 import os
+import random
 import sys
 
 sys.dont_write_bytecode = True
@@ -49,6 +50,12 @@ def names(size):
     return b"".join(reversed(members))[:-1]
 
 
+def two_names(size):
+    """Members of two names that come in no order, as many as fit a size."""
+    drawn, most = random.Random(1), b'"a":1'
+    return b",".join(drawn.choices((b'"":1', most), k=size // (len(most) + 1)))
+
+
 def core_proof(item):
     """An entry with a deactivate, and its proof file."""
     proof = many(b'{"operations":{"deactivate":[', item, item[:-1] + b"]}}", 16_000_000)
@@ -84,6 +91,7 @@ LINES = {
     "submit, names out of order in a list": ["submit [{" + names(LINE - 11).decode() + "}]"],
     "submit, the same two objects deep": ['submit {"b":1,"a":{"b":1,"a":{' + names(LINE - 40).decode() + "}}}"],
     "submit, one name 4,799,998 times": submit(b'"":1,', LINE, b"{", b'"":1}'),
+    "submit, two names in no order": ["submit {" + two_names(LINE - 9).decode() + "}"],
     "submit, numbers under names out of order 100 deep": submit(b"1,", LINE, b'{"b":1,"a":' * 100 + b"[", b"1]" + b"}" * 100),
     "submit, a delta of lists in lists": submit(LISTS, LINE, CREATE, b"1]}}"),
     "resolve, lists in lists": resolve(LISTS),

@@ -6,6 +6,7 @@ use st_base::{Copied, read_number};
 use st_canon::{Json, PackedJson, read, write};
 use st_doc::{Delta, DeltaRefused, Document, PatchRefused, apply_all, check_delta, is_delta};
 use st_params::{Params, Schedule};
+use st_scan::Scanned;
 use std::alloc::Global;
 
 // A delta with these patches, and the hash text of `abc`.
@@ -57,8 +58,8 @@ fn is_told(alloc: Global, value: &Json, params: &Params, is: bool) -> bool {
     let Ok(packed) = PackedJson::pack(alloc, value) else {
         return false;
     };
-    match packed.scanned() {
-        Some(delta) => match is_delta(alloc, &delta, params) {
+    match packed.text() {
+        Some(text) => match is_delta(alloc, &Scanned::again(text), params) {
             Ok(told) => told == is,
             Err(_) => false,
         },
