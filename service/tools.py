@@ -4,6 +4,7 @@ A tool ends with 64 if its words are wrong, with 70 after a fault of its own, wi
 status that its help lists.
 """
 import os
+import socket
 import sys
 import traceback
 
@@ -51,6 +52,22 @@ class Words:
 def say(text):
     """Writes a line to standard error, after the tool's name."""
     print("%s: %s" % (name_of_tool(), text), file=sys.stderr, flush=True)
+
+
+def tell_manager(text):
+    """Tells whoever has started this tool of a state, if systemd or `registry up` listens."""
+    address = os.environ.get("NOTIFY_SOCKET")
+    if address:
+        with socket.socket(socket.AF_UNIX, socket.SOCK_DGRAM) as there:
+            try:
+                there.sendto(text.encode(), "\0" + address[1:] if address.startswith("@") else address)
+            except OSError as error:
+                say("the service manager can't be told: %s" % error)
+
+
+def beat():
+    """Says that this tool does not hang."""
+    tell_manager("WATCHDOG=1")
 
 
 def name_of_tool():
