@@ -189,6 +189,18 @@ class Kept(Lines):
             raise NoKeeper("%s: the keeper has closed the connection" % self.path)
         return line[:-1].decode("utf-8", "surrogateescape")
 
+    def verify(self, did):
+        """The reply to `resolve DID`, and on what it rests: the number of entries, the last height or '-', and the number
+        of missing files."""
+        _, entries, _, height, _, missing, reply = self.expect("verified", "verify " + did).split(" ", 6)
+        return reply, int(entries), height, int(missing)
+
     def end(self):
         self.file.close()
         self.socket.close()
+
+
+def named(document, fragment):
+    """The verification method or the service of a name in a document, or None."""
+    return next((one for kind in ("verificationMethod", "service") for one in document.get(kind, [])
+                 if one["id"] == "#" + fragment), None)

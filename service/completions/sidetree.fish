@@ -19,6 +19,13 @@ complete -c sidetree-follow -l most-back -x -d "entries that may be taken back"
 complete -c sidetree-resolve -l strangers -d "entries of others are no fault"
 complete -c sidetree-why -l v2 -d "version 2 of the limits"
 complete -c sidetree-journal -f -n __fish_use_subcommand -a "check copy shorten"
-for tool in keeper follow feed resolve tell shell why journal
+complete -c sidetree-gateway -l listen -x -d "where it answers, ADDRESS:PORT"
+complete -c sidetree-gateway -l submit -r -d "socket that takes requests"
+complete -c sidetree-gateway -l submits -x -d "requests of an address in a minute"
+complete -c sidetree-gateway -l forwarded -d "addresses are in X-Forwarded-For"
+complete -c sidetree-gateway -l strict -d "503 while files are missing"
+complete -c sidetree-gateway -l patience -x -d "seconds for a client and the keeper"
+complete -c sidetree-gateway -l metrics -x -d "where health and metrics are, ADDRESS:PORT"
+for tool in keeper follow feed resolve tell shell why journal gateway
     complete -c sidetree-$tool -l help -d "the usage"
 end

@@ -7,6 +7,7 @@ _sidetree_tools() {
     sidetree-resolve | resolve) words="--strangers $node" ;;
     sidetree-shell | shell) words=$node ;;
     sidetree-why | why) words="--v2" ;;
+    sidetree-gateway | gateway) words="--listen= --submit= --submits= --forwarded --strict --patience= --metrics=" ;;
     sidetree-journal | journal)
         [ "$COMP_CWORD" = 1 ] && words="check copy shorten"
         [ "${COMP_WORDS[1]}" = shorten ] && words=$node
@@ -19,4 +20,4 @@ _sidetree_tools() {
         [[ ${COMPREPLY[0]-} == *= ]] && compopt -o nospace
     fi
 }
-complete -F _sidetree_tools sidetree-keeper sidetree-follow sidetree-feed sidetree-resolve sidetree-tell sidetree-shell sidetree-why sidetree-journal
+complete -F _sidetree_tools sidetree-keeper sidetree-follow sidetree-feed sidetree-resolve sidetree-tell sidetree-shell sidetree-why sidetree-journal sidetree-gateway
