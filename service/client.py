@@ -76,7 +76,14 @@ def program():
 
 def end_with_parent(number):
     """What a new process does before its program: it asks for this signal at the end of the one that started it."""
-    return lambda: ctypes.CDLL(None).prctl(1, number)
+    parent, system = os.getpid(), ctypes.CDLL(None)
+
+    def ask():
+        system.prctl(1, number)
+        # The parent may have ended just before.
+        if os.getppid() != parent:
+            os._exit(1)
+    return ask
 
 
 class Lines:

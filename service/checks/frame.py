@@ -19,7 +19,7 @@ from records import Journal
 SERVICE = os.path.dirname(os.path.dirname(os.path.realpath(__file__)))
 TOP = os.path.dirname(SERVICE)
 FOLDER = os.path.join(TOP, "examples", "folder")
-TOOLS = ("keeper", "follow", "feed", "resolve", "tell", "shell", "why", "journal", "gateway")
+TOOLS = ("keeper", "follow", "feed", "resolve", "tell", "shell", "why", "journal", "gateway", "registry")
 # The longest that anything may take here, in seconds.
 LONGEST = 120
 CASES = []

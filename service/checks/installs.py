@@ -122,7 +122,7 @@ def packaged(folder):
     holds("0.1.0+" + COMMIT in archive, archive)
     with tarfile.open(archive) as tar:
         names = tar.getnames()
-        for wanted in ("bin/sidetree", "bin/sidetree-keeper", "lib/sidetree/sidetree", "lib/systemd/system/sidetree.service",
+        for wanted in ("bin/sidetree", "bin/sidetree-keeper", "lib/sidetree/sidetree", "lib/systemd/system/sidetree.service", "lib/systemd/system/sidetree-registry.service",
                        "share/man/man1/sidetree.1.gz", "share/man/man1/sidetree-follow.1.gz", "share/zsh/site-functions/_sidetree",
                        "share/fish/vendor_completions.d/sidetree.fish", "share/fish/vendor_completions.d/sidetree-journal.fish",
                        "share/bash-completion/completions/sidetree"):
