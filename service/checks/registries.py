@@ -3,16 +3,18 @@ import json
 import os
 import re
 import signal
+import sys
 import time
 
 from client import Kept, Node
 from cluster import missing
-from frame import SERVICE, Skipped, asked, case, command, create, holds, same, suffix_of, table, tool, until
+from following import follow
+from frame import SERVICE, Keeper, Skipped, asked, case, command, create, holds, same, suffix_of, table, tool, until, write
+from gateway_posts import post
 from machines import Machine
 from publishes import publish_until
+from publishing import Publisher
 from store import open_store
-from following import follow
-from gateway_posts import post
 from web import KeptWeb, has
 
 
@@ -146,6 +148,77 @@ def ends(folder):
     deep = os.path.join(folder, "x" * 100)
     done = tool("registry", "up", deep)
     holds(done.status == 73 and "too long" in done.err, done.err)
+
+
+HANGING = """
+import sys
+sys.path.insert(0, %r)
+import supervising
+supervising.HANGS, ends = 2, []
+sys.argv[0] = "registry"
+sys.exit(supervising.supervise([supervising.Part("lively", sys.argv[1], "lively"), supervising.Part("hung", sys.argv[1], "hung")],
+                               lambda part, status: ends.append(part) or (5 if len(ends) == 2 else None), lambda: None))
+""" % SERVICE
+# A part that beats, or one that is ready and then hangs.
+PART = """
+import sys, time
+sys.path.insert(0, %r)
+from tools import beat, tell_manager
+tell_manager("READY=1")
+while True:
+    time.sleep(0.1)
+    if sys.argv[1] == "lively":
+        beat()
+""" % SERVICE
+
+
+@case("a part that hangs is killed and started again, and one that beats is left alone")
+def hangs(folder):
+    write(os.path.join(folder, "part.py"), PART)
+    done = command(sys.executable, "-B", "-c", HANGING, os.path.join(folder, "part.py"))
+    same(done.status, 5, done.err)
+    same([done.err.count(text) for text in ("hung has said nothing for 2 s", "hung runs", "lively runs", "lively has said", "all have ended")],
+         [2, 2, 1, 0, 1], done.err)
+
+
+@case("a publisher that ends often still publishes: the age of the last batch is the store's")
+def clock(folder):
+    store = open_store("sqlite:%s/store.db" % folder)
+    with Keeper(folder) as keeper, Kept(keeper.all) as node:
+        store.join(node)
+        node.expect("queued", "submit " + create("a"))
+        same(Publisher(store, node, 3, 1_000).step(), 0, "requests that wait after the first batch")
+        began = time.monotonic()
+        node.expect("queued", "submit " + create("b"))
+        while Publisher(store, node, 3, 1_000).step():
+            time.sleep(0.05)
+        holds(time.monotonic() - began > 2, "the batch came after %.1f s" % (time.monotonic() - began))
+        node.expect("queued", "submit " + create("c"))
+        same(Publisher(store, node, 1_000, 1).step(), 0, "one waits, and one is enough")
+
+
+@case("a registry whose later entries are read by version 2")
+def later(folder):
+    store = "sqlite:%s/store.db" % folder
+    machine = Machine(folder, 1, store, "--every=0.1", "--submits=1000")
+    try:
+        def resolves(name, later=False):
+            request = create(name, later)
+            until(lambda: machine.http("POST", "/operations", request)[0] == 200)
+            until(lambda: machine.http("GET", "/identifiers/did:sidetree:" + suffix_of(request))[0] == 200)
+        resolves("one")
+        resolves("two")
+        same(machine.end(), 0)
+        machine.words.append("--v2-at=4")
+        machine.start()
+        resolves("three")
+        until(lambda: machine.http("POST", "/operations", create("later", later=True))[0] == 400)
+        resolves("four")
+        resolves("five")
+        resolves("later", later=True)
+        same(open_store(store).count(), 6, "entries")
+    finally:
+        machine.end()
 
 
 @table("failures", [(kind, kind) for kind in ("sqlite", "postgresql")])
