@@ -21,6 +21,8 @@ from records import Journal
 MOST_OF_A_BATCH = {1: 1_000, 2: 5_000}
 DIGEST = 32
 NO_ENTRY = "-"
+# How a reply begins to a line that may change which files are missing.
+CHANGES = ("have ", "anchored ", "cut ", "batch ")
 
 
 def chained(chain, entry):
@@ -99,7 +101,7 @@ class KeptNode:
         self.path, self.began, self.answered = os.path.join(folder, "sidetree.journal"), time.monotonic(), 0
         self.later_from = next((int(word.partition("=")[2]) for word in options if word.startswith("--v2-at=")), None)
         self.node = Node("node", *options, "--journal", folder=folder, apart=True)
-        self.ledger, self.is_ending = None, False
+        self.ledger, self.is_ending, self._missing = None, False, None
 
     def wait(self):
         """Waits until the node has done its journal. Only then has it locked the file, so only then is the file's end
@@ -113,6 +115,8 @@ class KeptNode:
         with self.node.lock:
             reply = self.node.ask(line)
             self.answered += 1
+            if reply[0].startswith(CHANGES):
+                self._missing = None
             if reply[0].startswith("batch "):
                 # The anchor string begins with the number of operations.
                 self.ledger.note_batch(int(reply[0].split(" ")[1].partition(".")[0]))
@@ -134,11 +138,16 @@ class KeptNode:
             self.ledger.advance()
             return [own(self, rest)]
 
+    def missing(self):
+        """How many files are missing. The node is asked only after a change, since its list may be long."""
+        if self._missing is None:
+            self._missing = int(self.ask("wanted")[0].split(" ")[1])
+        return self._missing
+
     def health_pairs(self):
         """What there is to know of the node, as pairs of a name and a value."""
         ledger, height = self.ledger, self.ledger.height()
-        wanted = self.ask("wanted")[0].split(" ")[1]
-        return [("entries", len(ledger)), ("height", NO_ENTRY if height is None else height), ("wanted", wanted),
+        return [("entries", len(ledger)), ("height", NO_ENTRY if height is None else height), ("wanted", self.missing()),
                 ("queued", NO_ENTRY if ledger.waiting is None else ledger.waiting), ("journal", ledger.journal.size()),
                 ("memory", memory_of(self.node.process.pid)), ("up", int(time.monotonic() - self.began)),
                 ("lines", self.answered), ("v2-at", NO_ENTRY if self.later_from is None else self.later_from),
@@ -161,9 +170,8 @@ class KeptNode:
 
     def verify(self, rest):
         height = self.ledger.height()
-        missing = self.ask("wanted")[0].split(" ")[1]
-        return "verified entries %d height %s missing %s %s" % (
-            len(self.ledger), NO_ENTRY if height is None else height, missing, self.ask("resolve " + rest)[0])
+        return "verified entries %d height %s missing %d %s" % (
+            len(self.ledger), NO_ENTRY if height is None else height, self.missing(), self.ask("resolve " + rest)[0])
 
     def at(self, rest):
         place, _, entry = rest.partition(" ")
