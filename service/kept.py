@@ -32,6 +32,8 @@ from records import Journal
 MOST_OF_A_BATCH = {1: 1_000, 2: 5_000}
 DIGEST = 32
 NO_ENTRY = "-"
+# How a reply begins to a line that may change which files are missing.
+CHANGES = ("have ", "anchored ", "cut ", "batch ")
 
 
 def chained(chain, entry):
@@ -112,7 +114,7 @@ class KeptNode:
         self.later_from = next((int(word.partition("=")[2]) for word in options if word.startswith("--v2-at=")), None)
         self.options, self.folder = options, Folder(folder)
         self.node = Node("node", *options, "--journal", folder=folder, apart=True)
-        self.ledger, self.is_ending = None, False
+        self.ledger, self.is_ending, self._missing = None, False, None
         # The last batch with its number, and how many requests are on the ledger, if a publisher has said so.
         self.last, self.published = (0, None), None
 
@@ -129,6 +131,8 @@ class KeptNode:
         with self.node.lock:
             reply = self.node.ask(line)
             self.answered += 1
+            if reply[0].startswith(CHANGES):
+                self._missing = None
             if reply[0].startswith("batch "):
                 # The anchor string begins with the number of operations.
                 self.ledger.note_batch(int(reply[0].split(" ")[1].partition(".")[0]))
@@ -168,11 +172,16 @@ class KeptNode:
                 return self.last[1]
         return next(batches_again(self.path, self.options, n, skip))
 
+    def missing(self):
+        """How many files are missing. The node is asked only after a change, since its list may be long."""
+        if self._missing is None:
+            self._missing = int(self.ask("wanted")[0].split(" ")[1])
+        return self._missing
+
     def health_pairs(self):
         """What there is to know of the node, as pairs of a name and a value."""
         ledger, height = self.ledger, self.ledger.height()
-        wanted = self.ask("wanted")[0].split(" ")[1]
-        return [("entries", len(ledger)), ("height", NO_ENTRY if height is None else height), ("wanted", wanted),
+        return [("entries", len(ledger)), ("height", NO_ENTRY if height is None else height), ("wanted", self.missing()),
                 ("queued", NO_ENTRY if ledger.waiting is None else ledger.waiting), ("journal", ledger.journal.size()),
                 ("memory", memory_of(self.node.process.pid)), ("up", int(time.monotonic() - self.began)),
                 ("lines", self.answered), ("v2-at", NO_ENTRY if self.later_from is None else self.later_from),
@@ -197,9 +206,8 @@ class KeptNode:
 
     def verify(self, rest):
         height = self.ledger.height()
-        missing = self.ask("wanted")[0].split(" ")[1]
-        return "verified entries %d height %s missing %s %s" % (
-            len(self.ledger), NO_ENTRY if height is None else height, missing, self.ask("resolve " + rest)[0])
+        return "verified entries %d height %s missing %d %s" % (
+            len(self.ledger), NO_ENTRY if height is None else height, self.missing(), self.ask("resolve " + rest)[0])
 
     def at(self, rest):
         place, _, entry = rest.partition(" ")

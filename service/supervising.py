@@ -9,7 +9,7 @@ import sys
 import time
 
 from client import end_with_parent
-from tools import say
+from tools import Stopped, say, stop_on_signals
 
 # The seconds after which one that says nothing hangs, one that was asked to end is killed, and the longest pause before a
 # start. A program that ran for STEADY seconds is started again at once.
@@ -87,23 +87,11 @@ class Listener:
             pass
 
 
-class Stopped(Exception):
-    """A signal that asks for an end."""
-
-
-def stop(*_):
-    # Once: a second signal must not come in between.
-    for number in (signal.SIGTERM, signal.SIGINT):
-        signal.signal(number, signal.SIG_IGN)
-    raise Stopped
-
-
 def supervise(parts, judge, ready):
     """Runs the parts until a signal comes, or until `judge` gives a status when one has ended. `ready` is called at each
     look. They are stopped in the other order than that of their start."""
     listener, status = Listener(), None
-    for number in (signal.SIGTERM, signal.SIGINT):
-        signal.signal(number, stop)
+    stop_on_signals()
     try:
         while status is None:
             for part in parts:

@@ -4,6 +4,7 @@ A tool ends with 64 if its words are wrong, with 70 after a fault of its own, wi
 status that its help lists.
 """
 import os
+import signal
 import socket
 import sys
 import traceback
@@ -11,6 +12,20 @@ import traceback
 USAGE, FAULT, INTERRUPTED = 64, 70, 130
 # Options that a tool passes on to the program, in the order in which the program takes them.
 NODE_OPTIONS = ("--limit", "--v2-at")
+
+
+class Stopped(Exception):
+    """SIGTERM or SIGINT, which ask for an end."""
+
+
+def stop_on_signals():
+    """From now on the first of these signals is raised as `Stopped`; later ones are passed over."""
+    def stop(*_):
+        for number in (signal.SIGTERM, signal.SIGINT):
+            signal.signal(number, signal.SIG_IGN)
+        raise Stopped
+    for number in (signal.SIGTERM, signal.SIGINT):
+        signal.signal(number, stop)
 
 
 class WrongWords(Exception):

@@ -17,11 +17,11 @@ class Answer:
     def __init__(self, status, body, kind=JSON, headers=()):
         self.status, self.kind = status, kind
         self.body = body if isinstance(body, bytes) else json.dumps(body).encode()
-        self.headers = list(headers)
+        self.headers = headers
 
-    def give(self, start, is_head=False):
-        """Starts the answer, and gives its body."""
-        headers = HEADERS + self.headers
+    def give(self, start, is_head, more):
+        """Starts the answer with more headers, and gives its body."""
+        headers = [*HEADERS, *self.headers, *more]
         if self.status != HTTPStatus.NO_CONTENT:
             headers = [("Content-Type", self.kind), ("Content-Length", str(len(self.body)))] + headers
         if not any(name == NO_CONTENT[0] for name, _ in headers):

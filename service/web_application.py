@@ -72,10 +72,8 @@ class Gateway:
         except Exception as fault:
             say("%s %.100r: a fault of this tool: %s: %s" % (method, path, type(fault).__name__, fault))
             answer = Fault(500, "internalError", "a fault of the gateway").answer(path.startswith(DRIVER))
-        if path != "/operations":
-            answer.headers = answer.headers + SHARED
         self.answered.note(answer.status, time.monotonic() - began)
-        return answer.give(start, method == "HEAD")
+        return answer.give(start, method == "HEAD", [] if path == "/operations" else SHARED)
 
     def answer(self, method, path, environ):
         """The answer of a path, or a fault."""

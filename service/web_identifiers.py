@@ -31,23 +31,25 @@ class Found:
         return 410 if self.metadata.get("deactivated") else 200
 
 
-def identifier(text):
+def identifier(text, other_method=(400, "invalidDid")):
     """An identifier of this method, or else a fault. No other text may become a part of a line."""
     method = DID.fullmatch(text)
     if not method:
         raise Fault(400, "invalidDid", "this is no identifier")
     if method[1] != "sidetree":
-        raise Fault(501, "methodNotSupported", "only identifiers that begin with did:sidetree: are resolved here")
+        raise Fault(*other_method, "only identifiers that begin with did:sidetree: are resolved here")
     if len(text) > LONGEST_DID:
         raise Fault(400, "invalidDid", "an identifier has at most %d bytes" % LONGEST_DID)
     return text
 
 
-def look_up(asked, text, strict):
+def look_up(gateway, did, query):
     """Resolves an identifier, or raises why there is no result."""
-    did = identifier(text)
-    found = Found(*asked.use(lambda node: node.verify(did)))
-    if strict and found.missing:
+    # An option that is passed over would make an answer to another question.
+    if query:
+        raise Fault(501, "featureNotSupported", "no option of resolution is known here, as versionId or versionTime")
+    found = Found(*gateway.asked.use(lambda node: node.verify(did)))
+    if gateway.strict and found.missing:
         raise Fault(503, "filesMissing", "%d files are missing here, so there may be operations that this node does not know"
                     % found.missing, found.trust + retry_after(FILES_COME))
     if found.word == "unresolved":
@@ -56,32 +58,19 @@ def look_up(asked, text, strict):
     return found
 
 
-def no_query(query):
-    """An option that is passed over would make an answer to another question."""
-    if query:
-        raise Fault(501, "featureNotSupported", "no option of resolution is known here, as versionId or versionTime")
-
-
 def resolve(gateway, text, environ):
     """Sidetree's own path: the result as the node writes it."""
-    no_query(environ.get("QUERY_STRING"))
-    try:
-        found = look_up(gateway.asked, text, gateway.strict)
-    except Fault as fault:
-        if fault.status == 501:
-            fault.status, fault.told["error"] = 400, "invalidDid"
-        raise
+    found = look_up(gateway, identifier(text), environ.get("QUERY_STRING"))
     return Answer(found.status, encoded(found.rest), JSON, found.trust)
 
 
 def drive(gateway, text, environ):
     """The driver: the result, the document alone, or what a fragment names."""
-    no_query(environ.get("QUERY_STRING"))
     kind = choose(environ.get("HTTP_ACCEPT"), (RESOLUTION, OLDER_RESOLUTION, DOCUMENT))
     if kind is None:
         raise Fault(406, "representationNotSupported", "an answer is %s, %s or %s" % (RESOLUTION, OLDER_RESOLUTION, DOCUMENT))
     did, mark, fragment = text.partition("#")
-    found = look_up(gateway.asked, did, gateway.strict)
+    found = look_up(gateway, identifier(did, (501, "methodNotSupported")), environ.get("QUERY_STRING"))
     if mark and found.status == 200:
         one = named(found.document, fragment)
         if one is None:

@@ -34,10 +34,6 @@ class Handler(WSGIRequestHandler):
         super().setup()
         self.sent = self.rfile
 
-    def finish(self):
-        super().finish()
-        self.sent.close()
-
     def handle(self):
         head = b""
         while not head.endswith((b"\r\n\r\n", b"\n\n")):
@@ -75,12 +71,6 @@ class Server(socketserver.ThreadingMixIn, WSGIServer):
         self.set_app(application)
         threading.Thread(target=self.cut_off, daemon=True).start()
 
-    def server_bind(self):
-        # That of http.server asks for the name of the address.
-        socketserver.TCPServer.server_bind(self)
-        self.server_name, self.server_port = self.server_address[:2]
-        self.setup_environ()
-
     def cut_off(self):
         """Ends connections that take too long, for ever."""
         while True:
@@ -101,12 +91,6 @@ class Server(socketserver.ThreadingMixIn, WSGIServer):
         self.ends[request] = time.monotonic() + WHOLE * self.patience
         super().process_request(request, client_address)
 
-    def process_request_thread(self, request, client_address):
-        try:
-            super().process_request_thread(request, client_address)
-        finally:
-            self.places.release()
-
     def shutdown_request(self, request):
         """Closes a connection. What the client still sends is read first, or it might never read the answer."""
         try:
@@ -118,6 +102,7 @@ class Server(socketserver.ThreadingMixIn, WSGIServer):
             pass
         self.ends.pop(request, None)
         self.close_request(request)
+        self.places.release()
 
     def handle_error(self, request, client_address):
         fault = sys.exc_info()[1]

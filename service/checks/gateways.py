@@ -182,7 +182,9 @@ def state(folder):
 @case("the page: one file, under a policy that runs its own script and style alone")
 def one_page(folder):
     with KeptWeb(folder) as web:
+        web.ask("/")
         reply = web.ask("/?did=" + FIRST)
+        same(len(reply.headers), len(set(reply.headers)), "the headers, each of which is there once")
         policy = dict(part.split(" ", 1) for part in reply.headers["Content-Security-Policy"].split("; "))
         text = reply.body.decode()
         for name in ("script", "style"):

@@ -59,8 +59,8 @@ class Web:
         self.server.shutdown()
         self.server.server_close()
         for asked in filter(None, (self.gateway.asked, self.gateway.submitted)):
-            while asked.free:
-                asked.free.pop().end()
+            for node in filter(None, asked.free.queue):
+                node.end()
 
 
 def asked_of(port, path, method="GET", body=None, **headers):
