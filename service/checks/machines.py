@@ -137,7 +137,7 @@ class Failing(threading.Thread):
     def run(self):
         try:
             while sum(self.counts.values()) < self.count:
-                time.sleep(self.random.choice((0.05, 0.3, 0.6, 1.2)))
+                time.sleep(self.random.choice((0.05, 0.5, 1, 3)))
                 what = self.random.choice(PARTS + ("publish",) + (("backend", "postgres", "line", "line") if self.cluster else ()))
                 try:
                     self.fail(what, self.random.choice(self.machines))
