@@ -30,6 +30,22 @@ def below(process):
     return found
 
 
+def processes_of(folder):
+    """The processes that have a folder among their words, after some seconds in which they may end."""
+    end = time.monotonic() + 20
+    while True:
+        found = []
+        for name in os.listdir("/proc"):
+            try:
+                with open("/proc/%s/cmdline" % int(name), encoding="utf-8", errors="replace") as words:
+                    found += [name] if any(word.startswith(folder + "/") or word == folder for word in words.read().split("\0")) else []
+            except (OSError, ValueError):
+                pass
+        if not found or time.monotonic() > end:
+            return found
+        time.sleep(0.2)
+
+
 class Line:
     """A machine's connection to the database. It can be cut for a while, as by a network that drops all."""
 
