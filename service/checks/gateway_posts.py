@@ -3,12 +3,14 @@ import contextlib
 import io
 import json
 import os
+import signal
 import time
 
 from frame import SERVICE, TOP, Keeper, asked, case, create, holds, pairs, same
 from meanings import REFUSALS
 from records import Journal
 from resolves import FIRST, long_form
+from shortening import finish, new_file, write_record
 from web import KeptWeb, StandIn, Web, has
 
 TYPE = "application/json"
@@ -117,6 +119,20 @@ def bound(folder):
         same(submitted(web.keeper.journal), [])
 
 
+@case("the gateway: a full queue is 503, and says when to come again")
+def full(folder):
+    path = os.path.join(folder, "state", "sidetree.journal")
+    os.mkdir(os.path.dirname(path))
+    with new_file(path) as file:
+        for n in range(10_000):
+            write_record(file, ("submit " + create("n%d" % n)).encode())
+        finish(file, path)
+    with KeptWeb(folder, "--submit=SUBMIT") as web:
+        same(pairs(asked(web.keeper.ask, "health")[0])["queued"], "10000")
+        same(has(post(web, create("one more")), 503, error="full").headers["Retry-After"], "60")
+        has(post(web, create("n1")), 400, error="alreadyQueued")
+
+
 # What a stand-in for a keeper says to a line, and the answers to a question and to a post.
 ODD = [
     (b"refused full\n", 500, 503), (b"refused keeper\n", 500, 500), (b"refused nonsense\n", 500, 500), (b"nonsense\n", 500, 500),
@@ -134,6 +150,8 @@ def odd(folder):
                                   (web.ask("/history/" + FIRST), question), (web.ask("/health"), question), (post(web, "{}"), posted)):
                 has(found, status)
                 holds(b"Traceback" not in found.body and b"File" not in found.body, found.body)
+                if status == 500:
+                    has(found, status, error="internalError", message="a fault of the gateway")
             if posted == 503:
                 holds(post(web, "{}").headers["Retry-After"] in ("5", "60"), "a time to wait")
             same(web.ask("/metrics").status, 200 if question == 503 else 500)
@@ -154,6 +172,12 @@ def gone(folder):
         time.sleep(2.5)
         has(web.ask("/identifiers/did:sidetree:fast"), 404)
         same(keeper.server.lines[0], b"verify did:sidetree:fast\n")
+    with KeptWeb(folder, "--patience=1") as web:
+        has(web.ask("/1.0/identifiers/" + FIRST), 404)
+        os.kill(web.keeper.node(), signal.SIGSTOP)
+        has(web.ask("/1.0/identifiers/" + FIRST), 504, error="nodeLate")
+        os.kill(web.keeper.node(), signal.SIGCONT)
+        has(web.ask("/1.0/identifiers/" + FIRST), 404)
     with Web(os.path.join(folder, "sockets", "ask")) as web:
         has(web.ask("/identifiers/" + FIRST), 503, error="nodeGone")
         for _ in range(2):
