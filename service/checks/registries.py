@@ -3,14 +3,19 @@ import json
 import os
 import re
 import signal
+import subprocess
 import sys
 import time
+import urllib.error
+import urllib.request
 
 from client import Kept, Node
-from cluster import missing
+from cluster import free_port, missing
 from following import follow
 from frame import SERVICE, Keeper, Skipped, asked, case, command, create, holds, same, suffix_of, table, tool, until, write
 from gateway_posts import post
+from installs import bare, built, install
+from ledger import read
 from machines import Machine
 from publishes import publish_until
 from publishing import Publisher
@@ -116,6 +121,36 @@ def up(folder):
     finally:
         if machine.up.poll() is None:
             machine.end()
+
+
+@case("the way of a new user: install, sidetree-registry up, a request from the wallet")
+def installed(folder):
+    prefix = os.path.join(folder, "usr")
+    install(built(folder), prefix)
+    wallet = Wallet(os.path.join(folder, "wallet"))
+    suffix, request = wallet.create()
+    wallet.end()
+    environment = {name: value for name, value in bare(prefix).items() if name != "SIDETREE"}
+    port = free_port()
+    with open(os.path.join(folder, "log"), "wb") as log:
+        up = subprocess.Popen(["sidetree-registry", "up", os.path.join(folder, "kept"), "--listen=127.0.0.1:%d" % port, "--every=1"],
+                              env=environment, stderr=log, stdout=log)
+    try:
+        until(lambda: b"registry: ready" in read(os.path.join(folder, "log")))
+        address = "http://127.0.0.1:%d" % port
+        asked = urllib.request.Request(address + "/operations", request.encode(), {"Content-Type": "application/json"})
+        same(urllib.request.urlopen(asked).status, 200)
+
+        def is_there():
+            try:
+                return urllib.request.urlopen(address + "/identifiers/did:sidetree:" + suffix).status == 200
+            except urllib.error.HTTPError:
+                return False
+        until(is_there)
+        holds(b"<title>" in urllib.request.urlopen(address + "/").read(), "there is a page")
+    finally:
+        up.terminate()
+    same(up.wait(60), 0)
 
 
 @case("registry drain brings all to the ledger, and ends up; the next up takes requests again")

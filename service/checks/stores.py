@@ -7,7 +7,7 @@ import threading
 import time
 
 from cluster import SHARED, new_store
-from frame import SERVICE, holds, same, table, tool, write
+from frame import SERVICE, holds, same, table, until
 from kept import chained
 from ledger import uri_of
 from store import Away, Halt, Store, open_store
@@ -214,8 +214,6 @@ def away(folder, kind):
         os.rename(os.path.join(folder, "gone"), os.path.join(folder, "store.db"))
     else:
         os.kill(SHARED[0].postmaster(), signal.SIGKILL)
-        holds(is_away(), "the server is killed")
-        while SHARED[0].postmaster():
-            time.sleep(0.05)
-        SHARED[0].start()
+        until(is_away)
+        SHARED[0].start_again()
     same((store.count(), store.last("a").number), (1, 1))
