@@ -1,8 +1,8 @@
 """How the batches of a kept node come into a store: each once, whoever ends, and whenever. Nothing is kept here. The store
 knows which batches of the node's journal it has, and the keeper gives any batch again."""
-import base64
 import time
 
+from checking import decoded
 from client import Refused
 from following import holding, release
 from store import Halt
@@ -17,7 +17,7 @@ OTHER = ("%s. The folder, or an older journal, is a copy: remove the file `name`
 def batch_of(reply):
     """The anchor string of a batch, and its files."""
     files = [line.split(" ")[2:] for line in reply[1:]]
-    return reply[0].split(" ")[1], [(uri, base64.urlsafe_b64decode(text + "=" * (-len(text) % 4))) for uri, text in files]
+    return reply[0].split(" ")[1], [(uri, decoded(text.encode())) for uri, text in files]
 
 
 class Publisher:

@@ -113,14 +113,17 @@ def post(gateway, environ):
     gateway.bound.count(gateway.address(environ))
     body = one_line(body_of(environ))
     posted = Posted(body)
-    place = taken(gateway, posted)
+    place, suffix = taken(gateway, posted), posted.suffix
     if place is None:
         try:
             word, _, rest = gateway.submitted.use(lambda node: node.ask("submit " + posted.line), once=True)[0].partition(" ")
         except Fault as fault:
             fault.told["message"] += "; the request may be queued"
             raise
-        place = "journal" if word == "queued" else posted.place(gateway) if rest == "alreadyQueued" else None
+        if word == "queued":
+            place, suffix = "journal", rest
+        elif rest == "alreadyQueued":
+            place = posted.place(gateway)
         if place is None:
             raise refusal(gateway, body, rest)
-    return Answer(200, result_of(gateway, body, posted.suffix), headers=[("Sidetree-Request", place)])
+    return Answer(200, result_of(gateway, body, suffix), headers=[("Sidetree-Request", place)])
