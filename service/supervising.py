@@ -49,14 +49,16 @@ class Part:
             self.process.kill()
             self.heard = time.monotonic()
 
-    def stop(self):
+    def stop(self, hear):
+        """Ends it. Meanwhile it is heard, or it might wait for that."""
         if self.process is None:
             return
+        end = time.monotonic() + PATIENCE
         self.process.send_signal(signal.SIGTERM)
         self.process.send_signal(signal.SIGCONT)
-        try:
-            self.process.wait(PATIENCE)
-        except subprocess.TimeoutExpired:
+        while self.process.poll() is None and time.monotonic() < end:
+            hear()
+        if self.process.poll() is None:
             say("%s does not end, and is killed" % self.name)
             self.process.kill()
             self.process.wait()
@@ -108,6 +110,6 @@ def supervise(parts, judge, ready):
     except Stopped:
         status = 0
     for part in reversed(parts):
-        part.stop()
+        part.stop(lambda: listener.hear(parts, 0.05))
     say("all have ended")
     return status

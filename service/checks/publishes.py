@@ -159,8 +159,9 @@ def unpublished(keeper):
     return pairs(asked(keeper.ask, "health")[0])["unpublished"]
 
 
-@case("a copied folder halts the publisher and the keeper's queue, until the copy's name is removed")
-def copied(folder):
+@table("a copied folder halts the publisher and the keeper's queue, until the copy's name is removed", [
+    ("it made fewer batches", []), ("it made as many", ["flush"])])
+def copied(folder, lines):
     url, requests = new_store("sqlite", folder), [create("c%d" % n) for n in range(4)]
     with Keeper(folder) as keeper:
         asked(keeper.all, "submit " + requests[0])
@@ -172,7 +173,7 @@ def copied(folder):
         asked(keeper.all, "submit " + requests[1])
         publish_until(url, keeper.all)
     with Keeper(there) as copy:
-        same(asked(copy.ask, "submit " + requests[2])[0][:6], "queued")
+        same(asked(copy.all, "submit " + requests[2], *lines)[0][:6], "queued")
         with Publishing(folder, "registry", "publish", url, copy.all) as publishing:
             until(lambda: "remove the file `name`" in publishing.said())
             same(publishing.said().count("\n"), 1, "lines that it says")

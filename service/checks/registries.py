@@ -117,6 +117,7 @@ def up(folder):
         for part in ("keeper", "follow", "publish", "gateway"):
             holds(len(re.findall("registry: %s runs, process" % part, said)) >= 3, "%s was started again" % part)
         same(said.splitlines()[-1], "registry: all have ended")
+        holds("is killed" not in said, "each part ends by itself")
         same(open_store("sqlite:%s/store.db" % folder).count(), 7, "entries")
     finally:
         if machine.up.poll() is None:
@@ -189,7 +190,7 @@ HANGING = """
 import sys
 sys.path.insert(0, %r)
 import supervising
-supervising.HANGS, ends = 2, []
+supervising.HANGS, ends = 8, []
 sys.argv[0] = "registry"
 sys.exit(supervising.supervise([supervising.Part("lively", sys.argv[1], "lively"), supervising.Part("hung", sys.argv[1], "hung")],
                                lambda part, status: ends.append(part) or (5 if len(ends) == 2 else None), lambda: None))
@@ -212,7 +213,7 @@ def hangs(folder):
     write(os.path.join(folder, "part.py"), PART)
     done = command(sys.executable, "-B", "-c", HANGING, os.path.join(folder, "part.py"))
     same(done.status, 5, done.err)
-    same([done.err.count(text) for text in ("hung has said nothing for 2 s", "hung runs", "lively runs", "lively has said", "all have ended")],
+    same([done.err.count(text) for text in ("hung has said nothing for 8 s", "hung runs", "lively runs", "lively has said", "all have ended")],
          [2, 2, 1, 0, 1], done.err)
 
 
