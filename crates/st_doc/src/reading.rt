@@ -5,7 +5,7 @@ ghost use Rattle.st_base.specs.Each.{each_is};
 ghost use Rattle.st_plain.specs.Entries.{text_in};
 ghost use Rattle.st_plain.specs.Shapes.{is_object_of};
 ghost use Rattle.st_canon.specs.View.{plain};
-ghost use Rattle.st_doc.specs.Document.{document_in, document_names, document_of, has_document_form, if_document, plain_document, refusal_of};
+ghost use Rattle.st_doc.specs.Document.{document_names, document_of, has_document_form, plain_document, refusal_of};
 
 use crate::check::{if_document, may_have_names};
 use crate::document::Document;
