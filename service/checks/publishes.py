@@ -89,7 +89,8 @@ def threads_of(url, socket, stop):
 
 POINTS = ("before", "reply", "transaction", "committed", "by hand")
 ROWS = [("%s, ended at '%s', %s killed" % (kind, point, who), kind, point, who) for kind, points, whom in (
-    ("sqlite", POINTS, ("nobody", "keeper", "node")), ("postgresql", POINTS[:4], ("keeper",))) for point in points for who in whom]
+    ("sqlite", POINTS, ("keeper",)), ("sqlite", ("reply", "by hand"), ("nobody", "node")), ("postgresql", POINTS[:4], ("keeper",)))
+    for point in points for who in whom]
 
 
 @table("each request comes once", ROWS)

@@ -10,7 +10,8 @@ from cluster import SHARED, new_store
 from frame import SERVICE, holds, same, table, until
 from kept import chained
 from ledger import uri_of
-from store import Away, Halt, Store, open_store
+import store as module
+from store import PATIENCE, Away, Halt, open_store
 
 KINDS = [("sqlite", "sqlite"), ("postgresql", "postgresql")]
 # A process that works with a store until it is killed.
@@ -21,7 +22,7 @@ while True:
     n = store.last("k").number + 1
     store.append("k", n, *batch(n))
 """
-STOPS = PROGRAM + """
+STOPS = PROGRAM.replace("store = ", "import store as module\nmodule.PATIENCE = 3\nstore = ") + """
 with store.connected(), store.writing():
     store.sql("SELECT 1")
     print("in", flush=True)
@@ -152,6 +153,7 @@ def stopped(folder, kind):
     process.stdout.readline()
     process.send_signal(signal.SIGSTOP)
     store, began = open_store(url), time.monotonic()
+    module.PATIENCE = 3
     try:
         while store.last("p").number == 0:
             try:
@@ -162,6 +164,7 @@ def stopped(folder, kind):
                     # Nobody can end its transaction: whoever watches processes must kill it, as `up` does.
                     process.kill()
     finally:
+        module.PATIENCE = PATIENCE
         process.kill()
         process.wait()
 
