@@ -13,8 +13,8 @@ USAGE, FAULT, INTERRUPTED = 64, 70, 130
 NODE_OPTIONS = ("--limit", "--v2-at")
 
 
-class Stopped(Exception):
-    """SIGTERM or SIGINT, which ask for an end."""
+class Stopped(BaseException):
+    """SIGTERM or SIGINT, which ask for an end. It is no Exception: a server would take it for the fault of a request."""
 
 
 def stop_on_signals():
