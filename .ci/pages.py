@@ -1,19 +1,25 @@
 """Whether the pages name what is there: docs/RULES.md each file, each word in the file before it, and each edit; every page
 each module of definitions or lemmas, each path, each page that it links to and the heading there. Whether the pages quote
-the sources. Whether each crate but those of tests has a README, one page alone the table of statuses, and one that of the
-limits."""
+the sources, and docs/READING.md lists what `run` cites. Whether each crate but those of tests has a README, one page alone
+the table of statuses, and one those of the limits. Whether a merge was left half done in a page."""
 
 import pathlib
 import re
 import sys
+
+sys.dont_write_bytecode = True
+import cited
 
 CRATES = pathlib.Path("crates")
 EDITS = {path.stem for path in CRATES.glob("*/must-fail/*.edit")}
 READMES = [crate / "README.md" for crate in sorted(CRATES.iterdir()) if not crate.name.endswith("_tests")]
 PAGES = [*(pathlib.Path(name) for name in ("README.md", "CHANGELOG.md", "examples/README.md")),
          *sorted(pathlib.Path("docs").glob("*.md")), *READMES]
-# The head of a table, and the page that has it.
-TABLES = {"| status | when |": "docs/PROTOCOL.md", "| what | limit |": "docs/FORMATS.md", "| what | version 1 |": "docs/FORMATS.md"}
+# A cell of a table's head, and the page that alone has such a table.
+TABLES = {r"status(es)?|exit.*": "docs/PROTOCOL.md", r"limits?|version [0-9].*": "docs/FORMATS.md"}
+# All paths and their ends, by which pages name files.
+NAMES = {"/".join(path.parts[at:]) for top in (CRATES, *map(pathlib.Path, ("docs", "examples", "launcher", "service", "bench", ".ci")))
+         for path in top.glob("**/*") for at in range(len(path.parts))}
 
 
 def read(path):
@@ -75,9 +81,14 @@ def page_faults(page):
     paths += map(pathlib.Path, re.findall(r"`((?:\.ci|bench|docs|examples|launcher|service)/[\w./-]*)`", text))
     yield from (f"{page}: {path} is not there" for path in sorted(set(paths)) if path.name != "NAME" and not path.exists())
     yield from link_faults(page, text)
-    for head, owner in TABLES.items():
-        if head in text and str(page) != owner:
-            yield f"{page}: the table '{head}' is in {owner} alone"
+    names = re.findall(r"`([\w./-]+\.(?:antt|rt|py|edit))`", text)
+    yield from (f"{page}: no file is named {name}" for name in sorted(set(names)) if name not in NAMES and not re.search("[A-Z]{4}", name))
+    for head in re.findall(r"^\|(.*)\|\n\|---", text, re.M):
+        for cell, owner in TABLES.items():
+            if any(re.fullmatch(cell, one.strip()) for one in head.split("|")) and str(page) != owner:
+                yield f"{page}: the table '{head.strip()}' is in {owner} alone"
+    if re.search(r"^(<<<<<<<|=======|>>>>>>>)( |$)", text, re.M):
+        yield f"{page}: a merge was left half done"
 
 
 def quote_faults():
@@ -89,7 +100,7 @@ def quote_faults():
             yield from (f"{page}: no source has '{line.strip()}'" for line in block.splitlines() if line.strip() not in lines)
 
 
-found = [*rule_faults(), *quote_faults()]
+found = [*rule_faults(), *quote_faults(), *cited.faults()]
 for page in PAGES:
     found += page_faults(page) if page.is_file() else [f"{page} is not there"]
 for fault in found:

@@ -155,4 +155,5 @@ def debian(folder):
     same(command("dpkg-deb", "-f", package, "Package", "Architecture").out, "Package: sidetree\nArchitecture: amd64\n")
     same(command("dpkg-deb", "-x", package, os.path.join(folder, "root")).status, 0)
     same(command(os.path.join(folder, "root/usr/bin/sidetree"), "node", given="wanted\n").out, "wanted 0\n")
+    holds(os.path.exists(os.path.join(folder, "root/usr/share/zsh/vendor-completions/_sidetree")), "zsh's completions are where Debian's looks")
     holds("ExecStart=/usr/lib/sidetree/keeper" in open(os.path.join(folder, "root/usr/lib/systemd/system/sidetree.service"), encoding="utf-8").read(), "the unit")

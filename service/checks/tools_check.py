@@ -45,8 +45,13 @@ def options(folder):
 @case("the completions are read by their shells")
 def shells(folder):
     for shell, name, words in (("bash", "tools.bash", ["-n"]), ("zsh", "_sidetree", ["-n"]), ("fish", "sidetree.fish", ["-n"])):
-        if subprocess.run(["which", shell], capture_output=True, check=False).returncode == 0:
-            same(command(shell, *words, os.path.join(SERVICE, "completions", name)).err, "", shell)
+        if subprocess.run(["which", shell], capture_output=True, check=False).returncode:
+            continue
+        same(command(shell, *words, os.path.join(SERVICE, "completions", name)).err, "", shell)
+        if shell == "fish":
+            script = "source %s; complete -C 'sidetree-journal sh'; complete -C 'sidetree node --j'"
+            done = command("fish", "-c", script % os.path.join(SERVICE, "completions", name))
+            same([line.split("\t")[0] for line in done.out.splitlines()], ["shorten", "--journal"], done.err)
     script = 'source "$0"; COMP_WORDS=("$@"); COMP_CWORD=$(($# - 1)); compopt() { :; }; _sidetree_tools "$1"; echo "${COMPREPLY[*]}"'
     done = command("bash", "-c", script, os.path.join(SERVICE, "completions", "tools.bash"), "sidetree-journal", "sh")
     same(done.out, "shorten\n")

@@ -2,14 +2,14 @@
 -- error, which no definition mentions.
 use Rattle.std.specs.Prelude.{◌≡◌, Bool, true, false, Option, IfSome, Result, Ok, Err}
 
--- the ? of definitions: the second step, if the first gave a value
 infixl 10 ◌>>=◌
+-- the ? of definitions: the second step, if the first gave a value
 abbrev pub ◌>>=◌ : {A B E : Type 0} → Result A E → (A → Result B E) → Result B E
 Ok x >>= f = f x
 Err refusal >>= f = Err refusal
 
--- the same after a step without a value, such as a test
 infixl 10 ◌>>◌
+-- the same after a step without a value, such as a test
 abbrev pub ◌>>◌ : {B E : Type 0} → Result (Unit {0}) E → Result B E → Result B E
 Ok _ >> next = next
 Err refusal >> next = Err refusal

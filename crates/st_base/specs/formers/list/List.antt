@@ -28,9 +28,11 @@ the_former item = list item
 abbrev pub the_weighed : {item : Former {0}} → Weighed item → Weighed (the_former item)
 the_weighed weighed = w_list weighed
 
+-- a list without items
 pub the_empty : lists.List ⊥
 the_empty = lists.[]
 
+-- the items of a list are the list itself
 abbrev pub the_items : (X : Type 0) → lists.List X → lists.List X
 the_items X items = items
 
