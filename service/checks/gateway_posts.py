@@ -99,7 +99,8 @@ def refuses(folder):
         head = b"POST /operations HTTP/1.1\r\nContent-Type: application/json\r\nContent-Length: %s\r\n\r\n"
         with Web(web.keeper.ask, "--submit=" + web.keeper.ask, checked=False) as other:
             for length in (b"-1", b"+5", b"5x", b"0x10", b"1" * 20):
-                holds(other.raw(head % length, b"{}").startswith(b"HTTP/1.0 411 "), "a length %s" % length)
+                holds(other.raw(head % length + b"{}").startswith(b"HTTP/1.0 411 "), "a length %s" % length)
+            holds(b'"cutOff"' in other.raw(head % b"100" + b"{}", ends=True), "a body that ends before its length")
         same(os.path.getsize(web.keeper.journal), before)
         same(pairs(asked(web.keeper.ask, "health")[0])["queued"], "0")
 

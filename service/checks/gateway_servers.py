@@ -58,9 +58,11 @@ def slow(folder):
                         threading.Thread(target=drip, args=(there,), daemon=True).start()
             has(web.ask("/identifiers/" + NOBODY), 404)
             holds(time.monotonic() - began < 3, "others are answered at once")
+            found = [all_of(there) for there in clients]
+            same(found[:4], [b""] * 4, "the answers to heads that have no end")
+            holds(found[4].startswith(b"HTTP/1.0 408 ") and b"tooSlow" in found[4], "%.100r" % found[4])
+            holds(not found[5] or found[5].startswith(b"HTTP/1.0 400 "), "%.100r" % found[5])
             for there in clients:
-                found = all_of(there)
-                holds(not found or found.startswith((b"HTTP/1.0 408 ", b"HTTP/1.0 400 ")), "%.100r" % found)
                 there.close()
             holds(time.monotonic() - began < 12, "it took %.1f s" % (time.monotonic() - began))
             until(lambda: not web.server.ends, 10)

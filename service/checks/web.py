@@ -45,11 +45,12 @@ class Web:
         """The reply to a request. Names of headers have `_` for `-`."""
         return asked_of(self.port, path, method, body, **headers)
 
-    def raw(self, *pieces):
-        """All that comes back for bytes, until the connection is closed."""
+    def raw(self, given, ends=False):
+        """All that comes back for bytes, until the connection is closed. The client may say that it sends no more."""
         with socket.create_connection(("127.0.0.1", self.port), timeout=60) as there:
-            for piece in pieces:
-                there.sendall(piece)
+            there.sendall(given)
+            if ends:
+                there.shutdown(socket.SHUT_WR)
             return all_of(there)
 
     def __enter__(self):
