@@ -93,7 +93,8 @@ class Store:
         with self.connected():
             rows = self.sql("SELECT id FROM store") if self.sql(self.has_tables)[0][0] else []
             if not rows:
-                raise Away("the store has no tables (yet, if it is being put back from a copy)")
+                raise Halt("the store has no tables, and this node has followed one: put the database back from a copy, or "
+                           "give the right --store")
             return rows[0][0]
 
     def last(self, name):

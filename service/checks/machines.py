@@ -124,6 +124,9 @@ class Machine:
         try:
             connection.request(method, path, body, {"Content-Type": "application/json"} if body else {})
             answer = connection.getresponse()
+            if answer.headers["Content-Length"] is None:
+                # The gateway was killed in the middle of its head.
+                raise http.client.IncompleteRead(b"")
             return answer.status, answer.read().decode(), answer.headers
         except (OSError, http.client.HTTPException) as error:
             return type(error).__name__, "", {}
