@@ -22,7 +22,8 @@ LONGEST_PATH = 107
 
 # The cause that a node's status tells.
 MEANS = {0: "the input has ended", 1: "its words are invalid", 2: "reading failed", 3: "writing failed",
-         4: "the journal's file failed: the disk is full or broken, the folder is read-only, or another node has the file",
+         4: "the journal's file failed: the disk is full or broken, the folder is read-only, another user owns or may write the "
+            "file, or another node has it",
          5: "the input is longer than its limit", 6: "it is out of memory", 7: "the journal is damaged",
          8: "the journal has more than 2^40 bytes", 9: "a word is not valid UTF-8, or nothing was built"}
 
