@@ -8,7 +8,7 @@ import subprocess
 import sys
 import time
 
-from client import end_with_parent
+from client import HERE, end_with_parent
 from tools import Stopped, say, stop_on_signals
 
 # The seconds after which one that says nothing hangs, one that was asked to end is killed, and the longest pause before a
@@ -18,7 +18,7 @@ CREDENTIALS = struct.Struct("3i")
 
 
 class Part:
-    """A program and its process. Its words are those of its command line."""
+    """A program and its process. Its words are the tool and the words of its command line."""
 
     def __init__(self, name, *words):
         self.name, self.words, self.process, self.delay, self.due = name, words, None, 0.1, 0
@@ -28,8 +28,9 @@ class Part:
     def start(self, listener):
         self.began = self.heard = time.monotonic()
         self.is_ready = False
-        self.process = subprocess.Popen([sys.executable, *self.words], stdin=subprocess.DEVNULL, start_new_session=True,
-                                        preexec_fn=end_with_parent(signal.SIGTERM), env={**os.environ, "NOTIFY_SOCKET": listener})
+        self.process = subprocess.Popen(
+            [sys.executable, os.path.join(HERE, self.words[0]), *self.words[1:]], stdin=subprocess.DEVNULL, start_new_session=True,
+            preexec_fn=end_with_parent(signal.SIGTERM), env={**os.environ, "NOTIFY_SOCKET": listener})
         say("%s runs, process %d" % (self.name, self.process.pid))
 
     def status(self):

@@ -100,9 +100,10 @@ class Server(socketserver.ThreadingMixIn, WSGIServer):
                 pass
         except OSError:
             pass
-        self.ends.pop(request, None)
         self.close_request(request)
-        self.places.release()
+        # A signal while it was taken closes it twice.
+        if self.ends.pop(request, None) is not None:
+            self.places.release()
 
     def handle_error(self, request, client_address):
         fault = sys.exc_info()[1]
