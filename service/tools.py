@@ -4,12 +4,28 @@ A tool ends with 64 if its words are wrong, with 70 after a fault of its own, wi
 status that its help lists.
 """
 import os
+import signal
+import socket
 import sys
 import traceback
 
 USAGE, FAULT, INTERRUPTED = 64, 70, 130
 # Options that a tool passes on to the program, in the order in which the program takes them.
 NODE_OPTIONS = ("--limit", "--v2-at")
+
+
+class Stopped(BaseException):
+    """SIGTERM or SIGINT, which ask for an end. It is no Exception: a server would take it for the fault of a request."""
+
+
+def stop_on_signals():
+    """From now on the first of these signals is raised as `Stopped`; later ones are passed over."""
+    def stop(*_):
+        for number in (signal.SIGTERM, signal.SIGINT):
+            signal.signal(number, signal.SIG_IGN)
+        raise Stopped
+    for number in (signal.SIGTERM, signal.SIGINT):
+        signal.signal(number, stop)
 
 
 class WrongWords(Exception):
@@ -51,6 +67,26 @@ class Words:
 def say(text):
     """Writes a line to standard error, after the tool's name."""
     print("%s: %s" % (name_of_tool(), text), file=sys.stderr, flush=True)
+
+
+def tell_manager(text, patience=5):
+    """Tells whoever has started this tool of a state, if systemd or `registry up` listens."""
+    address = os.environ.get("NOTIFY_SOCKET")
+    if address:
+        with socket.socket(socket.AF_UNIX, socket.SOCK_DGRAM) as there:
+            there.settimeout(patience)
+            try:
+                there.sendto(text.encode(), "\0" + address[1:] if address.startswith("@") else address)
+            except BlockingIOError:
+                pass
+            except OSError as error:
+                say("the service manager can't be told: %s" % error)
+
+
+def beat():
+    """Says that this tool does not hang."""
+    # A manager that has stopped holds nobody up.
+    tell_manager("WATCHDOG=1", 0)
 
 
 def name_of_tool():

@@ -3,6 +3,7 @@ import hashlib
 import os
 import shutil
 import subprocess
+import sys
 import tarfile
 
 from client import Node
@@ -51,6 +52,9 @@ def installed(folder):
         holds(os.path.getsize(os.path.join(prefix, "share/man/man1/sidetree-%s.1" % name)) > 500, "the page of " + name)
     did = open(os.path.join(FOLDER, "dids"), encoding="utf-8").readline().strip()
     same(command("sidetree-resolve", FOLDER, did, env=environment).status, 0)
+    application = command(sys.executable, "-c", "import gateway_wsgi as g; print(g.application.program, len(g.application.page.body) > 5000)",
+                          cwd=os.path.join(prefix, "lib/sidetree"), env={**environment, "SIDETREE_GATEWAY": "ask"})
+    same(application.out, command("sidetree", "--version", env=environment).out.rstrip("\n") + " True\n", application.err)
     os.symlink(os.path.join(prefix, "bin", "sidetree"), os.path.join(folder, "link"))
     same(command(os.path.join(folder, "link"), "node", given="wanted\n", env=environment).out, "wanted 0\n")
     with open(os.path.join(prefix, "lib/systemd/system/sidetree.service"), encoding="utf-8") as unit:
@@ -125,6 +129,7 @@ def packaged(folder):
     with tarfile.open(archive) as tar:
         names = tar.getnames()
         for wanted in ("bin/sidetree", "bin/sidetree-keeper", "lib/sidetree/sidetree", "lib/systemd/system/sidetree.service",
+                       "lib/sidetree/gateway.html", "lib/systemd/system/sidetree-gateway.service", "lib/systemd/system/sidetree-registry.service",
                        "share/man/man1/sidetree.1.gz", "share/man/man1/sidetree-follow.1.gz", "share/zsh/site-functions/_sidetree",
                        "share/fish/vendor_completions.d/sidetree.fish", "share/fish/vendor_completions.d/sidetree-journal.fish",
                        "share/bash-completion/completions/sidetree"):

@@ -282,7 +282,7 @@ def full(folder):
 def units(folder):
     if subprocess.run(["which", "systemd-analyze"], capture_output=True, check=False).returncode:
         raise Skipped("systemd-analyze is not there")
-    for name in ("sidetree.service", "sidetree-follow.service"):
+    for name in ("sidetree.service", "sidetree-follow.service", "sidetree-gateway.service"):
         with open(os.path.join(SERVICE, name), encoding="utf-8") as file:
             text = file.read().replace("@PREFIX@/lib/sidetree", SERVICE)
         with open(os.path.join(folder, name), "w", encoding="utf-8") as file:
