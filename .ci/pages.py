@@ -18,7 +18,7 @@ PAGES = [*(pathlib.Path(name) for name in ("README.md", "CHANGELOG.md", "example
          *sorted(pathlib.Path("docs").glob("*.md")), *READMES]
 # A cell of a table's head, and the page that alone has such a table.
 TABLES = {r"status(es)?|exit.*": "docs/PROTOCOL.md", r"limits?|version [0-9].*": "docs/FORMATS.md"}
-# How many words all pages may have, and how many of a thousand may be of the second line.
+# How many words the pages may have, without CHANGELOG.md and examples/, and how many of a thousand may be of the second line.
 WORDS, ODD = 48_000, 2
 ODD_WORDS = r"\b(?:stands?|stood|behind|comes (?:of|to|from|where)|is told|of whose|what is (?:left|wanted|written|kept))\b"
 # All paths and their ends, by which pages name files.
@@ -106,7 +106,7 @@ def quote_faults():
 
 def word_faults():
     """Whether the pages are too long, or in no plain English."""
-    text = "\n".join(map(read, filter(pathlib.Path.is_file, [*PAGES, pathlib.Path("docs/sidetree.1")])))
+    text = "\n".join(read(page) for page in PAGES if page.is_file() and page.name != "CHANGELOG.md" and page.parts[0] != "examples")
     count, odd = len(text.split()), len(re.findall(ODD_WORDS, text, re.I))
     if count > WORDS:
         yield f"the pages have {count} words, and may have {WORDS}"
