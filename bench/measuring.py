@@ -7,6 +7,9 @@ import subprocess
 import sys
 import time
 
+# A disk refuses a file that group may write, as some users make it.
+os.umask(0o022)
+
 TOP = os.path.dirname(os.path.dirname(os.path.abspath(__file__)))
 # The programs of bench/programs, and what each stands on.
 PROGRAMS = {"bare_cost": "base64 memchr sha2", "compress_cost": "sha2 anyhow", "json_cost": "st_base st_canon",

@@ -32,7 +32,7 @@ THE_LARGEST = 4_200_000_000
 # Above so many seconds it names `try`.
 WORTH_A_TRY = 180
 # The seconds that `sorting` took on the machine of the file times.
-SORTING = 0.030
+SORTING = 0.068
 # How many lines of a failing check are shown.
 LAST_LINES = 30
 

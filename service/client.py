@@ -8,8 +8,10 @@
 that SIDETREE names in the environment, else the one beside this file, else the one that this checkout has built.
 Nothing here ever builds.
 """
+import ctypes
 import json
 import os
+import signal
 import socket
 import subprocess
 import threading
@@ -20,7 +22,8 @@ LONGEST_PATH = 107
 
 # The cause that a node's status tells.
 MEANS = {0: "the input has ended", 1: "its words are invalid", 2: "reading failed", 3: "writing failed",
-         4: "the journal's file failed: the disk is full or broken, the folder is read-only, or another node has the file",
+         4: "the journal's file failed: the disk is full or broken, the folder is read-only, another user owns or may write the "
+            "file, or another node has it",
          5: "the input is longer than its limit", 6: "it is out of memory", 7: "the journal is damaged",
          8: "the journal has more than 2^40 bytes", 9: "a word is not valid UTF-8, or nothing was built"}
 
@@ -72,6 +75,18 @@ def program():
     return beside if os.access(beside, os.X_OK) else built_below(os.path.dirname(HERE))
 
 
+def end_with_parent(number):
+    """What a new process does before its program: it asks for this signal at the end of the one that started it."""
+    parent, system = os.getpid(), ctypes.CDLL(None)
+
+    def ask():
+        system.prctl(1, number)
+        # The parent may have ended just before.
+        if os.getppid() != parent:
+            os._exit(1)
+    return ask
+
+
 class Lines:
     """Whoever answers lines. Its heirs say how a line is sent and how one is read."""
 
@@ -114,11 +129,13 @@ class Lines:
 
 class Node(Lines):
     """A running node. The words are those after the program's name; the folder has its journal or vault. With `apart`
-    a signal to the group of processes, as by Ctrl-C, does not reach it."""
+    a signal to the group of processes, as by Ctrl-C, does not reach it; and it does not outlive this process, even if it
+    is stopped, since it would keep the lock of its journal."""
 
     def __init__(self, *words, folder=None, apart=False):
         super().__init__()
         self.process = subprocess.Popen([program(), *(words or ["node"])], cwd=folder, start_new_session=apart,
+                                        preexec_fn=end_with_parent(signal.SIGKILL) if apart else None,
                                         stdin=subprocess.PIPE, stdout=subprocess.PIPE)
 
     def _send(self, data):

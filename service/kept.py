@@ -6,15 +6,26 @@ chain [N]           `chain K HASH`: the hash of the first K entries, all or N
 verify DID          `verified entries E height H missing M` and the node's reply to `resolve DID`, of one moment
 at N HEIGHT TEXT    appends an entry as `anchor` does, but only as entry N: `anchored N`; `had N` if entry N is this
                     one already; else `refused range`. So it may be given again at any moment
+batches             `batches NAME K S P`: of the S requests that were queued, K batches were made; NAME is the journal's
+                    own; the first P requests are on the ledger, by the last `published` (`-` if there was none)
+batch N SKIP        the reply to flush N: made now if N is K + 1, else made again. SKIP is how many requests are in the
+                    batches before it. So it too may be given again
+published P         notes that the first P requests are on the ledger
+taken REQUEST       `taken ledger` or `taken journal`, if this very request was queued of late; else `taken no`
+store [ID]          `store ID`: the store of the node's folder, which the first such line sets; `store -` if none has
+hold WHO CAUSE      every `submit` is `refused held` from now on, also after a start; `held N`, by so many
+release WHO         takes that back
 
-All that the keeper knows of entries it reads in the journal, where a line is before its reply.
+All that the keeper knows of entries and requests it reads in the journal, where a line is before its reply.
 """
 import array
 import hashlib
 import os
 import time
 
+from batches import Requests, batches_again
 from client import Node
+from folder import Folder
 from records import Journal
 
 # How many operations a batch takes, by version. A queue of at most the first number goes into one batch whole.
@@ -42,7 +53,7 @@ class Ledger:
         self.journal, self.later_from = Journal(path), later_from
         self.places, self.lengths, self.chains = array.array("Q"), array.array("L"), bytearray()
         # None if it is not known how many requests the last batch took.
-        self.waiting, self.flushes, self.taken = 0, 0, {}
+        self.waiting, self.flushes, self.taken, self.requests = 0, 0, {}, Requests(self.journal)
 
     def __len__(self):
         return len(self.places)
@@ -59,6 +70,7 @@ class Ledger:
                 del self.places[count:], self.lengths[count:], self.chains[count * DIGEST:]
             elif record.word == b"submit":
                 self.waiting = None if self.waiting is None else self.waiting + 1
+                self.requests.add(record)
             elif record.word == b"flush":
                 self.flushes += 1
                 self._flush(self.taken.pop(self.flushes, None))
@@ -100,8 +112,11 @@ class KeptNode:
     def __init__(self, folder, options):
         self.path, self.began, self.answered = os.path.join(folder, "sidetree.journal"), time.monotonic(), 0
         self.later_from = next((int(word.partition("=")[2]) for word in options if word.startswith("--v2-at=")), None)
+        self.options, self.folder = options, Folder(folder)
         self.node = Node("node", *options, "--journal", folder=folder, apart=True)
         self.ledger, self.is_ending, self._missing = None, False, None
+        # The last batch with its number, and how many requests are on the ledger, if a publisher has said so.
+        self.last, self.published = (0, None), None
 
     def wait(self):
         """Waits until the node has done its journal. Only then has it locked the file, so only then is the file's end
@@ -109,6 +124,7 @@ class KeptNode:
         self.node.wanted()
         self.ledger = Ledger(self.path, self.later_from)
         self.ledger.advance()
+        self.name, self.held = self.folder.name(), self.folder.held()
 
     def ask(self, line):
         """The node's reply to a line."""
@@ -121,6 +137,7 @@ class KeptNode:
                 # The anchor string begins with the number of operations.
                 self.ledger.note_batch(int(reply[0].split(" ")[1].partition(".")[0]))
                 self.ledger.advance()
+                self.last = self.ledger.flushes, reply
             elif reply[0] == "refused nothing":
                 self.ledger.advance()
                 self.ledger.waiting = 0
@@ -132,11 +149,28 @@ class KeptNode:
         own = OWN.get(word)
         if self.is_ending:
             raise Ending
-        if own is None:
-            return self.ask(line)
+        if word == "batch":
+            return self.batch(rest)
         with self.node.lock:
+            if own is None:
+                return ["refused held"] if word == "submit" and self.held else self.ask(line)
             self.ledger.advance()
             return [own(self, rest)]
+
+    def batch(self, rest):
+        """The batch of a number. One that is made again takes a while, and others are answered meanwhile."""
+        n, skip = map(number, (rest.split(" ") + [""])[:2])
+        if n is None or skip is None or rest.count(" ") != 1:
+            return ["refused line number"]
+        with self.node.lock:
+            self.ledger.advance()
+            if n == self.ledger.flushes + 1:
+                return self.ask("flush")
+            if not 0 < n <= self.ledger.flushes:
+                return ["refused range"]
+            if self.last[0] == n:
+                return self.last[1]
+        return next(batches_again(self.path, self.options, n, skip))
 
     def missing(self):
         """How many files are missing. The node is asked only after a change, since its list may be long."""
@@ -151,7 +185,9 @@ class KeptNode:
                 ("queued", NO_ENTRY if ledger.waiting is None else ledger.waiting), ("journal", ledger.journal.size()),
                 ("memory", memory_of(self.node.process.pid)), ("up", int(time.monotonic() - self.began)),
                 ("lines", self.answered), ("v2-at", NO_ENTRY if self.later_from is None else self.later_from),
-                ("version", ledger.version())]
+                ("version", ledger.version()),
+                ("unpublished", NO_ENTRY if self.published is None else ledger.requests.count - self.published),
+                ("held", len(self.held))]
 
     def health(self, rest):
         return "refused line words" if rest else "health " + " ".join("%s %s" % pair for pair in self.health_pairs())
@@ -183,10 +219,43 @@ class KeptNode:
         same = n < len(self.ledger) and text_of(self.ledger.entry(n)) == entry
         return "had %d" % n if same else "refused range"
 
+    def batches(self, rest):
+        if rest:
+            return "refused line words"
+        return "batches %s %d %d %s" % (self.name, self.ledger.flushes, self.ledger.requests.count,
+                                        NO_ENTRY if self.published is None else self.published)
 
-# The keeper's own words.
+    def publish(self, rest):
+        if number(rest) is None:
+            return "refused line number"
+        self.published = number(rest)
+        return "published " + rest
+
+    def taken(self, rest):
+        found = self.ledger.requests.number(b"submit " + rest.encode("utf-8", "surrogateescape"))
+        return "taken " + ("no" if found is None else "ledger" if found < (self.published or 0) else "journal")
+
+    def store(self, rest):
+        if rest and not self.folder.read("store"):
+            self.folder.write("store", rest)
+        return "store " + (self.folder.read("store") or NO_ENTRY)
+
+    def hold(self, rest):
+        who, _, cause = rest.partition(" ")
+        if not who or not cause:
+            return "refused line words"
+        self.held = self.folder.hold(who, cause)
+        return "held %d" % len(self.held)
+
+    def release(self, rest):
+        self.held = self.folder.hold(rest, "")
+        return "held %d" % len(self.held)
+
+
+# The keeper's own words, but for `batch`.
 OWN = {"health": KeptNode.health, "entry": KeptNode.entry, "chain": KeptNode.chain, "verify": KeptNode.verify,
-       "at": KeptNode.at}
+       "at": KeptNode.at, "batches": KeptNode.batches, "published": KeptNode.publish, "taken": KeptNode.taken,
+       "store": KeptNode.store, "hold": KeptNode.hold, "release": KeptNode.release}
 
 
 def text_of(data):

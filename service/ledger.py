@@ -3,6 +3,8 @@ import base64
 import hashlib
 import os
 
+from tools import beat
+
 # The longest file that fits into a line of a node.
 LONGEST_FILE = 17_999_994
 # The rules that an anchor string may fail. Such an entry gives nothing.
@@ -80,6 +82,7 @@ def feed_wanted(node, files):
             if data is not None:
                 node.expect("have had", "content " + base64url(data))
                 count += 1
+                beat()
         if count:
             fed.append(count)
         elif wanted and not looked:

@@ -16,7 +16,10 @@ health                the keeper: entries, last height, missing files, queue, si
 entry N               the keeper: the height and the text of entry N
 chain [N]             the keeper: the hash of the first N entries
 verify DID            the keeper: resolve, with the number of entries and of missing files
-at N HEIGHT TEXT      the keeper: appends an entry, but only as entry N"""
+at N HEIGHT TEXT      the keeper: appends an entry, but only as entry N
+batches               the keeper: how many batches were made, of how many requests, and how many of these are on the ledger
+batch N SKIP          the keeper: batch N, made now or again, after SKIP requests in batches before
+taken REQUEST         the keeper: whether it has queued this very request, and whether that is on the ledger"""
 
 REFUSALS = {
     "line long": "the line has more than 24,000,000 bytes",
@@ -35,6 +38,7 @@ REFUSALS = {
     "badDelta": "the delta breaks a rule, or its hash is another one",
     "alreadyQueued": "a request of this identifier waits for a batch already",
     "nothing": "no request waits",
+    "held": "the keeper takes no requests until an operator has mended what its log names",
     "keeper": "this socket of the keeper does not take such a line, or it is too long",
 }
 UNRESOLVED = {

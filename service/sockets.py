@@ -11,7 +11,7 @@ from records import LONGEST_LINE
 
 # By its first word the longest line that a stranger may give, in bytes.
 STRANGERS = {"resolve": 4_096, "explain": 4_096, "wanted": 6, "report": 17, "submit": 65_536, "verify": 4_096,
-             "health": 6, "entry": 16, "chain": 16}
+             "health": 6, "entry": 16, "chain": 16, "taken": 65_535}
 EVERYBODY, GROUP, OWNER = 0o666, 0o660, 0o600
 
 

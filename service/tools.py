@@ -5,6 +5,7 @@ status that its help lists.
 """
 import os
 import signal
+import socket
 import sys
 import traceback
 
@@ -66,6 +67,26 @@ class Words:
 def say(text):
     """Writes a line to standard error, after the tool's name."""
     print("%s: %s" % (name_of_tool(), text), file=sys.stderr, flush=True)
+
+
+def tell_manager(text, patience=5):
+    """Tells whoever has started this tool of a state, if systemd or `registry up` listens."""
+    address = os.environ.get("NOTIFY_SOCKET")
+    if address:
+        with socket.socket(socket.AF_UNIX, socket.SOCK_DGRAM) as there:
+            there.settimeout(patience)
+            try:
+                there.sendto(text.encode(), "\0" + address[1:] if address.startswith("@") else address)
+            except BlockingIOError:
+                pass
+            except OSError as error:
+                say("the service manager can't be told: %s" % error)
+
+
+def beat():
+    """Says that this tool does not hang."""
+    # A manager that has stopped holds nobody up.
+    tell_manager("WATCHDOG=1", 0)
 
 
 def name_of_tool():

@@ -13,6 +13,7 @@ from request_rules import look_at
 from sockets import STRANGERS
 from web_answers import BATCH_IS_MADE, JSON, MINUTE, Answer, Fault, media_type, retry_after
 from web_identifiers import encoded
+from web_registry import Posted, taken
 
 LONGEST_REQUEST = STRANGERS["submit"] - len("submit ")
 
@@ -83,8 +84,8 @@ def broken_rule(body, cause, version):
 
 def refusal(gateway, body, cause):
     """The fault of a request that the node refused."""
-    if cause == "full":
-        return Fault(503, cause, "the queue is full", retry_after(BATCH_IS_MADE))
+    if cause in ("full", "held"):
+        return Fault(503, cause, REFUSALS[cause] if cause == "held" else "the queue is full", retry_after(BATCH_IS_MADE))
     if cause not in REFUSALS or cause == "keeper":
         return Refused("submit: %s" % (cause or "no reply that is known"))
     rule = broken_rule(body, cause, int(dict(gateway.asked.health())["version"]))
@@ -111,12 +112,18 @@ def post(gateway, environ):
         raise Fault(404, "noOperations", "this gateway takes no operations")
     gateway.bound.count(gateway.address(environ))
     body = one_line(body_of(environ))
-    line = "submit " + body.decode("utf-8", "surrogateescape")
-    try:
-        word, _, rest = gateway.submitted.use(lambda node: node.ask(line), once=True)[0].partition(" ")
-    except Fault as fault:
-        fault.told["message"] += "; the request may be queued"
-        raise
-    if word != "queued":
-        raise refusal(gateway, body, rest)
-    return Answer(200, result_of(gateway, body, rest))
+    posted = Posted(body)
+    place, suffix = taken(gateway, posted), posted.suffix
+    if place is None:
+        try:
+            word, _, rest = gateway.submitted.use(lambda node: node.ask("submit " + posted.line), once=True)[0].partition(" ")
+        except Fault as fault:
+            fault.told["message"] += "; the request may be queued"
+            raise
+        if word == "queued":
+            place, suffix = "journal", rest
+        elif rest == "alreadyQueued":
+            place = posted.place(gateway)
+        if place is None:
+            raise refusal(gateway, body, rest)
+    return Answer(200, result_of(gateway, body, suffix), headers=[("Sidetree-Request", place)])

@@ -7,7 +7,7 @@ import threading
 import time
 from wsgiref.simple_server import ServerHandler, WSGIRequestHandler, WSGIServer
 
-from tools import say
+from tools import beat, say
 
 # The longest head of a request, in bytes, and how many requests are answered at once.
 LONGEST_HEAD, MOST_AT_ONCE = 16_384, 256
@@ -82,6 +82,9 @@ class Server(socketserver.ThreadingMixIn, WSGIServer):
                         connection.shutdown(socket.SHUT_RDWR)
                     except OSError:
                         pass
+
+    def service_actions(self):
+        beat()
 
     def process_request(self, request, client_address):
         self.places.acquire()

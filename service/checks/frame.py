@@ -1,5 +1,6 @@
 """What the cases share: how a case is declared, how tools are run, and a ledger to run them over."""
 import base64
+import collections
 import json
 import os
 import shutil
@@ -13,11 +14,12 @@ import traceback
 from client import Kept, Node
 from ledger import uri_of
 from plain_json import canonical
+from records import Journal
 
 SERVICE = os.path.dirname(os.path.dirname(os.path.realpath(__file__)))
 TOP = os.path.dirname(SERVICE)
 FOLDER = os.path.join(TOP, "examples", "folder")
-TOOLS = ("keeper", "follow", "feed", "resolve", "tell", "shell", "why", "journal", "gateway")
+TOOLS = ("keeper", "follow", "feed", "resolve", "tell", "shell", "why", "journal", "gateway", "registry")
 # The longest that anything may take here, in seconds.
 LONGEST = 120
 CASES = []
@@ -175,6 +177,15 @@ class Batches:
         for uri, text in self.files.items():
             with open(os.path.join(folder, uri), "wb") as file:
                 file.write(base64.urlsafe_b64decode(text + "=" * (-len(text) % 4)))
+
+
+def words_of(path):
+    """How many records of each word a journal has."""
+    journal = Journal(path)
+    try:
+        return collections.Counter(record.word.decode() for record in journal.records())
+    finally:
+        journal.close()
 
 
 def write(path, text):

@@ -43,7 +43,10 @@ def creates(folder):
         result = reply.json()
         same((result["didDocument"]["id"], result["didDocument"]["service"][0]["serviceEndpoint"]), (long_form(request), "https://one.example/"))
         same(result, web.ask("/identifiers/" + long_form(request)).json())
-        has(post(web, request), 400, error="alreadyQueued", message=REFUSALS["alreadyQueued"])
+        same(reply.headers["Sidetree-Request"], "journal")
+        again = post(web, request)
+        same((again.status, again.headers["Sidetree-Request"], again.json()), (200, "journal", result))
+        has(post(web, request + " "), 400, error="alreadyQueued", message=REFUSALS["alreadyQueued"])
         # Members that come twice, spaces, a number's spelling and an escape stay as they are.
         spaced = create("two").replace('"type":"create"', '"type" :"up\\u0064ate",\t"type": "cre\\u0061te"').replace(":", ": ", 1)
         same(post(web, "\n" + spaced.replace(",", ",\n", 1) + "\r\n").json()["didDocument"]["service"][0]["serviceEndpoint"], "https://two.example/")
@@ -58,10 +61,12 @@ def causes(folder):
     with KeptWeb(folder, "--submit=SUBMIT", "--submits=1000") as web:
         for line, reply, (cause, colon, rule) in zip(session("in"), session("out"), rules):
             found, word = post(web, line.removeprefix("submit ")), reply.partition(" ")
-            if word[0] == "queued":
-                same(found.status, 200, line[:60])
-                kind = json.loads(line.removeprefix("submit "))["type"]
-                same("didDocument" in found.json() if kind == "create" else found.json() == {}, True, kind)
+            if word[0] == "queued" or word[2] == "alreadyQueued":
+                if '"type":"create"' in line:
+                    same((found.status, "didDocument" in found.json()), (200, True), line[:60])
+                else:
+                    # No entry creates these identifiers here.
+                    has(found, 409, error="notAwaited", awaits=None)
             else:
                 has(found, 400, error=word[2], message=REFUSALS[word[2]])
                 if colon:

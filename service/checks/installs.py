@@ -127,7 +127,7 @@ def packaged(folder):
     with tarfile.open(archive) as tar:
         names = tar.getnames()
         for wanted in ("bin/sidetree", "bin/sidetree-keeper", "lib/sidetree/sidetree", "lib/systemd/system/sidetree.service",
-                       "lib/sidetree/gateway.html", "lib/systemd/system/sidetree-gateway.service",
+                       "lib/sidetree/gateway.html", "lib/systemd/system/sidetree-gateway.service", "lib/systemd/system/sidetree-registry.service",
                        "share/man/man1/sidetree.1.gz", "share/man/man1/sidetree-follow.1.gz", "share/zsh/site-functions/_sidetree",
                        "share/fish/vendor_completions.d/sidetree.fish", "share/fish/vendor_completions.d/sidetree-journal.fish",
                        "share/bash-completion/completions/sidetree"):

@@ -55,6 +55,8 @@ def shells(folder):
     script = 'source "$0"; COMP_WORDS=("$@"); COMP_CWORD=$(($# - 1)); compopt() { :; }; _sidetree_tools "$1"; echo "${COMPREPLY[*]}"'
     done = command("bash", "-c", script, os.path.join(SERVICE, "completions", "tools.bash"), "sidetree-journal", "sh")
     same(done.out, "shorten\n")
+    done = command("bash", "-c", script, os.path.join(SERVICE, "completions", "tools.bash"), "sidetree-registry", "d")
+    same(done.out, "drain\n")
 
 
 @case("tell prints replies, and names the lines that are refused")

@@ -5,7 +5,7 @@ complete -c sidetree -l version -d "commit and kit of the program"
 complete -c sidetree -n "__fish_seen_subcommand_from node" -l limit -x -d "bytes of input at most"
 complete -c sidetree -n "__fish_seen_subcommand_from node" -l v2-at -x -d "version 2 of the limits from this height on"
 complete -c sidetree -n "__fish_seen_subcommand_from node" -l journal -d "record changes in sidetree.journal"
-for tool in keeper resolve shell journal
+for tool in keeper resolve shell journal registry
     complete -c sidetree-$tool -l limit -x -d "bytes of input at most"
     complete -c sidetree-$tool -l v2-at -x -d "version 2 of the limits from this height on"
 end
@@ -18,7 +18,7 @@ complete -c sidetree-follow -l every -x -d "pause in seconds"
 complete -c sidetree-follow -l most-back -x -d "entries that may be taken back"
 complete -c sidetree-resolve -l strangers -d "entries of others are no fault"
 complete -c sidetree-why -l v2 -d "version 2 of the limits"
-complete -c sidetree-journal -f -n __fish_use_subcommand -a "check copy shorten"
+complete -c sidetree-journal -f -n __fish_use_subcommand -a "check copy shorten batches"
 complete -c sidetree-gateway -l listen -x -d "where it answers, ADDRESS:PORT"
 complete -c sidetree-gateway -l submit -r -d "socket that takes requests"
 complete -c sidetree-gateway -l submits -x -d "requests of an address in a minute"
@@ -26,6 +26,14 @@ complete -c sidetree-gateway -l forwarded -d "addresses are in X-Forwarded-For"
 complete -c sidetree-gateway -l strict -d "503 while files are missing"
 complete -c sidetree-gateway -l patience -x -d "seconds for a client and the keeper"
 complete -c sidetree-gateway -l metrics -x -d "where health and metrics are, ADDRESS:PORT"
-for tool in keeper follow feed resolve tell shell why journal gateway
+complete -c sidetree-registry -f -n __fish_use_subcommand -a "up drain publish"
+complete -c sidetree-registry -l store -x -d "database of ledger and files"
+complete -c sidetree-registry -l listen -x -d "where it answers, ADDRESS:PORT"
+complete -c sidetree-registry -l every -x -d "seconds, the age of the last batch"
+complete -c sidetree-registry -l requests -x -d "requests that make a batch at once"
+complete -c sidetree-registry -l most-back -x -d "entries that may be taken back"
+complete -c sidetree-registry -l submits -x -d "requests of an address in a minute"
+complete -c sidetree-registry -l forwarded -d "addresses are in X-Forwarded-For"
+for tool in keeper follow feed resolve tell shell why journal gateway registry
     complete -c sidetree-$tool -l help -d "the usage"
 end

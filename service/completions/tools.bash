@@ -9,15 +9,19 @@ _sidetree_tools() {
     sidetree-why | why) words="--v2" ;;
     sidetree-gateway | gateway) words="--listen= --submit= --submits= --forwarded --strict --patience= --metrics=" ;;
     sidetree-journal | journal)
-        [ "$COMP_CWORD" = 1 ] && words="check copy shorten"
-        [ "${COMP_WORDS[1]}" = shorten ] && words=$node
+        [ "$COMP_CWORD" = 1 ] && words="check copy shorten batches"
+        [[ ${COMP_WORDS[1]} == shorten || ${COMP_WORDS[1]} == batches ]] && words=$node
+        ;;
+    sidetree-registry | registry)
+        words="--store= --listen= --every= --requests= --most-back= --submits= --forwarded $node"
+        [ "$COMP_CWORD" = 1 ] && words="up drain publish"
         ;;
     esac
-    if [[ $word != -* && $words != check* ]]; then
+    if [[ $word != -* && $words != check* && $words != up* ]]; then
         mapfile -t COMPREPLY < <(compgen -f -- "$word")
     else
         mapfile -t COMPREPLY < <(compgen -W "$words --help" -- "$word")
         [[ ${COMPREPLY[0]-} == *= ]] && compopt -o nospace
     fi
 }
-complete -F _sidetree_tools sidetree-keeper sidetree-follow sidetree-feed sidetree-resolve sidetree-tell sidetree-shell sidetree-why sidetree-journal sidetree-gateway
+complete -F _sidetree_tools sidetree-keeper sidetree-follow sidetree-feed sidetree-resolve sidetree-tell sidetree-shell sidetree-why sidetree-journal sidetree-gateway sidetree-registry

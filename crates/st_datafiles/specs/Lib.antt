@@ -1,4 +1,3 @@
 pub mod Chunk
-pub mod OnlyList
 pub mod ProofFiles
 pub mod ProofRules

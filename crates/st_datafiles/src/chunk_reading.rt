@@ -1,17 +1,18 @@
-ghost use Rattle.std.specs.Prelude.{◌≡◌, ◌==◌, IfOk, codes, length, Some};
+ghost use Rattle.std.specs.Prelude.{◌≡◌, IfOk, Some};
 ghost use Rattle.st_base.specs.Rules.{Answers};
 ghost use Rattle.st_base.specs.Work.{one_file};
 ghost use Rattle.st_plain.specs.Shapes.{json_in};
 ghost use Rattle.st_datafiles.specs.Chunk.{chunk_json_rules, chunk_rules, deltas_of, has_chunk_form};
-ghost use Rattle.st_datafiles.specs.OnlyList.{object_of_list};
 
 use crate::chunk_rule::{ChunkRefused, ChunkRule};
-use crate::entries::read_entries;
 use st_base::{Bytes, FileRefused, List, Shared, WantOfMemory, Work};
 use st_canon::PackedJson;
 use st_params::Params;
 use st_scan::{CanonicalText, Entries, Scanned, entries_in};
 use std::alloc::Global;
+
+// The text before the first delta of a canonical chunk file.
+const FRONT: &str = "{\"deltas\":[";
 
 /// The deltas of a chunk file that must have `wanted` of them, each in compact form. It counts as
 /// one file, whatever the answer is.
@@ -32,31 +33,17 @@ pub fn read_chunk(
     if bytes.len() > params.max_chunk() {
         return Err(FileRefused::Rejected(ChunkRule::K1));
     }
-    // Nearly all chunk files are read this way, one delta at a time.
-    if let Some(found) = read_entries(alloc, file, "deltas", deltas)? {
-        return if_wanted(found, deltas);
-    }
     match CanonicalText::read_json(alloc, bytes)? {
-        Some(chunk) => wanted_in(alloc, &chunk.root(), deltas),
+        Some(chunk) => wanted_in(alloc, &chunk.root(), file, deltas),
         None => Err(FileRefused::Rejected(ChunkRule::K2)),
     }
 }
 
-// These deltas, if their number is `wanted`.
-fn if_wanted(found: List<PackedJson>, wanted: usize) -> Result<List<PackedJson>, ChunkRefused>
-    ensures { Answers (chunk_json_rules wanted (Some (object_of_list (codes "deltas") found)))
-        (Some (deltas_of (Some (object_of_list (codes "deltas") found)))) result }
-{
-    if found.len() == wanted {
-        Ok(found)
-    } else {
-        Err(FileRefused::Rejected(ChunkRule::K4))
-    }
-}
-
+// The same, from the JSON of the file, in which the deltas are looked for.
 fn wanted_in(
     alloc: Global,
     chunk: &Scanned<'_>,
+    file: &Shared<Bytes>,
     wanted: usize,
 ) -> Result<List<PackedJson>, ChunkRefused>
     ensures { Answers (chunk_json_rules wanted (Some chunk.now)) (Some (deltas_of (Some chunk.now))) result }
@@ -64,19 +51,28 @@ fn wanted_in(
     if !has_chunk_form(chunk) {
         return Err(FileRefused::Rejected(ChunkRule::K3));
     }
-    if deltas_of(chunk).count() != wanted {
+    let deltas = deltas_of(chunk);
+    if deltas.count() != wanted {
         return Err(FileRefused::Rejected(ChunkRule::K4));
     }
-    Ok(pack_all(alloc, deltas_of(chunk))?)
+    Ok(pack_all(alloc, deltas, file)?)
 }
 
-fn pack_all(alloc: Global, deltas: Entries<'_>) -> Result<List<PackedJson>, WantOfMemory>
+// A delta shares its text with the file if it is there, after the previous one and a comma.
+fn pack_all(
+    alloc: Global,
+    deltas: Entries<'_>,
+    file: &Shared<Bytes>,
+) -> Result<List<PackedJson>, WantOfMemory>
     ensures { IfOk result (λ packed. packed ≡ deltas.entry) }
 {
     let mut packed = List::new(alloc);
     let mut left = deltas;
+    let mut at = FRONT.len();
     'deltas: while let Some(delta) = left.next() {
-        packed.push(alloc, PackedJson::keep(alloc, delta.as_slice())?)?;
+        let text = delta.as_slice();
+        packed.push(alloc, PackedJson::keep_within(alloc, text, file, at)?)?;
+        at = at.saturating_add(text.len()).saturating_add(1);
     }
     Ok(packed)
 }

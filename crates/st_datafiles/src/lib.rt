@@ -7,7 +7,6 @@ mod chunk_reading;
 mod chunk_rule;
 mod chunk_writing;
 mod core_proofs;
-mod entries;
 mod place;
 mod proof_reading;
 mod proof_rule;

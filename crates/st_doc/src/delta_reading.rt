@@ -40,8 +40,7 @@ pub fn check_delta(alloc: Global, value: &Json, params: &Params) -> Result<Delta
     read_delta(alloc, &text.root(), params)
 }
 
-/// The same for a value in its canonical text. Trees are built only of the parts that patches
-/// apply.
+/// The same for a value in its canonical text. Trees are built only of what patches apply.
 #[tactic(auto, unfolding(crate::specs::Delta::delta_of))]
 pub fn read_delta(
     alloc: Global,

@@ -10,8 +10,7 @@ use st_scan::{Entries, Scanned};
 use std::alloc::{AllocError, Global};
 use std::collections::BTreeSet;
 
-// From this many texts on, a set decides whether one appears twice. Fewer are compared with one
-// another, which takes no memory.
+// From this many texts on, a set decides. Fewer are compared with one another, without memory.
 const MANY: usize = 8;
 
 /// The id of a key or a service, or the empty text if it has none.

@@ -5,7 +5,7 @@ ghost use Rattle.st_base.specs.Each.{each_of};
 ghost use Rattle.st_canon.specs.View.{plain};
 ghost use Rattle.st_jsonpatch.specs.Step.{plain_step, step_of};
 ghost use Rattle.st_doc.specs.Entries.{is_id};
-ghost use Rattle.st_doc.specs.Patch.{add_keys, add_keys_of, add_names_of, add_services, add_services_of, beside_action, found_patch, ids_in, names_in, patch_by, patch_of, plain_patch, remove_keys_of, remove_names_of, remove_services_of, replace_of, steps_of, values_at};
+ghost use Rattle.st_doc.specs.Patch.{add_keys_of, add_names_of, add_services_of, beside_action, found_patch, ids_in, names_in, patch_of, plain_patch, remove_keys_of, remove_names_of, remove_services_of, replace_of, steps_of, values_at};
 
 use crate::action::{Action, action_of};
 use crate::check::are_names;
@@ -33,48 +33,19 @@ pub(crate) fn read_patch<'a>(
 ) -> Result<Option<Found<'a>>, WantOfMemory>
     ensures { IfOk result (λ patch. option_map found_patch patch ≡ patch_of params.now value.now) }
 {
-    match action_of(alloc, value, params.version())? {
-        Some(action) => read_as(alloc, action, value, params),
-        None => Ok(None),
-    }
-}
-
-fn read_as<'a>(
-    alloc: Global,
-    action: Action,
-    patch: &Scanned<'a>,
-    params: &Params,
-) -> Result<Option<Found<'a>>, WantOfMemory>
-    ensures { IfOk result (λ read. option_map found_patch read ≡ patch_by params.now action patch.now) }
-{
+    let Some(action) = action_of(alloc, value, params.version())? else {
+        return Ok(None);
+    };
     match action {
-        Action::AddKeys => Ok(keys_in(new_keys(alloc, patch)?)),
-        Action::RemoveKeys => Ok(whole_in(read_remove_keys(alloc, patch)?)),
-        Action::AddServices => Ok(services_in(new_services(alloc, patch)?)),
-        Action::RemoveServices => Ok(whole_in(read_remove_services(alloc, patch)?)),
-        Action::Replace => Ok(whole_in(read_replace(alloc, patch, params)?)),
-        Action::Steps => Ok(whole_in(read_steps(alloc, patch)?)),
-        Action::AddNames => Ok(whole_in(read_add_names(alloc, patch)?)),
-        Action::RemoveNames => Ok(whole_in(read_remove_names(alloc, patch)?)),
+        Action::AddKeys => read_add_keys(alloc, value),
+        Action::RemoveKeys => read_remove_keys(alloc, value),
+        Action::AddServices => read_add_services(alloc, value),
+        Action::RemoveServices => read_remove_services(alloc, value),
+        Action::Replace => read_replace(alloc, value, params),
+        Action::Steps => read_steps(alloc, value),
+        Action::AddNames => read_add_names(alloc, value),
+        Action::RemoveNames => read_remove_names(alloc, value),
     }
-}
-
-fn keys_in<'a>(there: Option<Entries<'a>>) -> Option<Found<'a>>
-    ensures { option_map found_patch result ≡ option_map add_keys there.entry }
-{
-    Some(Found::Keys(there?))
-}
-
-fn services_in<'a>(there: Option<Entries<'a>>) -> Option<Found<'a>>
-    ensures { option_map found_patch result ≡ option_map add_services there.entry }
-{
-    Some(Found::Services(there?))
-}
-
-fn whole_in<'a>(there: Option<Patch>) -> Option<Found<'a>>
-    ensures { option_map found_patch result ≡ option_map plain_patch there }
-{
-    Some(Found::Whole(there?))
 }
 
 /// The patch, with trees of its keys and services.
@@ -88,8 +59,8 @@ pub(crate) fn whole(alloc: Global, found: Found<'_>) -> Result<Patch, WantOfMemo
     }
 }
 
-fn new_keys<'a>(alloc: Global, patch: &Scanned<'a>) -> Result<Option<Entries<'a>>, WantOfMemory>
-    ensures { IfOk result (λ keys. option_map add_keys keys ≡ add_keys_of patch.now) }
+fn read_add_keys<'a>(alloc: Global, patch: &Scanned<'a>) -> Result<Option<Found<'a>>, WantOfMemory>
+    ensures { IfOk result (λ read. option_map found_patch read ≡ add_keys_of patch.now) }
 {
     let Some(keys) = values_at(patch, "publicKeys") else {
         return Ok(None);
@@ -100,11 +71,14 @@ fn new_keys<'a>(alloc: Global, patch: &Scanned<'a>) -> Result<Option<Entries<'a>
     if !ids_stand_once(alloc, keys.again())? {
         return Ok(None);
     }
-    Ok(Some(keys))
+    Ok(Some(Found::Keys(keys)))
 }
 
-fn new_services<'a>(alloc: Global, patch: &Scanned<'a>) -> Result<Option<Entries<'a>>, WantOfMemory>
-    ensures { IfOk result (λ services. option_map add_services services ≡ add_services_of patch.now) }
+fn read_add_services<'a>(
+    alloc: Global,
+    patch: &Scanned<'a>,
+) -> Result<Option<Found<'a>>, WantOfMemory>
+    ensures { IfOk result (λ read. option_map found_patch read ≡ add_services_of patch.now) }
 {
     let Some(services) = values_at(patch, "services") else {
         return Ok(None);
@@ -115,45 +89,51 @@ fn new_services<'a>(alloc: Global, patch: &Scanned<'a>) -> Result<Option<Entries
     if !ids_stand_once(alloc, services.again())? {
         return Ok(None);
     }
-    Ok(Some(services))
+    Ok(Some(Found::Services(services)))
 }
 
-fn read_remove_keys(alloc: Global, patch: &Scanned<'_>) -> Result<Option<Patch>, WantOfMemory>
-    ensures { IfOk result (λ read. option_map plain_patch read ≡ remove_keys_of patch.now) }
-{
-    let Some(ids) = read_ids(alloc, patch)? else {
-        return Ok(None);
-    };
-    Ok(Some(Patch::RemoveKeys(ids)))
-}
-
-fn read_remove_services(alloc: Global, patch: &Scanned<'_>) -> Result<Option<Patch>, WantOfMemory>
-    ensures { IfOk result (λ read. option_map plain_patch read ≡ remove_services_of patch.now) }
-{
-    let Some(ids) = read_ids(alloc, patch)? else {
-        return Ok(None);
-    };
-    Ok(Some(Patch::RemoveServices(ids)))
-}
-
-fn read_replace(
+fn read_remove_keys<'a>(
     alloc: Global,
-    patch: &Scanned<'_>,
+    patch: &Scanned<'a>,
+) -> Result<Option<Found<'a>>, WantOfMemory>
+    ensures { IfOk result (λ read. option_map found_patch read ≡ remove_keys_of patch.now) }
+{
+    let Some(ids) = read_ids(alloc, patch)? else {
+        return Ok(None);
+    };
+    Ok(Some(Found::Whole(Patch::RemoveKeys(ids))))
+}
+
+fn read_remove_services<'a>(
+    alloc: Global,
+    patch: &Scanned<'a>,
+) -> Result<Option<Found<'a>>, WantOfMemory>
+    ensures { IfOk result (λ read. option_map found_patch read ≡ remove_services_of patch.now) }
+{
+    let Some(ids) = read_ids(alloc, patch)? else {
+        return Ok(None);
+    };
+    Ok(Some(Found::Whole(Patch::RemoveServices(ids))))
+}
+
+fn read_replace<'a>(
+    alloc: Global,
+    patch: &Scanned<'a>,
     params: &Params,
-) -> Result<Option<Patch>, WantOfMemory>
-    ensures { IfOk result (λ read. option_map plain_patch read ≡ replace_of params.now patch.now) }
+) -> Result<Option<Found<'a>>, WantOfMemory>
+    ensures { IfOk result (λ read. option_map found_patch read ≡ replace_of params.now patch.now) }
 {
     let Some(document) = beside_action(patch, "document") else {
         return Ok(None);
     };
     match take_document(alloc, tree_of(alloc, &document)?, params)? {
-        Some(document) => Ok(Some(Patch::Replace(document))),
+        Some(document) => Ok(Some(Found::Whole(Patch::Replace(document)))),
         None => Ok(None),
     }
 }
 
-fn read_steps(alloc: Global, patch: &Scanned<'_>) -> Result<Option<Patch>, WantOfMemory>
-    ensures { IfOk result (λ read. option_map plain_patch read ≡ steps_of patch.now) }
+fn read_steps<'a>(alloc: Global, patch: &Scanned<'a>) -> Result<Option<Found<'a>>, WantOfMemory>
+    ensures { IfOk result (λ read. option_map found_patch read ≡ steps_of patch.now) }
 {
     let Some(values) = values_at(patch, "patches") else {
         return Ok(None);
@@ -162,29 +142,32 @@ fn read_steps(alloc: Global, patch: &Scanned<'_>) -> Result<Option<Patch>, WantO
     let Some(steps) = each_step(alloc, values.as_slice())? else {
         return Ok(None);
     };
-    Ok(Some(Patch::Steps(steps)))
+    Ok(Some(Found::Whole(Patch::Steps(steps))))
 }
 
-fn read_add_names(alloc: Global, patch: &Scanned<'_>) -> Result<Option<Patch>, WantOfMemory>
-    ensures { IfOk result (λ read. option_map plain_patch read ≡ add_names_of patch.now) }
+fn read_add_names<'a>(alloc: Global, patch: &Scanned<'a>) -> Result<Option<Found<'a>>, WantOfMemory>
+    ensures { IfOk result (λ read. option_map found_patch read ≡ add_names_of patch.now) }
 {
     let Some(names) = read_names(alloc, patch)? else {
         return Ok(None);
     };
     if texts_stand_once(alloc, names.as_slice())? {
-        Ok(Some(Patch::AddNames(names)))
+        Ok(Some(Found::Whole(Patch::AddNames(names))))
     } else {
         Ok(None)
     }
 }
 
-fn read_remove_names(alloc: Global, patch: &Scanned<'_>) -> Result<Option<Patch>, WantOfMemory>
-    ensures { IfOk result (λ read. option_map plain_patch read ≡ remove_names_of patch.now) }
+fn read_remove_names<'a>(
+    alloc: Global,
+    patch: &Scanned<'a>,
+) -> Result<Option<Found<'a>>, WantOfMemory>
+    ensures { IfOk result (λ read. option_map found_patch read ≡ remove_names_of patch.now) }
 {
     let Some(names) = read_names(alloc, patch)? else {
         return Ok(None);
     };
-    Ok(Some(Patch::RemoveNames(names)))
+    Ok(Some(Found::Whole(Patch::RemoveNames(names))))
 }
 
 // The value of the only member besides `action`.

@@ -5,7 +5,7 @@ ghost use Rattle.st_base.specs.Each.{each_is};
 ghost use Rattle.st_plain.specs.Entries.{text_in};
 ghost use Rattle.st_plain.specs.Shapes.{is_object_of};
 ghost use Rattle.st_canon.specs.View.{plain};
-ghost use Rattle.st_doc.specs.Document.{document_in, document_names, document_of, has_document_form, if_document, plain_document, refusal_of};
+ghost use Rattle.st_doc.specs.Document.{document_names, document_of, has_document_form, plain_document, refusal_of};
 
 use crate::check::{if_document, may_have_names};
 use crate::document::Document;
@@ -22,24 +22,11 @@ impl Document {
     pub fn read(alloc: Global, value: &Json, params: &Params) -> Result<Document, DocumentRefused>
         ensures { GivesAs plain_document refusal_of (document_of params.now (plain value.now)) result }
     {
-        match read_document(alloc, value, params)? {
+        match take_document(alloc, value.copy(alloc)?, params)? {
             Some(document) => Ok(document),
             None => Err(DocumentRefused::NotDocument),
         }
     }
-}
-
-fn read_document(
-    alloc: Global,
-    value: &Json,
-    params: &Params,
-) -> Result<Option<Document>, WantOfMemory>
-    ensures { IfOk result (λ document. option_map plain_document document ≡ result_ok (document_of params.now (plain value.now))) }
-{
-    if !has_document_form(value, params.version()) {
-        return Ok(None);
-    }
-    take_lists(alloc, value.copy(alloc)?, params)
 }
 
 /// The document at these parameters of a value, which it takes over.
@@ -53,13 +40,6 @@ pub(crate) fn take_document(
     if !has_document_form(&value, params.version()) {
         return Ok(None);
     }
-    take_lists(alloc, value, params)
-}
-
-// The document of the lists in the value, if it is one at these parameters.
-fn take_lists(alloc: Global, value: Json, params: &Params) -> Result<Option<Document>, WantOfMemory>
-    ensures { IfOk result (λ document. option_map plain_document document ≡ if_document params.now (document_in (plain value))) }
-{
     let document = Document::from_json(alloc, value)?;
     if_document(alloc, document, params)
 }

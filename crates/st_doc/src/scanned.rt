@@ -28,7 +28,7 @@ pub(crate) fn tree_of(alloc: Global, value: &Scanned<'_>) -> Result<Json, WantOf
 }
 
 /// The canonical text of a value that does not nest too deep to be read again.
-pub(crate) fn text_of(alloc: Global, value: &Json) -> Result<CanonicalText, WantOfMemory>
+pub(crate) fn text_of(alloc: Global, value: &Json) -> Result<CanonicalText<'static>, WantOfMemory>
     requires { depth_of (plain value.now) ≤ 127 }
     ensures { IfOk result (λ text. text ≡ plain value.now) }
 {

@@ -1,8 +1,8 @@
 -- Machines that record the lines that change them.
 use Rattle.std.proofs.Common.{◌≡◌, ◌∙◌, inl, inr, ⊎_elim, ◌++◌, List, [], ◌∷◌, ℕ, true, Some, ap, sym, append_assoc, append-nil}
 use Rattle.st_io.specs.Past.{Past, Leaves}
-use Rattle.st_drive.specs.OnDisk.{Rules, kept, AllHold, HoldsEither, HoldsFirst, HoldsReplied, Store, RanOnDisk, GaveUpOnDisk, RunLeaves}
-use Rattle.st_drive.specs.Recording.{Recorder, recorded, recording, changing, LeavesOneMore, HasRecorded, GaveUpRecording, HasPrefix, HasRepliedPrefix, KeepsPrefixes, KeepsRecords}
+use Rattle.st_drive.specs.OnDisk.{Rules, kept, AllHold, HoldsEither, HoldsFirst, HoldsReplied, Store, RanOnDisk, GaveUpOnDisk, LeavesOnDisk, RunLeaves}
+use Rattle.st_drive.specs.Recording.{Recorder, recorded, recording, changing, LeavesOneMore, HasRecorded, GaveUpRecording, HasPrefix, HasRepliedPrefix, KeepsPrefixes, KeepsRecords, EndsReplied}
 use Rattle.st_drive.proofs.OnDiskLemmas.{line_went, line_gave}
 
 module _ {M C : Type 0} (recorder : Recorder M C) where
@@ -62,6 +62,10 @@ module _ {M C : Type 0} (recorder : Recorder M C) where
     replied = h.replied;
     records_are = h.holds ∙ ap Some (kept_is m r h.first);
   }
+
+  pub ends_replied : (m : M) (r lines : List (List ℕ)) (written : List ℕ) (old new : Past) → LeavesOnDisk rules m r lines written old new
+      → EndsReplied recorder m r lines written new
+  ends_replied m r lines written old new leaves image is = has_replied_prefix m r lines written image (leaves.end image is)
 
   module _ (m : M) (r lines : List (List ℕ)) (written : List ℕ) (old new : Past) (leaves : RunLeaves rules m r lines written old new) where
     pub keeps_prefixes : KeepsPrefixes recorder m r lines old new

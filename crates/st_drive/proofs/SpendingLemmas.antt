@@ -3,10 +3,10 @@ use Rattle.std.proofs.Common.{◌≡◌, ◌∙◌, ◌⊎◌, inl, inr, ⊎_eli
 use Rattle.std.specs.Prelude.{Contains}
 use Rattle.std.proofs.lemmas.List.Elements.{Contains-append_left, Contains-append_right, Contains-append_cases}
 use Rattle.st_io.specs.Past.{Past, Images, Only, Leaves}
-use Rattle.st_drive.specs.OnDisk.{Rules, replies, after, kept, AllHold, Went, GaveUp, HoldsEither, HoldsReplied, Store, IsTold, disk_meaning, RanOnDisk, GaveUpOnDisk, Opens, RunLeaves}
+use Rattle.st_drive.specs.OnDisk.{Rules, replies, after, kept, AllHold, Went, GaveUp, HoldsEither, HoldsReplied, Store, IsTold, disk_meaning, RanOnDisk, GaveUpOnDisk, Opens, LeavesOnDisk, RunLeaves}
 use Rattle.st_drive.specs.Released.{Ascend, KeepsNumbers}
 use Rattle.st_drive.specs.Runs.{Begins, NearlyReplied, course}
-use Rattle.st_drive.specs.Spending.{Spender, listed, numbers, AllSpent, AllStand, SpentInAll, spending, released, NumberLaws, NextLaws, StandsForEither, StaysSpent, HasSpent, GaveUpSpending, StandsReplied, KeepsStanding, EndsStanding, CostsOne, LosesOne, KeptNumbers, run_of}
+use Rattle.st_drive.specs.Spending.{Spender, listed, numbers, AllSpent, AllStand, SpentInAll, spending, released, NumberLaws, NextLaws, StandsForEither, StaysSpent, HasSpent, GaveUpSpending, StandsReplied, KeepsStanding, EndsOpened, EndsStanding, CostsOne, LosesOne, KeptNumbers, run_of}
 use Rattle.st_drive.specs.Tables.{AnsweredFirst}
 use Rattle.st_drive.proofs.OnDiskLemmas.{line_went, line_gave, leaves_on_disk, run_leaves, run_opens}
 use Rattle.st_drive.proofs.ReleasedLemmas.{none_in, one_in, ascend_lower, at_least, none_twice}
@@ -265,6 +265,20 @@ module _ {M C : Type 0} (spender : Spender M C) where
   standing_leaves store {m} {c} {d} {lines} {written} old told opens all first =
       run_leaves rules m (inr m) lines written old (store.past c.1) (store.past d.1) opens (leaves_on_disk rules store told first (inr m) all)
 
+  stands_replied : (m : M) (lines : List (List ℕ)) (written image : List ℕ) → HoldsReplied rules m (inr m) lines written image
+      → StandsReplied spender m lines written image
+  stands_replied m lines written image h = record {
+    first = h.first;
+    begins = h.begins;
+    released = h.released;
+    replied = h.replied;
+    stands = machine_held m h.first image h.holds;
+  }
+
+  pub ends_opened : (m : M) (lines : List (List ℕ)) (written : List ℕ) (old new : Past) → LeavesOnDisk rules m (inr m) lines written old new
+      → EndsOpened spender m lines written new
+  ends_opened m lines written old new leaves image is = stands_replied m lines written image (leaves.end image is)
+
   module _ (m : M) (lines : List (List ℕ)) (written : List ℕ) (old new : Past) (leaves : RunLeaves rules m (inr m) lines written old new) where
     pub keeps_standing : KeepsStanding spender m lines old new
     keeps_standing = record {
@@ -272,17 +286,8 @@ module _ {M C : Type 0} (spender : Spender M C) where
       synced = λ image left. let h = leaves.synced image left in (h.0, h.1, machine_held m h.0 image h.2);
     }
 
-    stands_replied : (image : List ℕ) → HoldsReplied rules m (inr m) lines written image → StandsReplied spender m lines written image
-    stands_replied image h = record {
-      first = h.first;
-      begins = h.begins;
-      released = h.released;
-      replied = h.replied;
-      stands = machine_held m h.first image h.holds;
-    }
-
     pub ends_standing : EndsStanding spender m lines written old new
-    ends_standing image is = ⊎_elim inl (λ h. inr (stands_replied image h)) (leaves.end image is)
+    ends_standing image is = ⊎_elim inl (λ h. inr (stands_replied m lines written image h)) (leaves.end image is)
 
   -- ---- at most one number is lost
 
@@ -395,4 +400,4 @@ module _ {M C : Type 0} (spender : Spender M C) where
           (omega (arith, below, few, same, lowest_behind m h.first))
 
       pub loses_one : LosesOne spender lowest m lines written old new
-      loses_one image is = ⊎_elim inl (λ h. inr (loses_replied image (stands_replied m lines written old new leaves image h))) (leaves.end image is)
+      loses_one image is = ⊎_elim inl (λ h. inr (loses_replied image (stands_replied m lines written image h))) (leaves.end image is)

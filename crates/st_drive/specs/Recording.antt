@@ -95,3 +95,7 @@ pub record KeepsPrefixes {M C : Type 0} (recorder : Recorder M C) (m : M) (r lin
 abbrev pub KeepsRecords : {M C : Type 0} → Recorder M C → (m : M) (r lines : List (List ℕ)) (written : List ℕ) (old new : Past) → Type 0
 KeepsRecords recorder m r lines written old new =
     (image : List ℕ) → Images new image → (Images old image × (written ≡ [])) ⊎ HasRepliedPrefix recorder m r lines written image
+
+-- Those of a run that opened its disk: each has the records of such a prefix.
+abbrev pub EndsReplied : {M C : Type 0} → Recorder M C → (m : M) (r lines : List (List ℕ)) (written : List ℕ) (new : Past) → Type 0
+EndsReplied recorder m r lines written new = (image : List ℕ) → Images new image → HasRepliedPrefix recorder m r lines written image

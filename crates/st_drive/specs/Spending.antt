@@ -149,6 +149,10 @@ abbrev pub EndsStanding : {M C : Type 0} → Spender M C → (m : M) (lines : Li
 EndsStanding spender m lines written old new =
     (image : List ℕ) → Images new image → (Images old image × (written ≡ [])) ⊎ StandsReplied spender m lines written image
 
+-- Those of a run that opened its disk: each is that of the machine after such a prefix.
+abbrev pub EndsOpened : {M C : Type 0} → Spender M C → (m : M) (lines : List (List ℕ)) (written : List ℕ) (new : Past) → Type 0
+EndsOpened spender m lines written new = (image : List ℕ) → Images new image → StandsReplied spender m lines written image
+
 -- A number is below the machine's lowest at the start, or was released, or is the one after those: at most one number
 -- is spent that the run didn't release.
 abbrev pub CostsOne : (lowest : ℕ) → (out : List ℕ) → ℕ → Type 0

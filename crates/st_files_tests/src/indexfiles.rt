@@ -3,8 +3,7 @@ mod hash_texts;
 mod provisional_files;
 
 use crate::words::three;
-use st_base::{List, read_number};
-use st_canon::{Json, write};
+use st_base::{Bytes, List, read_number};
 use st_indexfiles::Target;
 use st_scan::CanonicalText;
 use std::alloc::Global;
@@ -51,8 +50,8 @@ fn case_of(line: &str) -> Option<(u32, u32, &str, &str)> {
     Some((version, count, answer, file))
 }
 
-fn text_of(alloc: Global, value: &Json) -> Option<CanonicalText> {
-    let written = write(alloc, value).ok()?;
+// What was written, read back.
+fn text_of<'a>(alloc: Global, written: &'a Bytes) -> Option<CanonicalText<'a>> {
     CanonicalText::read_json(alloc, written.as_slice()).ok()?
 }
 

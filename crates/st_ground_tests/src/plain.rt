@@ -1,3 +1,2 @@
 mod respelled;
-mod tokens;
 mod wholes;

@@ -245,7 +245,7 @@ fn a_canonical_text_is_scanned_where_it_stands(rt: HostRuntime) -> Result<(), Fa
         return Err(Fail::from("no JSON"));
     };
     assert!(rt; is_delta(&Scanned::again(text.as_slice())));
-    let kept = CanonicalText::again(Bytes::from_vec(text));
+    let kept = CanonicalText::again(Bytes::from_slice(rt.alloc(), text.as_slice())?);
     assert!(rt; is_delta(&kept.root()) && kept.as_slice() == DELTA.as_bytes());
     Ok(())
 }

@@ -3,7 +3,7 @@ ghost use Rattle.st_io.specs.Untold.{untold_past};
 
 use crate::disk::Disk;
 use crate::failed::Failed;
-use std::fs::{File, Files, OpenOptions};
+use std::fs::{File, Files, Metadata, OpenOptions};
 use std::io::{Read, Seek, SeekFrom, Write};
 use std::os::fd::AsRawFd;
 use std::os::unix::fs::{MetadataExt, OpenOptionsExt};
@@ -15,6 +15,19 @@ const JOURNAL: &str = "sidetree.journal";
 
 /// Only the user who made a file may read and write it, since it may hold a secret key.
 const OWNER_ALONE: u32 = 0o600;
+
+/// The mode bits that let group or others write.
+const OTHERS_WRITE: u32 = 0o022;
+
+/// This process, whose owner is the effective user. Linux alone has it.
+const PROCESS: &str = "/proc/self";
+
+/// The standard streams that are open.
+const INPUT: &str = "/proc/self/fd/0";
+
+const OUTPUT: &str = "/proc/self/fd/1";
+
+const ERRORS: &str = "/proc/self/fd/2";
 
 /// The file of a disk.
 #[derive(Drop)]
@@ -30,10 +43,11 @@ enum Slot {
 /// A file in the current folder as a disk. Its contents aren't revealed.
 ///
 /// The first call opens the file, or creates it with mode 0600 if there is none. It fails if the
-/// name is not that of a regular file, is a link, or the file has a second name; if it may not be
-/// read or written; and if another process has it open as a disk. While it is open it is locked
-/// against other processes, and it is never one of the three standard streams, even if one of these
-/// was closed. It is synced, with its folder.
+/// name is not that of a regular file, is a link, or the file has a second name; if its owner is not
+/// the effective user, or group or others may write it; if it may not be read or written; if it is
+/// standard input, output or error; and if another process has it open as a disk. While it is open
+/// it is locked against other processes, and it never takes the place of a standard stream that was
+/// closed. It is synced, with its folder.
 ///
 /// A failure to open is a fault of that call. After such a failure, and after a sync that failed,
 /// every later call fails.
@@ -90,19 +104,41 @@ fn make_or_open<R: Files<File = File>>(rt: &R, name: &str) -> io::Result<File> {
     }
 }
 
-// Opens a regular file that has only this name and that no other process holds. It is never a
-// standard stream that was closed: output for that must not land in the file.
+fn is_same(found: &Metadata, other: &Metadata) -> bool {
+    found.dev() == other.dev() && found.ino() == other.ino()
+}
+
+// Whether a file is this standard stream. A closed stream is no file.
+fn is_stream<R: Files<File = File>>(rt: &R, found: &Metadata, stream: &str) -> io::Result<bool> {
+    match fs::metadata(rt, stream) {
+        Ok(open) => Ok(is_same(found, &open)),
+        Err(error) if error.kind() == io::ErrorKind::NotFound => Ok(false),
+        Err(error) => Err(error),
+    }
+}
+
+// Whether a file is regular, has this name alone, belongs to the effective user, who alone may write
+// it, and is no standard stream.
+fn is_own<R: Files<File = File>>(rt: &R, name: &str, file: &File) -> io::Result<bool> {
+    let (found, named) = (file.metadata()?, fs::symlink_metadata(rt, name)?);
+    let is_alone = is_same(&found, &named) && found.is_file() && found.nlink() == 1;
+    let is_mine = found.uid() == fs::metadata(rt, PROCESS)?.uid()
+        && found.mode() & OTHERS_WRITE == 0;
+    let is_streamed = is_stream(rt, &found, INPUT)?
+        || is_stream(rt, &found, OUTPUT)?
+        || is_stream(rt, &found, ERRORS)?;
+    Ok(is_alone && is_mine && !is_streamed)
+}
+
+// Opens and locks the file. It is never at the number of a standard stream that was closed: output
+// for that must not land in the file. It is looked at only once the lock is held, since another file
+// may get the name before.
 fn open_locked<R: Files<File = File>>(rt: &R, name: &str) -> io::Result<File> {
     let mut file = make_or_open(rt, name)?;
     if file.as_raw_fd() <= 2 {
         file = file.try_clone()?;
     }
-    let (found, named) = (file.metadata()?, fs::symlink_metadata(rt, name)?);
-    let is_named = found.dev() == named.dev() && found.ino() == named.ino();
-    if !is_named || !found.is_file() || found.nlink() != 1 {
-        return Err(lost());
-    }
-    if file.try_lock().is_err() {
+    if file.try_lock().is_err() || !is_own(rt, name, &file)? {
         return Err(lost());
     }
     Ok(file)

@@ -9,14 +9,14 @@ use Rattle.st_io.specs.Causes.{Rose}
 use Rattle.st_io.specs.Past.{Past}
 use Rattle.st_io.specs.Tears.{Turns}
 use Rattle.st_drive.specs.Lines.{all_lines}
-use Rattle.st_drive.specs.OnDisk.{AllHold, EffectLaws, HasReleased, IsTold, Opens, RunLeaves, Store, disk_meaning, replies}
-use Rattle.st_drive.specs.Recording.{HasPrefix, HasRepliedPrefix, KeepsPrefixes, KeepsRecords, changing, recorded, recording}
+use Rattle.st_drive.specs.OnDisk.{AllHold, EffectLaws, HasReleased, IsTold, LeavesOnDisk, Opens, RunLeaves, Store, disk_meaning, replies}
+use Rattle.st_drive.specs.Recording.{EndsReplied, HasPrefix, HasRepliedPrefix, KeepsPrefixes, KeepsRecords, changing, recorded, recording}
 use Rattle.st_drive.specs.Runs.{Begins, NearlyReplied, course}
 use Rattle.st_drive.specs.Streams.{Outcome, Storage, Streams, Unread, storage}
 use Rattle.st_drive.specs.Tables.{AnsweredFirst, AnswersLines, is_end}
 use Rattle.st_drive.proofs.InputLemmas.{answered_input, answered_source, nothing_written}
 use Rattle.st_drive.proofs.OnDiskLemmas.{leaves_on_disk, run_leaves, run_opens}
-use Rattle.st_drive.proofs.RecordingLemmas.{keeps_prefixes, keeps_records}
+use Rattle.st_drive.proofs.RecordingLemmas.{ends_replied, keeps_prefixes, keeps_records}
 use Rattle.st_drive.proofs.RunLemmas.{begins_behind}
 use Rattle.st_drive.proofs.TableLemmas.{IsUnread, ends_unread, ends_weaker, lines_by, not_begun, rose_before, took_none}
 use Rattle.st_journal.specs.Image.{records}
@@ -26,7 +26,7 @@ use Rattle.st_journal.specs.Values.{JournalValue}
 use Rattle.st_journal.specs.declared.refused.JournalRefused.{JournalRefused}
 use Rattle.st_journal.specs.declared.refused.JournalRefused.TheVariants.{TooLong, Damaged, DiskFault, WantOfMemory}
 use Rattle.st_journal_lines.specs.Answering.{Answering, behind, grown, recorder_of}
-use Rattle.st_journal_lines.specs.Journalled.{RunFromRecords, RecordedRun, KeepsFirstLines, KeepsLines, OpensJournal, Refuses, WentWithin, is_journal_end, journal_course, plain_recorder, refusal_status}
+use Rattle.st_journal_lines.specs.Journalled.{EndsLines, RunFromRecords, RecordedRun, KeepsFirstLines, KeepsLines, OpensJournal, Refuses, WentWithin, is_journal_end, journal_course, plain_recorder, refusal_status}
 use Rattle.st_journal_lines.proofs.OpenedLemmas.{damaged_is, machine_is, no_end, not_refused, opened_records, too_long_is, within_records}
 
 -- the statuses of a run over lines are among those of a run with a journal
@@ -86,6 +86,10 @@ module _ {M C : Type 0} (answering : Answering M C) where
         → KeepsLines answering m r lines written old new
     plain_keeps written old new keeps image is = ⊎_elim inl (λ has. inr (plain_replied written image has)) (keeps image is)
 
+    plain_ends : (written : List ℕ) (new : Past) → EndsReplied (recorder_of answering) (m, journal) r lines written new
+        → EndsLines answering m r lines written new
+    plain_ends written new ends image is = plain_replied written image (ends image is)
+
   -- ---- the opening
 
   module _ {m : M} {disk : Storage} {c d : C} {result : _} (opens : OpensJournal answering m disk c d result) {image : List ℕ}
@@ -129,14 +133,20 @@ module _ {M C : Type 0} (answering : Answering M C) where
       {limit : ℕ} {io : Streams} {status : ℕ} {lines : M × JournalValue}
       (opens : OpensJournal answering m (storage store.reads store.past faults a b) c mid (Ok lines)) (later : faults a ≤ faults b)
       (answered : AnswersLines (course (disk_meaning (recording (recorder_of answering)) store) lines (mid, b) (e, d)) limit io (Rose (faults b) (faults d)) status) where
+    left_on_disk : {image : List ℕ} → store.reads a ≡ Some image → {r : List (List ℕ)} → records image ≡ Some r → (over : List (List ℕ)) (written : List ℕ)
+        → AnsweredFirst (course (disk_meaning (recording (recorder_of answering)) store) lines (mid, b) (e, d)) written over
+        → LeavesOnDisk (recording (recorder_of answering)) lines r over written (store.past b) (store.past d)
+    left_on_disk {image} told {r} is over written first =
+        let still : IsTold store b = ap is_some (opens.same.forward image told).1 in
+        let all = all_have image r (store.reads a) (store.reads b) (store.past b) lines.1 told is opens.same opens.ready in
+        leaves_on_disk (recording (recorder_of answering)) store still first r all
+
     left_some : {image : List ℕ} → store.reads a ≡ Some image → {r : List (List ℕ)} → records image ≡ Some r → (over : List (List ℕ)) (written : List ℕ)
         → AnsweredFirst (course (disk_meaning (recording (recorder_of answering)) store) lines (mid, b) (e, d)) written over
         → RunLeaves (recording (recorder_of answering)) lines r over written (store.past a) (store.past d)
     left_some {image} told {r} is over written first =
-        let still : IsTold store b = ap is_some (opens.same.forward image told).1 in
-        let all = all_have image r (store.reads a) (store.reads b) (store.past b) lines.1 told is opens.same opens.ready in
         run_leaves (recording (recorder_of answering)) lines r over written (store.past a) (store.past b) (store.past d)
-        (opens_rules opens told is) (leaves_on_disk (recording (recorder_of answering)) store still first r all)
+        (opens_rules opens told is) (left_on_disk told is over written first)
 
     from_opened : {image : List ℕ} → store.reads a ≡ Some image → (r : List (List ℕ)) → opened image ≡ Ok r
         → RunFromRecords answering m limit
@@ -161,6 +171,10 @@ module _ {M C : Type 0} (answering : Answering M C) where
               (plain_keeps lines.0 lines.1 r (all_lines input) written (store.past a) (store.past d)
               (keeps_records (recorder_of answering) lines r (all_lines input) written (store.past a) (store.past d)
               (left_some told has (all_lines input) written (answered_input answered.table tells))));
+          opened = inr (λ input written tells. subst (λ n. EndsLines answering n r (all_lines input) written (store.past d)) same
+              (plain_ends lines.0 lines.1 r (all_lines input) written (store.past d)
+              (ends_replied (recorder_of answering) lines r (all_lines input) written (store.past b) (store.past d)
+              (left_on_disk told has (all_lines input) written (answered_input answered.table tells)))));
         }
 
     pub opened_run : RecordedRun answering m limit
@@ -208,6 +222,7 @@ module _ {M C : Type 0} (answering : Answering M C) where
               (sym (nothing_written tells unread.holds_is))
               (plain_keeps (behind answering m r) (record { end = 0 }) r (all_lines input) [] run.disk.before run.disk.behind
               (keeps_records (recorder_of answering) (behind answering m r, record { end = 0 }) r (all_lines input) [] run.disk.before run.disk.behind (none input)));
+          opened = inl kept;
         }
 
     -- all except the properties from the cause and the status

@@ -6,7 +6,7 @@ use Rattle.st_io.specs.Past.{LeftSinceSync, Leaves, Past}
 use Rattle.st_io.specs.Tears.{IfTold, Turns}
 use Rattle.st_drive.specs.Lines.{all_lines}
 use Rattle.st_drive.specs.OnDisk.{replies}
-use Rattle.st_drive.specs.Recording.{Recorder, KeepsPrefixes, KeepsRecords, recording}
+use Rattle.st_drive.specs.Recording.{Recorder, EndsReplied, KeepsPrefixes, KeepsRecords, recording}
 use Rattle.st_drive.specs.Runs.{Begins, Course}
 use Rattle.st_drive.specs.Streams.{GoesWell, Outcome, Storage, Tells}
 use Rattle.st_drive.specs.Tables.{AnswersLines, Ends, TakesBytes, is_end, replying}
@@ -37,6 +37,10 @@ KeepsFirstLines answering m r lines old new = KeepsPrefixes (plain_recorder answ
 -- byte of its reply, and at most one more.
 abbrev pub KeepsLines : {M C : Type 0} → Answering M C → (m : M) (r lines : List (List ℕ)) (written : List ℕ) (old new : Past) → Type 0
 KeepsLines answering m r lines written old new = KeepsRecords (plain_recorder answering) m r lines written old new
+
+-- Those of a run that opened its journal.
+abbrev pub EndsLines : {M C : Type 0} → Answering M C → (m : M) (r lines : List (List ℕ)) (written : List ℕ) (new : Past) → Type 0
+EndsLines answering m r lines written new = EndsReplied (plain_recorder answering) m r lines written new
 
 -- its replies to lines
 abbrev pub replies_by : {M C : Type 0} → Answering M C → M → List (List ℕ) → List ℕ
@@ -117,6 +121,11 @@ pub record RunFromRecords {M C : Type 0} (answering : Answering M C) (m : M) (li
   -- those at the end, for any status: at most one record has no reply
   pub records : (input written : List ℕ) → Tells run.io input written
       → KeepsLines answering (behind answering m r) r (all_lines input) written run.disk.before run.disk.behind
+  -- the disk is opened before anything is read or written: if it can't be opened, nothing is; else each image at the
+  -- end has the records of such a prefix
+  pub opened : (run.io.source_kept × run.io.sink_kept)
+      ⊎ ((input written : List ℕ) → Tells run.io input written
+          → EndsLines answering (behind answering m r) r (all_lines input) written run.disk.behind)
 
 -- The end of each run of a machine with a journal, for any machine.
 pub record JournalEnds {C : Type 0} (limit : ℕ) (run : Outcome C) : Type 0 where

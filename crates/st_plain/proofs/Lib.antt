@@ -13,8 +13,6 @@ mod RunLemmas
 mod StopLanes
 -- For the crates above: canonical text reads back as its value, and no two values have the same text
 pub mod Back
--- data that is read from tokens
-pub mod DirectLemmas
 -- names as a canonical text escapes them, read back
 pub mod HeldLemmas
 -- items as a list, and items before others

@@ -23,12 +23,6 @@ put-below name p [] below = refl
 put-below name p ((n, None) ∷ pairs) below = put-below name p pairs (below_parts (name_cmp name n) (is_below name pairs) below).1
 put-below name p ((n, Some q) ∷ pairs) below = rw (below_parts (name_cmp name n) (is_below name pairs) below).0 refl
 
-put_some-below : (name : List ℕ) (o : Option Plain) (pairs : List (List ℕ × Option Plain)) → is_below name pairs ≡ true
-    → put_some name o (members_some pairs) ≡ some_first name o (members_some pairs)
-unfolding put_some
-put_some-below name None pairs below = refl
-put_some-below name (Some p) pairs below = put-below name p pairs below
-
 -- past a name that is below
 put_some-past : (name n : List ℕ) (o v : Option Plain) (ms : Members) → name_cmp name n ≡ Greater
     → put_some name o (some_first n v ms) ≡ some_first n v (put_some name o ms)

@@ -5,7 +5,7 @@ use Rattle.std.specs.Prelude.{◌==◌, ◌||◌, slice_index}
 use Rattle.std.proofs.lemmas.Bool.{false_from_ne_true}
 use Rattle.std.proofs.lemmas.List.{drop_all, length-drop}
 use Rattle.memchr.specs.Find.{IsFirstByte, is_byte2}
-use Rattle.st_plain.specs.Walk.{IsNextMark, behind_first, behind_text}
+use Rattle.st_plain.specs.Walk.{IsNextMark, behind_text}
 
 neither : (x y : Bool) → (x || y) ≡ false → (x ≡ false) × (y ≡ false)
 neither true y e = cc
@@ -44,10 +44,3 @@ unfolding behind_text
 no_mark bytes none =
     past_bytes (length bytes) bytes (omega arith) (λ k below. false_from_ne_true _ (none k (omega arith) below))
     ∙ ap (behind_text false) (drop_all (length bytes) bytes (omega arith))
-
--- the byte after a backslash ends no text
-pub past_backslash : (mark : ℕ) (behind : List ℕ) → (mark == 34 || mark == 92) ≡ true → (mark == 34) ≡ false
-    → behind_text false (mark ∷ behind) ≡ behind_text false (behind_first behind)
-unfolding behind_text
-past_backslash mark [] is other = rw other refl
-past_backslash mark (c ∷ cs) is other = let back : (mark == 92) ≡ true = rw other at is in rw (other, back) refl

@@ -3,16 +3,11 @@
 use Rattle.std.proofs.Common.{◌≡◌, ℕ, ◌≤◌, max, List, Option, Some, None, option_map, option_and_then, Ok, IfSome, refl, sym, ap, ◌∙◌, subst, arith}
 use Rattle.std.proofs.Common.{if◌then◌else◌}
 use Rattle.std.specs.Prelude.{suc, pos, negsuc, Bool, true, false}
-use Rattle.std.specs.Cmp.Lexicographic.{slice_cmp}
-use Rattle.std.specs.Ordering.{nat_cmp}
 use Rattle.std.specs.Str.{is_utf8}
-use Rattle.json.specs.Json as json
-use Rattle.json.specs.Token.{Token}
 use Rattle.json.specs.Tree as tree
-use Rattle.json.proofs.Nesting.{value-depth}
 use Rattle.serde_json.specs.Data as data'
 use Rattle.serde_json.specs.Data.{Data}
-use Rattle.serde_json.specs.Read.{number_of, of_json, of_items, of_members, read}
+use Rattle.serde_json.specs.Read.{read}
 use Rattle.serde_json.specs.Written.{outline, items_outline, members_outline}
 use Rattle.serde_json.proofs.Nesting.{depth-read}
 use Rattle.st_plain.specs.Canonical.{canonical}
@@ -99,57 +94,6 @@ mutual
       (λ p one. chained (λ qs. members_nest qs ≤ data'.members_depth ms) (λ qs. members_nest qs ≤ max (data'.depth d) (data'.members_depth ms))
       (λ qs. Some (put k p qs)) (whole_members ms) (members_within ms)
       (λ qs all. put_within k p qs (max (data'.depth d) (data'.members_depth ms)) (omega (arith, one)) (omega (arith, all))))
-
--- ---- data nests no deeper than its JSON
-
-data_put_within : (k : List ℕ) (d : Data) (ds : data'.Members) (n : ℕ) → data'.depth d ≤ n → data'.members_depth ds ≤ n
-    → data'.members_depth (data'.put k d ds) ≤ n
-data_put_within k d data'.no_members n one all = omega (arith, one, all)
-data_put_within k d (data'.member l e ds) n one all =
-    by_order (λ es. data'.members_depth es ≤ n) (slice_cmp nat_cmp k l) (data'.member k d (data'.member l e ds)) (data'.member l d ds)
-    (data'.member l e (data'.put k d ds))
-    (λ is. omega (arith, one, all)) (λ is. omega (arith, one, all))
-    (λ is. let rest = data_put_within k d ds n one (omega (arith, all)) in omega (arith, all, rest))
-
-mutual
-  data_within : (j : json.Json) → IfSome (of_json j) (λ d. data'.depth d ≤ tree.depth j)
-  data_within json.null = omega arith
-  data_within (json.boolean b) = omega arith
-  data_within (json.number s) = any_mapped (λ d. data'.depth d ≤ 0) data'.number (number_of s) (λ n. omega arith)
-  data_within (json.string s) = omega arith
-  data_within (json.array js) =
-      chained (λ ds. data'.items_depth ds ≤ tree.items_depth js) (λ d. data'.depth d ≤ suc (tree.items_depth js)) (λ ds. Some (data'.array ds)) (of_items js)
-      (items_data_within js)
-      (λ ds within. omega (arith, within))
-  data_within (json.object ms) =
-      chained (λ ds. data'.members_depth ds ≤ tree.members_depth ms) (λ d. data'.depth d ≤ suc (tree.members_depth ms)) (λ ds. Some (data'.object ds))
-      (of_members ms data'.no_members)
-      (members_data_within ms data'.no_members (tree.members_depth ms) (omega arith) (omega arith))
-      (λ ds within. omega (arith, within))
-
-  items_data_within : (js : json.Items) → IfSome (of_items js) (λ ds. data'.items_depth ds ≤ tree.items_depth js)
-  items_data_within json.no_items = omega arith
-  items_data_within (json.item j js) =
-      chained (λ d. data'.depth d ≤ tree.depth j) (λ ds. data'.items_depth ds ≤ max (tree.depth j) (tree.items_depth js))
-      (λ d. option_map (data'.item d) (of_items js)) (of_json j) (data_within j)
-      (λ d one. chained (λ ds. data'.items_depth ds ≤ tree.items_depth js) (λ ds. data'.items_depth ds ≤ max (tree.depth j) (tree.items_depth js))
-      (λ ds. Some (data'.item d ds)) (of_items js) (items_data_within js)
-      (λ ds all. omega (arith, one, all)))
-
-  members_data_within : (ms : json.Members) (found : data'.Members) (n : ℕ) → tree.members_depth ms ≤ n → data'.members_depth found ≤ n
-      → IfSome (of_members ms found) (λ ds. data'.members_depth ds ≤ n)
-  members_data_within json.no_members found n deep all = all
-  members_data_within (json.member k j ms) found n deep all =
-      chained (λ d. data'.depth d ≤ tree.depth j) (λ ds. data'.members_depth ds ≤ n) (λ d. of_members ms (data'.put k d found)) (of_json j) (data_within j)
-      (λ d one. members_data_within ms (data'.put k d found) n (omega (arith, deep)) (data_put_within k d found n (omega (arith, one, deep)) all))
-
-pub nests_of_tokens : (depth : ℕ) (old new : List Token) (j : json.Json) (d : Data) (p : Plain) → json.value depth old ≡ Some (j, new)
-    → of_json j ≡ Some d → whole_value d ≡ Some p → nests p ≤ depth
-nests_of_tokens depth old new j d p is there all =
-    let deep = value-depth depth old new j is in
-    let within = subst (λ o. IfSome o (λ e. data'.depth e ≤ tree.depth j)) there (data_within j) in
-    let last = subst (λ o. IfSome o (λ q. nests q ≤ data'.depth d)) all (whole_within d) in
-    omega (arith, deep, within, last)
 
 -- ---- values that were read
 

@@ -1,7 +1,7 @@
 -- Data that is read from its tokens, and its canonical text, written an item at a time.
 use Rattle.std.proofs.Common.{◌≡◌, ℕ, ℤ, zero, suc, ◌-◌, ◌<◌, ◌≤◌, List, [], ◌∷◌, ◌++◌, length, Bool, true, false, Option, Some, None, option_map}
 use Rattle.std.proofs.Common.{option_and_then, IfErr, Result, Ok, Err, refl, sym, ap, ap₂, ◌∙◌, subst, append_assoc}
-use Rattle.std.specs.Prelude.{ok_or}
+use Rattle.std.specs.Prelude.{ok_or, unwrap_or}
 use Rattle.std.specs.Str.{IsUtf8}
 use Rattle.std.proofs.lemmas.List.{append-nil}
 use Rattle.json.specs.Json as json
@@ -18,16 +18,40 @@ use Rattle.st_plain.specs.Plain.{Plain, IsWhole, whole, list, object, Items, ite
 use Rattle.st_plain.specs.Proper.{IsProper, ItemsAreProper, MembersAreProper}
 use Rattle.st_plain.specs.ReadAgain.{IsReadAgain, value_read}
 use Rattle.st_plain.specs.Reading.{json_of, json_of_data, whole_items, whole_value}
-use Rattle.st_plain.specs.Respelled.{HasNoMark, IsNoJson, IsRespelled, IsWritten, Spells}
-use Rattle.st_plain.specs.Rewritten.{IsNext}
+use Rattle.st_plain.specs.Respelled.{HasNoMark, IsNoJson, IsWritten, Spells}
 use Rattle.st_plain.specs.declared.refused.ReadRefused.{ReadRefused}
 use Rattle.st_plain.specs.declared.refused.ReadRefused.TheVariants.{NotJson, NotWhole, WantOfMemory}
-use Rattle.st_plain.proofs.DirectLemmas.{Tokens, with_rest, was_read}
 use Rattle.st_plain.proofs.HeldLemmas.{has_no_left, has_no_right, no_mark}
-use Rattle.st_plain.proofs.NestsLemmas.{nests_of_tokens, read_again}
+use Rattle.st_plain.proofs.NestsLemmas.{read_again}
 use Rattle.st_plain.proofs.Outcomes.{json_of-utf8}
 use Rattle.st_plain.proofs.RewritingLemmas.{after, after_more, after_true, in_brackets}
 use Rattle.st_plain.proofs.Texts.{IsUtf8-canonical}
+
+abbrev Tokens : Type 0
+Tokens = List Token
+
+-- ---- what was read, under a function
+
+with_rest : {A B : Type 0} (f : A → B) (r : Tokens) (x : Option A)
+    → option_map (λ b. (b, r)) (option_map f x) ≡ parse_map f (option_map (λ a. (a, r)) x)
+with_rest f r None = refl
+with_rest f r (Some a) = refl
+
+record WasRead {A B : Type 0} (f : A → Option B) (read : Option (A × Tokens)) (b : B) (r : Tokens) : Type 0 where
+  spelled : A
+  is : read ≡ Some (spelled, r)
+  gives : f spelled ≡ Some b
+
+same_rest : {B : Type 0} (r s : Tokens) (x : Option B) (b : B) → option_map {U = B × Tokens} (λ y. (y, r)) x ≡ Some (b, s) → (r ≡ s) × (x ≡ Some b)
+same_rest r s None b e = absurd (cc)
+same_rest r s (Some y) b e = let same = ap (λ read. unwrap_or read (y, r)) e in (ap (λ p. p.1) same, ap (λ p. Some p.0) same)
+
+was_read : {A B : Type 0} (f : A → Option B) (read : Option (A × Tokens)) (b : B) (r : Tokens) → converted f read ≡ Some (b, r)
+    → WasRead f read b r
+was_read f None b r e = absurd (cc)
+was_read f (Some p) b r e =
+    let both = same_rest p.1 r (f p.0) b e in
+    record { spelled = p.0; is = ap (λ s. Some (p.0, s)) both.0; gives = both.1 }
 
 -- ---- a value
 
@@ -339,21 +363,3 @@ pub text_is_not_whole : (bytes out : List ℕ) (there : Option Plain) → json_o
 text_is_not_whole bytes out None read h some = read
 text_is_not_whole bytes out (Some p) read h some =
     absurd (some (subst HasNoMark (sym (h.1 ∙ h.2.1)) (no_mark (canonical p) (IsUtf8-canonical p h.2.0))))
-
--- the next value, if every number in it is whole
-pub is_next : (depth : ℕ) (old new : Tokens) (before behind : List ℕ) (next : IsRespelled depth old new before behind) → HasNoMark behind
-    → IsNext depth old new before behind
-is_next depth old new before behind next none =
-    at (whole_value next.is) refl next.written.2
-  where
-    at : (there : Option Plain) → whole_value next.is ≡ there → Spells IsProper canonical there next.written.0 → IsNext depth old new before behind
-    at None is h = absurd (h (has_no_right before next.written.0 (subst HasNoMark next.written.1 none)))
-    at (Some p) is h =
-        let first = was_read of_json (value depth old) next.is new next.read in
-        record {
-          is = p;
-          read = rw (first.is, first.gives, is) refl;
-          proper = h.0;
-          shallow = nests_of_tokens depth old new first.spelled next.is p first.is first.gives is;
-          text = next.written.1 ∙ ap (λ t. before ++ t) h.1;
-        }

@@ -1,6 +1,5 @@
 pub mod Canonical
 pub mod Depth
-pub mod Direct
 pub mod Entries
 pub mod Find
 pub mod Held
@@ -16,6 +15,5 @@ pub mod Proper
 pub mod ReadAgain
 pub mod Reading
 pub mod Respelled
-pub mod Rewritten
 pub mod Shapes
 pub mod Walk

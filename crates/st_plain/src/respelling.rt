@@ -1,4 +1,5 @@
 ghost use Rattle.std.specs.Prelude.{◌≡◌, true, ◌<◌, length, Err, Ok, None, IfErr, IfOk, IfSome, IsTrue, OnOk, false};
+ghost use Rattle.std.specs.Cow.{cow_slice_items};
 ghost use Rattle.json.specs.Json.{items, members, value};
 ghost use Rattle.serde_json.specs.Data.{no_members};
 ghost use Rattle.serde_json.specs.Read.{converted, number_of, of_items, of_json, of_members};
@@ -17,30 +18,31 @@ use crate::refused::ReadRefused;
 use json::{Reader, Scratch, Token};
 use memchr::memchr;
 use std::alloc::Global;
+use std::borrow::CowSlice;
 
-/// How deep lists and objects may nest in the input, as in `serde_json`.
-pub const MAX_DEPTH: usize = 127;
+// How deep lists and objects may nest in the input, as in `serde_json`.
+pub(crate) const MAX_DEPTH: usize = 127;
 
 // Written for a number that is not whole: a byte that no UTF-8 has.
 const MARK: u8 = 255;
 
-/// The canonical text (RFC 8785) of JSON of any spelling. A member that appears twice has its last
-/// value.
+/// The canonical text (RFC 8785) of JSON of any spelling: the bytes themselves if they are canonical
+/// already. A member that appears twice has its last value.
 ///
 /// The result is `NotJson` if and only if `serde_json` refuses the bytes, and `NotWhole` if and
 /// only if they are JSON with a number that no `Whole` holds or that is written as a float.
-pub fn canonical_text(alloc: Global, bytes: &[u8]) -> Result<Vec<u8>, ReadRefused>
-    ensures value { IfOk result (λ text. json_of bytes.now ≡ Ok (value_read (json_of text.items))) }
+pub fn canonical_text(alloc: Global, bytes: &[u8]) -> Result<CowSlice<'_, u8>, ReadRefused>
+    ensures value { IfOk result (λ text. json_of bytes.now ≡ Ok (value_read (json_of (cow_slice_items text)))) }
     ensures refusal { IfErr result (Refuses (json_of bytes.now)) }
-    ensures again { IfOk result (λ text. IsReadAgain text.items) }
+    ensures again { IfOk result (λ text. IsReadAgain (cow_slice_items text)) }
 {
     let Ok(text) = simdutf8::compat::from_utf8(bytes) else {
         return Err(ReadRefused::NotJson);
     };
     if is_canonical(text) {
-        return Ok(Vec::from_slice(alloc, bytes)?);
+        return Ok(CowSlice::Borrowed(bytes));
     }
-    respell_text(alloc, text)
+    Ok(CowSlice::Owned(respell_text(alloc, text)?))
 }
 
 // The canonical text of a text, from its tokens.
@@ -65,7 +67,7 @@ fn respell_text(alloc: Global, text: &str) -> Result<Vec<u8>, ReadRefused>
     }
 }
 
-pub(crate) fn is_whole(text: &[u8]) -> bool
+fn is_whole(text: &[u8]) -> bool
     ensures yes { result ≡ true → HasNoMark text.now }
     ensures no { result ≡ false → HasNoMark text.now → ⊥ }
 {
@@ -76,7 +78,7 @@ pub(crate) fn is_whole(text: &[u8]) -> bool
 // written as a mark, since a later member of the same name may replace it. Lists and objects may
 // nest `depth` deep.
 #[cycle(respell)]
-pub(crate) fn respell(
+fn respell(
     alloc: Global,
     out: &mut Vec<u8>,
     reader: &mut Reader<'_>,

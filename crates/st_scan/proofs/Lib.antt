@@ -5,6 +5,5 @@ mod ContentLemmas
 mod EntryLemmas
 mod FrontLemmas
 mod KindLemmas
-mod ListsLemmas
 mod MemberLemmas
 mod ReadLemmas

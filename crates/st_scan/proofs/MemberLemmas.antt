@@ -1,23 +1,16 @@
 -- The first remaining member of an object.
-use Rattle.std.proofs.Common.{◌≡◌, ◌∙◌, ◌↔◌, ℕ, ◌<◌, Bool, true, false, List, [], ◌∷◌, ◌++◌, length, Option, Some, None, Less, refl, ap, sym, subst, arith}
+use Rattle.std.proofs.Common.{◌≡◌, ◌∙◌, ◌↔◌, ℕ, ◌<◌, Bool, true, false, List, [], ◌∷◌, ◌++◌, length, Option, Some, None, refl, ap, sym, subst, arith}
 use Rattle.std.proofs.Common.{append_assoc, length-append}
 use Rattle.std.specs.Prelude.{is_some, unwrap_or, IsTrue}
 use Rattle.st_plain.specs.Canonical.{canonical, canonical_members, quoted}
 use Rattle.st_plain.specs.Entries.{members_in}
 use Rattle.st_plain.specs.Find.{has_only, member_at}
-use Rattle.st_plain.specs.Names.{is_name, name_cmp}
 use Rattle.st_plain.specs.Plain.{Plain, text, object, Members, no_members, member}
-use Rattle.st_plain.specs.Proper.{AllAbove, IsProper, MembersAreProper}
-use Rattle.st_plain.specs.Shapes.{both_members, is_object_of, member_in, only_member}
+use Rattle.st_plain.specs.Shapes.{is_object_of, member_in}
 use Rattle.st_plain.specs.Walk.{Splits, behind_comma, behind_first, can_follow, starts}
-use Rattle.st_plain.proofs.Order.{not_name_from_less, same_from_is_name}
-use Rattle.st_plain.proofs.QuotedLemmas.{name_turned}
-use Rattle.st_scan.specs.Lists.{only_lists}
-use Rattle.st_scan.specs.ObjectsOfLists.{is_object_of_lists}
 use Rattle.st_scan.specs.Standing.{IsNextMember, IsText, IsTextOf, members_left, value_of}
 use Rattle.st_scan.proofs.FrontLemmas.{no_longer}
 use Rattle.st_scan.proofs.KindLemmas.{is_object_here, object_kind}
-use Rattle.st_scan.proofs.ListsLemmas.{only_lists-both}
 use Rattle.st_scan.proofs.ReadLemmas.{is_text, value_of-text}
 
 -- the text after the first member of an object
@@ -106,86 +99,16 @@ object_left left is =
     let here = as_object left is in
     value_of-text (123 ∷ left) (object here.0) here.1 ∙ ap object (sym (members_left-object left here.0 here.1))
 
-pub proper_members : (left : List ℕ) → IsText (123 ∷ left) → MembersAreProper (members_left left)
-proper_members left is = subst IsProper (object_left left is) is.proper
-
-some_of : (left : List ℕ) (ms : Members) → IsTextOf (123 ∷ left) (object ms) → starts 125 left ≡ false
-    → (n : List ℕ) × (p : Plain) × (others : Members) × (members_left left ≡ member n p others)
-some_of left no_members is some =
+closed_of : (left : List ℕ) (ms : Members) → IsTextOf (123 ∷ left) (object ms) → members_left left ≡ no_members → starts 125 left ≡ true
+closed_of left no_members is none =
     let same : 125 ∷ [] ≡ left = let e = is.spelled in cc in
-    let closed = ap (starts 125) same in
-    absurd cc
-some_of left (member n p ms) is some = (n, p, ms, members_left-object left (member n p ms) is)
-
-some_member : (left : List ℕ) → IsText (123 ∷ left) → starts 125 left ≡ false
-    → (n : List ℕ) × (p : Plain) × (others : Members) × (members_left left ≡ member n p others)
-some_member left is some = let here = as_object left is in some_of left here.0 here.1 some
+    sym (ap (starts 125) same)
+closed_of left (member n p ms) is none = let apart = sym (members_left-object left (member n p ms) is) ∙ none in cc
 
 -- no member remains if and only if the closing brace is next
-closed_by : (left : List ℕ) (closed : Bool) → IsText (123 ∷ left) → closed ≡ starts 125 left → members_left left ≡ no_members → closed ≡ true
-closed_by left true is test none = refl
-closed_by left false is test none =
-    let there = some_member left is (sym test) in
-    let apart = sym there.3 ∙ none in
-    cc
-
 pub none_left : (left : List ℕ) (closed : Bool) → IsText (123 ∷ left) → closed ≡ starts 125 left → IsTrue closed ↔ (members_left left ≡ no_members)
-none_left left closed is test = (λ yes. no_member left is (sym test ∙ yes), closed_by left closed is test)
-
--- ---- one member and no other
-
-alone : (name word : List ℕ) (p : Plain) → is_name name word ≡ true → only_member name (Some (object (member word p no_members))) ≡ Some p
-alone name word p same = rw (name_turned word name ∙ same, same) refl
-
-not_alone : (name word other : List ℕ) (p q : Plain) (ms : Members) → is_name name word ≡ true → name_cmp word other ≡ Less
-    → only_member name (Some (object (member word p (member other q ms)))) ≡ None
-not_alone name word other p q ms same below =
-    let apart : is_name other name ≡ false = name_turned other name ∙ ap (λ n. is_name n other) (same_from_is_name name word same)
-    ∙ not_name_from_less word other below in
-    rw (name_turned word name ∙ same, apart) refl
-
-another : (name word : List ℕ) (p : Plain) (ms : Members) → is_name name word ≡ false → only_member name (Some (object (member word p ms))) ≡ None
-another name word p ms apart = rw (name_turned word name ∙ apart) refl
-
-module _ (left name value rest asked : List ℕ) (is : IsText (123 ∷ left)) (next : IsNextMember left name value rest) where
-  listed : only_member asked (Some (object (members_left left))) ≡ only_member asked (Some (object (member next.word (value_of value) (members_left rest))))
-  listed = ap (λ ms. only_member asked (Some (object ms))) next.listed
-
-  pub one_member : is_name asked next.word ≡ true → starts 125 rest ≡ true → only_member asked (Some (object (members_left left))) ≡ Some (value_of value)
-  one_member same none =
-      listed ∙ ap (λ ms. only_member asked (Some (object (member next.word (value_of value) ms)))) (no_member rest next.others none)
-      ∙ alone asked next.word (value_of value) same
-
-  pub two_members : is_name asked next.word ≡ true → starts 125 rest ≡ false → only_member asked (Some (object (members_left left))) ≡ None
-  two_members same some =
-      let second = some_member rest next.others some in
-      let proper = subst MembersAreProper next.listed (proper_members left is) in
-      let above = subst (AllAbove next.word) second.3 proper.1 in
-      listed ∙ ap (λ ms. only_member asked (Some (object (member next.word (value_of value) ms)))) second.3
-      ∙ not_alone asked next.word second.0 (value_of value) second.1 second.2 same above.0
-
--- ---- two members and no other
-
-both_alone : (first second word other : List ℕ) (p q : Plain) → is_name first word ≡ true → is_name second other ≡ true → name_cmp word other ≡ Less
-    → both_members first second (Some (object (member word p (member other q no_members)))) ≡ Some (p, q)
-both_alone first second word other p q same also below =
-    let apart : is_name other word ≡ false = name_turned other word ∙ not_name_from_less word other below in
-    let not_first : is_name other first ≡ false = ap (is_name other) (same_from_is_name first word same) ∙ apart in
-    let not_second : is_name second word ≡ false = ap (λ n. is_name n word) (same_from_is_name second other also) ∙ apart in
-    rw (name_turned word first ∙ same, not_first, name_turned other second ∙ also, same, not_second, also) refl
-
-module _ (left name value rest another further others first second : List ℕ) (is : IsText (123 ∷ left))
-    (next : IsNextMember left name value rest) (then : IsNextMember rest another further others) where
-  pub both_found : is_name first next.word ≡ true → is_name second then.word ≡ true → starts 125 others ≡ true
-      → both_members first second (Some (object (members_left left))) ≡ Some (value_of value, value_of further)
-  both_found same also none =
-      let last : members_left rest ≡ member then.word (value_of further) no_members =
-      then.listed ∙ ap (member then.word (value_of further)) (no_member others then.others none) in
-      let all : members_left left ≡ member next.word (value_of value) (member then.word (value_of further) no_members) =
-      next.listed ∙ ap (member next.word (value_of value)) last in
-      let proper = subst MembersAreProper all (proper_members left is) in
-      ap (λ ms. both_members first second (Some (object ms))) all
-      ∙ both_alone first second next.word then.word (value_of value) (value_of further) same also proper.1.0
+none_left left closed is test =
+    let here = as_object left is in (λ yes. no_member left is (sym test ∙ yes), λ none. test ∙ closed_of left here.0 here.1 none)
 
 -- ---- a text that is an object, or none
 
@@ -203,15 +126,5 @@ module _ (bytes left : List ℕ) (is : IsText bytes) (same : bytes ≡ 123 ∷ l
   pub at_member : (name : List ℕ) (found : Option Plain) → member_at name (members_left left) ≡ found → found ≡ member_in name (Some (value_of bytes))
   at_member name found here = sym here ∙ sym (ap (λ p. member_in name (Some p)) (at_object bytes left is same))
 
-  pub at_only_member : (name : List ℕ) (found : Option Plain) → only_member name (Some (object (members_left left))) ≡ found
-      → found ≡ only_member name (Some (value_of bytes))
-  at_only_member name found here = sym here ∙ sym (ap (λ p. only_member name (Some p)) (at_object bytes left is same))
-
   pub at_object_of : (names : List (List ℕ)) (found : Bool) → found ≡ has_only names (members_left left) → found ≡ is_object_of names (Some (value_of bytes))
   at_object_of names found here = here ∙ sym (ap (λ p. is_object_of names (Some p)) (at_object bytes left is same))
-
-  pub at_object_of_lists : (names : List (List ℕ)) (found : Bool) → found ≡ only_lists names (members_left left)
-      → found ≡ is_object_of_lists names (Some (value_of bytes))
-  at_object_of_lists names found here =
-      here ∙ only_lists-both names (members_left left) (proper_members left (subst IsText same is))
-      ∙ sym (ap (λ p. is_object_of_lists names (Some p)) (at_object bytes left is same))

@@ -1,4 +1,3 @@
-pub mod Lists
 pub mod ObjectsOfLists
 pub mod Standing
 pub mod Texts

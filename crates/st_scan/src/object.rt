@@ -1,10 +1,9 @@
 ghost use Rattle.std.specs.Prelude.{◌≡◌, ◌∷◌, IfSome, Some, map, option_map};
 ghost use Rattle.st_plain.specs.Entries.{members_in};
-ghost use Rattle.st_plain.specs.Shapes.{both_members, is_object_of, member_in, only_member};
-ghost use Rattle.st_scan.specs.ObjectsOfLists.{is_object_of_lists};
+ghost use Rattle.st_plain.specs.Shapes.{is_object_of, member_in};
 ghost use Rattle.st_scan.specs.Standing.{IsText, members_left, value_of};
 
-use crate::members::{find, find_both, find_only, have_only, have_only_lists};
+use crate::members::{find, have_only};
 use st_plain::opened;
 
 // The text after the bracket of an object, if the text is one.
@@ -34,54 +33,12 @@ pub(crate) fn member<'a>(text: &'a [u8], name: &str) -> Option<&'a [u8]>
     }
 }
 
-// The same, if there is no other member.
-pub(crate) fn only_member<'a>(text: &'a [u8], name: &str) -> Option<&'a [u8]>
-    requires { IsText text.now }
-    ensures value { option_map (λ found. value_of found.now) result ≡ only_member name.now (Some (value_of text.now)) }
-    ensures text { IfSome result (λ found. IsText found.now) }
-{
-    let Some(left) = opened(text, b'{') else {
-        return None;
-    };
-    match find_only(left, name) {
-        Some(value) => Some(value),
-        None => None,
-    }
-}
-
-// The texts of the values of the members of these names, if these are all the members, in this
-// order.
-pub(crate) fn both_in_turn<'a>(
-    text: &'a [u8],
-    first: &str,
-    second: &str,
-) -> Option<(&'a [u8], &'a [u8])>
-    requires { IsText text.now }
-    ensures value { IfSome result (λ both. both_members first.now second.now (Some (value_of text.now))
-        ≡ Some (value_of both.0.now, value_of both.1.now)) }
-    ensures first { IfSome result (λ both. IsText both.0.now) }
-    ensures second { IfSome result (λ both. IsText both.1.now) }
-{
-    let left = opened(text, b'{')?;
-    find_both(left, first, second)
-}
-
 pub(crate) fn is_object_of(text: &[u8], names: &[&str]) -> bool
     requires { IsText text.now }
     ensures { result ≡ is_object_of (map (λ n. n.now) names.now) (Some (value_of text.now)) }
 {
     match opened(text, b'{') {
         Some(left) => have_only(left, names),
-        None => false,
-    }
-}
-
-pub(crate) fn is_object_of_lists(text: &[u8], names: &[&str]) -> bool
-    requires { IsText text.now }
-    ensures { result ≡ is_object_of_lists (map (λ n. n.now) names.now) (Some (value_of text.now)) }
-{
-    match opened(text, b'{') {
-        Some(left) => have_only_lists(left, names),
         None => false,
     }
 }

@@ -11,15 +11,18 @@ use crate::spelled::text_of;
 use st_base::{Bytes, WantOfMemory};
 use st_plain::ReadRefused;
 use std::alloc::Global;
+use std::borrow::CowSlice;
 use std::marker::Model;
 
-/// The canonical text (RFC 8785) of a JSON value. Contracts see the plain value.
+/// The canonical text (RFC 8785) of a JSON value. Bytes that are canonical already are borrowed.
+/// Contracts see the plain value.
 #[derive(Drop)]
-pub struct CanonicalText {
-    text: Bytes,
+pub struct CanonicalText<'a> {
+    text: CowSlice<'a, u8>,
 }
 
-impl Model for CanonicalText {
+impl<'a> Model for CanonicalText<'a> {
+    ghost use Rattle.std.specs.Cow.{cow_slice_items};
     ghost use Rattle.st_plain.specs.Plain.{Plain};
     ghost use Rattle.st_plain.specs.PlainCodes.{coded_plain};
     ghost use Rattle.st_scan.specs.Standing.{IsText, value_of};
@@ -28,17 +31,17 @@ impl Model for CanonicalText {
 
     ghost coded = { coded_plain };
 
-    ghost view = { λ canonical. value_of canonical.text };
+    ghost view = { λ canonical. value_of (cow_slice_items canonical.text) };
 
-    ghost invariant = { λ canonical. IsText canonical.text };
+    ghost invariant = { λ canonical. IsText (cow_slice_items canonical.text) };
 }
 
-impl CanonicalText {
+impl<'a> CanonicalText<'a> {
     /// The canonical text of JSON of any spelling. A member that appears twice has its last value.
     ///
     /// The result is `NotJson` if and only if the bytes are not JSON, and `NotWhole` if and only if
     /// they are JSON with a number that no `Whole` holds or that is written as a float.
-    pub fn read(alloc: Global, bytes: &[u8]) -> Result<CanonicalText, ReadRefused>
+    pub fn read(alloc: Global, bytes: &'a [u8]) -> Result<CanonicalText<'a>, ReadRefused>
         ensures value { GivesAs (λ text. text) refusal_of (json_of bytes.now) result }
         ensures proper { IfOk result (λ text. IsProper text) }
     {
@@ -47,7 +50,10 @@ impl CanonicalText {
     }
 
     /// The same; `None` if and only if the bytes are not JSON with whole numbers.
-    pub fn read_json(alloc: Global, bytes: &[u8]) -> Result<Option<CanonicalText>, WantOfMemory>
+    pub fn read_json(
+        alloc: Global,
+        bytes: &'a [u8],
+    ) -> Result<Option<CanonicalText<'a>>, WantOfMemory>
         ensures { IfOk result (λ found. found ≡ json_in bytes.now) }
     {
         match text_of(alloc, bytes) {
@@ -60,11 +66,13 @@ impl CanonicalText {
 
     /// The value with this canonical text.
     #[tactic(auto, unfolding(crate::specs::Standing::value_of), using(crate::proofs::ReadLemmas::text_from_read))]
-    pub fn again(text: Bytes) -> CanonicalText
+    pub fn again(text: Bytes) -> CanonicalText<'a>
         requires { IsReadAgain text }
         ensures { result ≡ value_read (json_of text) }
     {
-        CanonicalText { text }
+        CanonicalText {
+            text: CowSlice::Owned(text.into_vec()),
+        }
     }
 
     /// The text.

@@ -1,5 +1,5 @@
 ghost use Rattle.std.specs.Prelude.{◌≡◌, ◌≢◌, ◌+◌, ◌≤◌, ℕ, List, IfOk, IfSome, IfNone, Some, is_some, map};
-ghost use Rattle.std.specs.List.{flat_map};
+ghost use Rattle.std.specs.List.{flat_map, list_all};
 ghost use Rattle.st_plain.specs.Canonical.{canonical, escape};
 ghost use Rattle.st_plain.specs.Depth.{depth_of, opening_count};
 ghost use Rattle.st_plain.specs.Entries.{items_in, members_in, text_in};
@@ -7,7 +7,7 @@ ghost use Rattle.st_plain.specs.Measure.{size_of};
 ghost use Rattle.st_plain.specs.Plain.{text};
 ghost use Rattle.st_plain.specs.ReadAgain.{IsReadAgain, value_read};
 ghost use Rattle.st_plain.specs.Reading.{json_of};
-ghost use Rattle.st_plain.specs.Shapes.{both_members, is_object_of, member_in, only_member};
+ghost use Rattle.st_plain.specs.Shapes.{both_members, is_list_if_there, is_object_of, member_in, only_member};
 ghost use Rattle.st_scan.specs.ObjectsOfLists.{is_object_of_lists};
 ghost use Rattle.st_scan.specs.Texts.{is_text_of};
 
@@ -130,19 +130,16 @@ impl<'a> Scanned<'a> {
     pub fn only_member(&self, name: &str) -> Option<Scanned<'a>>
         ensures { result ≡ only_member name.now (Some self.now) }
     {
-        match object::only_member(self.text, name) {
-            Some(text) => Some(Scanned { text }),
-            None => None,
+        if !self.is_object_of(&[name]) {
+            return None;
         }
+        self.member(name)
     }
 
     /// The values of the members of these names, if it is an object that has both and no other.
     pub fn both_members(&self, first: &str, second: &str) -> Option<(Scanned<'a>, Scanned<'a>)>
         ensures { result ≡ both_members first.now second.now (Some self.now) }
     {
-        if let Some((one, other)) = object::both_in_turn(self.text, first, second) {
-            return Some((Scanned { text: one }, Scanned { text: other }));
-        }
         if !self.is_object_of(&[first, second]) {
             return None;
         }
@@ -162,7 +159,7 @@ impl<'a> Scanned<'a> {
     pub fn is_object_of_lists(&self, names: &[&str]) -> bool
         ensures { result ≡ is_object_of_lists (map (λ n. n.now) names.now) (Some self.now) }
     {
-        object::is_object_of_lists(self.text, names)
+        self.is_object_of(names) && are_lists(self, names)
     }
 
     /// The length of its canonical text.
@@ -187,5 +184,26 @@ impl<'a> Scanned<'a> {
         ensures value { value_read (json_of result.now) ≡ self.now }
     {
         content::as_slice(self.text)
+    }
+}
+
+// Whether each of these members that the value has is a list.
+fn are_lists(value: &Scanned<'_>, names: &[&str]) -> bool
+    ensures { result ≡ list_all (λ name. is_list_if_there (member_in name (Some value.now))) (map (λ n. n.now) names.now) }
+{
+    'names: for name in names {
+        if !is_list_if_there(value.member(name)) {
+            return false;
+        }
+    }
+    true
+}
+
+fn is_list_if_there(there: Option<Scanned<'_>>) -> bool
+    ensures { result ≡ is_list_if_there there.entry }
+{
+    match there {
+        Some(value) => value.is_list(),
+        None => true,
     }
 }

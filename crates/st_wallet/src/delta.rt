@@ -34,7 +34,7 @@ pub(crate) fn read_delta(alloc: Global, bytes: &[u8]) -> Result<PackedJson, Draf
     Ok(PackedJson::keep(alloc, text.root().as_slice())?)
 }
 
-fn read_text(alloc: Global, bytes: &[u8]) -> Result<CanonicalText, DraftRefused>
+fn read_text<'a>(alloc: Global, bytes: &'a [u8]) -> Result<CanonicalText<'a>, DraftRefused>
     ensures { Gives refusal_of (json_asked bytes.now) result }
 {
     match CanonicalText::read(alloc, bytes) {

@@ -11,13 +11,13 @@ use Rattle.st_io.specs.Tears.{IfTold}
 use Rattle.st_drive.specs.Lines.{all_lines}
 use Rattle.st_drive.specs.OnDisk.{AllHold, IsTold, Opens, RunLeaves, Store, disk_meaning, replies}
 use Rattle.st_drive.specs.Runs.{course}
-use Rattle.st_drive.specs.Spending.{spending}
-use Rattle.st_drive.specs.Streams.{Storage, Streams, Unread, storage}
+use Rattle.st_drive.specs.Spending.{EndsOpened, spending}
+use Rattle.st_drive.specs.Streams.{Storage, Streams, Tells, Unread, storage}
 use Rattle.st_drive.specs.Tables.{AnsweredFirst, AnswersLines}
 use Rattle.st_drive.proofs.InputLemmas.{answered_input, answered_source, nothing_written}
-use Rattle.st_drive.proofs.OnDiskLemmas.{run_opens}
+use Rattle.st_drive.proofs.OnDiskLemmas.{leaves_on_disk, run_opens}
 use Rattle.st_drive.proofs.ReleasedLemmas.{none_in}
-use Rattle.st_drive.proofs.SpendingLemmas.{ends_standing, keeps_numbers, keeps_standing, kept_numbers, loses_one, spending_leaves, spending_opened, standing_leaves, stays_spent}
+use Rattle.st_drive.proofs.SpendingLemmas.{ends_opened, ends_standing, keeps_numbers, keeps_standing, kept_numbers, loses_one, spending_leaves, spending_opened, standing_leaves, stays_spent}
 use Rattle.st_drive.proofs.TableLemmas.{IsUnread, lines_by, not_begun, rose_before}
 use Rattle.st_vault.specs.Opening.{opened}
 use Rattle.st_vault.specs.Spent.{KeepsSpent}
@@ -78,9 +78,9 @@ opens_standing image old new opens = record {
 
 -- ---- the disk could not be opened
 
-pub unopened_run : {limit : ℕ} {io : Streams} {disk : Storage} → disk.failed → Unread io
+pub unopened_run : {limit : ℕ} {io : Streams} {disk : Storage} → disk.failed → Unread io → io.source_kept × io.sink_kept
     → IfTold disk.reads (λ image. OpensAs image disk.before disk.behind) → WalletRun limit io disk 4
-unopened_run {limit} {io} {disk} failed unread opens =
+unopened_run {limit} {io} {disk} failed unread kept opens =
     let late : IsUnread disk.failed 4 = search arith in
     let leaving : (image : List ℕ) → disk.reads ≡ Some image → (lines : List (List ℕ)) → Leaving image lines [] disk.before disk.behind =
     λ image told lines. record {
@@ -90,6 +90,7 @@ unopened_run {limit} {io} {disk} failed unread opens =
     } in
     record {
       lines = not_begun late unread (wallet_course disk.reads) tt (λ some. refl) refl;
+      opened = inl kept;
       from = λ image told. record {
         stays = (opens image told).spent;
         vault = λ input had. vault_of input (leaving image told (all_lines input));
@@ -127,6 +128,16 @@ module _ {D : Type 0} (store : Store D) (faults : D → ℕ) {a b d : D} {found 
             (standing_leaves wallet_spender store old still stood (opening.all image (opening.same ∙ told)) first);
       }
 
+  ends_of_opened : {image : List ℕ} → store.reads a ≡ Some image → (input written : List ℕ) → Tells io input written
+      → EndsOpened wallet_spender (found_in image) (all_lines input) written (store.past d)
+  ends_of_opened {image} told input written tells =
+      let lines = all_lines input in
+      let still : IsTold store b = ap is_some (opening.same ∙ told) in
+      let first = answered_input answered.table tells in
+      subst (λ (f : Found). EndsOpened wallet_spender f lines written (store.past d)) (found_is image found (opening.found_is image told))
+      (ends_opened wallet_spender found lines written (store.past b) (store.past d)
+      (leaves_on_disk (spending wallet_spender) store still first (inr found) (opening.all image (opening.same ∙ told))))
+
   from_opened : {image : List ℕ} → store.reads a ≡ Some image → WalletFrom image io (storage store.reads store.past faults a d)
   from_opened {image} told =
       let table = answered.table in
@@ -150,5 +161,6 @@ module _ {D : Type 0} (store : Store D) (faults : D → ℕ) {a b d : D} {found 
       ran_over = λ lines ran. tt;
       gave_up_over = λ lines gave. tt;
     }) (rose_before (faults a) (faults b) (faults d) later) answered;
+    opened = inr (λ image told. ends_of_opened told);
     from = λ image told. from_opened told;
   }

@@ -1,13 +1,13 @@
 -- A run of the wallet over an input: its replies, the counters that it releases, and the vault on the disk
 -- afterwards.
-use Rattle.std.specs.Prelude.{◌≡◌, ⊤, ℕ, List, Some, None, IsSome}
+use Rattle.std.specs.Prelude.{◌≡◌, ◌⊎◌, ⊤, ℕ, List, Some, None, IsSome}
 use Rattle.std.specs.declared.option.Option.{Option}
 use Rattle.st_io.specs.Past.{Images, Only, Past}
 use Rattle.st_io.specs.Tears.{IfTold}
 use Rattle.st_drive.specs.Lines.{all_lines}
 use Rattle.st_drive.specs.Released.{KeepsNumbers, Run}
 use Rattle.st_drive.specs.Runs.{Course}
-use Rattle.st_drive.specs.Spending.{EndsStanding, KeepsStanding, KeptNumbers, LosesOne, run_of}
+use Rattle.st_drive.specs.Spending.{EndsOpened, EndsStanding, KeepsStanding, KeptNumbers, LosesOne, run_of}
 use Rattle.st_drive.specs.Streams.{Storage, Streams, Tells}
 use Rattle.st_drive.specs.Tables.{AnswersLines}
 use Rattle.st_vault.specs.Image.{IsSpent}
@@ -87,4 +87,9 @@ pub record WalletFrom (image : List ℕ) (io : Streams) (disk : Storage) : Type 
 -- contents.
 pub record WalletRun (limit : ℕ) (io : Streams) (disk : Storage) (status : ℕ) : Type 0 where
   pub lines : AnswersLines (wallet_course disk.reads) limit io disk.failed status
+  -- the disk is opened before anything is read or written: if it can't be opened, nothing is; else each image at the
+  -- end has the state of the wallet after such a prefix of the lines
+  pub opened : (io.source_kept × io.sink_kept)
+      ⊎ IfTold disk.reads (λ image. (input written : List ℕ) → Tells io input written
+          → EndsOpened wallet_spender (found_in image) (all_lines input) written disk.behind)
   pub from : IfTold disk.reads (λ image. WalletFrom image io disk)

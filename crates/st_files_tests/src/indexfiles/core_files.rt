@@ -1,5 +1,6 @@
 use super::{case_of, only, spelled, text_of};
-use st_base::{Copied, FileRefused, List, Work};
+use st_base::{Bytes, Copied, FileRefused, List, Work};
+use st_canon::write;
 use st_hash::{Hash, SHA_512, hash_text, hash_with, hash256};
 use st_indexfiles::{CoreIndex, SuffixData, Target, read_core, suffix_of, write_core};
 use st_params::Schedule;
@@ -270,11 +271,18 @@ fn is_suffix(alloc: Global, suffix_data: &SuffixData, text: &str) -> bool {
 
 fn is_read_again(alloc: Global, suffix_data: &SuffixData) -> bool {
     match suffix_data.json(alloc) {
-        Ok(json) => match text_of(alloc, &json) {
-            Some(text) => SuffixData::read(&text.root(), 2) == Some(*suffix_data),
-            None => false,
+        Ok(json) => match write(alloc, &json) {
+            Ok(written) => is_read_from(alloc, &written, suffix_data),
+            Err(_) => false,
         },
         Err(_) => false,
+    }
+}
+
+fn is_read_from(alloc: Global, written: &Bytes, suffix_data: &SuffixData) -> bool {
+    match text_of(alloc, written) {
+        Some(text) => SuffixData::read(&text.root(), 2) == Some(*suffix_data),
+        None => false,
     }
 }
 

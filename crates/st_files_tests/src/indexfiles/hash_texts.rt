@@ -1,4 +1,5 @@
 use super::{OF_ABC, SHA_512, text_of};
+use st_base::Bytes;
 use st_canon::{Json, write};
 use st_hash::{Hash, SHA_512 as SHA_512_CODE, hash_with, hash256};
 use st_indexfiles::{hash_in, hash_json};
@@ -35,7 +36,14 @@ fn is_quoted(alloc: Global, value: &Json, text: &str) -> bool {
 
 // Whether the value is read as the hash in version 2, and in version 1 if expected.
 fn is_read(alloc: Global, value: &Json, hash: &Hash, in_first: bool) -> bool {
-    match text_of(alloc, value) {
+    match write(alloc, value) {
+        Ok(written) => is_read_from(alloc, &written, hash, in_first),
+        Err(_) => false,
+    }
+}
+
+fn is_read_from(alloc: Global, written: &Bytes, hash: &Hash, in_first: bool) -> bool {
+    match text_of(alloc, written) {
         Some(text) => {
             hash_in(Some(text.root()), 2) == Some(*hash)
                 && hash_in(Some(text.root()), 1).is_some() == in_first

@@ -3,8 +3,8 @@ use st_base::{Bytes, List, WantOfMemory};
 use st_io::{Disk, Failed, FileDisk, Pick, PlainDisk, ScriptDisk};
 use std::alloc::Global;
 use std::fs;
-use std::fs::{File, Files};
-use std::os::unix::fs::{MetadataExt, symlink};
+use std::fs::{File, Files, Permissions};
+use std::os::unix::fs::{MetadataExt, PermissionsExt, symlink};
 use std::test::Fail;
 
 fn reads_what_was_written(disk: &mut PlainDisk) -> bool {
@@ -138,6 +138,9 @@ fn a_file_disk_is_private_and_held_by_one(rt: HostRuntime) -> Result<(), Fail> {
     assert!(rt; is_refused(&rt));
     fs::remove_file(&rt, "other.journal")?;
     assert!(rt; !is_refused(&rt));
+    // A file that its group may write is not opened.
+    fs::set_permissions(&rt, "sidetree.journal", Permissions::from_mode(0o620))?;
+    assert!(rt; is_refused(&rt));
     fs::remove_file(&rt, "sidetree.journal")?;
     Ok(())
 }

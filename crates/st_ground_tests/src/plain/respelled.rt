@@ -1,10 +1,14 @@
 use st_plain::{ReadRefused, canonical_text};
 use std::alloc::{AllocError, Global};
+use std::borrow::CowSlice;
 use std::test::Fail;
 
 // A text and its canonical text, or the refusal, two spaces apart. The first of two names that are
 // compared by UTF-16 is U+1F600, whose bytes are above those of U+FB33.
-const TEXTS: &str = r#"{"b":2,"a":1}  {"a":1,"b":2}
+const TEXTS: &str = r#"{"a" : [ ], "b":[1, -9007199254740991]}  {"a":[],"b":[1,-9007199254740991]}
+{"a":{"b":"\u0078","c":null},"d":true}  {"a":{"b":"x","c":null},"d":true}
+{"\u20ac":1,"\ud83d\ude00":false,"\ufb33":3}  {"€":1,"😀":false,"דּ":3}
+{"b":2,"a":1}  {"a":1,"b":2}
 {"b":{"d":1,"c":[true,null]},"a":[{"f":"x","e":{}},[]]}  {"a":[{"e":{},"f":"x"},[]],"b":{"c":[true,null],"d":1}}
 {"דּ":1,"😀":2}  {"😀":2,"דּ":1}
 {"\ufb33":1,"\ud83d\ude00":2}  {"😀":2,"דּ":1}
@@ -45,11 +49,11 @@ const TEXTS: &str = r#"{"b":2,"a":1}  {"a":1,"b":2}
 {"b":1,2}  no JSON
 [1.5,"\ud800"]  no JSON"#;
 
-// Whether a canonical text is unchanged.
+// Whether a canonical text is used as it is, without a copy.
 fn is_kept(alloc: Global, canonical: &[u8]) -> bool {
     match canonical_text(alloc, canonical) {
-        Ok(written) => written.as_slice() == canonical,
-        Err(_) => false,
+        Ok(CowSlice::Borrowed(text)) => text == canonical,
+        _ => false,
     }
 }
 
@@ -115,5 +119,33 @@ fn what_is_no_text_is_no_json(rt: HostRuntime) -> Result<(), Fail> {
         is_given(rt.alloc(), b"{\"b\":1,\"a\":\"\xff\"}", "no JSON")
             && is_given(rt.alloc(), b"", "no JSON")
     );
+    Ok(())
+}
+
+// An object with this many members, whose names are numbers of five digits, up or down.
+fn numbered(rt: &HostRuntime, count: u64, down: bool) -> Result<String, Fail> {
+    let mut text = String::from_str(rt.alloc(), "{")?;
+    for at in 0..count {
+        let number = if down { count - 1 - at } else { at };
+        if at > 0 {
+            text.push_str(",")?;
+        }
+        text.push_str("\"")?;
+        text.push_str(&number.saturating_add(10000).to_string(rt.alloc())?)?;
+        text.push_str("\":0")?;
+    }
+    text.push_str("}")?;
+    Ok(text)
+}
+
+// A few unordered names are moved to their places, more are sorted.
+#[test]
+fn names_may_come_in_the_worst_order(rt: HostRuntime) -> Result<(), Fail> {
+    for count in [2, 64, 65, 66, 200] {
+        let given = numbered(&rt, count, true)?;
+        let wanted = numbered(&rt, count, false)?;
+        let text = canonical_text(rt.alloc(), given.as_bytes())?;
+        assert_eq!(rt; text.as_slice(), wanted.as_bytes());
+    }
     Ok(())
 }

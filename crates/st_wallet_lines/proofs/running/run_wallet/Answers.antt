@@ -19,5 +19,5 @@ returns-in-Ok g c =
 pub returns-in-Err : goal.returns-in-Err
 returns-in-Err g c =
     let opened = c.open.ensures in
-    unopened_run (c.in-Err.ensures.fault (ap Err c.in-Err.ensures.refused)) (record { left_is = refl; holds_is = refl; finished_is = refl })
+    unopened_run (c.in-Err.ensures.fault (ap Err c.in-Err.ensures.refused)) (record { left_is = refl; holds_is = refl; finished_is = refl }) (refl, refl)
     (λ image told. record { images = opened.images; synced = opened.synced image told; spent = opened.stays })
