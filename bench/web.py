@@ -1,7 +1,7 @@
 #!/usr/bin/env python3
 """Tries the gateway with bytes that are no requests, with many clients, and measures it.
 
-usage: bench/web.py hostile [REQUESTS]
+usage: bench/web.py hostile [REQUESTS [SEED]]
        bench/web.py clients [CLIENTS [SECONDS]]
        bench/web.py speed [SECONDS]
 
@@ -122,12 +122,12 @@ def mutated(chance, known):
     return bytes(data)
 
 
-def hostile(lot, count=100_000):
+def hostile(lot, count=100_000, seed=0):
     known, before, faults, statuses, numbers = requests(lot.did), lot.state(), [], {}, itertools.count()
     lock = threading.Lock()
 
-    def send(seed):
-        chance = random.Random(seed)
+    def send(number):
+        chance = random.Random(seed * SENDERS + number)
         while (n := next(numbers)) < count and len(faults) < 10:
             given = mutated(chance, known)
             began = time.monotonic()
@@ -145,7 +145,7 @@ def hostile(lot, count=100_000):
                 faults.append("%r got %r after %.1f s" % (given[:300], found[:300], took))
             if n % 10 == 0:
                 faults.extend(probe(lot.port, n))
-    threads = [threading.Thread(target=send, args=(seed,)) for seed in range(SENDERS)]
+    threads = [threading.Thread(target=send, args=(number,)) for number in range(SENDERS)]
     for thread in threads:
         thread.start()
     for thread in threads:
