@@ -125,7 +125,7 @@ pub record RunFromRecords {M C : Type 0} (answering : Answering M C) (m : M) (li
   -- end has the records of such a prefix
   pub opened : (run.io.source_kept × run.io.sink_kept)
       ⊎ ((input written : List ℕ) → Tells run.io input written
-          → EndsLines answering (behind answering m r) r (all_lines input) written run.disk.behind)
+      → EndsLines answering (behind answering m r) r (all_lines input) written run.disk.behind)
 
 -- The end of each run of a machine with a journal, for any machine.
 pub record JournalEnds {C : Type 0} (limit : ℕ) (run : Outcome C) : Type 0 where

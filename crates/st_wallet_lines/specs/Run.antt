@@ -91,5 +91,5 @@ pub record WalletRun (limit : ℕ) (io : Streams) (disk : Storage) (status : ℕ
   -- end has the state of the wallet after such a prefix of the lines
   pub opened : (io.source_kept × io.sink_kept)
       ⊎ IfTold disk.reads (λ image. (input written : List ℕ) → Tells io input written
-          → EndsOpened wallet_spender (found_in image) (all_lines input) written disk.behind)
+      → EndsOpened wallet_spender (found_in image) (all_lines input) written disk.behind)
   pub from : IfTold disk.reads (λ image. WalletFrom image io disk)
