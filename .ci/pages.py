@@ -1,7 +1,8 @@
 """Whether the pages name what is there: docs/RULES.md each file, each word in the file before it, and each edit; every page
 each module of definitions or lemmas, each path, each page that it links to and the heading there. Whether the pages quote
 the sources, and docs/READING.md lists what `run` cites. Whether each crate but those of tests has a README, one page alone
-the table of statuses, and one those of the limits. Whether a merge was left half done in a page."""
+the table of statuses, and one those of the limits. Whether a merge was left half done in a page. Whether all pages together
+have at most as many words as they may, and few of those that plain English does without."""
 
 import pathlib
 import re
@@ -17,6 +18,9 @@ PAGES = [*(pathlib.Path(name) for name in ("README.md", "CHANGELOG.md", "example
          *sorted(pathlib.Path("docs").glob("*.md")), *READMES]
 # A cell of a table's head, and the page that alone has such a table.
 TABLES = {r"status(es)?|exit.*": "docs/PROTOCOL.md", r"limits?|version [0-9].*": "docs/FORMATS.md"}
+# How many words the pages may have, without CHANGELOG.md and examples/, and how many of a thousand may be of the second line.
+WORDS, ODD = 48_000, 2
+ODD_WORDS = r"\b(?:stands?|stood|behind|comes (?:of|to|from|where)|is told|of whose|what is (?:left|wanted|written|kept))\b"
 # All paths and their ends, by which pages name files.
 NAMES = {"/".join(path.parts[at:]) for top in (CRATES, *map(pathlib.Path, ("docs", "examples", "launcher", "service", "bench", ".ci")))
          for path in top.glob("**/*") for at in range(len(path.parts))}
@@ -100,7 +104,17 @@ def quote_faults():
             yield from (f"{page}: no source has '{line.strip()}'" for line in block.splitlines() if line.strip() not in lines)
 
 
-found = [*rule_faults(), *quote_faults(), *cited.faults()]
+def word_faults():
+    """Whether the pages are too long, or in no plain English."""
+    text = "\n".join(read(page) for page in PAGES if page.is_file() and page.name != "CHANGELOG.md" and page.parts[0] != "examples")
+    count, odd = len(text.split()), len(re.findall(ODD_WORDS, text, re.I))
+    if count > WORDS:
+        yield f"the pages have {count} words, and may have {WORDS}"
+    if 1_000 * odd > ODD * count:
+        yield f"the pages have {odd} of these: {ODD_WORDS}"
+
+
+found = [*word_faults(), *rule_faults(), *quote_faults(), *cited.faults()]
 for page in PAGES:
     found += page_faults(page) if page.is_file() else [f"{page} is not there"]
 for fault in found:

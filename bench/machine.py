@@ -5,8 +5,8 @@ usage: bench/machine.py PROGRAM [IDENTIFIERS..]
 
 PROGRAM is the built program. For each number of identifiers (10000 and 50000) it writes the journal of creates with a key
 and a service, in batches of 1,000, and then of one signed update of each (LM-OTS type 3). A node is started over both: its
-journal, its memory and the processor time of the start are measured. The rest is projected from the two largest numbers,
-in a straight line. Python makes 50,000 identifiers with their updates in about three minutes of a processor; several make
+journal, its memory and the processor time of the start are measured. Numbers for which this machine hasn't twice the memory
+free are left out. The rest is projected from the two largest numbers, in a straight line. Python makes 50,000 identifiers with their updates in about three minutes of a processor; several make
 them side by side.
 """
 import multiprocessing
@@ -26,6 +26,8 @@ from load import Chain, contents, question, same_service
 from shortening import finish, new_file, write_record
 
 SIZE = 1_000
+# The bytes of memory that an identifier takes with its update.
+MEMORY = 8_700
 PROJECTED = (100_000, 1_000_000, 10_000_000)
 
 
@@ -62,6 +64,13 @@ class Measured:
 
     def row(self):
         return self.memory, self.journal, self.processor
+
+
+def has_room(count):
+    """Whether twice the memory for so many identifiers is free."""
+    with open("/proc/meminfo", encoding="ascii") as file:
+        free = next(int(line.split()[1]) * 1024 for line in file if line.startswith("MemAvailable:"))
+    return 2 * MEMORY * count < free
 
 
 def used():
@@ -102,7 +111,11 @@ def main(program, *counts):
     counts = sorted(map(int, counts)) or [10_000, 50_000]
     names, found = ("creates", "and an update of each"), {}
     print("%12s  %-22s %12s %13s %11s" % ("identifiers", "operations", "memory", "journal", "processor"))
-    for count in counts:
+    for count in counts[:]:
+        if not has_room(count):
+            counts.remove(count)
+            print("%12s  left out: there is too little memory" % "{:,}".format(count), flush=True)
+            continue
         found[count] = [one.row() for one in measure(count)]
         for what, row in zip(names, found[count]):
             show(count, what, row, "measured")

@@ -4,6 +4,7 @@ A tool ends with 64 if its words are wrong, with 70 after a fault of its own, wi
 status that its help lists.
 """
 import os
+import re
 import signal
 import socket
 import sys
@@ -98,7 +99,8 @@ def run(main, document, least, most, options=()):
     options: a mapping, true for those that have a value."""
     options = dict(options)
     if "--help" in sys.argv[1:]:
-        print(document.strip().replace(" %s " % name_of_tool(), " %s " % os.path.basename(sys.argv[0])))
+        # Installed, a tool has another name than here.
+        print(re.sub(r"(?m)^(usage: | {7})%s\b" % name_of_tool(), lambda found: found[1] + os.path.basename(sys.argv[0]), document.strip()))
         sys.exit(0)
     try:
         status = main(Words(sys.argv[1:], least, most, options))

@@ -131,7 +131,8 @@ def full(folder):
     with KeptWeb(folder, "--submit=SUBMIT") as web:
         same(pairs(asked(web.keeper.ask, "health")[0])["queued"], "10000")
         same(has(post(web, create("one more")), 503, error="full").headers["Retry-After"], "60")
-        has(post(web, create("n1")), 400, error="alreadyQueued")
+        has(post(web, create("n1") + " "), 400, error="alreadyQueued")
+        same(post(web, create("n1")).status, 200, "a request that waits already")
 
 
 # What a stand-in for a keeper says to a line, and the answers to a question and to a post.

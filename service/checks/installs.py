@@ -82,6 +82,8 @@ def upgraded(folder):
         os.environ.update(before)
     old, new = (os.path.getsize(os.path.join(prefix, "lib/sidetree", name)) for name in ("sidetree.before", "sidetree"))
     same(new - old, 1, "the difference of the programs")
+    os.replace(os.path.join(prefix, "lib/sidetree/sidetree.before"), os.path.join(prefix, "lib/sidetree/sidetree"))
+    same(command("sidetree", "node", given="wanted\n", env=bare(prefix)).out, "wanted 0\n", "what the one before answers")
     left = [name for at, _, names in os.walk(prefix) for name in names if name.endswith(".new")]
     same(left, [], "files that are left")
 

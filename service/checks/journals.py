@@ -171,6 +171,16 @@ def shortens_more(folder):
     holds("content 12, anchor 4" in done.out, done.out)
 
 
+@case("a flush whose reply was lost: its requests, submitted again in their order, make the same batch")
+def flushed(folder):
+    lines = ["submit " + create(name) for name in ("one", "two")]
+    with Node("node", "--journal", folder=folder) as node:
+        lost = [node.ask(line) for line in [*lines, "flush"]][-1]
+    with Node("node", "--journal", folder=folder) as node:
+        same(node.ask("flush"), ["refused nothing"])
+        same([node.ask(line) for line in [*lines, "flush"]][-1], lost)
+
+
 @case("journal check and copy of a file that is not there")
 def none(folder):
     same(tool("journal", "check", os.path.join(folder, "x")).status, 2)

@@ -1,10 +1,10 @@
 -- A run of a node with a journal, by the node's definitions.
-use Rattle.std.proofs.Common.{◌≡◌, ◌∙◌, inr, ⊎_elim, ◌++◌, ℕ, List, [], ◌∷◌, refl, ap, sym, subst}
+use Rattle.std.proofs.Common.{◌≡◌, ◌∙◌, inl, inr, ⊎_elim, ◌++◌, ℕ, List, [], ◌∷◌, refl, ap, sym, subst}
 use Rattle.st_base.specs.Work.{Counts}
 use Rattle.st_drive.specs.Lines.{all_lines}
 use Rattle.st_drive.proofs.TableLemmas.{lines_by}
 use Rattle.st_journal_lines.specs.Answering.{WentOverFirst, behind}
-use Rattle.st_journal_lines.specs.Journalled.{RunFromRecords, RecordedRun, KeepsFirstLines, KeepsLines, WentWithin, replies_by}
+use Rattle.st_journal_lines.specs.Journalled.{EndsLines, RunFromRecords, RecordedRun, KeepsFirstLines, KeepsLines, WentWithin, replies_by}
 use Rattle.st_node.proofs.RunLemmas.{due_none}
 use Rattle.st_node.specs.Machine.{Machine, after, answered, replies}
 use Rattle.st_cli.specs.declared.form.NodeOptions.{NodeOptions}
@@ -60,6 +60,9 @@ journal_from {options} {run} r from = record {
   records = λ input written tells.
       subst (λ (machine : Machine). KeepsLines node_answering machine r (all_lines input) written run.disk.before run.disk.behind)
       (behind_is (new_node options) r) (from.records input written tells);
+  opened = ⊎_elim inl
+      (λ ends. inr (λ input written tells. subst (λ (machine : Machine). EndsLines node_answering machine r (all_lines input) written run.disk.behind)
+      (behind_is (new_node options) r) (ends input written tells))) from.opened;
 }
 
 pub journal_run : {options : NodeOptions} {run : Run} → RecordedRun node_answering (new_node options) options.limit run → JournalRun options run

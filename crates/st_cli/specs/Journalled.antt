@@ -8,7 +8,7 @@ use Rattle.st_drive.specs.Tables.{replying}
 use Rattle.st_io.specs.Past.{Past}
 use Rattle.st_journal.specs.Coming.{StandFrom}
 use Rattle.st_journal_lines.specs.Answering.{Answering}
-use Rattle.st_journal_lines.specs.Journalled.{KeepsFirstLines, KeepsLines}
+use Rattle.st_journal_lines.specs.Journalled.{EndsLines, KeepsFirstLines, KeepsLines}
 use Rattle.st_node.specs.Changing.{is_changing}
 use Rattle.st_node.specs.Machine.{Machine, after, answered, replies}
 use Rattle.st_node.specs.Work.{DueOver}
@@ -51,3 +51,7 @@ KeepsFirst options r input old new = KeepsFirstLines node_answering (node_from o
 abbrev pub KeepsRecords : NodeOptions → (r : List (List ℕ)) → (input written : List ℕ) → (old new : Past) → Type 0
 KeepsRecords options r input written old new =
     KeepsLines node_answering (node_from options r) r (all_lines input) written old new
+
+-- Those of a run that opened its journal.
+abbrev pub EndsRecords : NodeOptions → (r : List (List ℕ)) → (input written : List ℕ) → (new : Past) → Type 0
+EndsRecords options r input written new = EndsLines node_answering (node_from options r) r (all_lines input) written new

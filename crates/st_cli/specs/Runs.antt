@@ -19,7 +19,7 @@ use Rattle.st_cli.specs.declared.form.Form.{Form}
 use Rattle.st_cli.specs.declared.form.Form.TheVariants.{Node, Journalled, Wallet, Exchange, Generate}
 use Rattle.st_cli.specs.declared.form.NodeOptions.{NodeOptions}
 use Rattle.st_cli.specs.Form.{max_input}
-use Rattle.st_cli.specs.Journalled.{FirstRecordsCount, KeepsFirst, KeepsRecords, journal_course}
+use Rattle.st_cli.specs.Journalled.{EndsRecords, FirstRecordsCount, KeepsFirst, KeepsRecords, journal_course}
 use Rattle.st_cli.specs.Node.{InputCounts, node_course}
 
 -- a run of the program: its source, its sink, its disk and the counters of work, before and after
@@ -52,6 +52,10 @@ pub record JournalFrom (options : NodeOptions) (r : List (List ℕ)) (run : Run)
   -- line: so a stop leaves at most one record without its reply
   pub records : (input written : List ℕ) → Tells run.io input written
       → KeepsRecords options r input written run.disk.before run.disk.behind
+  -- the journal is opened before anything is read or written: if it can't be opened, nothing is; else each image at
+  -- the end has the records and the changing lines of such a prefix
+  pub opened : (run.io.source_kept × run.io.sink_kept)
+      ⊎ ((input written : List ℕ) → Tells run.io input written → EndsRecords options r input written run.disk.behind)
 
 -- the properties of a run of `node --journal` with these options
 pub record JournalRun (options : NodeOptions) (run : Run) : Type 0 where
