@@ -172,7 +172,7 @@ def second(folder):
         os.mkdir(os.path.join(folder, "more"))
         again = tool("keeper", keeper.state, os.path.join(folder, "more"))
         same(again.status, 4, "the status of a keeper on the same folder")
-        holds("another node has the file" in again.err, again.err)
+        holds("another node has it" in again.err, again.err)
         same(asked(keeper.ask, "wanted"), ["wanted 0"])
 
 
