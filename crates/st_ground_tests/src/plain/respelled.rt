@@ -7,7 +7,7 @@ use std::test::Fail;
 // compared by UTF-16 is U+1F600, whose bytes are above those of U+FB33.
 const TEXTS: &str = r#"{"a" : [ ], "b":[1, -9007199254740991]}  {"a":[],"b":[1,-9007199254740991]}
 {"a":{"b":"\u0078","c":null},"d":true}  {"a":{"b":"x","c":null},"d":true}
-{"\u20ac":1,"\ud83d\ude00":false,"\ufb33":3}  {"€":1,"😀":false,"דּ":3}
+{"\u20ac":1,"\ud83d\ude00":false,"\ufb33":3}  {"€":1,"😀":false,"דּ":3}
 {"b":2,"a":1}  {"a":1,"b":2}
 {"b":{"d":1,"c":[true,null]},"a":[{"f":"x","e":{}},[]]}  {"a":[{"e":{},"f":"x"},[]],"b":{"c":[true,null],"d":1}}
 {"דּ":1,"😀":2}  {"😀":2,"דּ":1}
