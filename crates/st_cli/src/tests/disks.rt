@@ -37,7 +37,7 @@ fn leaves(
     written: &str,
     left: &[u8],
 ) -> Result<bool, WantOfMemory> {
-    let mut disk = disk_of(rt.alloc(), image, u64::MAX)?;
+    let mut disk = disk_of(rt.alloc(), image, 0)?;
     let ended = ends_on(rt, "node --journal", &mut disk, FILE, status, written)?;
     let now = disk.crash(rt.alloc(), Pick::Old)?;
     Ok(ended && now.as_slice() == left)
@@ -78,23 +78,21 @@ fn wallets(rt: &HostRuntime) -> Result<bool, WantOfMemory> {
     let alloc = rt.alloc();
     let gate = open_gate(alloc)?;
     Ok(
-        ends_on(rt, "wallet", &mut disk_of(alloc, b"", 0)?, "left\n", 4, "")?
-            && ends_on(
-                rt,
-                "wallet",
-                &mut disk_of(alloc, b"", u64::MAX)?,
-                WALLET,
-                0,
-                WALLET_REPLIES,
-            )?
-            && ends_on(
-                rt,
-                "wallet",
-                &mut disk_of(alloc, gate.as_slice(), u64::MAX)?,
-                "left",
-                0,
-                "refused damaged\n",
-            )?,
+        ends_on(
+            rt,
+            "wallet",
+            &mut disk_of(alloc, b"", 0)?,
+            WALLET,
+            0,
+            WALLET_REPLIES,
+        )? && ends_on(
+            rt,
+            "wallet",
+            &mut disk_of(alloc, gate.as_slice(), 0)?,
+            "left",
+            0,
+            "refused damaged\n",
+        )?,
     )
 }
 

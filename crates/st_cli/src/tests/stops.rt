@@ -1,149 +1,166 @@
-use crate::run::run;
-use crate::tests::support::{disk_of, run_on, words_of};
-use st_base::{Bytes, Copied, List, WantOfMemory, Work};
-use st_io::{Pick, PlainSink, ScriptDisk, ScriptSource};
+use crate::tests::stops_files::{JOURNAL, OLD_JOURNAL, OLD_VAULT, Session, VAULT};
+use crate::tests::support::{disk_of, run_pieces};
+use st_base::{Bytes, WantOfMemory};
+use st_io::{Pick, PlainDisk, ScriptDisk};
+use st_journal::{JournalRefused, open_journal};
+use st_vault::{OpenRefused, open_vault};
 use std::alloc::Global;
 use std::test::Fail;
 
-// A file, the same file again, which changes nothing, and another file. Python's hashlib and base64
-// computed the URIs.
-const SESSION: &str = "content YWJj\ncontent YWJj\ncontent YWJk\n";
+// The lines of the sessions that change a journal.
+const RECORDS: &[u8] = b"content YWJj\ncontent YWJk\n";
 
-const REPLIES: &str = "have EiC6eBa_jwHP6kFBQN5driIjsANho5YXepy0EP9h8gAVrQ
-had EiC6eBa_jwHP6kFBQN5driIjsANho5YXepy0EP9h8gAVrQ
-have EiClLRWfJissbdtySmGEC-_DbrMMiId6QDC2XL6GKYRJyQ
-";
+// The bytes of the sessions' vault before its map.
+const HEAD: &[u8] =
+    b"\xa5\x00\x00\x00\x02\x00\x00\x00\x05an identifier 16the seed of a vault in this test\x00\x00\x00\x00\x00\x00\x00";
 
-// The lines for a node that starts again, and its replies if the journal has neither file, the
-// first one, and both.
-const AGAIN: &str = "content YWJj\ncontent YWJk\n";
-
-const NEITHER: &str = "have EiC6eBa_jwHP6kFBQN5driIjsANho5YXepy0EP9h8gAVrQ
-have EiClLRWfJissbdtySmGEC-_DbrMMiId6QDC2XL6GKYRJyQ
-";
-
-const FIRST: &str = "had EiC6eBa_jwHP6kFBQN5driIjsANho5YXepy0EP9h8gAVrQ
-have EiClLRWfJissbdtySmGEC-_DbrMMiId6QDC2XL6GKYRJyQ
-";
-
-const BOTH: &str = "had EiC6eBa_jwHP6kFBQN5driIjsANho5YXepy0EP9h8gAVrQ
-had EiClLRWfJissbdtySmGEC-_DbrMMiId6QDC2XL6GKYRJyQ
-";
-
-// A disk that is empty at first takes four calls to open, and a record takes four. If all later
-// calls fail: the status, the number of written replies, and the number of files of a node that
-// starts again on what a stop leaves: each unsynced byte is the earlier one, the written one, 0, 1,
-// or an open gate.
-const STOPS: &str = "\
-0: 4 0, 0 0 0 0 0
-1: 4 0, 0 0 0 0 0
-2: 4 0, 0 0 0 0 0
-3: 4 0, 0 0 0 0 0
-4: 4 0, 0 0 0 0 0
-5: 4 0, 0 0 0 0 0
-6: 4 0, 0 0 0 0 0
-7: 4 0, 0 1 0 0 1
-8: 4 2, 1 1 1 1 1
-9: 4 2, 1 1 1 1 1
-10: 4 2, 1 1 1 1 1
-11: 4 2, 1 2 1 1 2
-12: 0 3, 2 2 2 2 2";
-
-// The status of the session and its output, if each read returns one line.
-fn run_session(rt: &HostRuntime, disk: &mut ScriptDisk) -> Result<(u8, Bytes), WantOfMemory> {
-    let alloc = rt.alloc();
-    let words = words_of(alloc, "node --journal")?;
-    let input = Bytes::from_slice(alloc, SESSION.as_bytes())?;
-    let mut source = ScriptSource::new(input, 13, List::new(alloc));
-    let mut sink = PlainSink::new(alloc);
-    let mut work = Work::new(rt);
-    let status = run(
-        alloc,
-        words.as_slice(),
-        &mut source,
-        &mut sink,
-        disk,
-        &mut work,
-    );
-    Ok((status, sink.written().copy(alloc)?))
-}
-
-// How many replies of the session these are, or 9 if they are others.
-fn replies_in(written: &[u8]) -> u8 {
-    if !REPLIES.as_bytes().starts_with(written) {
-        return 9;
+// The number of these records, or 9 if they are not the first ones.
+fn count_of(alloc: Global, records: &[Bytes]) -> Result<usize, WantOfMemory> {
+    let mut lines = Bytes::new(alloc);
+    'records: for record in records {
+        lines.push_all(alloc, record.as_slice())?;
+        lines.push_all(alloc, b"\n")?;
     }
-    match written.len() {
-        0 => 0,
-        52 => 1,
-        103 => 2,
-        155 => 3,
-        _ => 9,
-    }
-}
-
-// The number of files in the journal of this image, or 9 if a node that starts again has other
-// replies.
-fn files_in(rt: &HostRuntime, image: &[u8]) -> Result<u8, WantOfMemory> {
-    let mut disk = disk_of(rt.alloc(), image, u64::MAX)?;
-    let (status, written) = run_on(rt, "node --journal", AGAIN.as_bytes(), &mut disk)?;
-    let written = written.as_slice();
-    Ok(if status != 0 {
-        9
-    } else if written == NEITHER.as_bytes() {
-        0
-    } else if written == FIRST.as_bytes() {
-        1
-    } else if written == BOTH.as_bytes() {
-        2
+    Ok(if RECORDS.starts_with(lines.as_slice()) {
+        records.len()
     } else {
         9
     })
 }
 
-fn files_after(rt: &HostRuntime, disk: &ScriptDisk, pick: Pick) -> Result<u8, WantOfMemory> {
-    let image = disk.crash(rt.alloc(), pick)?;
-    files_in(rt, image.as_slice())
-}
-
-// The table's line, without the number before the colon.
-fn told(rt: &HostRuntime, last: u64) -> Result<String, WantOfMemory> {
-    let mut disk = disk_of(rt.alloc(), b"", last)?;
-    let (status, written) = run_session(rt, &mut disk)?;
-    let replies = replies_in(written.as_slice());
-    let old = files_after(rt, &disk, Pick::Old)?;
-    let new = files_after(rt, &disk, Pick::New)?;
-    let zeros = files_after(rt, &disk, Pick::Fill(0))?;
-    let ones = files_after(rt, &disk, Pick::Fill(1))?;
-    let gates = files_after(rt, &disk, Pick::Fill(0xa5))?;
-    Ok(format!(in rt.alloc(); "{status} {replies}, {old} {new} {zeros} {ones} {gates}")?)
-}
-
-fn is_so(rt: &HostRuntime, line: &str) -> Result<bool, WantOfMemory> {
-    let Some((last, want)) = line.split_once(": ") else {
-        return Ok(false);
-    };
-    match last.parse::<u64>() {
-        Ok(last) => Ok(told(rt, last)?.as_str() == want),
-        Err(_) => Ok(false),
+fn changes_of_journal(alloc: Global, image: Bytes) -> Result<usize, WantOfMemory> {
+    let mut disk = PlainDisk::new(alloc, image);
+    match open_journal(alloc, &mut disk) {
+        Ok((_journal, records)) => Ok(count_of(alloc, records.as_slice())?),
+        Err(JournalRefused::WantOfMemory) => Err(WantOfMemory),
+        Err(_) => Ok(9),
     }
 }
 
-// The first line at which a stop leaves another result.
-fn first_other(rt: &HostRuntime) -> Result<Option<&'static str>, WantOfMemory> {
-    'lines: for line in STOPS.lines() {
-        if !is_so(rt, line)? {
-            return Ok(Some(line));
+// A new vault has 32 counters, and the line that makes it is the first change.
+fn changes_of_vault(alloc: Global, image: Bytes) -> usize {
+    let is_key = image.as_slice().starts_with(HEAD);
+    let mut disk = PlainDisk::new(alloc, image);
+    match open_vault(&mut disk) {
+        Ok(vault) => {
+            if is_key {
+                33usize.saturating_sub(vault.left() as usize)
+            } else {
+                9
+            }
+        }
+        Err(OpenRefused::Blank) => 0,
+        Err(_) => 9,
+    }
+}
+
+// How many lines have changed what a stop leaves, or 9 if it is nothing of the session.
+fn changes_after(
+    alloc: Global,
+    session: &Session,
+    disk: &ScriptDisk,
+    pick: Pick,
+) -> Result<usize, WantOfMemory> {
+    let image = disk.crash(alloc, pick)?;
+    if session.words == "wallet" {
+        return Ok(changes_of_vault(alloc, image));
+    }
+    Ok(changes_of_journal(alloc, image)?)
+}
+
+// The number of bytes, if the replies begin with them.
+fn count_in(replies: &str, written: &[u8]) -> usize {
+    if replies.as_bytes().starts_with(written) {
+        written.len()
+    } else {
+        usize::MAX
+    }
+}
+
+// The call that fails of this device, or 0 if that is another.
+fn failing_of(device: &str, failing: &str, call: u64) -> u64 {
+    if device == failing { call } else { 0 }
+}
+
+// The end of a row, after the colon, if this call of this device fails.
+fn told(
+    rt: &HostRuntime,
+    session: &Session,
+    failing: &str,
+    call: u64,
+) -> Result<String, WantOfMemory> {
+    let alloc = rt.alloc();
+    let mut disk = disk_of(alloc, session.image, failing_of("disk", failing, call))?;
+    let (status, written) = run_pieces(
+        rt,
+        session.words,
+        session.lines.as_bytes(),
+        30,
+        failing_of("source", failing, call),
+        session.write.max(1),
+        failing_of("sink", failing, call),
+        &mut disk,
+    )?;
+    let count = count_in(session.replies, written.as_slice());
+    let old = changes_after(alloc, session, &disk, Pick::Old)?;
+    let new = changes_after(alloc, session, &disk, Pick::New)?;
+    let zeros = changes_after(alloc, session, &disk, Pick::Fill(0))?;
+    let ones = changes_after(alloc, session, &disk, Pick::Fill(1))?;
+    let gates = changes_after(alloc, session, &disk, Pick::Fill(0xa5))?;
+    Ok(format!(in alloc; "{status} {count}, {old} {new} {zeros} {ones} {gates}")?)
+}
+
+// The device of a row, its first and its last call, and the end of the row.
+fn row_of(row: &str) -> Option<(&str, u64, u64, &str)> {
+    let (calls, end) = row.split_once(": ")?;
+    let (device, calls) = calls.split_once(' ')?;
+    let (first, last) = calls.split_once(' ')?;
+    Some((
+        device,
+        first.parse::<u64>().ok()?,
+        last.parse::<u64>().ok()?,
+        end,
+    ))
+}
+
+fn is_so(rt: &HostRuntime, session: &Session, row: &str) -> Result<bool, WantOfMemory> {
+    let Some((device, first, last, end)) = row_of(row) else {
+        return Ok(false);
+    };
+    for call in first..=last {
+        if told(rt, session, device, call)?.as_str() != end {
+            return Ok(false);
+        }
+    }
+    Ok(true)
+}
+
+// The first row in which a call leaves another result.
+fn first_other(rt: &HostRuntime, session: &Session) -> Result<Option<&'static str>, WantOfMemory> {
+    'rows: for row in session.faults.lines() {
+        if !is_so(rt, session, row)? {
+            return Ok(Some(row));
         }
     }
     Ok(None)
 }
 
-// A record is found again after its reply is written, and perhaps just before.
-#[test]
-fn what_was_replied_to_is_there_after_a_stop(rt: HostRuntime) -> Result<(), Fail> {
-    match first_other(&rt)? {
-        Some(line) => Err(Fail::from(line)),
+fn holds(rt: &HostRuntime, session: &Session) -> Result<(), Fail> {
+    match first_other(rt, session)? {
+        Some(row) => Err(Fail::from(row)),
         None => Ok(()),
     }
+}
+
+// Each change of which a byte of the reply is written is there after a stop, and at most one more.
+#[test]
+fn a_fault_costs_a_journal_at_most_one_line(rt: HostRuntime) -> Result<(), Fail> {
+    holds(&rt, &JOURNAL)?;
+    holds(&rt, &OLD_JOURNAL)
+}
+
+#[test]
+fn a_fault_costs_a_vault_at_most_one_counter(rt: HostRuntime) -> Result<(), Fail> {
+    holds(&rt, &VAULT)?;
+    holds(&rt, &OLD_VAULT)
 }
