@@ -3,6 +3,7 @@
 --     node_lines       the lines that a node answers, from the ones over its course
 --     begun_none       if there was no memory for a node
 --     node_run         the properties of a node
+--     exchange_run     and of four
 --     generate_ends    the end of a run of `generate`
 use Rattle.std.proofs.Common.{◌≡◌, ◌≢◌, ◌∙◌, ℕ, Option, Some, ap, refl, subst, sym, arith, IsTrue}
 use Rattle.std.specs.Prelude.{true}
@@ -15,13 +16,18 @@ use Rattle.st_generate.specs.Run.{is_generate_end}
 use Rattle.st_io.specs.Causes.{Rose}
 use Rattle.st_io.specs.Sinks.{FinishesNothing}
 use Rattle.st_node.proofs.RunLemmas.{due_none}
+use Rattle.st_network.proofs.WorkLemmas.{counts_more}
+use Rattle.st_network.specs.Run.{exchange_course}
+use Rattle.st_network.specs.Work.{ExchangeCounts}
 use Rattle.st_node.specs.Machine.{Machine}
+use Rattle.st_node.specs.Peer.{node_peer}
 use Rattle.st_cli.specs.declared.form.Form.{Form}
 use Rattle.st_cli.specs.declared.form.NodeOptions.{NodeOptions}
-use Rattle.st_cli.specs.Node.{new_node, node_course}
+use Rattle.st_cli.specs.Form.{max_input}
+use Rattle.st_cli.specs.Node.{LinesCount, new_node, node_course}
 use Rattle.st_cli.specs.NodeLines.{node_meaning}
-use Rattle.st_cli.specs.Runs.{NodeRun, Promised, Run}
-use Rattle.st_cli.proofs.CountLemmas.{counts_of_table}
+use Rattle.st_cli.specs.Runs.{ExchangeRun, NodeRun, Promised, Run}
+use Rattle.st_cli.proofs.CountLemmas.{counts_of_table, from_beginning, within_more}
 
 -- the properties of a form that was read are those of the words
 pub promised_of : (run : Run) {read form : Form} {asked : Option Form} → read ≡ form → Some read ≡ asked
@@ -49,7 +55,18 @@ pub node_run : {options : NodeOptions} {run : Run} → AnswersLines (node_course
     → run.disk.kept → NodeRun options run
 node_run {options} {run} lines disk = record {
   lines = lines;
-  work = counts_of_table options run.context run.context_now lines.table;
+  work = counts_of_table (node_course options run.context run.context_now) (λ ls. LinesCount options ls run.context run.context_now)
+      (from_beginning options run.context run.context_now) (from_beginning options run.context run.context_now)
+      (within_more options run.context run.context_now) lines.table;
+  disk = disk;
+}
+
+pub exchange_run : {run : Run} → AnswersLines (exchange_course node_peer run.context run.context_now) max_input run.io ⊥ run.status
+    → run.disk.kept → ExchangeRun run
+exchange_run {run} lines disk = record {
+  lines = lines;
+  work = counts_of_table (exchange_course node_peer run.context run.context_now) (λ ls. ExchangeCounts node_peer ls run.context run.context_now)
+      (λ ls counts. counts) (λ ls counts. counts) (λ ls. counts_more node_peer ls run.context run.context_now) lines.table;
   disk = disk;
 }
 

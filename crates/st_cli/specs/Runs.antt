@@ -3,6 +3,7 @@ use Rattle.std.specs.Prelude.{◌≡◌, ◌⊎◌, ℕ, List, Some, None, Ok, E
 use Rattle.std.specs.declared.option.Option.{Option}
 use Rattle.std.specs.Io.KnownBytes.{Appends, Consumes}
 use Rattle.st_base.specs.Work.{Counts}
+use Rattle.st_drive.specs.Lines.{all_lines}
 use Rattle.st_drive.specs.Streams.{Outcome, Tells}
 use Rattle.st_drive.specs.Tables.{AnswersLines}
 use Rattle.st_generate.specs.Run.{WritesFront, is_generate_end}
@@ -13,6 +14,7 @@ use Rattle.st_journal.specs.Opening.{opened}
 use Rattle.st_journal.specs.declared.refused.JournalRefused.TheVariants.{Damaged, TooLong}
 use Rattle.st_journal_lines.specs.Journalled.{JournalEnds}
 use Rattle.st_network.specs.Run.{exchange_course}
+use Rattle.st_network.specs.Work.{ExchangeCounts}
 use Rattle.st_node.specs.Peer.{node_peer}
 use Rattle.st_wallet_lines.specs.Run.{WalletRun}
 use Rattle.st_cli.specs.declared.form.Form.{Form}
@@ -74,9 +76,16 @@ pub record JournalRun (options : NodeOptions) (run : Run) : Type 0 where
 abbrev pub IsWalletRun : Run → Type 0
 IsWalletRun run = WalletRun max_input run.io run.disk run.status × (run.context_now ≡ run.context)
 
--- the properties of a run of `exchange`: it uses no disk, and the disk is unchanged
-abbrev pub ExchangeRun : Run → Type 0
-ExchangeRun run = AnswersLines (exchange_course node_peer) max_input run.io ⊥ run.status × run.disk.kept
+-- the properties of a run of `exchange`
+pub record ExchangeRun (run : Run) : Type 0 where
+  -- the lines of the source are answered; no disk is used
+  pub lines : AnswersLines (exchange_course node_peer run.context run.context_now) max_input run.io ⊥ run.status
+  -- for any status, the work that was counted is bounded by the anchors that the four nodes accepted in the bytes taken,
+  -- and by the `submit` lines that they got
+  pub work : IfSome run.io.had (λ input. (taken : List ℕ) → Consumes (Some input) run.io.left taken
+      → ExchangeCounts node_peer (all_lines taken) run.context run.context_now)
+  -- the disk is unchanged
+  pub disk : run.disk.kept
 
 -- ---- `generate`: the summary of a workload is written
 

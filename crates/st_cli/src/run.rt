@@ -49,10 +49,11 @@ use std::alloc::Global;
 ///
 /// At most 24,000,001 bytes of a line are kept, to recognize that it is too long, and the rest is
 /// skipped; that is a fact of the driver's `Progress`. For any status, at most five files are read
-/// for each anchor that was accepted among the bytes taken, and at most as many signed texts opened
-/// as these declare operations, and one more for each `submit` line among those bytes. That a
-/// `resolve` counts no file and no signed text, and at most one applied operation, is a clause of
-/// `Node::answer`. The clauses about bytes and the disk hold if source, sink and disk reveal them.
+/// for each anchor that was accepted among the bytes taken, by any of four nodes under `exchange`,
+/// and at most as many signed texts opened as these declare operations, and one more for each
+/// `submit` line among those bytes. That a `resolve` counts no file and no signed text, and at most
+/// one applied operation, is a clause of `Node::answer`. The clauses about bytes and the disk hold
+/// if source, sink and disk reveal them.
 pub fn run<S: Source, K: Sink, D: Disk>(
     alloc: Global,
     words: &[Text],

@@ -1,6 +1,6 @@
 ghost use Rattle.std.specs.Prelude.{◌≡◌, ◌≤◌, ◌+◌, ◌*◌, IfOk};
 ghost use Rattle.st_exchange.specs.Answer.{is_among};
-ghost use Rattle.st_exchange.specs.Peer.{Peer as Means, PeerLaws, anchors_told};
+ghost use Rattle.st_exchange.specs.Peer.{FileDue, LineDue, Peer as Means, PeerLaws, anchors_told};
 ghost use Rattle.st_hash.specs.Hash.{uri_of};
 
 use st_base::{Bytes, List, WantOfMemory, Work};
@@ -29,7 +29,8 @@ pub trait Peer: Sized + Drop {
     fn wants(&self, alloc: Global, uri: &Hash) -> Result<bool, WantOfMemory>
         ensures { IfOk result (λ found. found ≡ is_among (peer.wanted self.now) uri.now) };
 
-    /// Answers a line. For an anchor that it accepts it may read five more files.
+    /// Answers a line. For an anchor that it accepts it may read five more files. For any result,
+    /// it counts no more than was due and the line adds.
     fn answer(
         self,
         alloc: Global,
@@ -39,9 +40,10 @@ pub trait Peer: Sized + Drop {
         ensures next { IfOk result (λ done. done.0 ≡ peer.next self line.now) }
         ensures reply { IfOk result (λ done. done.1 ≡ peer.reply self line.now) }
         ensures paid { IfOk result (λ done. work.new.files + peer.due done.0
-            ≤ work.old.files + peer.due self + 5 * anchors_told (peer.reply self line.now)) };
+            ≤ work.old.files + peer.due self + 5 * anchors_told (peer.reply self line.now)) }
+        ensures due { LineDue peer self line.now work.old work.new };
 
-    /// Keeps a file, and returns its URI.
+    /// Keeps a file, and returns its URI. For any result, it counts no more than was due.
     fn keep(
         self,
         alloc: Global,
@@ -49,7 +51,8 @@ pub trait Peer: Sized + Drop {
         work: &mut Work,
     ) -> Result<(Self, Hash), WantOfMemory>
         ensures next { IfOk result (λ done. done.0 ≡ peer.stored self bytes) }
-        ensures uri { IfOk result (λ done. done.1 ≡ uri_of bytes) };
+        ensures uri { IfOk result (λ done. done.1 ≡ uri_of bytes) }
+        ensures due { FileDue peer self bytes work.old work.new };
 
     /// Its laws.
     ghost laws: { PeerLaws peer };

@@ -1,5 +1,5 @@
 -- The room after the stored messages, and a node that is put back to its place.
-use Rattle.std.proofs.Common.{◌≡◌, ◌∙◌, ℕ, zero, suc, ◌+◌, ◌-◌, ◌<◌, nat_le, false, List, [], ◌∷◌, length, get_or, drop, slice_set, slice_get, Option, Some, None, IfSome, ap, sym, subst, refl, arith}
+use Rattle.std.proofs.Common.{◌≡◌, ◌∙◌, ℕ, zero, suc, ◌+◌, ◌<◌, nat_le, false, List, [], ◌∷◌, length, get_or, drop, slice_set, slice_get, Option, Some, None, IfSome, ap, sym, subst, refl, arith}
 use Rattle.std.proofs.lemmas.Bool.Decides.{nat_tests}
 use Rattle.std.proofs.lemmas.List.Sums.{sum_by-cons}
 use Rattle.std.specs.List.{AllByRecursion, insert, remove, sum_by}

@@ -5,3 +5,4 @@ pub mod Lines
 pub mod Network
 pub mod Run
 pub mod StoresWanted
+pub mod Work

@@ -1,7 +1,10 @@
-ghost use Rattle.std.specs.Prelude.{◌≡◌, ◌<◌, codes, length, slice_get, slice_set, IfOk, IfSome};
+ghost use Rattle.std.specs.Prelude.{◌≡◌, ◌<◌, codes, length, slice_get, slice_set, IfOk, IfSome, Ok, Some};
 ghost use Rattle.st_base.specs.Replies.{reply};
+ghost use Rattle.st_exchange.specs.Peer.{FileDue, LineDue};
 ghost use Rattle.st_hash.specs.Hash.{hash_text, uri_of};
 ghost use Rattle.st_network.specs.Exchange.{AnswersWith, done, line_done, post_done, store_done};
+ghost use Rattle.st_network.specs.Work.{StepDue};
+ghost use Rattle.st_network.specs.declared.letter.Step.TheVariants.{Line, Store};
 
 use crate::cause::Cause;
 use crate::letter::{Letter, Step};
@@ -12,14 +15,15 @@ use st_exchange::Peer;
 use st_hash::hash_text;
 use std::alloc::Global;
 
-// Executes a step, and returns the reply.
+// Executes a step, and returns the reply. For any result, no more is counted than was due.
 pub fn take<N: Peer>(
     network: Network<N>,
     alloc: Global,
     step: Step,
     work: &mut Work,
 ) -> Result<(Network<N>, Bytes), WantOfMemory>
-    ensures { IfOk result (AnswersWith (done N.peer network step)) }
+    ensures answer { IfOk result (AnswersWith (done N.peer network step)) }
+    ensures due { StepDue N.peer network (Ok step) work.old work.new }
 {
     match step {
         Step::Line { node, line } => run(network, alloc, node, line.as_slice(), work),
@@ -35,7 +39,8 @@ fn run<N: Peer>(
     line: &[u8],
     work: &mut Work,
 ) -> Result<(Network<N>, Bytes), WantOfMemory>
-    ensures { IfOk result (AnswersWith (line_done N.peer network i line.now (slice_get network.nodes i))) }
+    ensures answer { IfOk result (AnswersWith (line_done N.peer network i line.now (slice_get network.nodes i))) }
+    ensures due { StepDue N.peer network (Ok (Line i line.now)) work.old work.new }
 {
     let at = i as usize;
     if at >= network.nodes().len() {
@@ -56,8 +61,9 @@ fn run_at<N: Peer>(
     work: &mut Work,
 ) -> Result<(List<N>, Bytes), WantOfMemory>
     requires { at < length nodes }
-    ensures { IfOk result (λ done. IfSome (slice_get nodes at) (λ node.
+    ensures answer { IfOk result (λ done. IfSome (slice_get nodes at) (λ node.
         (done.0 ≡ slice_set nodes at (N.peer.next node line.now)) × (done.1 ≡ N.peer.reply node line.now))) }
+    ensures due { (node : N) × (slice_get nodes at ≡ Some node) × LineDue N.peer node line.now work.old work.new }
 {
     let mut nodes = nodes;
     let node = nodes.remove(at);
@@ -73,7 +79,8 @@ fn store<N: Peer>(
     bytes: Bytes,
     work: &mut Work,
 ) -> Result<(Network<N>, Bytes), WantOfMemory>
-    ensures { IfOk result (AnswersWith (store_done N.peer network i bytes (slice_get network.nodes i))) }
+    ensures answer { IfOk result (AnswersWith (store_done N.peer network i bytes (slice_get network.nodes i))) }
+    ensures due { StepDue N.peer network (Ok (Store i bytes)) work.old work.new }
 {
     let at = i as usize;
     if at >= network.nodes().len() {
@@ -94,9 +101,10 @@ fn store_at<N: Peer>(
     work: &mut Work,
 ) -> Result<(List<N>, Bytes), WantOfMemory>
     requires { at < length nodes }
-    ensures { IfOk result (λ done. IfSome (slice_get nodes at) (λ node.
+    ensures answer { IfOk result (λ done. IfSome (slice_get nodes at) (λ node.
         (done.0 ≡ slice_set nodes at (N.peer.stored node bytes))
         × (done.1 ≡ reply (codes "stored ") (hash_text (uri_of bytes))))) }
+    ensures due { (node : N) × (slice_get nodes at ≡ Some node) × FileDue N.peer node bytes work.old work.new }
 {
     let mut nodes = nodes;
     let node = nodes.remove(at);

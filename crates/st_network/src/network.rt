@@ -1,6 +1,7 @@
-ghost use Rattle.std.specs.Prelude.{◌≡◌, IfOk};
+ghost use Rattle.std.specs.Prelude.{◌≡◌, ◌∷◌, [], IfOk};
 ghost use Rattle.st_network.specs.Exchange.{AnswersWith, answered};
-ghost use Rattle.st_network.specs.Network.{new_network};
+ghost use Rattle.st_network.specs.Network.{Network as Seen, new_network};
+ghost use Rattle.st_network.specs.Work.{DueOver};
 
 use crate::cause::StepRefused;
 use crate::doing::take;
@@ -66,16 +67,24 @@ impl<N: Peer> Network<N> {
     /// A line that is refused changes nothing. A `deliver` takes the time of its message and of its
     /// answer, and of a lookup whether its addressee wants the blob, or each listed file. The time
     /// does not depend on the number of messages, and no list of wanted files is made.
+    ///
+    /// The nodes count at most the work that was due, five files for an anchor that one of them
+    /// accepts, and the signed texts that a line of its own adds; also if memory runs out.
     pub fn answer(
         self,
         alloc: Global,
         line: &[u8],
         work: &mut Work,
     ) -> Result<(Network<N>, Bytes), WantOfMemory>
-        ensures { IfOk result (AnswersWith (answered N.peer self line.now)) }
+        ensures answer { IfOk result (AnswersWith (answered N.peer self line.now)) }
+        ensures due { IfOk result (λ done. DueOver N.peer self (line.now ∷ []) done.0 work.old work.new) }
+        ensures within { (later : Seen N) × DueOver N.peer self (line.now ∷ []) later work.old work.new }
     {
         match read_step(alloc, &self, line) {
-            Ok(step) => take(self, alloc, step, work),
+            Ok(step) => match take(self, alloc, step, work) {
+                Ok(done) => Ok(done),
+                Err(want) => Err(want),
+            },
             Err(StepRefused::Refused(cause)) => {
                 let text = tell_refused(alloc, cause)?;
                 Ok((self, text))

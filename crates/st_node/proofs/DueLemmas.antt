@@ -1,5 +1,6 @@
 -- The counts of a command or a line are paid by work that is no longer due, and by what an accepted anchor or a
 -- submission adds.
+--     arrived_due      for a file
 --     command_due      for a command
 --     line_due         for a line
 --     none_counted     if nothing is counted, the bounds of any line hold
@@ -28,7 +29,7 @@ use Rattle.st_ops.specs.Operation.{PlainOperation}
 
 module _ (observed : Observed) where
   module _ (old new : Counts) where
-    arrived_due : (file : List ℕ) → ArrivalCounts observed file old new → StaysDue observed (arrived file observed) [] 0 old new
+    pub arrived_due : (file : List ℕ) → ArrivalCounts observed file old new → StaysDue observed (arrived file observed) [] 0 old new
     arrived_due file counts = record {
       files = omega (arith, counts.read, arrival_files observed file);
       proofs = omega (arith, counts.opened, arrival_proofs observed file);

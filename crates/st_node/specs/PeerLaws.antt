@@ -1,5 +1,5 @@
--- Laws of the reference machine as a peer: it doesn't have a file that it wants, and it may read none before anything
--- was received.
+-- Laws of the reference machine as a peer: it doesn't have a file that it wants, and before anything was received it
+-- may read no file and open no signed text.
 use Rattle.std.proofs.Common.{◌≡◌, ℕ, true, List, [], ◌∷◌, Ordering, Less, Equal, Greater, Option, None, refl, sym, subst, ⊎_elim}
 use Rattle.std.proofs.lemmas.Bool.{or_cases, true≢false}
 use Rattle.std.specs.BTreeSet.{insert_key}
@@ -98,4 +98,8 @@ wanted-absent observed uri is =
     (put_all text_cmp (IsAbsent observed.files) [] (missed_files observed) tt (entries_miss observed.files observed.schedule observed.ledger)) is
 
 pub peer_laws : PeerLaws node_peer
-peer_laws = record { absent = λ machine uri is. wanted-absent machine.observed uri is; none_due = refl }
+peer_laws = record {
+  absent = λ machine uri is. wanted-absent machine.observed uri is;
+  none_due = refl;
+  no_proofs_due = refl;
+}

@@ -1,7 +1,7 @@
 use Rattle.std.proofs.Common.{refl}
 use Rattle.st_drive.proofs.TableLemmas.{ends_weaker}
 use Rattle.st_cli.proofs.JournalledLemmas.{journal_run}
-use Rattle.st_cli.proofs.RunLemmas.{generate_ends, node_run, promised_of}
+use Rattle.st_cli.proofs.RunLemmas.{exchange_run, generate_ends, node_run, promised_of}
 use Rattle.st_cli.proofs.run.run.Goals as goal
 
 pub returns-in-Some-Node-clause-ends : goal.returns-in-Some-Node-clause-ends
@@ -34,7 +34,7 @@ returns-in-Some-Exchange-clause-ends g c = ends_weaker (λ never. absurd never) 
 pub returns-in-Some-Exchange-clause-promised : goal.returns-in-Some-Exchange-clause-promised
 returns-in-Some-Exchange-clause-promised g c =
     let read = c.in-Some-Exchange in
-    promised_of _ read.field-0-is read.ensures.value (c.run_exchange.ensures, refl)
+    promised_of _ read.field-0-is read.ensures.value (exchange_run c.run_exchange.ensures refl)
 
 pub returns-in-Some-Generate-clause-ends : goal.returns-in-Some-Generate-clause-ends
 returns-in-Some-Generate-clause-ends g c =

@@ -3,7 +3,9 @@ use Rattle.st_network.proofs.RunLemmas.{exchange_run, unbegun_run}
 use Rattle.st_network.proofs.running.run_exchange.Goals as goal
 
 pub returns-in-Ok : goal.returns-in-Ok
-returns-in-Ok g c = exchange_run g.N.Peer.peer (c.args.work.now, tt) (c.run_machine.new.context, tt) c.in-Ok.ensures c.run_machine.ensures
+returns-in-Ok g c =
+    exchange_run g.N.Peer.peer g.met.N.Peer.laws (c.args.work.now, tt) (c.run_machine.new.context, tt) c.in-Ok.ensures c.run_machine.ensures
 
 pub returns-in-Err : goal.returns-in-Err
-returns-in-Err g c = unbegun_run g.N.Peer.peer (record { left_is = refl; holds_is = refl; finished_is = refl })
+returns-in-Err g c =
+    unbegun_run g.N.Peer.peer g.met.N.Peer.laws c.args.work.now (record { left_is = refl; holds_is = refl; finished_is = refl })
