@@ -11,8 +11,8 @@ use st_base::{Bytes, List, WantOfMemory};
 use st_hash::Hash;
 use st_indexfiles::suffix_of;
 use st_io::{Disk, PlainDisk};
-use st_lms::{Secret, Signer};
-use st_vault::{Counter, Vault, format_vault};
+use st_lms::Secret;
+use st_vault::{Counter, Vault, VaultSigner, format_vault};
 use std::alloc::Global;
 
 /// An identifier, and all its requests.
@@ -69,7 +69,7 @@ fn make_identity(
 #[tactic(auto, unfolding(crate::specs::Identifier::did_suffix))]
 fn create(
     alloc: Global,
-    signer: &Signer,
+    signer: &VaultSigner,
     seed: u64,
     number: u32,
 ) -> Result<(Hash, Bytes), WantOfMemory>
@@ -89,7 +89,7 @@ fn push_updates<D: Disk>(
     lines: &mut List<Bytes>,
     vault: Vault,
     disk: &mut D,
-    signer: &Signer,
+    signer: &VaultSigner,
     suffix: &Hash,
     seed: u64,
     number: u32,
