@@ -7,7 +7,7 @@ ghost use Rattle.st_vault.specs.Values.{counter_of, new_vault, vault_after};
 
 use crate::keys::secret;
 use crate::requests::{create_delta, create_line, suffix_data, update_line};
-use st_base::{Bytes, List, WantOfMemory};
+use st_base::{Bytes, Copied, List, WantOfMemory};
 use st_hash::Hash;
 use st_indexfiles::suffix_of;
 use st_io::{Disk, PlainDisk};
@@ -22,6 +22,16 @@ pub struct Identity {
     pub suffix: Hash,
     /// The lines that submit its requests, one for each round from round 0 on, which creates it.
     pub lines: List<Bytes>,
+}
+
+impl Copied for Identity {
+    fn copy(&self, alloc: Global) -> Result<Identity, WantOfMemory> {
+        let lines = self.lines.copy(alloc)?;
+        Ok(Identity {
+            suffix: self.suffix,
+            lines,
+        })
+    }
 }
 
 /// The identifiers with the numbers from 0 to `dids - 1`, each updated in `rounds` rounds. Each
