@@ -22,9 +22,7 @@ use st_base::{Bytes, reply};
 use st_hss::HssSignRefused;
 use st_io::Disk;
 use st_lms::Secret;
-use st_vault::{
-    FormatRefused, OpenRefused, ReserveRefused, VaultSigner, format_vault, open_vault,
-};
+use st_vault::{FormatRefused, OpenRefused, ReserveRefused, VaultSigner, format_vault, open_vault};
 use std::alloc::Global;
 use std::marker::Model;
 
