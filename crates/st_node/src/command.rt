@@ -3,7 +3,7 @@ ghost use Rattle.st_base.specs.Answers.{Gives};
 ghost use Rattle.st_node.specs.Command.{anchor_of, cause_of, command_of, command_of_words, content_of, explain_of, flush_of, report_of, resolve_of, rollback_of, submit_of, wanted_of};
 
 use crate::lent::Lent;
-use st_base::{Bytes, WantOfMemory, cut_at, cut_word, read_number};
+use st_base::{Bytes, Copied, WantOfMemory, cut_at, cut_word, read_number};
 use st_hash::{DecRefused, dec};
 use std::alloc::Global;
 use thiserror::Error;
@@ -51,6 +51,26 @@ pub enum Command<'a> {
     Submit(Lent<'a>),
     /// `flush`: make a batch of the queued operations.
     Flush,
+}
+
+impl<'a> Copied for Command<'a> {
+    /// An equal command of the same line.
+    fn copy(&self, alloc: Global) -> Result<Command<'a>, WantOfMemory> {
+        match self {
+            Command::Content(bytes) => Ok(Command::Content(bytes.copy(alloc)?)),
+            Command::Anchor { height, text } => Ok(Command::Anchor {
+                height: *height,
+                text: text.copy(alloc)?,
+            }),
+            Command::Rollback(n) => Ok(Command::Rollback(*n)),
+            Command::Resolve(did) => Ok(Command::Resolve(did.copy(alloc)?)),
+            Command::Explain(did) => Ok(Command::Explain(did.copy(alloc)?)),
+            Command::Wanted => Ok(Command::Wanted),
+            Command::Report(n) => Ok(Command::Report(*n)),
+            Command::Submit(request) => Ok(Command::Submit(request.copy(alloc)?)),
+            Command::Flush => Ok(Command::Flush),
+        }
+    }
 }
 
 /// Why a line is not a command: the first of these that holds, in this order.

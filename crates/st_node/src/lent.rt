@@ -1,5 +1,7 @@
 ghost use Rattle.std.specs.Prelude.{◌≡◌};
 
+use st_base::{Copied, WantOfMemory};
+use std::alloc::Global;
 use std::marker::Model;
 
 /// A borrowed part of a line, without memory of its own. Contracts see its bytes.
@@ -14,6 +16,12 @@ impl<'a> Model for Lent<'a> {
     ghost Value = { List ℕ };
 
     ghost view = { λ lent. lent.bytes.now };
+}
+
+impl<'a> Copied for Lent<'a> {
+    fn copy(&self, _alloc: Global) -> Result<Lent<'a>, WantOfMemory> {
+        Ok(Lent { bytes: self.bytes })
+    }
 }
 
 impl<'a> Lent<'a> {

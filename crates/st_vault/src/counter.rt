@@ -3,7 +3,7 @@ ghost use Rattle.st_lms.specs.Signature.{IsSignature, public_of, signature_of};
 ghost use Rattle.st_vault.specs.Values.{count_of};
 
 use st_base::{Bytes, WantOfMemory};
-use st_lms::{Secret, Signer, sign_at};
+use st_lms::{Public, Secret, Signer, sign_at};
 use std::alloc::Global;
 use std::marker::Model;
 
@@ -51,18 +51,52 @@ impl Counter {
     {
         sign_at(alloc, &self.secret, self.number, message)
     }
-    /// The same signature, with a signer of the vault's key from `Vault::signer`: it computes this
-    /// key's chains and no leaf of the tree. If it runs out of memory, the counter is lost.
+
+    /// The same signature, with a signer of the vault's key: it computes this key's chains and no
+    /// leaf of the tree. If it runs out of memory, the counter is lost.
     pub fn sign_with(
         self,
         alloc: Global,
-        signer: &Signer,
+        signer: &VaultSigner,
         message: &[u8],
     ) -> Result<Bytes, WantOfMemory>
         requires { signer.now ≡ self.key }
         ensures value { IfOk result (λ signature. signature ≡ signature_of self.key self.number message.now) }
         ensures verifies { IfOk result (IsSignature (public_of self.key) message.now) }
     {
-        signer.sign(alloc, self.number, message)
+        signer.key.sign(alloc, self.number, message)
+    }
+}
+
+/// A vault's key with all the nodes of its tree, which take 2,016 or 65,504 bytes. It signs only
+/// with a counter, by `Counter::sign_with`. Contracts see the key.
+#[derive(Drop)]
+pub struct VaultSigner {
+    key: Signer,
+}
+
+impl Model for VaultSigner {
+    ghost use Rattle.st_lms.specs.Keys.{SecretKey};
+
+    ghost Value = { SecretKey };
+
+    ghost view = { λ s. s.key };
+}
+
+impl VaultSigner {
+    /// The signer of a vault with this key. It computes all leaves of the tree, and fails if there
+    /// is no memory for the nodes.
+    pub fn new(alloc: Global, secret: &Secret) -> Result<VaultSigner, WantOfMemory>
+        ensures { IfOk result (λ signer. signer ≡ secret.now) }
+    {
+        let key = Signer::new(alloc, secret)?;
+        Ok(VaultSigner { key })
+    }
+
+    /// The public key, without computing a node.
+    pub fn public(&self) -> Public
+        ensures { result ≡ public_of self.now }
+    {
+        self.key.public()
     }
 }

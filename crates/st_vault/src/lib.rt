@@ -13,7 +13,7 @@ mod opening;
 mod refused;
 mod vault;
 
-pub use counter::Counter;
+pub use counter::{Counter, VaultSigner};
 pub use formatting::format_vault;
 pub use laws::no_counter_comes_twice;
 pub use opening::open_vault;

@@ -10,12 +10,12 @@ ghost use Rattle.st_vault.specs.Spent.{SpentInAll, KeepsSpent};
 ghost use Rattle.st_vault.specs.Values.{count_of, left_of, vault_after, counter_of};
 
 use crate::child::child_of;
-use crate::counter::Counter;
+use crate::counter::{Counter, VaultSigner};
 use crate::layout::{MAP_AT, SPENT};
 use crate::refused::ReserveRefused;
 use st_base::WantOfMemory;
 use st_io::{Disk, write_synced};
-use st_lms::{Public, Secret, Signer};
+use st_lms::{Public, Secret};
 use std::alloc::Global;
 use std::fmt;
 use std::marker::Model;
@@ -86,10 +86,10 @@ impl Vault {
 
     /// The vault's key with the nodes of its tree, with which `Counter::sign_with` takes the time
     /// of one one-time key. It computes all of them, and fails if there is no memory for the nodes.
-    pub fn signer(&self, alloc: Global) -> Result<Signer, WantOfMemory>
+    pub fn signer(&self, alloc: Global) -> Result<VaultSigner, WantOfMemory>
         ensures { IfOk result (λ signer. signer ≡ self.now.key) }
     {
-        Signer::new(alloc, &self.secret)
+        VaultSigner::new(alloc, &self.secret)
     }
 
     /// Child `n` of the vault's key: a secret key with a tree of height 5 and with the same LM-OTS

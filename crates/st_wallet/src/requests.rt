@@ -9,16 +9,15 @@ use crate::replies::tell_request;
 use st_base::{Bytes, KeptText, Shared, WantOfMemory};
 use st_indexfiles::Target;
 use st_jws::{Signed, join_signed};
-use st_lms::Signer;
 use st_ops::Operation;
-use st_vault::Counter;
+use st_vault::{Counter, VaultSigner};
 use std::alloc::Global;
 
 /// The reply with the request for an operation, signed with this counter. The signer has its key.
 pub(crate) fn request_by(
     alloc: Global,
     counter: Counter,
-    signer: &Signer,
+    signer: &VaultSigner,
     draft: Draft,
 ) -> Result<Bytes, WantOfMemory>
     requires key { signer.now ≡ counter.key }
@@ -33,7 +32,7 @@ pub(crate) fn request_by(
 fn sign(
     alloc: Global,
     counter: Counter,
-    signer: &Signer,
+    signer: &VaultSigner,
     draft: Draft,
 ) -> Result<Operation, WantOfMemory>
     requires key { signer.now ≡ counter.key }

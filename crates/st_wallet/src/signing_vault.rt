@@ -5,8 +5,8 @@ ghost use Rattle.st_wallet.specs.Held.{held_vault};
 
 use st_base::WantOfMemory;
 use st_hss::HssVault;
-use st_lms::{Public, Signer};
-use st_vault::Vault;
+use st_lms::Public;
+use st_vault::{Vault, VaultSigner};
 use std::alloc::Global;
 use std::marker::Model;
 
@@ -16,7 +16,7 @@ use std::marker::Model;
 pub(crate) struct SigningVault {
     held: Held,
     /// The vault's own key, with the nodes of its tree.
-    signer: Option<Signer>,
+    signer: Option<VaultSigner>,
 }
 
 /// A vault, alone or with the data stored for signatures of two levels.
@@ -81,7 +81,7 @@ impl SigningVault {
     }
 
     /// The vault, with its key and the nodes of its tree.
-    pub(crate) fn with_signer(vault: Vault, signer: Signer) -> SigningVault
+    pub(crate) fn with_signer(vault: Vault, signer: VaultSigner) -> SigningVault
         requires { signer ≡ vault.key }
         ensures { result ≡ vault }
     {
@@ -92,7 +92,7 @@ impl SigningVault {
     }
 
     /// The vault, with the data stored for signatures of two levels, and with its key, if present.
-    pub(crate) fn with_hss(hss: HssVault, signer: Option<Signer>) -> SigningVault
+    pub(crate) fn with_hss(hss: HssVault, signer: Option<VaultSigner>) -> SigningVault
         requires { IfSome signer (λ signer. signer ≡ hss.key) }
         ensures { result ≡ hss }
     {
@@ -132,7 +132,7 @@ impl SigningVault {
 
     /// The vault, and its key with the nodes of its tree. It computes the tree, if no line needed
     /// it before. The data stored for signatures of two levels is dropped.
-    pub(crate) fn into_parts(self, alloc: Global) -> Result<(Vault, Signer), WantOfMemory>
+    pub(crate) fn into_parts(self, alloc: Global) -> Result<(Vault, VaultSigner), WantOfMemory>
         ensures vault { IfOk result (λ parts. parts.0 ≡ self) }
         ensures signer { IfOk result (λ parts. parts.1 ≡ self.key) }
     {
@@ -148,7 +148,7 @@ impl SigningVault {
     }
 
     /// The vault, for signatures of two levels, and its key, if present.
-    pub(crate) fn into_hss(self) -> (HssVault, Option<Signer>)
+    pub(crate) fn into_hss(self) -> (HssVault, Option<VaultSigner>)
         requires { self.key.tree ≡ 6 }
         ensures vault { result.0 ≡ self }
         ensures signer { IfSome result.1 (λ signer. signer ≡ self.key) }

@@ -21,8 +21,8 @@ use crate::signing_vault::SigningVault;
 use st_base::{Bytes, reply};
 use st_hss::HssSignRefused;
 use st_io::Disk;
-use st_lms::{Secret, Signer};
-use st_vault::{FormatRefused, OpenRefused, ReserveRefused, format_vault, open_vault};
+use st_lms::Secret;
+use st_vault::{FormatRefused, OpenRefused, ReserveRefused, VaultSigner, format_vault, open_vault};
 use std::alloc::Global;
 use std::marker::Model;
 
@@ -271,7 +271,7 @@ fn format<D: Disk>(
     ensures fault { IsErrOf result WalletRefused.DiskFault → Rose (D.faults disk.old) (D.faults disk.new) }
     ensures later { D.faults disk.old ≤ D.faults disk.new }
 {
-    let signer = Signer::new(alloc, &secret)?;
+    let signer = VaultSigner::new(alloc, &secret)?;
     let text = tell_formatted(alloc, &signer.public())?;
     match format_vault(disk, secret) {
         Ok(vault) => Ok((Wallet::of(SigningVault::with_signer(vault, signer)), text)),

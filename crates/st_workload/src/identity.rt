@@ -7,12 +7,12 @@ ghost use Rattle.st_vault.specs.Values.{counter_of, new_vault, vault_after};
 
 use crate::keys::secret;
 use crate::requests::{create_delta, create_line, suffix_data, update_line};
-use st_base::{Bytes, List, WantOfMemory};
+use st_base::{Bytes, Copied, List, WantOfMemory};
 use st_hash::Hash;
 use st_indexfiles::suffix_of;
 use st_io::{Disk, PlainDisk};
-use st_lms::{Secret, Signer};
-use st_vault::{Counter, Vault, format_vault};
+use st_lms::Secret;
+use st_vault::{Counter, Vault, VaultSigner, format_vault};
 use std::alloc::Global;
 
 /// An identifier, and all its requests.
@@ -22,6 +22,16 @@ pub struct Identity {
     pub suffix: Hash,
     /// The lines that submit its requests, one for each round from round 0 on, which creates it.
     pub lines: List<Bytes>,
+}
+
+impl Copied for Identity {
+    fn copy(&self, alloc: Global) -> Result<Identity, WantOfMemory> {
+        let lines = self.lines.copy(alloc)?;
+        Ok(Identity {
+            suffix: self.suffix,
+            lines,
+        })
+    }
 }
 
 /// The identifiers with the numbers from 0 to `dids - 1`, each updated in `rounds` rounds. Each
@@ -69,7 +79,7 @@ fn make_identity(
 #[tactic(auto, unfolding(crate::specs::Identifier::did_suffix))]
 fn create(
     alloc: Global,
-    signer: &Signer,
+    signer: &VaultSigner,
     seed: u64,
     number: u32,
 ) -> Result<(Hash, Bytes), WantOfMemory>
@@ -89,7 +99,7 @@ fn push_updates<D: Disk>(
     lines: &mut List<Bytes>,
     vault: Vault,
     disk: &mut D,
-    signer: &Signer,
+    signer: &VaultSigner,
     suffix: &Hash,
     seed: u64,
     number: u32,

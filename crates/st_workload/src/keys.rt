@@ -4,7 +4,8 @@ ghost use Rattle.st_workload.specs.Identifier.{jwk, key, nonce_at, recovery_jwk,
 use crate::words::{sixteen, thirty_two};
 use st_base::WantOfMemory;
 use st_jws::Jwk;
-use st_lms::{Secret, Signer};
+use st_lms::Secret;
+use st_vault::VaultSigner;
 
 /// The key of an identifier. Both of its types are known, so making it can't fail.
 #[tactic(auto, unfolding(crate::specs::Identifier::key))]
@@ -18,7 +19,7 @@ pub(crate) fn secret(seed: u64, number: u32) -> Result<Secret, WantOfMemory>
 }
 
 /// The JWK with the recovery nonce.
-pub(crate) fn recovery_jwk(signer: &Signer, seed: u64, number: u32) -> Jwk
+pub(crate) fn recovery_jwk(signer: &VaultSigner, seed: u64, number: u32) -> Jwk
     requires { signer.now ≡ key seed number }
     ensures { result ≡ recovery_jwk seed number }
 {
@@ -26,7 +27,7 @@ pub(crate) fn recovery_jwk(signer: &Signer, seed: u64, number: u32) -> Jwk
 }
 
 /// The JWK with the nonce for a round.
-pub(crate) fn update_jwk(signer: &Signer, seed: u64, number: u32, round: u32) -> Jwk
+pub(crate) fn update_jwk(signer: &VaultSigner, seed: u64, number: u32, round: u32) -> Jwk
     requires key { signer.now ≡ key seed number }
     requires round { round ≤ 30 }
     ensures { result ≡ update_jwk seed number round }
@@ -36,7 +37,7 @@ pub(crate) fn update_jwk(signer: &Signer, seed: u64, number: u32, round: u32) ->
 
 // The key as a JWK, with the nonce that starts at this word.
 #[tactic(auto, unfolding(crate::specs::Identifier::jwk))]
-fn jwk(signer: &Signer, seed: u64, number: u32, n: u64) -> Jwk
+fn jwk(signer: &VaultSigner, seed: u64, number: u32, n: u64) -> Jwk
     requires { signer.now ≡ key seed number }
     ensures { result ≡ jwk seed number n }
 {

@@ -13,9 +13,8 @@ use st_canon::{Json, Object, PackedJson};
 use st_hash::Hash;
 use st_indexfiles::{SuffixData, hash_json};
 use st_jws::{Jwk, Signed, commitment, join_signed, reveal, signing_input};
-use st_lms::Signer;
 use st_ops::{Operation, write_request};
-use st_vault::Counter;
+use st_vault::{Counter, VaultSigner};
 use std::alloc::Global;
 
 // ---- round 0
@@ -23,7 +22,7 @@ use std::alloc::Global;
 /// The delta of an identifier's create.
 pub(crate) fn create_delta(
     alloc: Global,
-    signer: &Signer,
+    signer: &VaultSigner,
     seed: u64,
     number: u32,
 ) -> Result<Json, WantOfMemory>
@@ -39,7 +38,7 @@ pub(crate) fn create_delta(
 #[tactic(auto, unfolding(crate::specs::Identifier::did_suffix_data))]
 pub(crate) fn suffix_data(
     alloc: Global,
-    signer: &Signer,
+    signer: &VaultSigner,
     seed: u64,
     number: u32,
     delta: &Json,
@@ -86,7 +85,7 @@ pub(crate) fn update_line(
     alloc: Global,
     seed: u64,
     number: u32,
-    signer: &Signer,
+    signer: &VaultSigner,
     suffix: &Hash,
     round: u32,
     counter: Counter,
@@ -110,7 +109,7 @@ pub(crate) fn update_line(
 // An update that reveals this key, signed at this counter.
 fn update(
     alloc: Global,
-    signer: &Signer,
+    signer: &VaultSigner,
     suffix: &Hash,
     revealed: &Jwk,
     counter: Counter,
@@ -164,7 +163,7 @@ fn payload_members(alloc: Global, revealed: &Jwk, delta: &Json) -> Result<Object
 #[tactic(auto, unfolding(crate::specs::Identifier::signed))]
 fn signed(
     alloc: Global,
-    signer: &Signer,
+    signer: &VaultSigner,
     counter: Counter,
     payload: &Json,
 ) -> Result<Text, WantOfMemory>

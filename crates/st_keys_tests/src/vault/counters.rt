@@ -121,7 +121,7 @@ fn signs_with_signer<D: Disk>(
     match vault.reserve(disk) {
         Ok((_vault, counter)) => {
             let signature = counter.sign_with(alloc, &signer, b"message")?;
-            Ok(verify(&public, b"message", signature.as_slice()))
+            Ok(signer.public() == public && verify(&public, b"message", signature.as_slice()))
         }
         Err(_) => Ok(false),
     }
