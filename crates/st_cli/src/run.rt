@@ -1,6 +1,7 @@
 ghost use Rattle.std.specs.Prelude.{◌≡◌, ◌↔◌, ◌≤◌, None, IsTrue};
 ghost use Rattle.st_io.specs.Causes.{Rose};
-ghost use Rattle.st_drive.specs.Streams.{storage, streams};
+ghost use Rattle.st_io.specs.Storage.{storage};
+ghost use Rattle.st_drive.specs.Streams.{streams};
 ghost use Rattle.st_drive.specs.Tables.{AnswersLines, Ends};
 ghost use Rattle.st_cli.specs.Form.{form_of, max_input};
 ghost use Rattle.st_cli.specs.Node.{node_course};

@@ -3,10 +3,11 @@ use Rattle.std.proofs.Common.{◌≡◌, ◌∙◌, ◌⊎◌, inl, inr, ⊎_eli
 use Rattle.std.specs.Prelude.{Contains}
 use Rattle.std.proofs.lemmas.List.Elements.{Contains-append_left, Contains-append_right, Contains-append_cases}
 use Rattle.st_io.specs.Past.{Past, Images, Only, Leaves}
+use Rattle.st_io.specs.Spent.{KeepsSpent, SpentInAll}
 use Rattle.st_drive.specs.OnDisk.{Rules, replies, after, kept, AllHold, Went, GaveUp, HoldsEither, HoldsReplied, Store, IsTold, disk_meaning, RanOnDisk, GaveUpOnDisk, Opens, LeavesOnDisk, RunLeaves}
 use Rattle.st_drive.specs.Released.{Ascend, KeepsNumbers}
 use Rattle.st_drive.specs.Runs.{Begins, NearlyReplied, course}
-use Rattle.st_drive.specs.Spending.{Spender, listed, numbers, AllSpent, AllStand, SpentInAll, spending, released, NumberLaws, NextLaws, StandsForEither, StaysSpent, HasSpent, GaveUpSpending, StandsReplied, KeepsStanding, EndsOpened, EndsStanding, CostsOne, LosesOne, KeptNumbers, run_of}
+use Rattle.st_drive.specs.Spending.{Spender, listed, numbers, AllSpent, AllStand, spending, released, NumberLaws, NextLaws, StandsForEither, HasSpent, GaveUpSpending, StandsReplied, KeepsStanding, EndsOpened, EndsStanding, CostsOne, LosesOne, KeptNumbers, run_of}
 use Rattle.st_drive.specs.Tables.{AnsweredFirst}
 use Rattle.st_drive.proofs.OnDiskLemmas.{line_went, line_gave, leaves_on_disk, run_leaves, run_opens}
 use Rattle.st_drive.proofs.ReleasedLemmas.{none_in, one_in, ascend_lower, at_least, none_twice}
@@ -23,16 +24,16 @@ module _ {M C : Type 0} (spender : Spender M C) where
 
   -- ---- one step, and the opening
 
-  holds_on : (k : List ℕ) (a b : Past) → StaysSpent spender.spent a b → AllHold rules (inl k) a
+  holds_on : (k : List ℕ) (a b : Past) → KeepsSpent spender.spent a b → AllHold rules (inl k) a
       → (image : List ℕ) → b.left_since a.now image → AllSpent spender.spent k image
   holds_on k a b stays all image left = λ q has. stays.stays q (λ y is. all y is q has) image left
 
   -- numbers spent in every image are so in every later one
-  all_after : (k : List ℕ) (a b : Past) → StaysSpent spender.spent a b → AllHold rules (inl k) a → AllHold rules (inl k) b
+  all_after : (k : List ℕ) (a b : Past) → KeepsSpent spender.spent a b → AllHold rules (inl k) a → AllHold rules (inl k) b
   all_after k a b stays all image is = holds_on k a b stays all image (b.earlier a.now b.now image stays.goes.later is)
 
   -- spent numbers stay so at each moment
-  either : (m : M) (line k : List ℕ) (a b : Past) → StaysSpent spender.spent a b → AllHold rules (inl k) a
+  either : (m : M) (line k : List ℕ) (a b : Past) → KeepsSpent spender.spent a b → AllHold rules (inl k) a
       → Leaves (HoldsEither rules m (inl k) line) a b
   either m line k a b stays all = record { goes = stays.goes; each = λ image left. inl (holds_on k a b stays all image left) }
 
@@ -42,7 +43,7 @@ module _ {M C : Type 0} (spender : Spender M C) where
   of_listed (Some x) past given image is = λ q has. subst (spender.spent image) (one_in x q has) (given x refl image is)
 
   -- and the number of the reply is spent
-  now_spent : (m : M) (line k : List ℕ) (a b : Past) → StaysSpent spender.spent a b → AllHold rules (inl k) a
+  now_spent : (m : M) (line k : List ℕ) (a b : Past) → KeepsSpent spender.spent a b → AllHold rules (inl k) a
       → ((q : ℕ) → spender.number m line ≡ Some q → SpentInAll spender.spent b q) → AllHold rules (rules.keep m (inl k) line) b
   now_spent m line k a b stays all given image is = λ q has. ⊎_elim
       (λ old. all_after k a b stays all image is q old)
@@ -50,14 +51,14 @@ module _ {M C : Type 0} (spender : Spender M C) where
       (Contains-append_cases k (listed (spender.number m line)) q has)
 
   -- a disk is opened
-  spending_opens : (k : List ℕ) (a b : Past) → StaysSpent spender.spent a b → AllHold rules (inl k) a → Opens rules (inl k) a b
+  spending_opens : (k : List ℕ) (a b : Past) → KeepsSpent spender.spent a b → AllHold rules (inl k) a → Opens rules (inl k) a b
   spending_opens k a b stays all = record {
     goes = stays.goes;
     moments = λ image left. inr (holds_on k a b stays all image left);
     synced = λ image left. holds_on k a b stays all image (b.earlier a.now left.0 image (let lt = left.1 in omega arith) left.3);
   }
 
-  ran_kept : (m : M) (line : List ℕ) (a b : Past) → StaysSpent spender.spent a b
+  ran_kept : (m : M) (line : List ℕ) (a b : Past) → KeepsSpent spender.spent a b
       → ((q : ℕ) → spender.number m line ≡ Some q → SpentInAll spender.spent b q)
       → ((before : M) → AllStand spender before a → Leaves (StandsForEither spender before (spender.next m line)) a b)
       → ((before : M) → AllStand spender before a → AllStand spender (spender.next m line) b)
@@ -67,7 +68,7 @@ module _ {M C : Type 0} (spender : Spender M C) where
   ran_kept m line a b stays given moments now (inr before) all =
       line_went rules m (inr before) line a b (moments before all) (now before all)
 
-  gave_kept : (m : M) (line : List ℕ) (a b : Past) → StaysSpent spender.spent a b
+  gave_kept : (m : M) (line : List ℕ) (a b : Past) → KeepsSpent spender.spent a b
       → ((before : M) → AllStand spender before a → Leaves (StandsForEither spender before (spender.next m line)) a b)
       → (k : List ℕ ⊎ M) → AllHold rules k a → GaveUp rules m k (line ∷ []) a b
   gave_kept m line a b stays moments (inl k) all = line_gave rules m (inl k) line a b (either m line k a b stays all)
@@ -244,7 +245,7 @@ module _ {M C : Type 0} (spender : Spender M C) where
 
   -- the disk was opened at b, and a prefix of these lines was answered
   pub spending_leaves : {D : Type 0} (store : Store D) {m : M} {c d : C × D} {lines : List (List ℕ)} {written : List ℕ} (old : Past)
-      → IsTold store c.1 → StaysSpent spender.spent old (store.past c.1)
+      → IsTold store c.1 → KeepsSpent spender.spent old (store.past c.1)
       → AnsweredFirst (course (disk_meaning rules store) m c d) written lines
       → (k : List ℕ) → AllHold rules (inl k) old → RunLeaves rules m (inl k) lines written old (store.past d.1)
   spending_leaves store {m} {c} {d} {lines} {written} old told stays first k all =
@@ -252,7 +253,7 @@ module _ {M C : Type 0} (spender : Spender M C) where
       (leaves_on_disk rules store told first (inl k) (all_after k old (store.past c.1) stays all))
 
   -- the disk could not be opened, and nothing was written
-  pub spending_opened : (m : M) (lines : List (List ℕ)) (old new : Past) → StaysSpent spender.spent old new
+  pub spending_opened : (m : M) (lines : List (List ℕ)) (old new : Past) → KeepsSpent spender.spent old new
       → (k : List ℕ) → AllHold rules (inl k) old → RunLeaves rules m (inl k) lines [] old new
   spending_opened m lines old new stays k all = run_opens rules m (inl k) lines old new (spending_opens k old new stays all)
 

@@ -2,7 +2,8 @@
 -- run has released, and that these are spent.
 use Rattle.std.specs.Prelude.{◌≡◌, ◌⊎◌, ◌+◌, ◌-◌, ◌≤◌, ◌<◌, ℕ, zero, suc, List, [], ◌∷◌, ◌++◌, length, Contains, Option, Some, None}
 use Rattle.std.proofs.Common.{inl, inr}
-use Rattle.st_io.specs.Past.{Past, Images, GoesOn, LeftSinceSync, Leaves}
+use Rattle.st_io.specs.Past.{Past, Images, LeftSinceSync, Leaves}
+use Rattle.st_io.specs.Spent.{KeepsSpent, SpentInAll}
 use Rattle.st_drive.specs.OnDisk.{Effect, Rules, HasReleased, Store, IsTold, after, replies}
 use Rattle.st_drive.specs.Released.{NoneTwice, Run}
 use Rattle.st_drive.specs.Runs.{Begins, NearlyReplied}
@@ -29,10 +30,6 @@ listed (Some q) = q ∷ []
 -- all these numbers are spent in an image
 abbrev pub AllSpent : (spent : List ℕ → ℕ → Type 0) → List ℕ → List ℕ → Type 0
 AllSpent spent numbers image = (q : ℕ) → Contains numbers q → spent image q
-
--- a number is spent in every image
-abbrev pub SpentInAll : (spent : List ℕ → ℕ → Type 0) → Past → ℕ → Type 0
-SpentInAll spent past q = (image : List ℕ) → Images past image → spent image q
 
 -- each present image is that of this machine
 abbrev pub AllStand : {M C : Type 0} → Spender M C → M → Past → Type 0
@@ -91,11 +88,6 @@ pub record NextLaws {M C : Type 0} (spender : Spender M C) (lowest : M → ℕ) 
 abbrev pub StandsForEither : {M C : Type 0} → Spender M C → (before next : M) → List ℕ → Type 0
 StandsForEither spender before next image = spender.stands before image ⊎ spender.stands next image
 
--- a disk continues, and numbers spent in every image at the old moment are so at each moment since
-pub record StaysSpent (spent : List ℕ → ℕ → Type 0) (old new : Past) : Type 0 where
-  pub goes : GoesOn old new
-  pub stays : (q : ℕ) → SpentInAll spent old q → (image : List ℕ) → new.left_since old.now image → spent image q
-
 -- The machine has replied to a line. If the disk reveals its contents, it still does, the machine is the next one,
 -- spent numbers stay so at each moment, and the number of the reply is spent in every image.
 pub record HasSpent {M C D : Type 0} (spender : Spender M C) (store : Store D)
@@ -103,7 +95,7 @@ pub record HasSpent {M C D : Type 0} (spender : Spender M C) (store : Store D)
   pub effect : spender.effect.ran m c.0 (line ∷ []) n d.0
   pub told : IsTold store c.1 → IsTold store d.1
   pub came : IsTold store c.1 → n ≡ spender.next m line
-  pub stays : IsTold store c.1 → StaysSpent spender.spent (store.past c.1) (store.past d.1)
+  pub stays : IsTold store c.1 → KeepsSpent spender.spent (store.past c.1) (store.past d.1)
   pub given : IsTold store c.1 → (q : ℕ) → spender.number m line ≡ Some q → SpentInAll spender.spent (store.past d.1) q
   -- if each image was that of one machine, each since is that one's or the next one's, and now each is the next one's
   pub moments : IsTold store c.1 → (before : M) → AllStand spender before (store.past c.1)
@@ -115,7 +107,7 @@ pub record HasSpent {M C D : Type 0} (spender : Spender M C) (store : Store D)
 pub record GaveUpSpending {M C D : Type 0} (spender : Spender M C) (store : Store D)
     (m : M) (c : C × D) (line : List ℕ) (d : C × D) : Type 0 where
   pub effect : spender.effect.gave_up m c.0 (line ∷ []) d.0
-  pub stays : IsTold store c.1 → StaysSpent spender.spent (store.past c.1) (store.past d.1)
+  pub stays : IsTold store c.1 → KeepsSpent spender.spent (store.past c.1) (store.past d.1)
   pub moments : IsTold store c.1 → (before : M) → AllStand spender before (store.past c.1)
       → Leaves (StandsForEither spender before (spender.next m line)) (store.past c.1) (store.past d.1)
 

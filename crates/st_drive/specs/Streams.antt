@@ -3,7 +3,7 @@
 use Rattle.std.specs.Prelude.{◌≡◌, ℕ, Bool, List, ◌++◌, ◌≤◌, length, Some}
 use Rattle.std.specs.declared.option.Option.{Option}
 use Rattle.st_io.specs.Causes.{Rose}
-use Rattle.st_io.specs.Past.{Past}
+use Rattle.st_io.specs.Storage.{Storage}
 
 -- a source and a sink
 pub record Streams : Type 1 where
@@ -37,30 +37,6 @@ streams left read_faults source source_now written finished write_faults sink si
   write_failed = Rose (write_faults sink) (write_faults sink_now);
   source_kept = source_now ≡ source;
   sink_kept = sink_now ≡ sink;
-}
-
--- a disk
-pub record Storage : Type 1 where
-  -- its contents, before and after
-  pub reads : Option (List ℕ)
-  pub reads_behind : Option (List ℕ)
-  -- the images that a stop may have left by then, and at each moment until the end of the run
-  pub before : Past
-  pub behind : Past
-  -- it failed in this run
-  pub failed : Type 0
-  -- it is unchanged
-  pub kept : Type 0
-
--- any disk, by what it reveals
-abbrev pub storage : {D : Type 0} (reads : D → Option (List ℕ)) (past : D → Past) (faults : D → ℕ) (disk disk_now : D) → Storage
-storage reads past faults disk disk_now = record {
-  reads = reads disk;
-  reads_behind = reads disk_now;
-  before = past disk;
-  behind = past disk_now;
-  failed = Rose (faults disk) (faults disk_now);
-  kept = disk_now ≡ disk;
 }
 
 -- a run of a machine with a context of type C, such as counters of work

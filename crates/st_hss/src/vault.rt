@@ -1,12 +1,11 @@
-ghost use Rattle.std.specs.Prelude.{◌≡◌, ◌≢◌, ◌↔◌, ◌⊎◌, ◌≤◌, IsErr, IsErrOf, IsSome, IfOk, IfErr, Ok, OnOk};
-ghost use Rattle.st_io.specs.Past.{Leaves, Only};
+ghost use Rattle.std.specs.Prelude.{◌≡◌, ◌≢◌, ◌↔◌, ◌⊎◌, ◌≤◌, IsErr, IsErrOf, IfOk, IfErr};
+ghost use Rattle.st_io.specs.Spent.{SpentInAll};
+ghost use Rattle.st_io.specs.Storage.{storage};
 ghost use Rattle.st_io.specs.Tears.{IfTold};
 ghost use Rattle.st_lms.specs.Parameters.{IsOneTimeType};
 ghost use Rattle.st_vault.specs.Image.{IsSpent};
-ghost use Rattle.st_vault.specs.Opening.{AllOpenAs, ReadsAs};
-ghost use Rattle.st_vault.specs.Reserving.{IsBeforeOrAfter};
-ghost use Rattle.st_vault.specs.Spent.{SpentInAll, KeepsSpent};
-ghost use Rattle.st_vault.specs.Values.{left_of};
+ghost use Rattle.st_vault.specs.Opening.{ReadsAs};
+ghost use Rattle.st_vault.specs.Reserving.{HasSpent, MaySpend};
 ghost use Rattle.st_hss.specs.Signed.{IsHssSignature};
 ghost use Rattle.st_hss.specs.Signing.{SignGives};
 ghost use Rattle.st_hss.specs.Uses.{hss_public_of};
@@ -114,7 +113,6 @@ impl HssVault {
     /// The first signature computes the leaves of the top key, and the first with each lower key
     /// those of that key, before the counter is spent; they are stored for the later signatures,
     /// which compute none.
-    #[tactic(auto, using(crate::proofs::VaultLemmas::keeps_standing, crate::proofs::VaultLemmas::moments_standing))]
     pub fn sign<D: Disk>(
         self,
         alloc: Global,
@@ -125,27 +123,13 @@ impl HssVault {
 
         ensures gives { SignGives self message.now (D.faults disk.old) (D.faults disk.new) result }
         ensures verifies { IfOk result (λ given. IsHssSignature (hss_public_of self.key) message.now given.1) }
-        ensures untouched { left_of self ≡ 0 → disk.new ≡ disk.old }
-
-        // The counter was not spent. The contents are the returned vault, and the counter is spent
-        // in every image.
-        ensures unspent { OnOk result (IfTold (D.reads disk.old) (λ image. IsSpent image self.next → ⊥)) }
-        ensures reads { IfOk result (λ given. ReadsAs (D.reads disk.new) given.0) }
-        ensures told { OnOk result (IfTold (D.reads disk.old) (λ image. IsSome (D.reads disk.new))) }
-        ensures durable { OnOk result (IfTold (D.reads disk.new) (Only (D.past disk.new))) }
-        ensures spent { OnOk result (IfTold (D.reads disk.old) (λ image. SpentInAll (D.past disk.new) self.next)) }
+        ensures may_spend { MaySpend self (storage D.reads D.past D.faults disk.old disk.new) }
+        ensures has_spent { IfOk result (λ given.
+            HasSpent self given.0 (storage D.reads D.past D.faults disk.old disk.new)) }
 
         // If it ran out of memory, nothing was spent, or the counter was and is lost.
         ensures lost { IsErrOf result HssSignRefused.WantOfMemory → (disk.new ≡ disk.old)
-            ⊎ IfTold (D.reads disk.old) (λ image. SpentInAll (D.past disk.new) self.next) }
-
-        // If a stop before the call leaves the vault, a stop at any moment of the call leaves the
-        // vault before its next counter was spent, or after.
-        ensures moments { AllOpenAs (Ok self) (D.past disk.old)
-            → Leaves (IsBeforeOrAfter self) (D.past disk.old) (D.past disk.new) }
-
-        // Counters that were spent in every image stay so at each moment of the call.
-        ensures stays { IfTold (D.reads disk.old) (λ image. KeepsSpent (D.past disk.old) (D.past disk.new)) }
+            ⊎ IfTold (D.reads disk.old) (λ image. SpentInAll IsSpent (D.past disk.new) self.next) }
         ensures later { D.faults disk.old ≤ D.faults disk.new }
     {
         let HssVault { vault, kept } = self;

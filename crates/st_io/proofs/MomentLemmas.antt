@@ -2,12 +2,17 @@
 -- moment of a call.
 use Rattle.std.proofs.Common.{◌≡◌, ◌∙◌, ℕ, List, Option, Some, sym, subst}
 use Rattle.st_io.proofs.PastLemmas.{adds_none, goes_on, more}
-use Rattle.st_io.specs.Past.{Past, AddsNoImage, GoesOn, Follow, Only, Leaves}
+use Rattle.st_io.specs.Past.{Past, AddsNoImage, GoesOn, Follow, Only, Leaves, StaysAsItWas}
 use Rattle.st_io.specs.Tears.{Turns}
 
 -- two runs that add no image
 pub no_image_on : (a b c : Past) → AddsNoImage a b → AddsNoImage b c → AddsNoImage a c
 no_image_on a b c ab bc = record { goes = goes_on a b c ab.goes bc.goes; none = adds_none a b c ab.goes ab.none bc.goes bc.none }
+
+-- two runs that leave a disk as it was
+pub still_as_it_was : {told mid now : Option (List ℕ)} {a b c : Past} → StaysAsItWas told mid a b → StaysAsItWas mid now b c → StaysAsItWas told now a c
+still_as_it_was {a = a} {b = b} {c = c} first second =
+    record { reads = second.reads ∙ first.reads; images = no_image_on a b c first.images second.images }
 
 -- a write over the only image
 pub over : (P : List ℕ → Type 0) (step : List ℕ → List ℕ → Type 0) (a b : Past) (old : List ℕ) → Only a old → GoesOn a b → Follow step a b

@@ -1,10 +1,15 @@
 -- How a disk continues over a run of calls. For crates with clauses about stops inside a call.
 use Rattle.std.proofs.Common.{◌⊎◌, inl, inr, ⊎_elim, ℕ, zero, suc, ◌<◌, ◌≤◌, List, arith}
 use Rattle.st_io.specs.Past.{Past, GoesOn, AddsNone, LeftSinceSync, Leaves, SplitsSinceSync}
+use Rattle.st_io.specs.Spent.{KeepsSpent}
 
 -- no call
 pub stands : (p : Past) → GoesOn p p
 stands p = record { later = omega arith; splits = λ t c le left. inl left; keeps = λ t c le left. left; syncs = λ s le. (λ was. was, λ was. was) }
+
+-- spent numbers stay so
+pub keeps_standing : (spent : List ℕ → ℕ → Type 0) (p : Past) → KeepsSpent spent p p
+keeps_standing spent p = record { goes = stands p; stays = λ q all x left. all x left }
 
 -- one run after another
 pub goes_on : (a b c : Past) → GoesOn a b → GoesOn b c → GoesOn a c

@@ -1,5 +1,5 @@
 -- The images that a stop may leave of a disk, at each moment so far.
-use Rattle.std.specs.Prelude.{◌≡◌, ◌⊎◌, ◌↔◌, ◌<◌, ◌≤◌, ℕ, List}
+use Rattle.std.specs.Prelude.{◌≡◌, ◌⊎◌, ◌↔◌, ◌<◌, ◌≤◌, ℕ, List, Option}
 
 -- An image is a list of bytes that a stop may leave. A past has the moment, a number that doesn't fall; the images at
 -- each moment from a stated one on, which are among those from an earlier one on; and whether a successful sync, one
@@ -67,3 +67,8 @@ pub record Leaves (P : List ℕ → Type 0) (old new : Past) : Type 0 where
 pub record AddsNoImage (old new : Past) : Type 0 where
   pub goes : GoesOn old new
   pub none : AddsNone old new
+
+-- the contents are unchanged, and a stop at any moment since leaves only what it might have left before
+pub record StaysAsItWas (told now : Option (List ℕ)) (old new : Past) : Type 0 where
+  pub reads : now ≡ told
+  pub images : AddsNoImage old new

@@ -1,8 +1,10 @@
 -- The records of a disk, read one by one, each from the gate before it.
 use Rattle.std.specs.Prelude.{◌≡◌, ⊤, ℕ, ◌+◌, ◌-◌, ◌<◌, ◌≤◌, ◌^◌, ◌==◌, if◌then◌else◌, List, [], ◌∷◌, ◌++◌, length, drop, Option, Some, None, option_map, Result, Ok, Err}
+use Rattle.std.specs.Option.{ok_or}
 use Rattle.st_io.specs.Past.{Past, Only}
-use Rattle.st_io.specs.Tears.{IfTold}
-use Rattle.st_journal.specs.Image.{open_gate, is_enough, body_of, found, first_closed}
+use Rattle.st_io.specs.Tears.{IfTold, Turns}
+use Rattle.st_journal.specs.Image.{open_gate, is_enough, body_of, found, first_closed, records}
+use Rattle.st_journal.specs.Opening.{begun, opened}
 use Rattle.st_journal.specs.Windows.{IsSound, Shows}
 use Rattle.st_journal.specs.declared.opening.Opening.{Opening}
 use Rattle.st_journal.specs.declared.refused.JournalRefused.{JournalRefused}
@@ -71,3 +73,12 @@ pub record IsReading (opening : Opening) (told : Option (List ℕ)) (past : Past
   pub closed : IfTold told (λ image. opening.len ≤ opening.place → record_at (drop opening.place image) ≡ Some None)
   pub gate : IfTold told (λ image. first_closed image ≡ closed_from opening.place image)
   pub only : IfTold told (Only past)
+
+-- The opening of a disk has begun: the remaining records are then all records of the disk, and its contents are those
+-- before with a gate.
+pub record HasBegun (opening : Opening) (told now : Option (List ℕ)) (past : Past) : Type 0 where
+  pub reading : IsReading opening now past
+  pub first : opening.place ≡ 0
+  pub comes : Turns told now (λ old new. opened old ≡ ok_or (coming opening new) Damaged)
+  pub contents : Turns told now (λ old new. new ≡ begun old)
+  pub same : Turns told now (λ old new. records new ≡ records old)

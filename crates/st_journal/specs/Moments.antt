@@ -1,6 +1,6 @@
 -- Properties of a journal's disk between calls, and the images that a stop inside them may leave.
 use Rattle.std.specs.Prelude.{◌≡◌, ◌⊎◌, ℕ, List, [], ◌∷◌, ◌++◌, Option, Some, option_map}
-use Rattle.st_io.specs.Past.{Past, Images, AddsNoImage}
+use Rattle.st_io.specs.Past.{Past, Images}
 use Rattle.st_io.specs.Tears.{IfTold}
 use Rattle.st_journal.specs.Image.{first_closed, records}
 use Rattle.st_journal.specs.Values.{JournalValue}
@@ -23,8 +23,3 @@ IsBeforeOrAfter before body image = (records image ≡ before) ⊎ (records imag
 -- an image is one of an earlier moment, or has these records
 abbrev pub IsOldOrHas : Past → Option (List (List ℕ)) → List ℕ → Type 0
 IsOldOrHas old bodies image = Images old image ⊎ (records image ≡ bodies)
-
--- the contents are unchanged, and a stop at any moment since leaves only what it might have left before
-pub record StaysAsItWas (told now : Option (List ℕ)) (old new : Past) : Type 0 where
-  pub reads : now ≡ told
-  pub images : AddsNoImage old new

@@ -1,12 +1,12 @@
-ghost use Rattle.std.specs.Prelude.{◌≡◌, ◌≢◌, ◌≤◌, ◌<◌, ◌^◌, List, ℕ, Some, IfErr, IfOk, OnOk, IsErrOf};
+ghost use Rattle.std.specs.Prelude.{◌≡◌, ◌≢◌, ◌<◌, ◌^◌, List, ℕ, Some, IfErr, IfOk, OnOk};
 ghost use Rattle.std.specs.Option.{ok_or};
 ghost use Rattle.st_base.specs.Answers.{GivesAs};
-ghost use Rattle.st_io.specs.Causes.{Rose};
-ghost use Rattle.st_io.specs.Past.{AddsNoImage, Images, Leaves, LeftSinceSync, Only};
+ghost use Rattle.st_io.specs.Causes.{FaultHasCause};
+ghost use Rattle.st_io.specs.Past.{Images, Leaves, LeftSinceSync, Only, StaysAsItWas};
 ghost use Rattle.st_io.specs.Tears.{IfTold, Turns};
 ghost use Rattle.st_journal.specs.Coming.{IsReading, coming, left_of};
 ghost use Rattle.st_journal.specs.Image.{records};
-ghost use Rattle.st_journal.specs.Moments.{IsReady, IsOldOrHas, StaysAsItWas};
+ghost use Rattle.st_journal.specs.Moments.{IsReady, IsOldOrHas};
 ghost use Rattle.st_journal.specs.Opening.{begun, opened, refusal_of};
 ghost use Rattle.st_journal.specs.declared.refused.JournalRefused.TheVariants.{Damaged};
 
@@ -48,8 +48,7 @@ pub fn open_journal<D: Disk>(
     ensures moments { IfTold (D.reads disk.old) (λ old. Leaves (IsOldOrHas (D.past disk.old) (records old)) (D.past disk.old) (D.past disk.new)) }
     ensures synced { IfTold (D.reads disk.old) (λ old. (image : List ℕ)
         → LeftSinceSync (D.past disk.new) (D.past disk.old).now image → records image ≡ records old) }
-    ensures fault { IsErrOf result JournalRefused.DiskFault → Rose (D.faults disk.old) (D.faults disk.new) }
-    ensures later { D.faults disk.old ≤ D.faults disk.new }
+    ensures cause { FaultHasCause JournalRefused.DiskFault (D.faults disk.old) (D.faults disk.new) result }
 {
     disk.sync()?;
     open_synced(alloc, disk)
@@ -69,8 +68,7 @@ fn open_synced<D: Disk>(
     ensures refused { IfErr result (λ refused. refused ≢ JournalRefused.DiskFault
         → StaysAsItWas (D.reads disk.old) (D.reads disk.new) (D.past disk.old) (D.past disk.new)) }
     ensures moments { IfTold (D.reads disk.old) (λ old. Leaves (λ image. records image ≡ records old) (D.past disk.old) (D.past disk.new)) }
-    ensures fault { IsErrOf result JournalRefused.DiskFault → Rose (D.faults disk.old) (D.faults disk.new) }
-    ensures later { D.faults disk.old ≤ D.faults disk.new }
+    ensures cause { FaultHasCause JournalRefused.DiskFault (D.faults disk.old) (D.faults disk.new) result }
 {
     match begin_synced(alloc, disk) {
         Ok(opening) => read_on(alloc, disk, opening),
@@ -89,10 +87,8 @@ fn read_on<D: Disk>(
     ensures ready { IfOk result (λ given. IsReady given.0 (D.reads disk.new) (D.past disk.new)) }
     ensures small { IfOk result (λ given. given.0.end < 2 ^ 40) }
     ensures refuses { IfErr result (λ refused. 0 < left_of opening) }
-    ensures reads { D.reads disk.new ≡ D.reads disk.old }
-    ensures images { AddsNoImage (D.past disk.old) (D.past disk.new) }
-    ensures fault { IsErrOf result JournalRefused.DiskFault → Rose (D.faults disk.old) (D.faults disk.new) }
-    ensures later { D.faults disk.old ≤ D.faults disk.new }
+    ensures as_it_was { StaysAsItWas (D.reads disk.old) (D.reads disk.new) (D.past disk.old) (D.past disk.new) }
+    ensures cause { FaultHasCause JournalRefused.DiskFault (D.faults disk.old) (D.faults disk.new) result }
 {
     let mut opening = opening;
     let mut bodies = List::new(alloc);

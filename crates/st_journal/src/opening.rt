@@ -1,14 +1,12 @@
-ghost use Rattle.std.specs.Prelude.{◌≡◌, ◌≢◌, ◌≤◌, ◌+◌, ◌<◌, ◌^◌, List, ℕ, None, Ok, Err, drop, length, IfErr, IfOk, IfSome, OnOk, IsErrOf};
-ghost use Rattle.std.specs.Option.{ok_or};
-ghost use Rattle.st_io.specs.Causes.{Rose};
-ghost use Rattle.st_io.specs.Past.{AddsNoImage, Leaves, LeftSinceSync, Only};
-ghost use Rattle.st_io.specs.Tears.{IfTold, Turns};
-ghost use Rattle.st_journal.specs.Coming.{Comes, IsReading, RecordIs, coming, left_of};
+ghost use Rattle.std.specs.Prelude.{◌≡◌, ◌≢◌, ◌+◌, ◌<◌, ◌^◌, List, ℕ, None, Ok, Err, drop, length, IfErr, IfOk, IfSome};
+ghost use Rattle.st_io.specs.Causes.{FaultHasCause};
+ghost use Rattle.st_io.specs.Past.{Leaves, LeftSinceSync, Only, StaysAsItWas};
+ghost use Rattle.st_io.specs.Tears.{IfTold};
+ghost use Rattle.st_journal.specs.Coming.{Comes, HasBegun, IsReading, RecordIs, coming, left_of};
 ghost use Rattle.st_journal.specs.Image.{records};
-ghost use Rattle.st_journal.specs.Moments.{IsReady, IsOldOrHas, StaysAsItWas};
-ghost use Rattle.st_journal.specs.Opening.{begun, opened, refusal_of};
+ghost use Rattle.st_journal.specs.Moments.{IsReady, IsOldOrHas};
+ghost use Rattle.st_journal.specs.Opening.{opened, refusal_of};
 ghost use Rattle.st_journal.specs.Values.{at_end};
-ghost use Rattle.st_journal.specs.declared.refused.JournalRefused.TheVariants.{Damaged};
 
 use crate::journal::Journal;
 use crate::layout::{CLOSED_GATE, HEAD_LEN, LONGEST};
@@ -39,11 +37,7 @@ impl Opening {
     /// unchanged. It allocates 65,536 bytes.
     pub fn begin<D: Disk>(alloc: Global, disk: &mut D) -> Result<Opening, JournalRefused>
         // The remaining records are then all records of the disk.
-        ensures reading { IfOk result (λ opening. IsReading opening (D.reads disk.new) (D.past disk.new)) }
-        ensures first { IfOk result (λ opening. opening.place ≡ 0) }
-        ensures comes { IfOk result (λ opening. Turns (D.reads disk.old) (D.reads disk.new) (λ old new. opened old ≡ ok_or (coming opening new) Damaged)) }
-        ensures begun { OnOk result (Turns (D.reads disk.old) (D.reads disk.new) (λ old new. new ≡ begun old)) }
-        ensures same { OnOk result (Turns (D.reads disk.old) (D.reads disk.new) (λ old new. records new ≡ records old)) }
+        ensures begins { IfOk result (λ opening. HasBegun opening (D.reads disk.old) (D.reads disk.new) (D.past disk.new)) }
 
         // If something remains to be read, and if it is refused, the disk is unchanged.
         ensures unwritten { IfOk result (λ opening. 0 < left_of opening
@@ -57,8 +51,7 @@ impl Opening {
         ensures moments { IfTold (D.reads disk.old) (λ old. Leaves (IsOldOrHas (D.past disk.old) (records old)) (D.past disk.old) (D.past disk.new)) }
         ensures synced { IfTold (D.reads disk.old) (λ old. (image : List ℕ)
             → LeftSinceSync (D.past disk.new) (D.past disk.old).now image → records image ≡ records old) }
-        ensures fault { IsErrOf result JournalRefused.DiskFault → Rose (D.faults disk.old) (D.faults disk.new) }
-        ensures later { D.faults disk.old ≤ D.faults disk.new }
+        ensures cause { FaultHasCause JournalRefused.DiskFault (D.faults disk.old) (D.faults disk.new) result }
     {
         disk.sync()?;
         begin_synced(alloc, disk)
@@ -91,10 +84,8 @@ impl Opening {
         // It makes progress, and refuses only if something remained to be read.
         ensures shorter { IfOk result (λ next. IfSome next (λ body. left_of self.new < left_of self.old)) }
         ensures refuses { IfErr result (λ refused. 0 < left_of self.old) }
-        ensures reads { D.reads disk.new ≡ D.reads disk.old }
-        ensures images { AddsNoImage (D.past disk.old) (D.past disk.new) }
-        ensures fault { IsErrOf result JournalRefused.DiskFault → Rose (D.faults disk.old) (D.faults disk.new) }
-        ensures later { D.faults disk.old ≤ D.faults disk.new }
+        ensures as_it_was { StaysAsItWas (D.reads disk.old) (D.reads disk.new) (D.past disk.old) (D.past disk.new) }
+        ensures cause { FaultHasCause JournalRefused.DiskFault (D.faults disk.old) (D.faults disk.new) result }
     {
         if self.len <= self.place {
             return Ok(None);
@@ -122,19 +113,14 @@ impl Opening {
 /// Begins to open a disk whose only image is its contents.
 pub(crate) fn begin_synced<D: Disk>(alloc: Global, disk: &mut D) -> Result<Opening, JournalRefused>
     requires { IfTold (D.reads disk.old) (Only (D.past disk.old)) }
-    ensures reading { IfOk result (λ opening. IsReading opening (D.reads disk.new) (D.past disk.new)) }
-    ensures first { IfOk result (λ opening. opening.place ≡ 0) }
-    ensures comes { IfOk result (λ opening. Turns (D.reads disk.old) (D.reads disk.new) (λ old new. opened old ≡ ok_or (coming opening new) Damaged)) }
-    ensures begun { OnOk result (Turns (D.reads disk.old) (D.reads disk.new) (λ old new. new ≡ begun old)) }
-    ensures same { OnOk result (Turns (D.reads disk.old) (D.reads disk.new) (λ old new. records new ≡ records old)) }
+    ensures begins { IfOk result (λ opening. HasBegun opening (D.reads disk.old) (D.reads disk.new) (D.past disk.new)) }
     ensures unwritten { IfOk result (λ opening. 0 < left_of opening
         → StaysAsItWas (D.reads disk.old) (D.reads disk.new) (D.past disk.old) (D.past disk.new)) }
     ensures refusal { IfErr result (λ error. IfTold (D.reads disk.old) (λ old. IfSome (refusal_of error) (λ refusal. opened old ≡ Err refusal))) }
     ensures refused { IfErr result (λ refused. refused ≢ JournalRefused.DiskFault
         → StaysAsItWas (D.reads disk.old) (D.reads disk.new) (D.past disk.old) (D.past disk.new)) }
     ensures moments { IfTold (D.reads disk.old) (λ old. Leaves (λ image. records image ≡ records old) (D.past disk.old) (D.past disk.new)) }
-    ensures fault { IsErrOf result JournalRefused.DiskFault → Rose (D.faults disk.old) (D.faults disk.new) }
-    ensures later { D.faults disk.old ≤ D.faults disk.new }
+    ensures cause { FaultHasCause JournalRefused.DiskFault (D.faults disk.old) (D.faults disk.new) result }
 {
     let len = disk.length()?;
     if len > LONGEST {
@@ -155,16 +141,11 @@ pub(crate) fn begin_synced<D: Disk>(alloc: Global, disk: &mut D) -> Result<Openi
 fn begin_closed<D: Disk>(alloc: Global, disk: &mut D) -> Result<Opening, JournalRefused>
     requires short { IfTold (D.reads disk.old) (λ old. length old < 2) }
     requires only { IfTold (D.reads disk.old) (Only (D.past disk.old)) }
-    ensures reading { IfOk result (λ opening. IsReading opening (D.reads disk.new) (D.past disk.new)) }
-    ensures first { IfOk result (λ opening. opening.place ≡ 0) }
-    ensures comes { IfOk result (λ opening. Turns (D.reads disk.old) (D.reads disk.new) (λ old new. opened old ≡ ok_or (coming opening new) Damaged)) }
-    ensures begun { OnOk result (Turns (D.reads disk.old) (D.reads disk.new) (λ old new. new ≡ begun old)) }
-    ensures same { OnOk result (Turns (D.reads disk.old) (D.reads disk.new) (λ old new. records new ≡ records old)) }
+    ensures begins { IfOk result (λ opening. HasBegun opening (D.reads disk.old) (D.reads disk.new) (D.past disk.new)) }
     ensures none { IfOk result (λ opening. left_of opening ≡ 0) }
     ensures refused { IfErr result (λ refused. refused ≡ JournalRefused.DiskFault) }
     ensures moments { IfTold (D.reads disk.old) (λ old. Leaves (λ image. records image ≡ records old) (D.past disk.old) (D.past disk.new)) }
-    ensures fault { IsErrOf result JournalRefused.DiskFault → Rose (D.faults disk.old) (D.faults disk.new) }
-    ensures later { D.faults disk.old ≤ D.faults disk.new }
+    ensures cause { FaultHasCause JournalRefused.DiskFault (D.faults disk.old) (D.faults disk.new) result }
 {
     write_synced(disk, 0, &[CLOSED_GATE])?;
     Ok(Opening {

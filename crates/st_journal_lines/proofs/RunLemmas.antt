@@ -7,12 +7,13 @@ use Rattle.std.specs.Prelude.{IsErrOf}
 use Rattle.std.proofs.lemmas.Bool.{false≢true}
 use Rattle.st_io.specs.Causes.{Rose}
 use Rattle.st_io.specs.Past.{Past}
+use Rattle.st_io.specs.Storage.{Storage, storage}
 use Rattle.st_io.specs.Tears.{Turns}
 use Rattle.st_drive.specs.Lines.{all_lines}
 use Rattle.st_drive.specs.OnDisk.{AllHold, EffectLaws, HasReleased, IsTold, LeavesOnDisk, Opens, RunLeaves, Store, disk_meaning, replies}
 use Rattle.st_drive.specs.Recording.{EndsReplied, HasPrefix, HasRepliedPrefix, KeepsPrefixes, KeepsRecords, changing, recorded, recording}
 use Rattle.st_drive.specs.Runs.{Begins, NearlyReplied, course}
-use Rattle.st_drive.specs.Streams.{Outcome, Storage, Streams, Unread, storage}
+use Rattle.st_drive.specs.Streams.{Outcome, Streams, Unread}
 use Rattle.st_drive.specs.Tables.{AnsweredFirst, AnswersLines, is_end}
 use Rattle.st_drive.proofs.InputLemmas.{answered_input, answered_source, nothing_written}
 use Rattle.st_drive.proofs.OnDiskLemmas.{leaves_on_disk, run_leaves, run_opens}

@@ -2,16 +2,17 @@
 -- statuses.
 use Rattle.std.specs.Prelude.{◌≡◌, ◌⊎◌, ◌==◌, ◌||◌, ◌<◌, ◌^◌, ℕ, Bool, List, ◌++◌, Some, Result, Ok, Err, IfOk, OnOk, OnErr, IsErrOf, IsTrue}
 use Rattle.st_base.specs.Answers.{GivesAs}
-use Rattle.st_io.specs.Past.{LeftSinceSync, Leaves, Past}
+use Rattle.st_io.specs.Past.{LeftSinceSync, Leaves, Past, StaysAsItWas}
+use Rattle.st_io.specs.Storage.{Storage}
 use Rattle.st_io.specs.Tears.{IfTold, Turns}
 use Rattle.st_drive.specs.Lines.{all_lines}
 use Rattle.st_drive.specs.OnDisk.{replies}
 use Rattle.st_drive.specs.Recording.{Recorder, EndsReplied, KeepsPrefixes, KeepsRecords, recording}
 use Rattle.st_drive.specs.Runs.{Begins, Course}
-use Rattle.st_drive.specs.Streams.{GoesWell, Outcome, Storage, Tells}
+use Rattle.st_drive.specs.Streams.{GoesWell, Outcome, Tells}
 use Rattle.st_drive.specs.Tables.{AnswersLines, Ends, TakesBytes, is_end, replying}
 use Rattle.st_journal.specs.Image.{records}
-use Rattle.st_journal.specs.Moments.{IsOldOrHas, IsReady, StaysAsItWas}
+use Rattle.st_journal.specs.Moments.{IsOldOrHas, IsReady}
 use Rattle.st_journal.specs.Opening.{opened, refusal_of}
 use Rattle.st_journal.specs.Values.{JournalValue}
 use Rattle.st_journal.specs.declared.refused.JournalRefused.{JournalRefused}

@@ -1,10 +1,10 @@
-ghost use Rattle.std.specs.Prelude.{◌≡◌, ◌≤◌, ◌<◌, ◌^◌, ℕ, List, IfErr, IfOk, OnErr, IsErrOf, Some};
+ghost use Rattle.std.specs.Prelude.{◌≡◌, ◌≤◌, ◌<◌, ◌^◌, ℕ, List, IfErr, IfOk, OnErr, Some};
 ghost use Rattle.std.specs.Option.{ok_or};
 ghost use Rattle.st_base.specs.Answers.{GivesAs};
-ghost use Rattle.st_io.specs.Causes.{Rose};
-ghost use Rattle.st_io.specs.Past.{AddsNoImage};
+ghost use Rattle.st_io.specs.Causes.{FaultHasCause};
+ghost use Rattle.st_io.specs.Past.{StaysAsItWas};
+ghost use Rattle.st_io.specs.Storage.{storage};
 ghost use Rattle.st_io.specs.Tears.{IfTold};
-ghost use Rattle.st_drive.specs.Streams.{storage};
 ghost use Rattle.st_journal.specs.Coming.{IsReading, coming, left_of};
 ghost use Rattle.st_journal.specs.Moments.{IsReady};
 ghost use Rattle.st_journal.specs.Opening.{refusal_of};
@@ -39,10 +39,8 @@ fn replay<N: Replayable, D: Disk>(
     ensures within { IfTold (D.reads disk.old) (λ image.
         OnErr result (WentOverFrom N.answering machine opening.place image context.old context.new)) }
     ensures refuses { IfErr result (λ refused. 0 < left_of opening) }
-    ensures reads { D.reads disk.new ≡ D.reads disk.old }
-    ensures images { AddsNoImage (D.past disk.old) (D.past disk.new) }
-    ensures fault { IsErrOf result JournalRefused.DiskFault → Rose (D.faults disk.old) (D.faults disk.new) }
-    ensures later { D.faults disk.old ≤ D.faults disk.new }
+    ensures as_it_was { StaysAsItWas (D.reads disk.old) (D.reads disk.new) (D.past disk.old) (D.past disk.new) }
+    ensures cause { FaultHasCause JournalRefused.DiskFault (D.faults disk.old) (D.faults disk.new) result }
 {
     let mut machine = machine;
     let mut opening = opening;

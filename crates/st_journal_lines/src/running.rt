@@ -1,5 +1,6 @@
 ghost use Rattle.std.specs.Prelude.{◌≡◌, ◌≤◌, ◌^◌};
-ghost use Rattle.st_drive.specs.Streams.{storage, streams};
+ghost use Rattle.st_io.specs.Storage.{storage};
+ghost use Rattle.st_drive.specs.Streams.{streams};
 ghost use Rattle.st_journal_lines.specs.Journalled.{RecordedRun, refusal_status as status_of};
 
 use crate::lines::JournalLines;

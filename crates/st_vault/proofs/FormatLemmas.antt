@@ -6,6 +6,7 @@ use Rattle.std.proofs.lemmas.List.{drop-drop, drop-replicate, drop_at, get_or-ta
 use Rattle.st_base.specs.Answers.{holds_or}
 use Rattle.st_io.proofs.PastLemmas.{goes_on}
 use Rattle.st_io.specs.Past.{Past, AddsNoImage, Images, GoesOn, AddsNone, Follow, Only, Leaves}
+use Rattle.st_io.specs.Spent.{KeepsSpent}
 use Rattle.st_io.specs.Tears.{Torn, Holds}
 use Rattle.st_lms.specs.Keys.{SecretKey, IsSecretKey}
 use Rattle.st_vault.proofs.HeaderLemmas.{key_of_header-header_of, length-header_of}
@@ -17,7 +18,6 @@ use Rattle.st_vault.proofs.SpentLemmas.{spent-whole, spent-none}
 use Rattle.st_vault.specs.Formatting.{IsFilled, IsFresh, IsNew, IsOldOrBlank, IsOldOrFresh, IsShut, behind_gate, formatted_image, unformatted, zeros}
 use Rattle.st_vault.specs.Image.{IsSpent, header_of, is_formatted, key_in, key_of_header, kind_of, map_in, next_counter, nonzero_from, one_past, open_gate, spent}
 use Rattle.st_vault.specs.Image.Kind.{Blank}
-use Rattle.st_vault.specs.Spent.{KeepsSpent}
 use Rattle.st_vault.specs.Values.{count_of, new_vault}
 use Rattle.st_vault.specs.declared.refused.FormatRefused.TheVariants.{Formatted}
 
@@ -164,7 +164,7 @@ spent_on key old image q there = ⊎_elim
     (λ fresh. absurd (spent-none old q fresh.0 there))
 
 -- over the first sync and the steps
-pub formatting_keeps : (key : SecretKey) (old : List ℕ) (a b c : Past) → Images a old → GoesOn a b → AddsNone a b → Leaves (IsOldOrFresh key old) b c → KeepsSpent a c
+pub formatting_keeps : (key : SecretKey) (old : List ℕ) (a b c : Past) → Images a old → GoesOn a b → AddsNone a b → Leaves (IsOldOrFresh key old) b c → KeepsSpent IsSpent a c
 formatting_keeps key old a b c image goes none leaves = record {
   goes = goes_on a b c goes leaves.goes;
   stays = λ q all x left. ⊎_elim

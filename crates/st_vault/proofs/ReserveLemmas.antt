@@ -3,6 +3,7 @@ use Rattle.std.proofs.Common.{◌≡◌, ⊎_elim, ◌∙◌, ℕ, suc, ◌+◌,
 use Rattle.std.proofs.lemmas.Bool.{cases_eq}
 use Rattle.std.proofs.lemmas.List.{get_or-set_other, get_or-set_same, length-set, set_split, take-set-le}
 use Rattle.st_io.specs.Past.{Past, Images, GoesOn, Follow}
+use Rattle.st_io.specs.Spent.{KeepsSpent}
 use Rattle.st_io.specs.Tears.{Torn, Holds}
 use Rattle.st_vault.proofs.HeaderLemmas.{same_key}
 use Rattle.st_vault.proofs.ImageLemmas.{Parts}
@@ -12,7 +13,6 @@ use Rattle.st_vault.proofs.SpentLemmas.{is_spent, marked, same_front, same_parts
 use Rattle.st_vault.proofs.VaultLemmas.{spent_below}
 use Rattle.st_vault.specs.Image.{IsSpent, key_in, next_counter, spent}
 use Rattle.st_vault.specs.Opening.{opened}
-use Rattle.st_vault.specs.Spent.{KeepsSpent}
 use Rattle.st_vault.specs.Values.{VaultValue, count_of, vault_after}
 use Rattle.std.specs.Prelude.{Ok}
 
@@ -92,7 +92,7 @@ module _ (vault : VaultValue) (old : List ℕ) (opens : opened old ≡ Ok vault)
       (subst (λ l. opened l ≡ Ok (vault_after vault)) is opens_after, subst (λ l. IsSpent l vault.next) is (next_spent left))
 
   -- complete or interrupted, the write keeps the counters spent in every image
-  pub after_write : (place : ℕ) (a b : Past) → place ≡ vault.next → Images a old → GoesOn a b → Follow (Torn (64 + place) 1) a b → KeepsSpent a b
+  pub after_write : (place : ℕ) (a b : Past) → place ≡ vault.next → Images a old → GoesOn a b → Follow (Torn (64 + place) 1) a b → KeepsSpent IsSpent a b
   after_write place a b here image goes follow = record {
     goes = goes;
     stays = λ q all x left.

@@ -1,8 +1,10 @@
 -- For crates above: spent counters over several calls, which they are, and the kind of an image from the result of
 -- opening it.
-use Rattle.std.proofs.Common.{◌≡◌, ◌∙◌, ◌<◌, ℕ, List, not, Result, Ok, Err, ap, refl, sym}
+use Rattle.std.proofs.Common.{◌≡◌, ◌∙◌, ◌<◌, ℕ, List, not, Result, Ok, Err, ap, refl, subst, sym}
 use Rattle.st_base.specs.Answers.{◌>>=◌, ◌>>◌, holds_or}
 use Rattle.st_io.specs.Past.{Past}
+use Rattle.st_io.specs.Spent.{KeepsSpent, SpentInAll}
+use Rattle.st_io.specs.Storage.{Storage}
 use Rattle.st_lms.specs.Keys.{SecretKey}
 use Rattle.st_vault.proofs.ImageLemmas.{blank-unformatted}
 use Rattle.st_vault.proofs.MapLemmas.{one_past-above}
@@ -12,15 +14,23 @@ use Rattle.st_vault.specs.Formatting.{formatted}
 use Rattle.st_vault.specs.Image.{IsSpent, Kind, key_in, kind_of, next_counter, spent}
 use Rattle.st_vault.specs.Image.Kind.{Blank, Damaged, Whole}
 use Rattle.st_vault.specs.Opening.{key_by_kind, key_of, opened}
-use Rattle.st_vault.specs.Spent.{KeepsSpent, SpentInAll}
+use Rattle.st_vault.specs.Reserving.{HasSpent, MaySpend}
 use Rattle.st_vault.specs.Values.{VaultValue, new_vault}
 use Rattle.st_vault.specs.declared.refused.FormatRefused.TheVariants.{Formatted}
 use Rattle.st_vault.specs.declared.refused.OpenRefused.{OpenRefused}
 use Rattle.st_vault.specs.declared.refused.OpenRefused.TheVariants as refused
 
 -- a counter spent in every image is spent in every image after a run that keeps it
-pub still_spent : (a b : Past) (q : ℕ) → KeepsSpent a b → SpentInAll a q → SpentInAll b q
+pub still_spent : (a b : Past) (q : ℕ) → KeepsSpent IsSpent a b → SpentInAll IsSpent a q → SpentInAll IsSpent b q
 still_spent a b q keeps all x image = keeps.stays q all x (b.earlier a.now b.now x keeps.goes.later image)
+
+-- what a call may spend or has spent, of an equal vault
+module _ {own vault : VaultValue} {disk : Storage} (is : own ≡ vault) where
+  pub may_as : MaySpend own disk → MaySpend vault disk
+  may_as = subst (λ (v : VaultValue). MaySpend v disk) is
+
+  pub spent_as : {given : VaultValue} → HasSpent own given disk → HasSpent vault given disk
+  spent_as {given} = subst (λ (v : VaultValue). HasSpent v given disk) is
 
 -- ---- which counters are spent
 

@@ -1,14 +1,14 @@
 ghost use Rattle.std.specs.Prelude.{◌≡◌, ◌+◌, ◌≤◌, ◌++◌, ◌∷◌, List, ℕ, length, take, drop, IsSome, IfOk, OnOk, IsErrOf, Err};
 ghost use Rattle.st_base.specs.Answers.{Gives};
-ghost use Rattle.st_io.specs.Causes.{HasCause, Rose};
-ghost use Rattle.st_io.specs.Past.{AddsNoImage, Only, Leaves, LeftSinceSync};
+ghost use Rattle.st_io.specs.Causes.{FaultHasCause, HasCause};
+ghost use Rattle.st_io.specs.Past.{AddsNoImage, Leaves, LeftSinceSync, Only, StaysAsItWas};
+ghost use Rattle.st_io.specs.Spent.{KeepsSpent};
 ghost use Rattle.st_io.specs.Tears.{IfTold, Turns};
 ghost use Rattle.st_lms.specs.Keys.{SecretKey, IsSecretKey};
 ghost use Rattle.st_vault.specs.Formatting.{formatted, formatted_image, behind_gate, unformatted, refusal_of, zeros, IsBlankOrNew, IsFilled, IsFresh, IsNew, IsOldOrBlank, IsOldOrFresh, IsShut, OpensTo};
-ghost use Rattle.st_vault.specs.Image.{header_of, kind_of, open_gate};
+ghost use Rattle.st_vault.specs.Image.{IsSpent, header_of, kind_of, open_gate};
 ghost use Rattle.st_vault.specs.Image.Kind.{Blank};
 ghost use Rattle.st_vault.specs.Opening.{AllOpenAs, ReadsAs};
-ghost use Rattle.st_vault.specs.Spent.{KeepsSpent};
 ghost use Rattle.st_vault.specs.Start.{Begins};
 ghost use Rattle.st_vault.specs.Values.{count_of, new_vault};
 
@@ -42,7 +42,7 @@ pub fn format_vault<D: Disk>(disk: &mut D, secret: Secret) -> Result<Vault, Form
     ensures settled { IsErrOf result FormatRefused.Formatted → IfTold (D.reads disk.new) (Only (D.past disk.new)) }
 
     // Counters that were spent in every image stay so at each moment of the call.
-    ensures stays { IfTold (D.reads disk.old) (λ old. KeepsSpent (D.past disk.old) (D.past disk.new)) }
+    ensures stays { IfTold (D.reads disk.old) (λ old. KeepsSpent IsSpent (D.past disk.old) (D.past disk.new)) }
 
     // If a stop before the call leaves a blank disk, a stop at any moment of it leaves that or the
     // new vault.
@@ -57,8 +57,7 @@ pub fn format_vault<D: Disk>(disk: &mut D, secret: Secret) -> Result<Vault, Form
     // each moment from the first successful sync on.
     ensures synced { IfTold (D.reads disk.old) (λ old. (image : List ℕ)
         → LeftSinceSync (D.past disk.new) (D.past disk.old).now image → IsOldOrFresh secret old image) }
-    ensures fault { IsErrOf result FormatRefused.DiskFault → Rose (D.faults disk.old) (D.faults disk.new) }
-    ensures later { D.faults disk.old ≤ D.faults disk.new }
+    ensures cause { FaultHasCause FormatRefused.DiskFault (D.faults disk.old) (D.faults disk.new) result }
 {
     disk.sync()?;
     format_synced(disk, &secret)?;
@@ -76,8 +75,7 @@ fn format_synced<D: Disk>(disk: &mut D, secret: &Secret) -> Result<(), FormatRef
     ensures durable { OnOk result (IfTold (D.reads disk.new) (Only (D.past disk.new))) }
     ensures settled { IsErrOf result FormatRefused.Formatted → IfTold (D.reads disk.new) (Only (D.past disk.new)) }
     ensures moments { IfTold (D.reads disk.old) (λ old. Leaves (IsOldOrFresh secret.now old) (D.past disk.old) (D.past disk.new)) }
-    ensures fault { IsErrOf result FormatRefused.DiskFault → Rose (D.faults disk.old) (D.faults disk.new) }
-    ensures later { D.faults disk.old ≤ D.faults disk.new }
+    ensures cause { FaultHasCause FormatRefused.DiskFault (D.faults disk.old) (D.faults disk.new) result }
 {
     shut_gate(disk)?;
     make(disk, secret)?;
@@ -97,8 +95,7 @@ enum Start {
 
 fn look<D: Disk>(disk: &mut D) -> Result<Start, Failed>
     ensures begins { IfOk result (λ start. IfTold (D.reads disk.old) (Begins start)) }
-    ensures reads { D.reads disk.new ≡ D.reads disk.old }
-    ensures images { AddsNoImage (D.past disk.old) (D.past disk.new) }
+    ensures as_it_was { StaysAsItWas (D.reads disk.old) (D.reads disk.new) (D.past disk.old) (D.past disk.new) }
     ensures cause { HasCause (D.faults disk.old) (D.faults disk.new) result }
 {
     let len = disk.length()?;
@@ -127,8 +124,7 @@ fn shut_gate<D: Disk>(disk: &mut D) -> Result<(), FormatRefused>
     ensures durable { OnOk result (IfTold (D.reads disk.new) (Only (D.past disk.new))) }
     ensures settled { IsErrOf result FormatRefused.Formatted → IfTold (D.reads disk.new) (Only (D.past disk.new)) }
     ensures moments { IfTold (D.reads disk.old) (λ old. Leaves (IsOldOrBlank old) (D.past disk.old) (D.past disk.new)) }
-    ensures fault { IsErrOf result FormatRefused.DiskFault → Rose (D.faults disk.old) (D.faults disk.new) }
-    ensures later { D.faults disk.old ≤ D.faults disk.new }
+    ensures cause { FaultHasCause FormatRefused.DiskFault (D.faults disk.old) (D.faults disk.new) result }
 {
     match look(disk)? {
         Start::Formatted => Err(FormatRefused::Formatted),

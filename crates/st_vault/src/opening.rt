@@ -1,11 +1,11 @@
-ghost use Rattle.std.specs.Prelude.{◌≡◌, ◌+◌, ◌≤◌, List, ℕ, length, take, drop, IfOk, OnOk, IsErrOf};
+ghost use Rattle.std.specs.Prelude.{◌≡◌, ◌+◌, ◌≤◌, List, ℕ, length, take, IfOk, IsErrOf};
 ghost use Rattle.st_base.specs.Answers.{Gives};
-ghost use Rattle.st_io.specs.Causes.{HasCause, Rose};
-ghost use Rattle.st_io.specs.Past.{AddsNoImage, Leaves, LeftSinceSync, Only};
+ghost use Rattle.st_io.specs.Causes.{FaultHasCause, HasCause};
+ghost use Rattle.st_io.specs.Past.{Leaves, LeftSinceSync, Only, StaysAsItWas};
+ghost use Rattle.st_io.specs.Spent.{KeepsSpent};
 ghost use Rattle.st_io.specs.Tears.{IfTold};
-ghost use Rattle.st_vault.specs.Image.{map_in, nonzero_from, one_past};
+ghost use Rattle.st_vault.specs.Image.{IsSpent, map_in, nonzero_from, one_past};
 ghost use Rattle.st_vault.specs.Opening.{ReadsAs, key_of, opened, refusal_of};
-ghost use Rattle.st_vault.specs.Spent.{KeepsSpent};
 
 use crate::header::read_header;
 use crate::layout::{MAP_AT, MOST_COUNTERS, OPEN_GATE};
@@ -23,16 +23,14 @@ use st_lms::Secret;
 pub fn open_vault<D: Disk>(disk: &mut D) -> Result<Vault, OpenRefused>
     ensures gives { IfTold (D.reads disk.old) (λ image. Gives refusal_of (opened image) result) }
     ensures reads_as { IfOk result (ReadsAs (D.reads disk.new)) }
-    ensures reads { D.reads disk.new ≡ D.reads disk.old }
+    ensures as_it_was { StaysAsItWas (D.reads disk.old) (D.reads disk.new) (D.past disk.old) (D.past disk.new) }
     ensures durable { (IsErrOf result OpenRefused.DiskFault → ⊥) → IfTold (D.reads disk.new) (Only (D.past disk.new)) }
-    ensures images { AddsNoImage (D.past disk.old) (D.past disk.new) }
 
     // From the first successful sync on, a stop leaves the earlier contents.
     ensures synced { IfTold (D.reads disk.old) (λ old. (image : List ℕ)
         → LeftSinceSync (D.past disk.new) (D.past disk.old).now image → image ≡ old) }
-    ensures stays { KeepsSpent (D.past disk.old) (D.past disk.new) }
-    ensures fault { IsErrOf result OpenRefused.DiskFault → Rose (D.faults disk.old) (D.faults disk.new) }
-    ensures later { D.faults disk.old ≤ D.faults disk.new }
+    ensures stays { KeepsSpent IsSpent (D.past disk.old) (D.past disk.new) }
+    ensures cause { FaultHasCause OpenRefused.DiskFault (D.faults disk.old) (D.faults disk.new) result }
 {
     disk.sync()?;
     open_synced(disk)
@@ -43,11 +41,9 @@ fn open_synced<D: Disk>(disk: &mut D) -> Result<Vault, OpenRefused>
     requires { IfTold (D.reads disk.old) (Only (D.past disk.old)) }
     ensures gives { IfTold (D.reads disk.old) (λ image. Gives refusal_of (opened image) result) }
     ensures reads_as { IfOk result (ReadsAs (D.reads disk.new)) }
-    ensures reads { D.reads disk.new ≡ D.reads disk.old }
-    ensures images { AddsNoImage (D.past disk.old) (D.past disk.new) }
+    ensures as_it_was { StaysAsItWas (D.reads disk.old) (D.reads disk.new) (D.past disk.old) (D.past disk.new) }
     ensures moments { IfTold (D.reads disk.old) (λ old. Leaves (λ image. image ≡ old) (D.past disk.old) (D.past disk.new)) }
-    ensures fault { IsErrOf result OpenRefused.DiskFault → Rose (D.faults disk.old) (D.faults disk.new) }
-    ensures later { D.faults disk.old ≤ D.faults disk.new }
+    ensures cause { FaultHasCause OpenRefused.DiskFault (D.faults disk.old) (D.faults disk.new) result }
 {
     let secret = read_key(disk)?;
     let next = read_next(disk, secret.leaf_count())?;
@@ -63,10 +59,8 @@ fn no_head() -> [u8; 64]
 /// The key of the vault in the disk's contents.
 fn read_key<D: Disk>(disk: &mut D) -> Result<Secret, OpenRefused>
     ensures gives { IfTold (D.reads disk.old) (λ image. Gives refusal_of (key_of image) result) }
-    ensures reads { D.reads disk.new ≡ D.reads disk.old }
-    ensures images { AddsNoImage (D.past disk.old) (D.past disk.new) }
-    ensures fault { IsErrOf result OpenRefused.DiskFault → Rose (D.faults disk.old) (D.faults disk.new) }
-    ensures later { D.faults disk.old ≤ D.faults disk.new }
+    ensures as_it_was { StaysAsItWas (D.reads disk.old) (D.reads disk.new) (D.past disk.old) (D.past disk.new) }
+    ensures cause { FaultHasCause OpenRefused.DiskFault (D.faults disk.old) (D.faults disk.new) result }
 {
     let len = disk.length()?;
     if len < MAP_AT {
@@ -113,8 +107,7 @@ fn read_next<D: Disk>(disk: &mut D, count: u32) -> Result<u32, Failed>
     requires small { count ≤ 1024 }
     ensures next { IfOk result (λ next. IfTold (D.reads disk.old) (λ image. next ≡ one_past (nonzero_from 0 (map_in count image)))) }
     ensures small { IfOk result (λ next. next ≤ count) }
-    ensures reads { D.reads disk.new ≡ D.reads disk.old }
-    ensures images { AddsNoImage (D.past disk.old) (D.past disk.new) }
+    ensures as_it_was { StaysAsItWas (D.reads disk.old) (D.reads disk.new) (D.past disk.old) (D.past disk.new) }
     ensures cause { HasCause (D.faults disk.old) (D.faults disk.new) result }
 {
     let mut map = no_map();
@@ -127,8 +120,7 @@ fn next_by<D: Disk>(disk: &mut D, map: &mut [u8]) -> Result<u32, Failed>
     requires small { length map.old ≤ 1024 }
     ensures next { IfOk result (λ next. IfTold (D.reads disk.old) (λ image. next ≡ one_past (nonzero_from 0 (map_in (length map.old) image)))) }
     ensures small { IfOk result (λ next. next ≤ length map.old) }
-    ensures reads { D.reads disk.new ≡ D.reads disk.old }
-    ensures images { AddsNoImage (D.past disk.old) (D.past disk.new) }
+    ensures as_it_was { StaysAsItWas (D.reads disk.old) (D.reads disk.new) (D.past disk.old) (D.past disk.new) }
     ensures cause { HasCause (D.faults disk.old) (D.faults disk.new) result }
 {
     disk.read_at(MAP_AT, map)?;

@@ -1,12 +1,11 @@
-ghost use Rattle.std.specs.Prelude.{◌≡◌, ◌<◌, ◌≤◌, ◌+◌, [], ◌∷◌, IsSome, IfOk, OnOk, Ok};
-ghost use Rattle.st_io.specs.Past.{Follow, Leaves, Only};
-ghost use Rattle.st_io.specs.Tears.{IfTold, Turns, Holds, Torn};
+ghost use Rattle.std.specs.Prelude.{◌≡◌, ◌<◌, ◌≤◌, ◌+◌, [], ◌∷◌, IfOk, OnOk};
+ghost use Rattle.st_io.specs.Past.{Follow};
+ghost use Rattle.st_io.specs.Storage.{storage};
+ghost use Rattle.st_io.specs.Tears.{Holds, Torn, Turns};
 ghost use Rattle.st_lms.specs.Keys.{IsSecretKey};
 ghost use Rattle.st_lms.specs.Signature.{public_of};
 ghost use Rattle.st_vault.specs.Children.{child_of};
-ghost use Rattle.st_vault.specs.Image.{IsSpent};
-ghost use Rattle.st_vault.specs.Opening.{AllOpenAs, ReadsAs};
-ghost use Rattle.st_vault.specs.Spent.{SpentInAll, KeepsSpent};
+ghost use Rattle.st_vault.specs.Opening.{ReadsAs};
 ghost use Rattle.st_vault.specs.Values.{count_of, left_of, vault_after, counter_of};
 
 use crate::child::child_of;
@@ -48,7 +47,7 @@ impl fmt::Debug for Vault {
 }
 
 impl Vault {
-    ghost use Rattle.st_vault.specs.Reserving.{IsBeforeOrAfter, ReserveGives};
+    ghost use Rattle.st_vault.specs.Reserving.{HasSpent, MaySpend, ReserveGives};
 
     /// The vault of this key with this next counter.
     pub(crate) fn new(secret: Secret, next: u32) -> Vault
@@ -111,28 +110,14 @@ impl Vault {
         requires { ReadsAs (D.reads disk.old) self }
 
         ensures gives { ReserveGives self (D.faults disk.old) (D.faults disk.new) result }
-        ensures untouched { left_of self ≡ 0 → disk.new ≡ disk.old }
-
-        // The counter was not spent. The contents are the returned vault, and the counter is spent
-        // in every image.
-        ensures unspent { OnOk result (IfTold (D.reads disk.old) (λ image. IsSpent image self.next → ⊥)) }
-        ensures reads { IfOk result (λ given. ReadsAs (D.reads disk.new) given.0) }
-        ensures told { OnOk result (IfTold (D.reads disk.old) (λ image. IsSome (D.reads disk.new))) }
-        ensures durable { OnOk result (IfTold (D.reads disk.new) (Only (D.past disk.new))) }
-        ensures spent { OnOk result (IfTold (D.reads disk.old) (λ image. SpentInAll (D.past disk.new) self.next)) }
+        ensures may_spend { MaySpend self (storage D.reads D.past D.faults disk.old disk.new) }
+        ensures has_spent { IfOk result (λ given.
+            HasSpent self given.0 (storage D.reads D.past D.faults disk.old disk.new)) }
 
         // The counter's byte is written as 1, and no other byte is, at any moment and for any
         // result.
         ensures written { OnOk result (Turns (D.reads disk.old) (D.reads disk.new) (Holds (64 + self.next) (1 ∷ []))) }
         ensures images { 0 < left_of self → Follow (Torn (64 + self.next) 1) (D.past disk.old) (D.past disk.new) }
-
-        // If a stop before the call leaves the vault, a stop at any moment of the call leaves the
-        // vault before its next counter was spent, or after.
-        ensures moments { AllOpenAs (Ok self) (D.past disk.old)
-            → Leaves (IsBeforeOrAfter self) (D.past disk.old) (D.past disk.new) }
-
-        // Counters that were spent in every image stay so at each moment of the call.
-        ensures stays { IfTold (D.reads disk.old) (λ image. KeepsSpent (D.past disk.old) (D.past disk.new)) }
         ensures later { D.faults disk.old ≤ D.faults disk.new }
     {
         if self.left() == 0 {

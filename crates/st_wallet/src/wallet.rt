@@ -1,15 +1,16 @@
-ghost use Rattle.std.specs.Prelude.{◌≡◌, ◌≤◌, IfErr, IfOk, IsErrOf, IsSome, List, OnOk, Some, ℕ};
-ghost use Rattle.st_io.specs.Causes.{Rose};
-ghost use Rattle.st_io.specs.Past.{AddsNoImage, LeftSinceSync, Leaves};
+#![tactic(auto, using(crate::proofs::StepLemmas::only_found, crate::proofs::StepLemmas::moments_standing, st_io::proofs::PastLemmas::keeps_standing))]
+
+ghost use Rattle.std.specs.Prelude.{◌≡◌, IfErr, IfOk, Some};
+ghost use Rattle.st_io.specs.Causes.{FaultHasCause};
+ghost use Rattle.st_io.specs.Storage.{storage};
 ghost use Rattle.st_io.specs.Tears.{IfTold};
-ghost use Rattle.st_vault.specs.Opening.{ReadsAs, opened};
-ghost use Rattle.st_vault.specs.Spent.{KeepsSpent};
+ghost use Rattle.st_vault.specs.Opening.{ReadsAs};
 ghost use Rattle.st_wallet.specs.Command.{command_of, format_in};
 ghost use Rattle.st_wallet.specs.Drafts.{HasInput};
 ghost use Rattle.st_wallet.specs.Found.Found.{Blank, Damaged, Opened};
 ghost use Rattle.st_wallet.specs.Found.{IsFoundOn};
 ghost use Rattle.st_wallet.specs.Machine.{AnswersOrRefuses, AnswersWith, answered, answered_blank, answered_command, answered_draft, answered_format, answered_hss, answered_plan, asked_by, plan_of};
-ghost use Rattle.st_wallet.specs.Steps.{AllFound, IsBeforeOrAfter, IsCounterFresh, IsCounterSpent};
+ghost use Rattle.st_wallet.specs.Steps.{OpensOn, StepsOn};
 
 use crate::command::{Command, LineRefused, read_command, secret_in};
 use crate::drafting::Draft;
@@ -83,23 +84,10 @@ impl Wallet {
     /// written.
     ///
     /// The only refusal is `DiskFault`, which is returned only if the disk's count of faults rose.
-    #[tactic(auto, using(crate::proofs::StepLemmas::only_found))]
     pub fn open<D: Disk>(disk: &mut D) -> Result<Wallet, WalletRefused>
-        // It is the state of the contents, and of every image.
-        ensures found { IfOk result (IsFoundOn (D.reads disk.old)) }
-        ensures found_now { IfOk result (IsFoundOn (D.reads disk.new)) }
-        ensures reads { D.reads disk.new ≡ D.reads disk.old }
-        ensures all_found { IfOk result (λ wallet.
-            IfTold (D.reads disk.new) (λ image. AllFound wallet (D.past disk.new))) }
-
-        // A stop at any moment of the call leaves only what it might have left before.
-        ensures images { AddsNoImage (D.past disk.old) (D.past disk.new) }
-        ensures synced { IfTold (D.reads disk.old) (λ old. (image : List ℕ)
-            → LeftSinceSync (D.past disk.new) (D.past disk.old).now image → opened image ≡ opened old) }
-        ensures stays { KeepsSpent (D.past disk.old) (D.past disk.new) }
+        ensures opens { OpensOn (storage D.reads D.past D.faults disk.old disk.new) result }
         ensures refused { IfErr result (λ refused. refused ≡ WalletRefused.DiskFault) }
-        ensures fault { IsErrOf result WalletRefused.DiskFault → Rose (D.faults disk.old) (D.faults disk.new) }
-        ensures later { D.faults disk.old ≤ D.faults disk.new }
+        ensures cause { FaultHasCause WalletRefused.DiskFault (D.faults disk.old) (D.faults disk.new) result }
     {
         match open_vault(disk) {
             Ok(vault) => Ok(Wallet::of(SigningVault::new(vault))),
@@ -119,7 +107,6 @@ impl Wallet {
     /// first line that needs a key, or a signed request, computes all leaves of the tree; the first
     /// signature of two levels those of two trees of height 5, and then one of 32 those of one.
     /// Otherwise a signature computes only its own chains.
-    #[tactic(auto, using(crate::proofs::StepLemmas::keeps_standing, crate::proofs::StepLemmas::moments_standing))]
     pub fn step<D: Disk>(
         self,
         alloc: Global,
@@ -134,30 +121,12 @@ impl Wallet {
             (asked_by (command_of line.now)) (answered self line.now)) }
         ensures answer_told { IfTold (D.reads disk.old) (λ image.
             IfOk result (AnswersWith (answered self line.now))) }
-        ensures reads { IfOk result (λ done. IsFoundOn (D.reads disk.new) done.0) }
-        ensures told { OnOk result (IfTold (D.reads disk.old) (λ image. IsSome (D.reads disk.new))) }
 
-        // A line that leaves the machine unchanged leaves the disk unchanged.
-        ensures untouched { (answered self line.now).next ≡ self → disk.new ≡ disk.old }
-
-        // The counter of the reply was not spent before, and is spent in every image when the reply
-        // is given.
-        ensures fresh { OnOk result (IfTold (D.reads disk.old) (λ image.
-            IsCounterFresh (answered self line.now).counter image)) }
-        ensures spent { OnOk result (IfTold (D.reads disk.old) (λ image.
-            IsCounterSpent (answered self line.now).counter (D.past disk.new))) }
-
-        // If a stop before the line leaves this wallet, a stop at any moment of it leaves this
-        // wallet or the next one, and after the reply only the next one.
-        ensures moments { IfTold (D.reads disk.old) (λ image. AllFound self (D.past disk.old)
-            → Leaves (IsBeforeOrAfter self (answered self line.now).next) (D.past disk.old) (D.past disk.new)) }
-        ensures all_found { IfTold (D.reads disk.new) (λ image. AllFound self (D.past disk.old)
-            → IfOk result (λ done. AllFound done.0 (D.past disk.new))) }
-
-        // Counters that were spent in every image stay so at each moment of the line.
-        ensures stays { IfTold (D.reads disk.old) (λ image. KeepsSpent (D.past disk.old) (D.past disk.new)) }
-        ensures fault { IsErrOf result WalletRefused.DiskFault → Rose (D.faults disk.old) (D.faults disk.new) }
-        ensures later { D.faults disk.old ≤ D.faults disk.new }
+        // What the line does to the disk: its counter is spent in every image when the reply is
+        // given, and a stop at any moment leaves this wallet or the next one.
+        ensures steps { StepsOn self (answered self line.now)
+            (storage D.reads D.past D.faults disk.old disk.new) result }
+        ensures cause { FaultHasCause WalletRefused.DiskFault (D.faults disk.old) (D.faults disk.new) result }
     {
         match read_command(alloc, line) {
             Ok(command) => self.carry_out(alloc, disk, command),
@@ -169,7 +138,6 @@ impl Wallet {
         }
     }
 
-    #[tactic(auto, using(crate::proofs::StepLemmas::keeps_standing, crate::proofs::StepLemmas::moments_standing))]
     fn carry_out<D: Disk>(
         self,
         alloc: Global,
@@ -181,20 +149,9 @@ impl Wallet {
             (format_in command) (answered_command self command)) }
         ensures answer_told { IfTold (D.reads disk.old) (λ image.
             IfOk result (AnswersWith (answered_command self command))) }
-        ensures untouched { (answered_command self command).next ≡ self → disk.new ≡ disk.old }
-        ensures reads { IfOk result (λ done. IsFoundOn (D.reads disk.new) done.0) }
-        ensures told { OnOk result (IfTold (D.reads disk.old) (λ image. IsSome (D.reads disk.new))) }
-        ensures fresh { OnOk result (IfTold (D.reads disk.old) (λ image.
-            IsCounterFresh (answered_command self command).counter image)) }
-        ensures spent { OnOk result (IfTold (D.reads disk.old) (λ image.
-            IsCounterSpent (answered_command self command).counter (D.past disk.new))) }
-        ensures moments { IfTold (D.reads disk.old) (λ image. AllFound self (D.past disk.old)
-            → Leaves (IsBeforeOrAfter self (answered_command self command).next) (D.past disk.old) (D.past disk.new)) }
-        ensures all_found { IfTold (D.reads disk.new) (λ image. AllFound self (D.past disk.old)
-            → IfOk result (λ done. AllFound done.0 (D.past disk.new))) }
-        ensures stays { IfTold (D.reads disk.old) (λ image. KeepsSpent (D.past disk.old) (D.past disk.new)) }
-        ensures fault { IsErrOf result WalletRefused.DiskFault → Rose (D.faults disk.old) (D.faults disk.new) }
-        ensures later { D.faults disk.old ≤ D.faults disk.new }
+        ensures steps { StepsOn self (answered_command self command)
+            (storage D.reads D.past D.faults disk.old disk.new) result }
+        ensures cause { FaultHasCause WalletRefused.DiskFault (D.faults disk.old) (D.faults disk.new) result }
     {
         let Wallet { kept } = self;
         match kept {
@@ -208,7 +165,6 @@ impl Wallet {
     }
 }
 
-#[tactic(auto, using(crate::proofs::StepLemmas::keeps_standing, crate::proofs::StepLemmas::moments_standing))]
 fn carry_out_blank<D: Disk>(
     alloc: Global,
     disk: &mut D,
@@ -219,20 +175,9 @@ fn carry_out_blank<D: Disk>(
         (format_in command) (answered_blank (format_in command))) }
     ensures answer_told { IfTold (D.reads disk.old) (λ image.
         IfOk result (AnswersWith (answered_blank (format_in command)))) }
-    ensures untouched { (answered_blank (format_in command)).next ≡ Blank → disk.new ≡ disk.old }
-    ensures reads { IfOk result (λ done. IsFoundOn (D.reads disk.new) done.0) }
-    ensures told { OnOk result (IfTold (D.reads disk.old) (λ image. IsSome (D.reads disk.new))) }
-    ensures fresh { OnOk result (IfTold (D.reads disk.old) (λ image.
-        IsCounterFresh (answered_blank (format_in command)).counter image)) }
-    ensures spent { OnOk result (IfTold (D.reads disk.old) (λ image.
-        IsCounterSpent (answered_blank (format_in command)).counter (D.past disk.new))) }
-    ensures moments { IfTold (D.reads disk.old) (λ image. AllFound Blank (D.past disk.old)
-        → Leaves (IsBeforeOrAfter Blank (answered_blank (format_in command)).next) (D.past disk.old) (D.past disk.new)) }
-    ensures all_found { IfTold (D.reads disk.new) (λ image. AllFound Blank (D.past disk.old)
-        → IfOk result (λ done. AllFound done.0 (D.past disk.new))) }
-    ensures stays { IfTold (D.reads disk.old) (λ image. KeepsSpent (D.past disk.old) (D.past disk.new)) }
-    ensures fault { IsErrOf result WalletRefused.DiskFault → Rose (D.faults disk.old) (D.faults disk.new) }
-    ensures later { D.faults disk.old ≤ D.faults disk.new }
+    ensures steps { StepsOn Blank (answered_blank (format_in command))
+        (storage D.reads D.past D.faults disk.old disk.new) result }
+    ensures cause { FaultHasCause WalletRefused.DiskFault (D.faults disk.old) (D.faults disk.new) result }
 {
     match secret_in(command) {
         Some(secret) => format(alloc, disk, secret),
@@ -245,7 +190,6 @@ fn carry_out_blank<D: Disk>(
 
 // A `format` of a blank disk. The reply is made before the vault, so making a vault is always
 // answered.
-#[tactic(auto, using(crate::proofs::StepLemmas::only_found, crate::proofs::StepLemmas::keeps_standing, crate::proofs::StepLemmas::moments_standing))]
 fn format<D: Disk>(
     alloc: Global,
     disk: &mut D,
@@ -256,20 +200,9 @@ fn format<D: Disk>(
         (Some secret) (answered_format secret)) }
     ensures answer_told { IfTold (D.reads disk.old) (λ image.
         IfOk result (AnswersWith (answered_format secret))) }
-    ensures untouched { (answered_format secret).next ≡ Blank → disk.new ≡ disk.old }
-    ensures reads { IfOk result (λ done. IsFoundOn (D.reads disk.new) done.0) }
-    ensures told { OnOk result (IfTold (D.reads disk.old) (λ image. IsSome (D.reads disk.new))) }
-    ensures fresh { OnOk result (IfTold (D.reads disk.old) (λ image.
-        IsCounterFresh (answered_format secret).counter image)) }
-    ensures spent { OnOk result (IfTold (D.reads disk.old) (λ image.
-        IsCounterSpent (answered_format secret).counter (D.past disk.new))) }
-    ensures moments { IfTold (D.reads disk.old) (λ image. AllFound Blank (D.past disk.old)
-        → Leaves (IsBeforeOrAfter Blank (answered_format secret).next) (D.past disk.old) (D.past disk.new)) }
-    ensures all_found { IfTold (D.reads disk.new) (λ image. AllFound Blank (D.past disk.old)
-        → IfOk result (λ done. AllFound done.0 (D.past disk.new))) }
-    ensures stays { IfTold (D.reads disk.old) (λ image. KeepsSpent (D.past disk.old) (D.past disk.new)) }
-    ensures fault { IsErrOf result WalletRefused.DiskFault → Rose (D.faults disk.old) (D.faults disk.new) }
-    ensures later { D.faults disk.old ≤ D.faults disk.new }
+    ensures steps { StepsOn Blank (answered_format secret)
+        (storage D.reads D.past D.faults disk.old disk.new) result }
+    ensures cause { FaultHasCause WalletRefused.DiskFault (D.faults disk.old) (D.faults disk.new) result }
 {
     let signer = VaultSigner::new(alloc, &secret)?;
     let text = tell_formatted(alloc, &signer.public())?;
@@ -283,7 +216,6 @@ fn format<D: Disk>(
     }
 }
 
-#[tactic(auto, using(crate::proofs::StepLemmas::keeps_standing, crate::proofs::StepLemmas::moments_standing))]
 fn carry_out_over<D: Disk>(
     alloc: Global,
     disk: &mut D,
@@ -292,20 +224,9 @@ fn carry_out_over<D: Disk>(
 ) -> Result<(Wallet, Bytes), WalletRefused>
     requires { ReadsAs (D.reads disk.old) vault }
     ensures answer { IfOk result (AnswersWith (answered_plan vault (plan_of vault command))) }
-    ensures untouched { (answered_plan vault (plan_of vault command)).next ≡ Opened vault → disk.new ≡ disk.old }
-    ensures reads { IfOk result (λ done. IsFoundOn (D.reads disk.new) done.0) }
-    ensures told { OnOk result (IfTold (D.reads disk.old) (λ image. IsSome (D.reads disk.new))) }
-    ensures fresh { OnOk result (IfTold (D.reads disk.old) (λ image.
-        IsCounterFresh (answered_plan vault (plan_of vault command)).counter image)) }
-    ensures spent { OnOk result (IfTold (D.reads disk.old) (λ image.
-        IsCounterSpent (answered_plan vault (plan_of vault command)).counter (D.past disk.new))) }
-    ensures moments { IfTold (D.reads disk.old) (λ image. AllFound (Opened vault) (D.past disk.old)
-        → Leaves (IsBeforeOrAfter (Opened vault) (answered_plan vault (plan_of vault command)).next) (D.past disk.old) (D.past disk.new)) }
-    ensures all_found { IfTold (D.reads disk.new) (λ image. AllFound (Opened vault) (D.past disk.old)
-        → IfOk result (λ done. AllFound done.0 (D.past disk.new))) }
-    ensures stays { IfTold (D.reads disk.old) (λ image. KeepsSpent (D.past disk.old) (D.past disk.new)) }
-    ensures fault { IsErrOf result WalletRefused.DiskFault → Rose (D.faults disk.old) (D.faults disk.new) }
-    ensures later { D.faults disk.old ≤ D.faults disk.new }
+    ensures steps { StepsOn (Opened vault) (answered_plan vault (plan_of vault command))
+        (storage D.reads D.past D.faults disk.old disk.new) result }
+    ensures cause { FaultHasCause WalletRefused.DiskFault (D.faults disk.old) (D.faults disk.new) result }
 {
     let mut vault = vault;
     match plan_of(alloc, &mut vault, command)? {
@@ -316,7 +237,6 @@ fn carry_out_over<D: Disk>(
 }
 
 // The request for an operation, signed with the next counter. The counter is spent first.
-#[tactic(auto, using(crate::proofs::StepLemmas::only_found, crate::proofs::StepLemmas::keeps_standing, crate::proofs::StepLemmas::moments_standing))]
 fn sign<D: Disk>(
     alloc: Global,
     disk: &mut D,
@@ -326,20 +246,9 @@ fn sign<D: Disk>(
     requires reads { ReadsAs (D.reads disk.old) vault }
     requires input { HasInput draft }
     ensures answer { IfOk result (AnswersWith (answered_draft vault draft)) }
-    ensures untouched { (answered_draft vault draft).next ≡ Opened vault → disk.new ≡ disk.old }
-    ensures reads { IfOk result (λ done. IsFoundOn (D.reads disk.new) done.0) }
-    ensures told { OnOk result (IfTold (D.reads disk.old) (λ image. IsSome (D.reads disk.new))) }
-    ensures fresh { OnOk result (IfTold (D.reads disk.old) (λ image.
-        IsCounterFresh (answered_draft vault draft).counter image)) }
-    ensures spent { OnOk result (IfTold (D.reads disk.old) (λ image.
-        IsCounterSpent (answered_draft vault draft).counter (D.past disk.new))) }
-    ensures moments { IfTold (D.reads disk.old) (λ image. AllFound (Opened vault) (D.past disk.old)
-        → Leaves (IsBeforeOrAfter (Opened vault) (answered_draft vault draft).next) (D.past disk.old) (D.past disk.new)) }
-    ensures all_found { IfTold (D.reads disk.new) (λ image. AllFound (Opened vault) (D.past disk.old)
-        → IfOk result (λ done. AllFound done.0 (D.past disk.new))) }
-    ensures stays { IfTold (D.reads disk.old) (λ image. KeepsSpent (D.past disk.old) (D.past disk.new)) }
-    ensures fault { IsErrOf result WalletRefused.DiskFault → Rose (D.faults disk.old) (D.faults disk.new) }
-    ensures later { D.faults disk.old ≤ D.faults disk.new }
+    ensures steps { StepsOn (Opened vault) (answered_draft vault draft)
+        (storage D.reads D.past D.faults disk.old disk.new) result }
+    ensures cause { FaultHasCause WalletRefused.DiskFault (D.faults disk.old) (D.faults disk.new) result }
 {
     let (vault, signer) = vault.into_parts(alloc)?;
     match vault.reserve(disk) {
@@ -356,7 +265,6 @@ fn sign<D: Disk>(
 }
 
 // The signature of a message with two levels. Its counter is spent first.
-#[tactic(auto, using(crate::proofs::StepLemmas::only_found, crate::proofs::StepLemmas::keeps_standing, crate::proofs::StepLemmas::moments_standing))]
 fn sign_message<D: Disk>(
     alloc: Global,
     disk: &mut D,
@@ -366,20 +274,9 @@ fn sign_message<D: Disk>(
     requires reads { ReadsAs (D.reads disk.old) vault }
     requires six { vault.key.tree ≡ 6 }
     ensures answer { IfOk result (AnswersWith (answered_hss vault message)) }
-    ensures untouched { (answered_hss vault message).next ≡ Opened vault → disk.new ≡ disk.old }
-    ensures reads { IfOk result (λ done. IsFoundOn (D.reads disk.new) done.0) }
-    ensures told { OnOk result (IfTold (D.reads disk.old) (λ image. IsSome (D.reads disk.new))) }
-    ensures fresh { OnOk result (IfTold (D.reads disk.old) (λ image.
-        IsCounterFresh (answered_hss vault message).counter image)) }
-    ensures spent { OnOk result (IfTold (D.reads disk.old) (λ image.
-        IsCounterSpent (answered_hss vault message).counter (D.past disk.new))) }
-    ensures moments { IfTold (D.reads disk.old) (λ image. AllFound (Opened vault) (D.past disk.old)
-        → Leaves (IsBeforeOrAfter (Opened vault) (answered_hss vault message).next) (D.past disk.old) (D.past disk.new)) }
-    ensures all_found { IfTold (D.reads disk.new) (λ image. AllFound (Opened vault) (D.past disk.old)
-        → IfOk result (λ done. AllFound done.0 (D.past disk.new))) }
-    ensures stays { IfTold (D.reads disk.old) (λ image. KeepsSpent (D.past disk.old) (D.past disk.new)) }
-    ensures fault { IsErrOf result WalletRefused.DiskFault → Rose (D.faults disk.old) (D.faults disk.new) }
-    ensures later { D.faults disk.old ≤ D.faults disk.new }
+    ensures steps { StepsOn (Opened vault) (answered_hss vault message)
+        (storage D.reads D.past D.faults disk.old disk.new) result }
+    ensures cause { FaultHasCause WalletRefused.DiskFault (D.faults disk.old) (D.faults disk.new) result }
 {
     let (hss, signer) = vault.into_hss();
     match hss.sign(alloc, disk, message.as_slice()) {

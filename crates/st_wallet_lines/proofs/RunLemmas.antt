@@ -2,17 +2,17 @@
 --     replies_are       the replies by the driver's rules are those of the reference machine
 --     opened_run        the properties if the disk was opened
 --     unopened_run      and if it could not be opened
-use Rattle.std.proofs.Common.{◌≡◌, ◌∙◌, inl, inr, ◌++◌, ◌≤◌, ℕ, List, [], ◌∷◌, Option, Some, None, is_some, refl, ap, sym, subst, arith}
+use Rattle.std.proofs.Common.{◌≡◌, ◌∙◌, inl, inr, ◌++◌, ◌≤◌, ℕ, List, [], ◌∷◌, Option, Some, None, Result, Ok, is_some, refl, ap, sym, subst, arith}
 use Rattle.std.proofs.lemmas.Bool.{false≢true}
 use Rattle.std.specs.Prelude.{IsSome}
 use Rattle.st_io.specs.Causes.{Rose}
-use Rattle.st_io.specs.Past.{AddsNoImage, Past, LeftSinceSync}
-use Rattle.st_io.specs.Tears.{IfTold}
+use Rattle.st_io.specs.Past.{Past}
+use Rattle.st_io.specs.Storage.{Storage, storage}
 use Rattle.st_drive.specs.Lines.{all_lines}
 use Rattle.st_drive.specs.OnDisk.{AllHold, IsTold, Opens, RunLeaves, Store, disk_meaning, replies}
 use Rattle.st_drive.specs.Runs.{course}
 use Rattle.st_drive.specs.Spending.{EndsOpened, spending}
-use Rattle.st_drive.specs.Streams.{Storage, Streams, Tells, Unread, storage}
+use Rattle.st_drive.specs.Streams.{Streams, Tells, Unread}
 use Rattle.st_drive.specs.Tables.{AnsweredFirst, AnswersLines}
 use Rattle.st_drive.proofs.InputLemmas.{answered_input, answered_source, nothing_written}
 use Rattle.st_drive.proofs.OnDiskLemmas.{leaves_on_disk, run_opens}
@@ -20,13 +20,12 @@ use Rattle.st_drive.proofs.ReleasedLemmas.{none_in}
 use Rattle.st_drive.proofs.SpendingLemmas.{ends_opened, ends_standing, keeps_numbers, keeps_standing, kept_numbers, loses_one, spending_leaves, spending_opened, standing_leaves, stays_spent}
 use Rattle.st_drive.proofs.TableLemmas.{IsUnread, lines_by, not_begun, rose_before}
 use Rattle.st_vault.specs.Opening.{opened}
-use Rattle.st_vault.specs.Spent.{KeepsSpent}
 use Rattle.st_wallet.proofs.CountersLemmas.{found_is, found_opens, spent_lie_below}
 use Rattle.st_wallet.specs.Counters.{next_in}
 use Rattle.st_wallet.specs.Found.{Found, IsFoundOn, found_in, opens}
 use Rattle.st_wallet.specs.Machine.{answered, replies as found_replies}
-use Rattle.st_wallet.specs.Steps.{AllFound}
-use Rattle.st_wallet_lines.proofs.StepLemmas.{as_stays}
+use Rattle.st_wallet.specs.Steps.{OpensOn}
+use Rattle.st_wallet.specs.declared.refused.WalletRefused.{WalletRefused}
 use Rattle.st_wallet_lines.specs.Run.{KeepsVault, WalletEnds, WalletFrom, WalletRun, found_told, wallet_course}
 use Rattle.st_wallet_lines.specs.Spender.{wallet_spender}
 use Rattle.st_wallet_lines.specs.SpenderLaws.{next_laws, number_laws}
@@ -62,37 +61,32 @@ vault_of : {image written : List ℕ} {old new : Past} (input : List ℕ) → Le
 vault_of {image} {written} {old} {new} input leaving =
     keeps_standing wallet_spender (found_in image) (all_lines input) written old new leaving.wallet
 
--- the opening of the disk: no image was added, from the first successful sync on each is the earlier contents, and
--- spent counters stay so
-pub record OpensAs (image : List ℕ) (old new : Past) : Type 0 where
-  pub images : AddsNoImage old new
-  pub synced : (x : List ℕ) → LeftSinceSync new old.now x → opened x ≡ opened image
-  pub spent : KeepsSpent old new
-
-opens_standing : (image : List ℕ) (old new : Past) → OpensAs image old new → Opens (spending wallet_spender) (inr (found_in image)) old new
-opens_standing image old new opens = record {
-  goes = opens.images.goes;
-  moments = λ x left. inl (opens.images.none x left);
-  synced = λ x left. opens.synced x left ∙ found_opens image;
+-- the opening of the disk
+opens_standing : {disk : Storage} {result : Result Found WalletRefused} (image : List ℕ) → disk.reads ≡ Some image → OpensOn disk result
+    → Opens (spending wallet_spender) (inr (found_in image)) disk.before disk.behind
+opens_standing image told opens = record {
+  goes = opens.as_it_was.images.goes;
+  moments = λ x left. inl (opens.as_it_was.images.none x left);
+  synced = λ x left. opens.synced image told x left ∙ found_opens image;
 }
 
 -- ---- the disk could not be opened
 
-pub unopened_run : {limit : ℕ} {io : Streams} {disk : Storage} → disk.failed → Unread io → io.source_kept × io.sink_kept
-    → IfTold disk.reads (λ image. OpensAs image disk.before disk.behind) → WalletRun limit io disk 4
+pub unopened_run : {limit : ℕ} {io : Streams} {disk : Storage} {result : Result Found WalletRefused} → disk.failed → Unread io
+    → io.source_kept × io.sink_kept → OpensOn disk result → WalletRun limit io disk 4
 unopened_run {limit} {io} {disk} failed unread kept opens =
     let late : IsUnread disk.failed 4 = search arith in
     let leaving : (image : List ℕ) → disk.reads ≡ Some image → (lines : List (List ℕ)) → Leaving image lines [] disk.before disk.behind =
     λ image told lines. record {
-      numbers = spending_opened wallet_spender (found_in image) lines disk.before disk.behind (as_stays disk.before disk.behind (opens image told).spent);
+      numbers = spending_opened wallet_spender (found_in image) lines disk.before disk.behind opens.stays;
       wallet = run_opens (spending wallet_spender) (found_in image) (inr (found_in image)) lines disk.before disk.behind
-          (opens_standing image disk.before disk.behind (opens image told));
+          (opens_standing image told opens);
     } in
     record {
       lines = not_begun late unread (wallet_course disk.reads) tt (λ some. refl) refl;
       opened = inl kept;
       from = λ image told. record {
-        stays = (opens image told).spent;
+        stays = opens.stays;
         vault = λ input had. vault_of input (leaving image told (all_lines input));
         ends = λ input written tells. subst (λ w. WalletEnds image input w disk.before disk.behind) (sym (nothing_written tells unread.holds_is))
             (ends_of (leaving image told (all_lines input)));
@@ -101,42 +95,36 @@ unopened_run {limit} {io} {disk} failed unread kept opens =
 
 -- ---- it was opened, and lines were answered
 
--- the disk of a was opened, as b: it has this state, and the same contents
-pub record OpenedOn {D : Type 0} (store : Store D) (a b : D) (found : Found) : Type 0 where
-  pub same : store.reads b ≡ store.reads a
-  pub found_is : IsFoundOn (store.reads a) found
-  pub all : IfTold (store.reads b) (λ image. AllFound found (store.past b))
-  pub opens : IfTold (store.reads a) (λ image. OpensAs image (store.past a) (store.past b))
-
 module _ {D : Type 0} (store : Store D) (faults : D → ℕ) {a b d : D} {found : Found} {limit : ℕ} {io : Streams} {status : ℕ}
-    (opening : OpenedOn store a b found) (later : faults a ≤ faults b)
+    (opening : OpensOn (storage store.reads store.past faults a b) (Ok found)) (later : faults a ≤ faults b)
     (answered : AnswersLines (course (disk_meaning (spending wallet_spender) store) found (tt, b) (tt, d)) limit io (Rose (faults b) (faults d)) status) where
   leaving : {image : List ℕ} → store.reads a ≡ Some image → (lines : List (List ℕ)) (written : List ℕ)
       → AnsweredFirst (course (disk_meaning (spending wallet_spender) store) found (tt, b) (tt, d)) written lines
       → Leaving image lines written (store.past a) (store.past d)
   leaving {image} told lines written first =
       let old = store.past a in
-      let still : IsTold store b = ap is_some (opening.same ∙ told) in
-      let opens = opening.opens image told in
-      let is = found_is image found (opening.found_is image told) in
+      let same = opening.as_it_was.reads ∙ told in
+      let still : IsTold store b = ap is_some same in
+      let is = found_is image found (opening.found image told) in
       let stood : Opens (spending wallet_spender) (inr found) old (store.past b) =
-      subst (λ (f : Found). Opens (spending wallet_spender) (inr f) old (store.past b)) (sym is) (opens_standing image old (store.past b) opens) in
+      subst (λ (f : Found). Opens (spending wallet_spender) (inr f) old (store.past b)) (sym is) (opens_standing image told opening) in
       record {
         numbers = λ k all. subst (λ f. RunLeaves (spending wallet_spender) f (inl k) lines written old (store.past d)) is
-            (spending_leaves wallet_spender store old still (as_stays old (store.past b) opens.spent) first k all);
+            (spending_leaves wallet_spender store old still opening.stays first k all);
         wallet = subst (λ (f : Found). RunLeaves (spending wallet_spender) f (inr f) lines written old (store.past d)) is
-            (standing_leaves wallet_spender store old still stood (opening.all image (opening.same ∙ told)) first);
+            (standing_leaves wallet_spender store old still stood (opening.all_found image same) first);
       }
 
   ends_of_opened : {image : List ℕ} → store.reads a ≡ Some image → (input written : List ℕ) → Tells io input written
       → EndsOpened wallet_spender (found_in image) (all_lines input) written (store.past d)
   ends_of_opened {image} told input written tells =
       let lines = all_lines input in
-      let still : IsTold store b = ap is_some (opening.same ∙ told) in
+      let same = opening.as_it_was.reads ∙ told in
+      let still : IsTold store b = ap is_some same in
       let first = answered_input answered.table tells in
-      subst (λ (f : Found). EndsOpened wallet_spender f lines written (store.past d)) (found_is image found (opening.found_is image told))
+      subst (λ (f : Found). EndsOpened wallet_spender f lines written (store.past d)) (found_is image found (opening.found image told))
       (ends_opened wallet_spender found lines written (store.past b) (store.past d)
-      (leaves_on_disk (spending wallet_spender) store still first (inr found) (opening.all image (opening.same ∙ told))))
+      (leaves_on_disk (spending wallet_spender) store still first (inr found) (opening.all_found image same)))
 
   from_opened : {image : List ℕ} → store.reads a ≡ Some image → WalletFrom image io (storage store.reads store.past faults a d)
   from_opened {image} told =
@@ -155,9 +143,9 @@ module _ {D : Type 0} (store : Store D) (faults : D → ℕ) {a b d : D} {found 
   pub opened_run : WalletRun limit io (storage store.reads store.past faults a d) status
   opened_run = record {
     lines = lines_by (record {
-      told = λ some. ap is_some opening.same ∙ some;
+      told = λ some. ap is_some opening.as_it_was.reads ∙ some;
       prompt = λ now. tt;
-      answers = λ some lines. replies_told found (store.reads a) some opening.found_is lines;
+      answers = λ some lines. replies_told found (store.reads a) some opening.found lines;
       ran_over = λ lines ran. tt;
       gave_up_over = λ lines gave. tt;
     }) (rose_before (faults a) (faults b) (faults d) later) answered;

@@ -1,28 +1,26 @@
 -- One line of the wallet.
-use Rattle.std.proofs.Common.{◌≡◌, ◌∙◌, inl, inr, ⊎_elim, ◌++◌, ℕ, List, [], ◌∷◌, Option, Some, None, refl, subst, ap, sym}
+use Rattle.std.proofs.Common.{◌≡◌, ◌∙◌, inl, inr, ⊎_elim, ◌++◌, ℕ, List, [], ◌∷◌, Option, Some, None, Result, refl, subst, ap, sym}
 use Rattle.std.specs.Prelude.{IsSome}
 use Rattle.std.proofs.lemmas.Bool.{false≢true}
 use Rattle.st_io.specs.Past.{Past, Images, Leaves}
+use Rattle.st_io.specs.Spent.{KeepsSpent, SpentInAll}
+use Rattle.st_io.specs.Storage.{storage}
 use Rattle.st_io.specs.Tears.{IfTold}
 use Rattle.st_drive.specs.OnDisk.{GaveUpOnDisk, IsTold, RanOnDisk, Store, replies}
-use Rattle.st_drive.specs.Spending.{SpentInAll, StandsForEither, StaysSpent, spending}
+use Rattle.st_drive.specs.Spending.{StandsForEither, spending}
 use Rattle.st_drive.proofs.OnDiskLemmas.{replied}
 use Rattle.st_drive.proofs.SpendingLemmas.{gave_up_spending, has_spent}
 use Rattle.st_vault.specs.Image.{IsSpent}
-use Rattle.st_vault.specs.Spent.{KeepsSpent}
 use Rattle.st_wallet.specs.Found.{Found, IsFoundOn, opens}
 use Rattle.st_wallet.specs.Machine.{AnswersWith, answered}
-use Rattle.st_wallet.specs.Steps.{AllFound, IsBeforeOrAfter, IsCounterSpent}
+use Rattle.st_wallet.specs.Steps.{AllFound, HasStepped, IsBeforeOrAfter, IsCounterSpent, StepsOn}
+use Rattle.st_wallet.specs.declared.refused.WalletRefused.{WalletRefused}
 use Rattle.st_wallet_lines.specs.Spender.{wallet_spender}
 
 -- a fact that does not depend on the contents
 told_of : (P : Type 0) (told : Option (List ℕ)) → IsSome told → IfTold told (λ image. P) → P
 told_of P None some fact = absurd (false≢true some)
 told_of P (Some image) some fact = fact image refl
-
--- spent counters stay so, in the driver's definitions
-pub as_stays : (a b : Past) → KeepsSpent a b → StaysSpent IsSpent a b
-as_stays a b keeps = record { goes = keeps.goes; stays = keeps.stays }
 
 -- the counter of a reply is spent
 spent_by : (counter : Option ℕ) (past : Past) → IsCounterSpent counter past → (q : ℕ) → counter ≡ Some q → SpentInAll IsSpent past q
@@ -34,13 +32,11 @@ same_found : (told : Option (List ℕ)) (past : Past) (found before : Found) →
 same_found None past found before some is_image is all = absurd (false≢true some)
 same_found (Some image) past found before some is_image is all = sym (all image (is_image image refl)) ∙ is image refl
 
-module _ {D : Type 0} (store : Store D) (found : Found) (line : List ℕ) (a b : D)
+module _ {D : Type 0} (store : Store D) (faults : D → ℕ) (found : Found) (line : List ℕ) (a b : D) (result : Result (Found × List ℕ) WalletRefused)
     (is_image : IfTold (store.reads a) (Images (store.past a))) (is : IsFoundOn (store.reads a) found)
-    (leaves : IfTold (store.reads a) (λ image. AllFound found (store.past a)
-    → Leaves (IsBeforeOrAfter found (answered found line).next) (store.past a) (store.past b)))
-    (keeps : IfTold (store.reads a) (λ image. KeepsSpent (store.past a) (store.past b))) where
-  stays : IsTold store a → StaysSpent IsSpent (store.past a) (store.past b)
-  stays told = as_stays (store.past a) (store.past b) (told_of (KeepsSpent (store.past a) (store.past b)) (store.reads a) told keeps)
+    (steps : StepsOn found (answered found line) (storage store.reads store.past faults a b) result) where
+  stays : IsTold store a → KeepsSpent IsSpent (store.past a) (store.past b)
+  stays told = told_of (KeepsSpent IsSpent (store.past a) (store.past b)) (store.reads a) told steps.stays
 
   -- all images have the state of this wallet, if they have one
   all_found : IsTold store a → (before : Found) → AllFound before (store.past a) → AllFound found (store.past a)
@@ -51,26 +47,24 @@ module _ {D : Type 0} (store : Store D) (found : Found) (line : List ℕ) (a b :
       → Leaves (StandsForEither wallet_spender before (answered found line).next) (store.past a) (store.past b)
   moments told before all =
       let left = told_of (AllFound found (store.past a) → Leaves (IsBeforeOrAfter found (answered found line).next) (store.past a) (store.past b))
-      (store.reads a) told leaves (all_found told before all) in
+      (store.reads a) told steps.moments (all_found told before all) in
       let same = same_found (store.reads a) (store.past a) found before told is_image is all in
       record { goes = left.goes; each = λ image since. ⊎_elim (λ was. inl (was ∙ sym same)) inr (left.each image since) }
 
-  pub ran_line : (next : Found) → IfTold (store.reads a) (λ image. IsSome (store.reads b))
+  pub ran_line : (next : Found) → HasStepped found (answered found line) (storage store.reads store.past faults a b) next
       → IfTold (store.reads a) (λ image. next ≡ (answered found line).next)
-      → IfTold (store.reads a) (λ image. IsCounterSpent (answered found line).counter (store.past b))
-      → IfTold (store.reads b) (λ image. AllFound found (store.past a) → AllFound next (store.past b))
       → RanOnDisk (spending wallet_spender) store found (tt, a) (line ∷ []) next (tt, b)
-  ran_line next told came spent now = has_spent wallet_spender (record {
+  ran_line next has came = has_spent wallet_spender (record {
     effect = tt;
-    told = λ t. told_of (IsSome (store.reads b)) (store.reads a) t told;
+    told = λ t. told_of (IsSome (store.reads b)) (store.reads a) t has.told;
     came = λ t. told_of (next ≡ (answered found line).next) (store.reads a) t came;
     stays = stays;
     given = λ t. spent_by (answered found line).counter (store.past b)
-        (told_of (IsCounterSpent (answered found line).counter (store.past b)) (store.reads a) t spent);
+        (told_of (IsCounterSpent (answered found line).counter (store.past b)) (store.reads a) t has.spent);
     moments = moments;
     now = λ t before all.
         let then = told_of (AllFound found (store.past a) → AllFound next (store.past b)) (store.reads b)
-        (told_of (IsSome (store.reads b)) (store.reads a) t told) now (all_found t before all) in
+        (told_of (IsSome (store.reads b)) (store.reads a) t has.told) has.all_found (all_found t before all) in
         subst (λ (f : Found). AllFound f (store.past b)) (told_of (next ≡ (answered found line).next) (store.reads a) t came) then;
   })
 

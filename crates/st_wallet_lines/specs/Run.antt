@@ -3,15 +3,16 @@
 use Rattle.std.specs.Prelude.{◌≡◌, ◌⊎◌, ⊤, ℕ, List, Some, None, IsSome}
 use Rattle.std.specs.declared.option.Option.{Option}
 use Rattle.st_io.specs.Past.{Images, Only, Past}
+use Rattle.st_io.specs.Spent.{KeepsSpent}
+use Rattle.st_io.specs.Storage.{Storage}
 use Rattle.st_io.specs.Tears.{IfTold}
 use Rattle.st_drive.specs.Lines.{all_lines}
 use Rattle.st_drive.specs.Released.{KeepsNumbers, Run}
 use Rattle.st_drive.specs.Runs.{Course}
 use Rattle.st_drive.specs.Spending.{EndsOpened, EndsStanding, KeepsStanding, KeptNumbers, LosesOne, run_of}
-use Rattle.st_drive.specs.Streams.{Storage, Streams, Tells}
+use Rattle.st_drive.specs.Streams.{Streams, Tells}
 use Rattle.st_drive.specs.Tables.{AnswersLines}
 use Rattle.st_vault.specs.Image.{IsSpent}
-use Rattle.st_vault.specs.Spent.{KeepsSpent}
 use Rattle.st_wallet.specs.Counters.{next_in}
 use Rattle.st_wallet.specs.Found.{Found, found_in}
 use Rattle.st_wallet.specs.Found.Found.{Blank}
@@ -77,7 +78,7 @@ pub record WalletEnds (image input written : List ℕ) (old new : Past) : Type 0
 -- from a disk whose contents are this image
 pub record WalletFrom (image : List ℕ) (io : Streams) (disk : Storage) : Type 0 where
   -- counters spent in every image before the run are so in every image at each moment of it
-  pub stays : KeepsSpent disk.before disk.behind
+  pub stays : KeepsSpent IsSpent disk.before disk.behind
   -- at each moment the disk has its earlier state, or that of the wallet after a prefix of the lines
   pub vault : (input : List ℕ) → io.had ≡ Some input → KeepsVault image input disk.before disk.behind
   -- and at the end, for any status

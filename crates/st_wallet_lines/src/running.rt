@@ -1,5 +1,6 @@
 ghost use Rattle.std.specs.Prelude.{◌<◌, ◌^◌};
-ghost use Rattle.st_drive.specs.Streams.{storage, streams};
+ghost use Rattle.st_io.specs.Storage.{storage};
+ghost use Rattle.st_drive.specs.Streams.{streams};
 ghost use Rattle.st_wallet_lines.specs.Run.{WalletRun};
 
 use crate::lines::WalletLines;

@@ -1,5 +1,5 @@
 use Rattle.std.proofs.Common.{◌≡◌, ◌<◌, ◌≤◌}
-use Rattle.st_io.specs.Past.{AddsNoImage}
+use Rattle.st_io.specs.Past.{StaysAsItWas}
 use Rattle.st_io.specs.Tears.{IfTold}
 use Rattle.st_journal.specs.Coming.{IsReading, coming, left_of, put_before}
 use Rattle.st_journal.proofs.at_once.read_on.Given as goal
@@ -10,8 +10,7 @@ invariant-records g l = record {
   reading : IsReading l.opening (g.D.Disk.reads l.disk) (g.D.Disk.past l.disk);
   given : IfTold (g.D.Disk.reads l.fn.disk) (λ image. coming l.fn.opening image ≡ put_before l.bodies (coming l.opening image));
   left : 0 < left_of l.opening → 0 < left_of l.fn.opening;
-  reads : g.D.Disk.reads l.disk ≡ g.D.Disk.reads l.fn.disk;
-  images : AddsNoImage (g.D.Disk.past l.fn.disk) (g.D.Disk.past l.disk);
+  as_it_was : StaysAsItWas (g.D.Disk.reads l.fn.disk) (g.D.Disk.reads l.disk) (g.D.Disk.past l.fn.disk) (g.D.Disk.past l.disk);
   later : g.D.Disk.faults l.fn.disk ≤ g.D.Disk.faults l.disk;
 }
 

@@ -1,4 +1,4 @@
-use Rattle.std.proofs.Common.{◌≡◌, [], ◌∷◌}
+use Rattle.std.proofs.Common.{◌≡◌, [], ◌∷◌, refl}
 use Rattle.std.specs.Option.{ok_or}
 use Rattle.st_io.specs.Tears.{Holds}
 use Rattle.st_io.proofs.MomentLemmas.{turns_weaker}
@@ -16,22 +16,17 @@ returns-in_err-write_synced-clause-moments g c old told = begin_moments old _ _ 
 pub returns-clause-moments : goal.returns-clause-moments
 returns-clause-moments g c old told = begin_moments old _ _ (c.requires.short old told) (c.requires.only old told) c.write_synced.ensures.time c.write_synced.ensures.images
 
-pub returns-clause-reading : goal.returns-clause-reading
-returns-clause-reading g c =
-    begin_closed_gate _ _ _ c.bare_window.ensures
-    (λ image told. let from = c.in_ok-write_synced.ensures.written.back image told in closed_at from.0 image from.2)
-    c.in_ok-write_synced.ensures.durable
-
-pub returns-clause-comes : goal.returns-clause-comes
-returns-clause-comes g c =
-    turns_weaker _ _ (Holds 0 (0 ∷ [])) (λ old new. opened old ≡ ok_or (records_from 0 new) Damaged)
-    (λ old new told holds. opened_short old new (c.requires.short old told) (closed_at old new holds))
-    c.in_ok-write_synced.ensures.written
-
-pub returns-clause-same : goal.returns-clause-same
-returns-clause-same g c =
-    turns_weaker _ _ (Holds 0 (0 ∷ [])) (λ old new. records new ≡ records old) (λ old new told holds. begun_same old new (c.requires.short old told) holds) c.in_ok-write_synced.ensures.written
-
-pub returns-clause-begun : goal.returns-clause-begun
-returns-clause-begun g c =
-    turns_weaker _ _ (Holds 0 (0 ∷ [])) (λ old new. new ≡ begun old) (λ old new told holds. begun-short old new (c.requires.short old told) holds) c.in_ok-write_synced.ensures.written
+pub returns-clause-begins : goal.returns-clause-begins
+returns-clause-begins g c =
+    let wrote = c.in_ok-write_synced.ensures in
+    record {
+      reading = begin_closed_gate _ _ _ c.bare_window.ensures
+          (λ image told. let from = wrote.written.back image told in closed_at from.0 image from.2) wrote.durable;
+      first = refl;
+      comes = turns_weaker _ _ (Holds 0 (0 ∷ [])) (λ old new. opened old ≡ ok_or (records_from 0 new) Damaged)
+          (λ old new told holds. opened_short old new (c.requires.short old told) (closed_at old new holds)) wrote.written;
+      contents = turns_weaker _ _ (Holds 0 (0 ∷ [])) (λ old new. new ≡ begun old)
+          (λ old new told holds. begun-short old new (c.requires.short old told) holds) wrote.written;
+      same = turns_weaker _ _ (Holds 0 (0 ∷ [])) (λ old new. records new ≡ records old)
+          (λ old new told holds. begun_same old new (c.requires.short old told) holds) wrote.written;
+    }

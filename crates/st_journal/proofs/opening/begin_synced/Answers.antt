@@ -1,11 +1,11 @@
-use Rattle.std.proofs.Common.{◌≡◌, ◌∙◌, sym, arith}
+use Rattle.std.proofs.Common.{◌≡◌, ◌∙◌, refl, sym, arith}
 use Rattle.std.specs.Option.{ok_or}
 use Rattle.st_io.proofs.MomentLemmas.{only_after, then_on, turns_same}
 use Rattle.st_journal.proofs.ComingLemmas.{opened_long}
-use Rattle.st_journal.proofs.OpeningLemmas.{begin_reading, read_moments}
+use Rattle.st_journal.proofs.OpeningLemmas.{begin_reading, begun-long, read_moments}
 use Rattle.st_journal.specs.Coming.{records_from}
 use Rattle.st_journal.specs.Image.{records}
-use Rattle.st_journal.specs.Opening.{opened}
+use Rattle.st_journal.specs.Opening.{begun, opened}
 use Rattle.st_journal.specs.declared.refused.JournalRefused.TheVariants.{Damaged}
 use Rattle.st_journal.proofs.opening.begin_synced.Goals as goal
 
@@ -15,15 +15,17 @@ returns-then-len-lt2-clause-moments g c old told =
     (read_moments old _ _ (c.requires old told) (record { goes = c.length.ensures.time; none = c.length.ensures.images }))
     (c.begin_closed.ensures.moments old (c.length.ensures.reads ∙ told))
 
-pub returns-clause-reading : goal.returns-clause-reading
-returns-clause-reading g c =
-    begin_reading c.in_ok-window.window c.in_ok-len.len _ _ (omega (arith, c.if-len-lt2.false)) (omega (arith, c.if-len-gt-LONGEST.false))
-    c.in_ok-window.ensures.sound c.in_ok-window.ensures.shows
-    (λ image told. sym (c.in_ok-len.ensures.length image (sym c.length.ensures.reads ∙ told)))
-    (λ image told. only_after _ _ image (c.requires image (sym c.length.ensures.reads ∙ told)) (record { goes = c.length.ensures.time; none = c.length.ensures.images }))
-
-pub returns-clause-comes : goal.returns-clause-comes
-returns-clause-comes g c =
-    turns_same _ _ (λ old new. opened old ≡ ok_or (records_from 0 new) Damaged) c.length.ensures.reads
-    (λ image told.
-    opened_long image (omega (arith, c.in_ok-len.ensures.length image told, c.if-len-lt2.false)) (omega (arith, c.in_ok-len.ensures.length image told, c.if-len-gt-LONGEST.false)))
+pub returns-clause-begins : goal.returns-clause-begins
+returns-clause-begins g c = record {
+  reading = begin_reading c.in_ok-window.window c.in_ok-len.len _ _ (omega (arith, c.if-len-lt2.false)) (omega (arith, c.if-len-gt-LONGEST.false))
+      c.in_ok-window.ensures.sound c.in_ok-window.ensures.shows
+      (λ image told. sym (c.in_ok-len.ensures.length image (sym c.length.ensures.reads ∙ told)))
+      (λ image told. only_after _ _ image (c.requires image (sym c.length.ensures.reads ∙ told)) (record { goes = c.length.ensures.time; none = c.length.ensures.images }));
+  first = refl;
+  comes = turns_same _ _ (λ old new. opened old ≡ ok_or (records_from 0 new) Damaged) c.length.ensures.reads
+      (λ image told.
+      opened_long image (omega (arith, c.in_ok-len.ensures.length image told, c.if-len-lt2.false)) (omega (arith, c.in_ok-len.ensures.length image told, c.if-len-gt-LONGEST.false)));
+  contents = turns_same _ _ (λ old new. new ≡ begun old) c.length.ensures.reads
+      (λ image told. begun-long image (omega (arith, c.in_ok-len.ensures.length image told, c.if-len-lt2.false)));
+  same = turns_same _ _ (λ old new. records new ≡ records old) c.length.ensures.reads (λ image told. refl);
+}

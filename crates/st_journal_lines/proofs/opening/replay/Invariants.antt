@@ -1,5 +1,5 @@
-use Rattle.std.proofs.Common.{◌≡◌, ◌<◌, ◌≤◌}
-use Rattle.st_io.specs.Past.{AddsNoImage}
+use Rattle.std.proofs.Common.{◌<◌, ◌≤◌}
+use Rattle.st_io.specs.Past.{StaysAsItWas}
 use Rattle.st_io.specs.Tears.{IfTold}
 use Rattle.st_journal.specs.Coming.{IsReading, coming, left_of}
 use Rattle.st_journal_lines.proofs.ReplayLemmas.{Replayed}
@@ -12,8 +12,7 @@ invariant-records g l = record {
   replayed : IfTold (g.D.Disk.reads l.fn.disk) (λ image.
       Replayed g.N.Replayable.answering l.fn.machine l.fn.context l.fn.opening.place l.opening.place image (coming l.fn.opening image) (coming l.opening image) l.machine l.context);
   left : 0 < left_of l.opening → 0 < left_of l.fn.opening;
-  reads : g.D.Disk.reads l.disk ≡ g.D.Disk.reads l.fn.disk;
-  images : AddsNoImage (g.D.Disk.past l.fn.disk) (g.D.Disk.past l.disk);
+  as_it_was : StaysAsItWas (g.D.Disk.reads l.fn.disk) (g.D.Disk.reads l.disk) (g.D.Disk.past l.fn.disk) (g.D.Disk.past l.disk);
   later : g.D.Disk.faults l.fn.disk ≤ g.D.Disk.faults l.disk;
 }
 

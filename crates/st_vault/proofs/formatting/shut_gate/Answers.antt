@@ -8,12 +8,12 @@ use Rattle.st_vault.proofs.formatting.shut_gate.Goals as goal
 pub returns-in_err-write_synced-in-Short-clause-moments : goal.returns-in_err-write_synced-in-Short-clause-moments
 returns-in_err-write_synced-in-Short-clause-moments g c old told =
     let short = subst (λ start. Begins start old) c.in-Short.is (c.in_ok-look.ensures.begins old told) in
-    shut_moments _ _ _ old (c.requires old told) c.look.ensures.images short c.write_synced.ensures.time c.write_synced.ensures.images
+    shut_moments _ _ _ old (c.requires old told) c.look.ensures.as_it_was.images short c.write_synced.ensures.time c.write_synced.ensures.images
 
 pub returns-in_ok-write_synced-in-Short-clause-moments : goal.returns-in_ok-write_synced-in-Short-clause-moments
 returns-in_ok-write_synced-in-Short-clause-moments g c old told =
     let short = subst (λ start. Begins start old) c.in-Short.is (c.in_ok-look.ensures.begins old told) in
-    shut_moments _ _ _ old (c.requires old told) c.look.ensures.images short c.write_synced.ensures.time c.write_synced.ensures.images
+    shut_moments _ _ _ old (c.requires old told) c.look.ensures.as_it_was.images short c.write_synced.ensures.time c.write_synced.ensures.images
 
 pub returns-in-Formatted-clause-gives : goal.returns-in-Formatted-clause-gives
 returns-in-Formatted-clause-gives g c old told =
@@ -29,5 +29,5 @@ returns-in-Shut-clause-gives g c old told =
 
 pub returns-in-Shut-clause-shut : goal.returns-in-Shut-clause-shut
 returns-in-Shut-clause-shut g c =
-    turns_same _ _ (λ old image. IsShut image) c.look.ensures.reads
+    turns_same _ _ (λ old image. IsShut image) c.look.ensures.as_it_was.reads
     (λ old told. subst (λ start. Begins start old) c.in-Shut.is (c.in_ok-look.ensures.begins old told))

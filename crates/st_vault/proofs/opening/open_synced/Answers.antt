@@ -13,20 +13,20 @@ returns-in_err-secret-clause-gives g c image told =
 pub read_next-requires-clause-there : goal.read_next-requires-clause-there
 read_next-requires-clause-there g c image told =
     let key = c.in_ok-secret.secret in
-    let long : 64 + count_of key ≤ length image = long_enough image key (c.in_ok-secret.ensures.gives image (sym c.read_key.ensures.reads ∙ told)) in
+    let long : 64 + count_of key ≤ length image = long_enough image key (c.in_ok-secret.ensures.gives image (sym c.read_key.ensures.as_it_was.reads ∙ told)) in
     omega (arith, long, c.leaf_count.ensures.count)
 
 pub returns-clause-gives : goal.returns-clause-gives
 returns-clause-gives g c image told =
     let key = c.in_ok-secret.secret in
     let next : c.in_ok-next.next ≡ one_past (nonzero_from 0 (map_in (count_of key) image))
-    = c.in_ok-next.ensures.next image (c.read_key.ensures.reads ∙ told) ∙ ap (λ n. one_past (nonzero_from 0 (map_in n image))) c.leaf_count.ensures.count in
+    = c.in_ok-next.ensures.next image (c.read_key.ensures.as_it_was.reads ∙ told) ∙ ap (λ n. one_past (nonzero_from 0 (map_in n image))) c.leaf_count.ensures.count in
     opened-map image key c.in_ok-next.next (c.in_ok-secret.ensures.gives image told) next ∙ ap Ok (sym c.new.ensures)
 
 pub returns-clause-reads_as : goal.returns-clause-reads_as
 returns-clause-reads_as g c image told =
     let key = c.in_ok-secret.secret in
-    let keyed = sym c.read_next.ensures.reads ∙ told in
+    let keyed = sym c.read_next.ensures.as_it_was.reads ∙ told in
     let next : c.in_ok-next.next ≡ one_past (nonzero_from 0 (map_in (count_of key) image))
     = c.in_ok-next.ensures.next image keyed ∙ ap (λ n. one_past (nonzero_from 0 (map_in n image))) c.leaf_count.ensures.count in
-    opened-map image key c.in_ok-next.next (c.in_ok-secret.ensures.gives image (sym c.read_key.ensures.reads ∙ keyed)) next ∙ ap Ok (sym c.new.ensures)
+    opened-map image key c.in_ok-next.next (c.in_ok-secret.ensures.gives image (sym c.read_key.ensures.as_it_was.reads ∙ keyed)) next ∙ ap Ok (sym c.new.ensures)

@@ -1,6 +1,5 @@
 use Rattle.std.proofs.Common.{◌∙◌, inr, refl, sym, ap}
 use Rattle.st_vault.specs.Opening.{opened}
-use Rattle.st_vault.specs.Values.{VaultValue}
 use Rattle.st_wallet.specs.Found.{opens}
 use Rattle.st_wallet.specs.Found.Found.{Opened}
 use Rattle.st_wallet.proofs.StepLemmas.{not_formatted, untold_if}
@@ -25,8 +24,19 @@ returns-in-Err-Formatted-clause-answer g c =
       },
     )
 
-pub returns-in-Ok-clause-all_found : goal.returns-in-Ok-clause-all_found
-returns-in-Ok-clause-all_found g c xs told all image there =
+pub returns-in-Ok-clause-steps : goal.returns-in-Ok-clause-steps
+returns-in-Ok-clause-steps g c =
     let made = c.in-Ok.ensures in
-    ap opened (made.durable xs told image there) ∙ made.reads xs told
-    ∙ ap (λ (vault : VaultValue). opens (Opened vault)) (sym c.with_signer.ensures) ∙ ap opens (sym c.of.ensures)
+    let is = c.of.ensures ∙ ap Opened c.with_signer.ensures in
+    record {
+      untouched = λ same. absurd cc;
+      moments = c.format_vault.ensures.moments;
+      stays = c.format_vault.ensures.stays;
+      done = record {
+        reads = λ image told. made.reads image told ∙ ap opens (sym is);
+        told = made.told;
+        fresh = λ image told. tt;
+        spent = λ image told. tt;
+        all_found = λ image told all x there. ap opened (made.durable image told x there) ∙ made.reads image told ∙ ap opens (sym is);
+      };
+    }

@@ -24,7 +24,7 @@ returns-in-Ok-Some-clause-reading g c =
     let len = c.args.self.now.len in
     let fits : place + 5 + length c.in-Ok-Some.body < len =
     subst (λ next. IfSome next (λ body. place + 5 + length body < len)) c.in-Ok-Some.field-0-is c.in-Ok-Some.ensures.fits in
-    reading_on c.requires.reading c.read_record.ensures.reads c.read_record.ensures.images c.read_record.new.window c.as_slice.result.now
+    reading_on c.requires.reading c.read_record.ensures.as_it_was.reads c.read_record.ensures.as_it_was.images c.read_record.new.window c.as_slice.result.now
     (omega (arith, fits, ap length c.as_slice.ensures))
     (λ image told. c.in-Ok-Some.ensures.gives image told ∙ ap Some c.in-Ok-Some.field-0-is ∙ ap (λ b. Some (Some b)) (sym c.as_slice.ensures))
     c.read_record.ensures.sound c.read_record.ensures.shows
@@ -41,7 +41,7 @@ returns-in-Ok-None-clause-comes g c image told =
 
 pub returns-in-Ok-None-clause-ready : goal.returns-in-Ok-None-clause-ready
 returns-in-Ok-None-clause-ready g c none =
-    ready_behind c.requires.reading c.read_record.ensures.reads c.read_record.ensures.images
+    ready_behind c.requires.reading c.read_record.ensures.as_it_was.reads c.read_record.ensures.as_it_was.images
     (λ image told. c.in-Ok-None.ensures.gives image told ∙ ap Some c.in-Ok-None.field-0-is)
 
 pub returns-in-Err-clause-comes : goal.returns-in-Err-clause-comes
