@@ -1,52 +1,19 @@
 -- Reading the missing file of a role, if the core index is missing or was read.
-use Rattle.std.proofs.Common.{◌≡◌, ◌∙◌, ◌-◌, ℕ, List, Option, Some, None, refl, sym, ap, subst, arith}
-use Rattle.st_plain.specs.Shapes.{json_in}
+use Rattle.std.proofs.Common.{◌≡◌, ◌∙◌, ◌-◌, ℕ, List, refl, sym, ap, subst, arith}
 use Rattle.st_datafiles.specs.declared.role.Role.{Role}
 use Rattle.st_datafiles.specs.declared.role.Role.TheVariants.{Core, CoreProof, Provisional, ProvisionalProof, Chunk}
 use Rattle.st_hash.specs.Hash.{HashValue}
-use Rattle.st_indexfiles.specs.CoreRules.{first_failing_core_rule}
-use Rattle.st_indexfiles.specs.ProvisionalIndex.{provisional_index_of}
-use Rattle.st_indexfiles.specs.ProvisionalRules.{first_failing_provisional_rule}
 use Rattle.st_indexfiles.specs.declared.core_index.CoreIndex.{CoreIndex}
-use Rattle.st_indexfiles.specs.declared.core_rule.CoreRule.{CoreRule}
-use Rattle.st_indexfiles.specs.declared.provisional_index.ProvisionalIndex.{ProvisionalIndex}
-use Rattle.st_indexfiles.specs.declared.provisional_rule.ProvisionalRule.{ProvisionalRule}
 use Rattle.st_anchor.specs.Coming.{IsMissing, opened_by}
-use Rattle.st_anchor.specs.Known.{Known, bound_with, core_branch, core_in, core_with, filled, judged, looked_below, named, provisional_in, provisional_judged, provisional_part_with, provisional_with}
-use Rattle.st_anchor.specs.States.{core_proof_count, core_state, count_read, opened_in_core, opened_in_provisional, opened_proofs, provisional_part_state, role_state, state, state_below}
+use Rattle.st_anchor.specs.Known.{Known, bound_with, core_in, core_with, filled, looked_below, provisional_part_with, provisional_with}
+use Rattle.st_anchor.specs.States.{core_state, count_read, opened_in_core, opened_in_provisional, opened_proofs, provisional_part_state, role_state, state, state_below}
 use Rattle.st_anchor.specs.declared.branches.Context.{Context}
 use Rattle.st_anchor.specs.declared.branches.CoreBranch.{CoreBranch}
 use Rattle.st_anchor.specs.declared.branches.ProvisionalBranch.{ProvisionalBranch}
 use Rattle.st_anchor.specs.declared.part.Part.{Part}
 use Rattle.st_anchor.specs.declared.part.Part.TheVariants.{Missing, Is}
 use Rattle.st_anchor.specs.declared.role_state.RoleState.TheVariants as role_is
-use Rattle.st_anchor.specs.declared.rule.Rule.TheVariants as fails
-
--- ---- reading an index file opens no signed text
-
-none-named : {Says : Type 0} (count : Says → ℕ) (uri : Option HashValue) → count_read count (named uri) ≡ 0
-none-named count None = refl
-none-named count (Some uri) = refl
-
-none-provisional : (failing : Option ProvisionalRule) (says : Option ProvisionalIndex)
-    → count_read opened_in_provisional (provisional_judged failing says) ≡ 0
-none-provisional (Some failing) says = refl
-none-provisional None (Some index) = none-named _ index.proof
-none-provisional None None = refl
-
-opened-provisional_in : (context : Context) (core : CoreIndex) (bytes : List ℕ) → count_read opened_in_provisional (provisional_in context core bytes) ≡ 0
-unfolding provisional_in
-opened-provisional_in context core bytes =
-    none-provisional (first_failing_provisional_rule context.params context.count core bytes)
-    (provisional_index_of context.params.version (json_in bytes))
-
-none-core : (failing : Option CoreRule) (index : CoreIndex) → count_read opened_in_core (judged fails.Core failing (core_branch index)) ≡ 0
-none-core None index = omega (arith, none-named core_proof_count index.core_proof, none-named opened_in_provisional index.provisional)
-none-core (Some failing) index = refl
-
-opened-core_in : (context : Context) (bytes : List ℕ) → count_read opened_in_core (core_in context bytes) ≡ 0
-unfolding core_in
-opened-core_in context bytes = none-core (first_failing_core_rule context.params context.count bytes) _
+use Rattle.st_anchor.proofs.CountLemmas.{opened-core_in, opened-provisional_in}
 
 -- ---- below a core index
 

@@ -1,10 +1,14 @@
--- The number of decided roles, and of signed texts in the proof files that were read.
+-- The number of decided roles, and of signed texts in the proof files that were read. Both add up what each file of an
+-- entry counts, which is nothing before it is read.
 --     decided_roles-with    reading a missing file decides exactly one more role
 --     decided_roles-up      a lookup undoes no decision
 --     decided_roles-small   there are at most five
---     opened_proofs-with    reading a file undoes no reading
+--     opened_proofs-with    reading a missing file undoes no reading
 --     opened_proofs-up      nor does a lookup
-use Rattle.std.proofs.Common.{◌≡◌, ◌∙◌, ◌+◌, ◌≤◌, ℕ, List, length, Option, Some, None, refl, ap, sym, arith}
+--     opened-core_in, opened-provisional_in    an index file has no signed texts
+use Rattle.std.proofs.Common.{◌≡◌, ◌∙◌, ◌+◌, ◌≤◌, ℕ, List, length, Option, Some, None, refl, sym, subst, arith}
+use Rattle.std.proofs.lemmas.List.Sums.{sum_by-le-sum_by}
+use Rattle.st_plain.specs.Plain.{Plain}
 use Rattle.st_plain.specs.Shapes.{json_in}
 use Rattle.st_content.specs.Files.{Files}
 use Rattle.st_datafiles.specs.declared.role.Role.{Role}
@@ -20,7 +24,7 @@ use Rattle.st_indexfiles.specs.declared.provisional_index.ProvisionalIndex.{Prov
 use Rattle.st_indexfiles.specs.declared.provisional_rule.ProvisionalRule.{ProvisionalRule}
 use Rattle.st_ops.specs.Operation.{Proof}
 use Rattle.st_anchor.specs.Known.{Known, as_it_is, bound_with, chunk_in, core_branch, core_in, core_over, core_proof_in, core_with, filled, judged, known_from, looked_below, looked_up, named, provisional_in, provisional_judged, provisional_over, provisional_proof_in, provisional_with}
-use Rattle.st_anchor.specs.States.{core_proof_count, core_state, count_read, decided, decided_roles, opened_in_core, opened_in_provisional, opened_proofs, provisional_state, role_state, state, state_below}
+use Rattle.st_anchor.specs.States.{core_proof_count, core_state, count_read, decided, decided_roles, opened_in_core, opened_in_provisional, opened_proofs, provisional_state, role_state, role_states, state, state_below}
 use Rattle.st_anchor.specs.declared.branches.Context.{Context}
 use Rattle.st_anchor.specs.declared.branches.CoreBranch.{CoreBranch}
 use Rattle.st_anchor.specs.declared.branches.OpenedCore.{OpenedCore}
@@ -30,153 +34,200 @@ use Rattle.st_anchor.specs.declared.part.Part.TheVariants.{Unneeded, Missing, Re
 use Rattle.st_anchor.specs.declared.role_state.RoleState.{RoleState}
 use Rattle.st_anchor.specs.declared.role_state.RoleState.TheVariants as role_is
 use Rattle.st_anchor.specs.declared.rule.Rule.TheVariants as fails
-use Rattle.st_anchor.proofs.KnownLemmas.{WasRead, chunk_in-read, core_proof_in-read, provisional_proof_in-read, turned}
+use Rattle.st_anchor.proofs.KnownLemmas.{WasRead, chunk_in-read, core_proof_in-read, provisional_proof_in-read}
 
--- ---- one part
+-- ---- what files count
 
-decided-one : {Says : Type 0} (part : Part Says) → WasRead part → decided (state part) ≡ 1
-decided-one Unneeded was = absurd was
-decided-one (Missing uri) was = absurd was
-decided-one (Rejected rule) was = refl
-decided-one (Is says) was = refl
+-- nothing before the file is read, a number if it fails a rule, and otherwise what its content counts
+abbrev weigh : {Says : Type 0} → ℕ → (Says → ℕ) → Part Says → ℕ
+weigh one count Unneeded = 0
+weigh one count (Missing uri) = 0
+weigh one count (Rejected rule) = one
+weigh one count (Is says) = count says
 
--- a missing file is filled in: it counts 0 while missing, and 1 when read
-counted-filled : {Says : Type 0} (count : Part Says → ℕ) (read : List ℕ → Part Says) (part : Part Says) (uri : HashValue) (bytes : List ℕ)
-    → state part ≡ role_is.Missing uri → count (Missing uri) ≡ 0 → count (read bytes) ≡ 1 → count (filled read bytes part) ≡ count part + 1
-counted-filled count read Unneeded uri bytes is none one = cc
-counted-filled count read (Missing missed) uri bytes is none one =
-    let same : uri ≡ missed = cc in
-    let nothing : count (Missing missed) ≡ 0 = ap (λ u. count (Missing u)) (sym same) ∙ none in
-    one ∙ sym (ap (λ n. n + 1) nothing)
-counted-filled count read (Rejected rule) uri bytes is none one = cc
-counted-filled count read (Is says) uri bytes is none one = cc
+-- each file counts the same, except for proof files that were read
+module _ (one : ℕ) (core_proofs : OpenedCore → ℕ) (proofs : List (Option Proof) → ℕ) where
+  abbrev provisional_weight : ProvisionalBranch → ℕ
+  provisional_weight branch = one + weigh one proofs branch.proofs + weigh one (λ deltas. one) branch.chunk
 
-decided-filled : {Says : Type 0} (read : List ℕ → Part Says) (part : Part Says) (uri : HashValue) (bytes : List ℕ)
-    → state part ≡ role_is.Missing uri → WasRead (read bytes) → decided (state (filled read bytes part)) ≡ decided (state part) + 1
-decided-filled read part uri bytes is was = counted-filled (λ part. decided (state part)) read part uri bytes is refl (decided-one (read bytes) was)
+  abbrev core_weight : CoreBranch → ℕ
+  core_weight branch = one + weigh one core_proofs branch.proofs + weigh one provisional_weight branch.provisional
 
-decided-named : (Says : Type 0) (uri : Option HashValue) → decided (state (named {Says = Says} uri)) ≡ 0
-decided-named Says None = refl
-decided-named Says (Some uri) = refl
+  abbrev weight : Known → ℕ
+  weight bound = weigh one core_weight bound.core
 
-decided-named_below : {Says : Type 0} (stands : Says → RoleState) (uri : Option HashValue) → decided (state_below stands (named uri)) ≡ 0
-decided-named_below stands None = refl
-decided-named_below stands (Some uri) = refl
+  -- ---- an index file was read
 
--- ---- the roles from a provisional index on
+  weigh-named : {Says : Type 0} (count : Says → ℕ) (uri : Option HashValue) → weigh one count (named uri) ≡ 0
+  weigh-named count None = refl
+  weigh-named count (Some uri) = refl
 
-abbrev pub decided_provisional : Part ProvisionalBranch → ℕ
-decided_provisional part =
-    decided (state part) + decided (state_below (provisional_state ProvisionalProof) part) + decided (state_below (provisional_state Chunk) part)
+  provisional-judged : (failing : Option ProvisionalRule) (says : Option ProvisionalIndex) → weigh one provisional_weight (provisional_judged failing says) ≡ one
+  provisional-judged (Some failing) says = refl
+  provisional-judged None (Some index) = omega (arith, weigh-named proofs index.proof)
+  provisional-judged None None = refl
 
-decided_provisional-judged : (failing : Option ProvisionalRule) (says : Option ProvisionalIndex)
-    → decided_provisional (provisional_judged failing says) ≡ 1
-decided_provisional-judged (Some failing) says = refl
-decided_provisional-judged None (Some index) = omega (arith, decided-named (List (Option Proof)) index.proof)
-decided_provisional-judged None None = refl
+  provisional-in : (context : Context) (core : CoreIndex) (bytes : List ℕ) → weigh one provisional_weight (provisional_in context core bytes) ≡ one
+  unfolding provisional_in
+  provisional-in context core bytes =
+      provisional-judged (first_failing_provisional_rule context.params context.count core bytes) (provisional_index_of context.params.version (json_in bytes))
 
-decided_provisional-in : (context : Context) (core : CoreIndex) (bytes : List ℕ) → decided_provisional (provisional_in context core bytes) ≡ 1
-unfolding provisional_in
-decided_provisional-in context core bytes =
-    decided_provisional-judged (first_failing_provisional_rule context.params context.count core bytes)
-    (provisional_index_of context.params.version (json_in bytes))
+  core-judged : (failing : Option CoreRule) (index : CoreIndex) → weigh one core_weight (judged fails.Core failing (core_branch index)) ≡ one
+  core-judged (Some failing) index = refl
+  core-judged None index = omega (arith, weigh-named core_proofs index.core_proof, weigh-named provisional_weight index.provisional)
 
-decided_provisional-below : (role : Role) (context : Context) (core : CoreIndex) (part : Part ProvisionalBranch) (uri : HashValue) (bytes : List ℕ)
-    → state_below (provisional_state role) part ≡ role_is.Missing uri
-    → decided_provisional (looked_below (provisional_with role context core bytes) part) ≡ decided_provisional part + 1
-decided_provisional-below role context core Unneeded uri bytes is = cc
-decided_provisional-below role context core (Missing missed) uri bytes is = cc
-decided_provisional-below role context core (Rejected rule) uri bytes is = cc
-decided_provisional-below Core context core (Is branch) uri bytes is = cc
-decided_provisional-below CoreProof context core (Is branch) uri bytes is = cc
-decided_provisional-below Provisional context core (Is branch) uri bytes is = cc
-decided_provisional-below ProvisionalProof context core (Is branch) uri bytes is =
-    omega (arith, decided-filled (provisional_proof_in context branch.says) branch.proofs uri bytes is (provisional_proof_in-read context branch.says bytes))
-decided_provisional-below Chunk context core (Is branch) uri bytes is =
-    omega (arith, decided-filled (chunk_in context core branch.says) branch.chunk uri bytes is (chunk_in-read context core branch.says bytes))
+  core-in : (context : Context) (bytes : List ℕ) → weigh one core_weight (core_in context bytes) ≡ one
+  unfolding core_in
+  core-in context bytes =
+      core-judged (first_failing_core_rule context.params context.count bytes) (core_index_of context.params.version (json_in bytes))
 
--- ---- all roles
+  -- ---- files are looked up
 
-abbrev pub decided_core : CoreBranch → ℕ
-decided_core branch = decided (state branch.proofs) + decided_provisional branch.provisional
+  weigh-up : {Says : Type 0} (count : Says → ℕ) (read : List ℕ → Part Says) (below : Says → Says) (files : Files) (part : Part Says)
+      → ((says : Says) → count says ≤ count (below says)) → weigh one count part ≤ weigh one count (looked_up read below files part)
+  weigh-up count read below files Unneeded more = omega arith
+  weigh-up count read below files (Missing uri) more = omega arith
+  weigh-up count read below files (Rejected rule) more = omega arith
+  weigh-up count read below files (Is says) more = more says
 
-decided_core-with : (role : Role) (context : Context) (branch : CoreBranch) (uri : HashValue) (bytes : List ℕ)
-    → core_state role branch ≡ role_is.Missing uri
-    → decided_core (core_with role context bytes branch) ≡ decided_core branch + 1
-decided_core-with Core context branch uri bytes is = cc
-decided_core-with CoreProof context branch uri bytes is =
-    omega (arith, decided-filled (core_proof_in context branch.says) branch.proofs uri bytes is (core_proof_in-read context branch.says bytes))
-decided_core-with Provisional context branch uri bytes is =
-    omega (
-      arith,
-      counted-filled decided_provisional (provisional_in context branch.says) branch.provisional uri bytes is refl (decided_provisional-in context branch.says bytes),
-    )
-decided_core-with ProvisionalProof context branch uri bytes is =
-    omega (arith, decided_provisional-below ProvisionalProof context branch.says branch.provisional uri bytes is)
-decided_core-with Chunk context branch uri bytes is =
-    omega (arith, decided_provisional-below Chunk context branch.says branch.provisional uri bytes is)
+  provisional-up : (context : Context) (core : CoreIndex) (files : Files) (branch : ProvisionalBranch)
+      → provisional_weight branch ≤ provisional_weight (provisional_over context core files branch)
+  provisional-up context core files branch =
+      omega (
+        arith,
+        weigh-up proofs (provisional_proof_in context branch.says) as_it_is files branch.proofs (λ says. omega arith),
+        weigh-up (λ deltas. one) (chunk_in context core branch.says) as_it_is files branch.chunk (λ says. omega arith),
+      )
 
-abbrev pub decided_part : Part CoreBranch → ℕ
-decided_part part =
-    decided (state part) + decided (state_below (core_state CoreProof) part) + decided (state_below (core_state Provisional) part)
-    + decided (state_below (core_state ProvisionalProof) part) + decided (state_below (core_state Chunk) part)
+  core-up : (context : Context) (files : Files) (branch : CoreBranch) → core_weight branch ≤ core_weight (core_over context files branch)
+  core-up context files branch =
+      omega (
+        arith,
+        weigh-up core_proofs (core_proof_in context branch.says) as_it_is files branch.proofs (λ says. omega arith),
+        weigh-up provisional_weight (provisional_in context branch.says) (provisional_over context branch.says files) files branch.provisional
+            (provisional-up context branch.says files),
+      )
 
-decided_part-judged : (failing : Option CoreRule) (index : CoreIndex) → decided_part (judged fails.Core failing (core_branch index)) ≡ 1
-decided_part-judged (Some failing) index = refl
-decided_part-judged None index =
-    omega (
-      arith,
-      decided-named OpenedCore index.core_proof,
-      decided-named ProvisionalBranch index.provisional,
-      decided-named_below (provisional_state ProvisionalProof) index.provisional,
-      decided-named_below (provisional_state Chunk) index.provisional,
-    )
+  known-up : (files : Files) (bound : Known) → weight bound ≤ weight (known_from files bound)
+  unfolding known_from
+  known-up files bound = weigh-up core_weight (core_in bound.context) (core_over bound.context files) files bound.core (core-up bound.context files)
 
-decided_part-in : (context : Context) (bytes : List ℕ) → decided_part (core_in context bytes) ≡ 1
-unfolding core_in
-decided_part-in context bytes =
-    decided_part-judged (first_failing_core_rule context.params context.count bytes) (core_index_of context.params.version (json_in bytes))
+  -- ---- a missing file is read, which adds what it counts
 
-decided_part-below : (role : Role) (context : Context) (part : Part CoreBranch) (uri : HashValue) (bytes : List ℕ)
-    → state_below (core_state role) part ≡ role_is.Missing uri
-    → decided_part (looked_below (core_with role context bytes) part) ≡ decided_part part + 1
-decided_part-below role context Unneeded uri bytes is = cc
-decided_part-below role context (Missing missed) uri bytes is = cc
-decided_part-below role context (Rejected rule) uri bytes is = cc
-decided_part-below role context (Is branch) uri bytes is = omega (arith, decided_core-with role context branch uri bytes is)
+  module _ (Counts : ℕ → Type 0) (of_one : Counts one) (of_core : (opened : OpenedCore) → Counts (core_proofs opened))
+      (of_proofs : (opened : List (Option Proof)) → Counts (proofs opened)) where
+    abbrev Gains : ℕ → ℕ → Type 0
+    Gains before after = (gain : ℕ) × Counts gain × (after ≡ before + gain)
 
-decided_part-with : (role : Role) (bound : Known) (uri : HashValue) (bytes : List ℕ)
-    → role_state role bound ≡ role_is.Missing uri → decided_part (bound_with role bytes bound).core ≡ decided_part bound.core + 1
-unfolding role_state bound_with
-decided_part-with Core bound uri bytes is =
-    counted-filled decided_part (core_in bound.context) bound.core uri bytes is refl (decided_part-in bound.context bytes)
-decided_part-with CoreProof bound uri bytes is = decided_part-below CoreProof bound.context bound.core uri bytes is
-decided_part-with Provisional bound uri bytes is = decided_part-below Provisional bound.context bound.core uri bytes is
-decided_part-with ProvisionalProof bound uri bytes is = decided_part-below ProvisionalProof bound.context bound.core uri bytes is
-decided_part-with Chunk bound uri bytes is = decided_part-below Chunk bound.context bound.core uri bytes is
+    counts-read : {Says : Type 0} (count : Says → ℕ) (part : Part Says) → WasRead part → ((says : Says) → Counts (count says)) → Counts (weigh one count part)
+    counts-read count Unneeded was of = absurd was
+    counts-read count (Missing uri) was of = absurd was
+    counts-read count (Rejected rule) was of = of_one
+    counts-read count (Is says) was of = of says
 
-sum-five : (a b c d e : ℕ) → 0 + a + b + c + d + e ≡ a + b + c + d + e
-sum-five a b c d e = omega arith
+    gains-filled : {Says : Type 0} (count : Says → ℕ) (read : List ℕ → Part Says) (part : Part Says) (uri : HashValue) (bytes : List ℕ)
+        → state part ≡ role_is.Missing uri → Counts (weigh one count (read bytes)) → Gains (weigh one count part) (weigh one count (filled read bytes part))
+    gains-filled count read Unneeded uri bytes is of = absurd cc
+    gains-filled count read (Missing missed) uri bytes is of = (weigh one count (read bytes), of, omega arith)
+    gains-filled count read (Rejected rule) uri bytes is of = absurd cc
+    gains-filled count read (Is says) uri bytes is of = absurd cc
 
--- the sum, role by role
-decided_roles-sum : (bound : Known)
-    → decided_roles bound
-    ≡ decided (role_state Core bound) + decided (role_state CoreProof bound) + decided (role_state Provisional bound)
-    + decided (role_state ProvisionalProof bound) + decided (role_state Chunk bound)
-unfolding decided_roles
-decided_roles-sum bound =
-    sum-five (decided (role_state Core bound)) (decided (role_state CoreProof bound)) (decided (role_state Provisional bound))
-    (decided (role_state ProvisionalProof bound)) (decided (role_state Chunk bound))
+    gains-below : {Says : Type 0} (count : Says → ℕ) (with : Says → Says) (stands : Says → RoleState) (part : Part Says) (uri : HashValue)
+        → state_below stands part ≡ role_is.Missing uri → ((says : Says) → stands says ≡ role_is.Missing uri → Gains (count says) (count (with says)))
+        → Gains (weigh one count part) (weigh one count (looked_below with part))
+    gains-below count with stands Unneeded uri is more = absurd cc
+    gains-below count with stands (Missing missed) uri is more = absurd cc
+    gains-below count with stands (Rejected rule) uri is more = absurd cc
+    gains-below count with stands (Is says) uri is more = more says is
 
-decided_roles-part : (bound : Known) → decided_roles bound ≡ decided_part bound.core
-unfolding role_state
-decided_roles-part bound = decided_roles-sum bound
+    provisional-gains : (role : Role) (context : Context) (core : CoreIndex) (branch : ProvisionalBranch) (uri : HashValue) (bytes : List ℕ)
+        → provisional_state role branch ≡ role_is.Missing uri
+        → Gains (provisional_weight branch) (provisional_weight (provisional_with role context core bytes branch))
+    provisional-gains Core context core branch uri bytes is = absurd cc
+    provisional-gains CoreProof context core branch uri bytes is = absurd cc
+    provisional-gains Provisional context core branch uri bytes is = absurd cc
+    provisional-gains ProvisionalProof context core branch uri bytes is =
+        let gains = gains-filled proofs (provisional_proof_in context branch.says) branch.proofs uri bytes is
+        (counts-read proofs (provisional_proof_in context branch.says bytes) (provisional_proof_in-read context branch.says bytes) of_proofs) in
+        (gains.0, gains.1, omega (arith, gains.2))
+    provisional-gains Chunk context core branch uri bytes is =
+        let gains = gains-filled (λ deltas. one) (chunk_in context core branch.says) branch.chunk uri bytes is
+        (counts-read (λ deltas. one) (chunk_in context core branch.says bytes) (chunk_in-read context core branch.says bytes) (λ deltas. of_one)) in
+        (gains.0, gains.1, omega (arith, gains.2))
 
-pub decided_roles-with : (role : Role) (bound : Known) (uri : HashValue) (bytes : List ℕ)
-    → role_state role bound ≡ role_is.Missing uri
+    core-gains : (role : Role) (context : Context) (branch : CoreBranch) (uri : HashValue) (bytes : List ℕ)
+        → core_state role branch ≡ role_is.Missing uri → Gains (core_weight branch) (core_weight (core_with role context bytes branch))
+    core-gains Core context branch uri bytes is = absurd cc
+    core-gains CoreProof context branch uri bytes is =
+        let gains = gains-filled core_proofs (core_proof_in context branch.says) branch.proofs uri bytes is
+        (counts-read core_proofs (core_proof_in context branch.says bytes) (core_proof_in-read context branch.says bytes) of_core) in
+        (gains.0, gains.1, omega (arith, gains.2))
+    core-gains Provisional context branch uri bytes is =
+        let gains = gains-filled provisional_weight (provisional_in context branch.says) branch.provisional uri bytes is
+        (subst Counts (sym (provisional-in context branch.says bytes)) of_one) in
+        (gains.0, gains.1, omega (arith, gains.2))
+    core-gains ProvisionalProof context branch uri bytes is =
+        let gains = gains-below provisional_weight (provisional_with ProvisionalProof context branch.says bytes) (provisional_state ProvisionalProof) branch.provisional uri is
+        (λ says. provisional-gains ProvisionalProof context branch.says says uri bytes) in
+        (gains.0, gains.1, omega (arith, gains.2))
+    core-gains Chunk context branch uri bytes is =
+        let gains = gains-below provisional_weight (provisional_with Chunk context branch.says bytes) (provisional_state Chunk) branch.provisional uri is
+        (λ says. provisional-gains Chunk context branch.says says uri bytes) in
+        (gains.0, gains.1, omega (arith, gains.2))
+
+    known-gains : (role : Role) (bound : Known) (uri : HashValue) (bytes : List ℕ) → role_state role bound ≡ role_is.Missing uri
+        → Gains (weight bound) (weight (bound_with role bytes bound))
+    unfolding role_state bound_with
+    known-gains Core bound uri bytes is =
+        gains-filled core_weight (core_in bound.context) bound.core uri bytes is (subst Counts (sym (core-in bound.context bytes)) of_one)
+    known-gains CoreProof bound uri bytes is =
+        gains-below core_weight (core_with CoreProof bound.context bytes) (core_state CoreProof) bound.core uri is (λ says. core-gains CoreProof bound.context says uri bytes)
+    known-gains Provisional bound uri bytes is =
+        gains-below core_weight (core_with Provisional bound.context bytes) (core_state Provisional) bound.core uri is (λ says. core-gains Provisional bound.context says uri bytes)
+    known-gains ProvisionalProof bound uri bytes is =
+        gains-below core_weight (core_with ProvisionalProof bound.context bytes) (core_state ProvisionalProof) bound.core uri is (λ says. core-gains ProvisionalProof bound.context says uri bytes)
+    known-gains Chunk bound uri bytes is =
+        gains-below core_weight (core_with Chunk bound.context bytes) (core_state Chunk) bound.core uri is (λ says. core-gains Chunk bound.context says uri bytes)
+
+-- ---- decided roles: each file that was read or rejected counts 1
+
+abbrev each : {Says : Type 0} → Says → ℕ
+each says = 1
+
+decided-weigh : {Says : Type 0} (part : Part Says) → decided (state part) ≡ weigh 1 each part
+decided-weigh Unneeded = refl
+decided-weigh (Missing uri) = refl
+decided-weigh (Rejected rule) = refl
+decided-weigh (Is says) = refl
+
+decided-provisional : (part : Part ProvisionalBranch)
+    → decided (state part) + decided (state_below (provisional_state ProvisionalProof) part) + decided (state_below (provisional_state Chunk) part)
+    ≡ weigh 1 (provisional_weight 1 each each) part
+decided-provisional Unneeded = refl
+decided-provisional (Missing uri) = refl
+decided-provisional (Rejected rule) = refl
+decided-provisional (Is branch) = omega (arith, decided-weigh branch.proofs, decided-weigh branch.chunk)
+
+decided-part : (context : Context) (part : Part CoreBranch) → decided_roles (record { context = context; core = part }) ≡ weigh 1 (core_weight 1 each each) part
+unfolding decided_roles role_state
+decided-part context Unneeded = refl
+decided-part context (Missing uri) = refl
+decided-part context (Rejected rule) = refl
+decided-part context (Is branch) =
+    let sum : 0 + 1 + decided (state branch.proofs) + decided (state branch.provisional)
+    + decided (state_below (provisional_state ProvisionalProof) branch.provisional) + decided (state_below (provisional_state Chunk) branch.provisional)
+    ≡ core_weight 1 each each branch = omega (arith, decided-weigh branch.proofs, decided-provisional branch.provisional) in
+    sum
+
+decided-weight : (bound : Known) → decided_roles bound ≡ weight 1 each each bound
+decided-weight bound = decided-part bound.context bound.core
+
+pub decided_roles-with : (role : Role) (bound : Known) (uri : HashValue) (bytes : List ℕ) → role_state role bound ≡ role_is.Missing uri
     → decided_roles (bound_with role bytes bound) ≡ decided_roles bound + 1
 decided_roles-with role bound uri bytes is =
-    decided_roles-part (bound_with role bytes bound) ∙ decided_part-with role bound uri bytes is ∙ ap (λ n. n + 1) (sym (decided_roles-part bound))
+    let gains = known-gains 1 each each (λ gain. gain ≡ 1) refl (λ opened. refl) (λ opened. refl) role bound uri bytes is in
+    let one : gains.0 ≡ 1 = gains.1 in
+    omega (arith, one, gains.2, decided-weight bound, decided-weight (bound_with role bytes bound))
 
 decided-small : (at : RoleState) → decided at ≤ 1
 decided-small role_is.Unneeded = omega arith
@@ -185,112 +236,59 @@ decided-small (role_is.Rejected rule) = omega arith
 decided-small role_is.Read = omega arith
 
 pub decided_roles-small : (bound : Known) → decided_roles bound ≤ 5
-decided_roles-small bound =
-    omega (
-      arith,
-      decided_roles-sum bound,
-      decided-small (role_state Core bound),
-      decided-small (role_state CoreProof bound),
-      decided-small (role_state Provisional bound),
-      decided-small (role_state ProvisionalProof bound),
-      decided-small (role_state Chunk bound),
-    )
-
--- ---- looking up files
+unfolding decided_roles
+decided_roles-small bound = sum_by-le-sum_by decided (λ at. 1) (role_states bound) decided-small
 
 pub decided_roles-up : (files : Files) (bound : Known) → decided_roles bound ≤ decided_roles (known_from files bound)
 decided_roles-up files bound =
+    omega (arith, known-up 1 each each files bound, decided-weight bound, decided-weight (known_from files bound))
+
+-- ---- signed texts: a proof file that was read counts its texts, and no other file counts
+
+opened-weigh : {Says : Type 0} (count other : Says → ℕ) (part : Part Says) → ((says : Says) → count says ≡ other says)
+    → count_read count part ≡ weigh 0 other part
+opened-weigh count other Unneeded same = refl
+opened-weigh count other (Missing uri) same = refl
+opened-weigh count other (Rejected rule) same = refl
+opened-weigh count other (Is says) same = same says
+
+opened-chunk : (part : Part (List Plain)) → weigh 0 (λ deltas. 0) part ≡ 0
+opened-chunk Unneeded = refl
+opened-chunk (Missing uri) = refl
+opened-chunk (Rejected rule) = refl
+opened-chunk (Is deltas) = refl
+
+opened-provisional : (branch : ProvisionalBranch) → opened_in_provisional branch ≡ provisional_weight 0 core_proof_count length branch
+opened-provisional branch = omega (arith, opened-weigh length length branch.proofs (λ opened. refl), opened-chunk branch.chunk)
+
+opened-core : (branch : CoreBranch) → opened_in_core branch ≡ core_weight 0 core_proof_count length branch
+opened-core branch =
     omega (
       arith,
-      decided_roles-sum bound,
-      decided_roles-sum (known_from files bound),
-      (turned Core files bound).keeps,
-      (turned CoreProof files bound).keeps,
-      (turned Provisional files bound).keeps,
-      (turned ProvisionalProof files bound).keeps,
-      (turned Chunk files bound).keeps,
+      opened-weigh core_proof_count core_proof_count branch.proofs (λ opened. refl),
+      opened-weigh opened_in_provisional (provisional_weight 0 core_proof_count length) branch.provisional opened-provisional,
     )
 
--- ---- signed texts
+opened_proofs-weight : (bound : Known) → opened_proofs bound ≡ weight 0 core_proof_count length bound
+unfolding opened_proofs
+opened_proofs-weight bound = opened-weigh opened_in_core (core_weight 0 core_proof_count length) bound.core opened-core
 
--- a file that was read stays read
-count_read-filled : {Says : Type 0} (count : Says → ℕ) (read : List ℕ → Part Says) (bytes : List ℕ) (part : Part Says)
-    → count_read count part ≤ count_read count (filled read bytes part)
-count_read-filled count read bytes Unneeded = omega arith
-count_read-filled count read bytes (Missing uri) = omega arith
-count_read-filled count read bytes (Rejected rule) = omega arith
-count_read-filled count read bytes (Is says) = omega arith
+pub opened-provisional_in : (context : Context) (core : CoreIndex) (bytes : List ℕ) → count_read opened_in_provisional (provisional_in context core bytes) ≡ 0
+opened-provisional_in context core bytes =
+    opened-weigh opened_in_provisional (provisional_weight 0 core_proof_count length) (provisional_in context core bytes) opened-provisional
+    ∙ provisional-in 0 core_proof_count length context core bytes
 
-count_read-below : {Says : Type 0} (count : Says → ℕ) (with : Says → Says) (part : Part Says)
-    → ((says : Says) → count says ≤ count (with says))
-    → count_read count part ≤ count_read count (looked_below with part)
-count_read-below count with Unneeded more = omega arith
-count_read-below count with (Missing uri) more = omega arith
-count_read-below count with (Rejected rule) more = omega arith
-count_read-below count with (Is says) more = more says
+pub opened-core_in : (context : Context) (bytes : List ℕ) → count_read opened_in_core (core_in context bytes) ≡ 0
+opened-core_in context bytes =
+    opened-weigh opened_in_core (core_weight 0 core_proof_count length) (core_in context bytes) opened-core
+    ∙ core-in 0 core_proof_count length context bytes
 
-count_read-up : {Says : Type 0} (count : Says → ℕ) (read : List ℕ → Part Says) (below : Says → Says) (files : Files) (part : Part Says)
-    → ((says : Says) → count says ≤ count (below says))
-    → count_read count part ≤ count_read count (looked_up read below files part)
-count_read-up count read below files Unneeded more = omega arith
-count_read-up count read below files (Missing uri) more = omega arith
-count_read-up count read below files (Rejected rule) more = omega arith
-count_read-up count read below files (Is says) more = more says
-
-opened_in_provisional-with : (role : Role) (context : Context) (core : CoreIndex) (bytes : List ℕ) (branch : ProvisionalBranch)
-    → opened_in_provisional branch ≤ opened_in_provisional (provisional_with role context core bytes branch)
-opened_in_provisional-with Core context core bytes branch = omega arith
-opened_in_provisional-with CoreProof context core bytes branch = omega arith
-opened_in_provisional-with Provisional context core bytes branch = omega arith
-opened_in_provisional-with ProvisionalProof context core bytes branch =
-    count_read-filled length (provisional_proof_in context branch.says) bytes branch.proofs
-opened_in_provisional-with Chunk context core bytes branch = omega arith
-
-opened_below-with : (role : Role) (context : Context) (core : CoreIndex) (bytes : List ℕ) (part : Part ProvisionalBranch)
-    → count_read opened_in_provisional part ≤ count_read opened_in_provisional (looked_below (provisional_with role context core bytes) part)
-opened_below-with role context core bytes part =
-    count_read-below opened_in_provisional (provisional_with role context core bytes) part (opened_in_provisional-with role context core bytes)
-
-opened_in_core-with : (role : Role) (context : Context) (bytes : List ℕ) (branch : CoreBranch)
-    → opened_in_core branch ≤ opened_in_core (core_with role context bytes branch)
-opened_in_core-with Core context bytes branch = omega arith
-opened_in_core-with CoreProof context bytes branch =
-    omega (arith, count_read-filled core_proof_count (core_proof_in context branch.says) bytes branch.proofs)
-opened_in_core-with Provisional context bytes branch =
-    omega (arith, count_read-filled opened_in_provisional (provisional_in context branch.says) bytes branch.provisional)
-opened_in_core-with ProvisionalProof context bytes branch =
-    omega (arith, opened_below-with ProvisionalProof context branch.says bytes branch.provisional)
-opened_in_core-with Chunk context bytes branch = omega (arith, opened_below-with Chunk context branch.says bytes branch.provisional)
-
-opened_part-with : (role : Role) (context : Context) (bytes : List ℕ) (part : Part CoreBranch)
-    → count_read opened_in_core part ≤ count_read opened_in_core (looked_below (core_with role context bytes) part)
-opened_part-with role context bytes part =
-    count_read-below opened_in_core (core_with role context bytes) part (opened_in_core-with role context bytes)
-
-pub opened_proofs-with : (role : Role) (bound : Known) (bytes : List ℕ) → opened_proofs bound ≤ opened_proofs (bound_with role bytes bound)
-unfolding opened_proofs bound_with
-opened_proofs-with Core bound bytes = count_read-filled opened_in_core (core_in bound.context) bytes bound.core
-opened_proofs-with CoreProof bound bytes = opened_part-with CoreProof bound.context bytes bound.core
-opened_proofs-with Provisional bound bytes = opened_part-with Provisional bound.context bytes bound.core
-opened_proofs-with ProvisionalProof bound bytes = opened_part-with ProvisionalProof bound.context bytes bound.core
-opened_proofs-with Chunk bound bytes = opened_part-with Chunk bound.context bytes bound.core
-
-opened_in_provisional-over : (context : Context) (core : CoreIndex) (files : Files) (branch : ProvisionalBranch)
-    → opened_in_provisional branch ≤ opened_in_provisional (provisional_over context core files branch)
-opened_in_provisional-over context core files branch =
-    count_read-up length (provisional_proof_in context branch.says) as_it_is files branch.proofs (λ says. omega arith)
-
-opened_in_core-over : (context : Context) (files : Files) (branch : CoreBranch)
-    → opened_in_core branch ≤ opened_in_core (core_over context files branch)
-opened_in_core-over context files branch =
-    omega (
-      arith,
-      count_read-up core_proof_count (core_proof_in context branch.says) as_it_is files branch.proofs (λ says. omega arith),
-      count_read-up opened_in_provisional (provisional_in context branch.says) (provisional_over context branch.says files) files branch.provisional
-          (opened_in_provisional-over context branch.says files),
-    )
+pub opened_proofs-with : (role : Role) (bound : Known) (uri : HashValue) (bytes : List ℕ) → role_state role bound ≡ role_is.Missing uri
+    → opened_proofs bound ≤ opened_proofs (bound_with role bytes bound)
+opened_proofs-with role bound uri bytes is =
+    let gains = known-gains 0 core_proof_count length (λ gain. Unit {0}) tt (λ opened. tt) (λ opened. tt) role bound uri bytes is in
+    omega (arith, gains.2, opened_proofs-weight bound, opened_proofs-weight (bound_with role bytes bound))
 
 pub opened_proofs-up : (files : Files) (bound : Known) → opened_proofs bound ≤ opened_proofs (known_from files bound)
-unfolding opened_proofs known_from
 opened_proofs-up files bound =
-    count_read-up opened_in_core (core_in bound.context) (core_over bound.context files) files bound.core (opened_in_core-over bound.context files)
+    omega (arith, known-up 0 core_proof_count length files bound, opened_proofs-weight bound, opened_proofs-weight (known_from files bound))

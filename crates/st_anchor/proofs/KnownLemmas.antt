@@ -2,9 +2,8 @@
 --     known_from-with      a missing file that was received may be read: the knowledge over the files stays
 --     known_from-rest      if no missing file was received, a lookup changes nothing
 --     known_from-again     what was looked up is looked up again over more files
---     turned               the effect of a lookup on a role
 --     known_from-missing   a file that is still missing wasn't received
-use Rattle.std.proofs.Common.{◌≡◌, ◌∙◌, ◌≤◌, ℕ, List, length, Option, Some, None, refl, sym, ap, subst, arith}
+use Rattle.std.proofs.Common.{◌≡◌, ◌∙◌, ℕ, List, length, Option, Some, None, refl, sym, ap, subst}
 use Rattle.st_plain.specs.Shapes.{json_in}
 use Rattle.st_content.specs.Files.{Files, file_at}
 use Rattle.st_datafiles.specs.Chunk.{first_failing_chunk_rule}
@@ -20,7 +19,7 @@ use Rattle.st_indexfiles.specs.declared.provisional_index.ProvisionalIndex.{Prov
 use Rattle.st_indexfiles.specs.declared.provisional_rule.ProvisionalRule.{ProvisionalRule}
 use Rattle.st_anchor.specs.Coming.{Extends, NoneHasCome}
 use Rattle.st_anchor.specs.Known.{Known, as_it_is, bound_with, chunk_in, core_in, core_over, core_proof_in, core_with, delta_count, filled, judged, known_from, looked_at, looked_below, looked_up, provisional_in, provisional_judged, provisional_over, provisional_proof_in, provisional_with}
-use Rattle.st_anchor.specs.States.{core_state, decided, provisional_state, role_state, state, state_below}
+use Rattle.st_anchor.specs.States.{core_state, provisional_state, role_state, state, state_below}
 use Rattle.st_anchor.specs.declared.branches.Context.{Context}
 use Rattle.st_anchor.specs.declared.branches.CoreBranch.{CoreBranch}
 use Rattle.st_anchor.specs.declared.branches.ProvisionalBranch.{ProvisionalBranch}
@@ -126,60 +125,45 @@ looked_up-again read below after files later (Missing uri) more was same =
 looked_up-again read below after files later (Rejected rule) more was same = refl
 looked_up-again read below after files later (Is says) more was same = ap (λ s. Is s) (same says)
 
--- ---- the effect of a lookup on a role
+-- ---- a role after a lookup
 
 -- the file of a missing role wasn't received
 abbrev pub Absent : Files → RoleState → Type 0
 Absent files at = (uri : HashValue) → at ≡ role_is.Missing uri → file_at uri files ≡ None
 
--- The change of a role: if it is still missing, its file wasn't received; if it was decided, it stays decided.
-pub record Turned (files : Files) (before after : RoleState) : Type 0 where
-  pub absent : Absent files after
-  pub keeps : decided before ≤ decided after
+absent-decided : {Says : Type 0} (files : Files) (below : Says → Says) (part : Part Says) → WasRead part → Absent files (state (looked_below below part))
+absent-decided files below Unneeded was = absurd was
+absent-decided files below (Missing uri) was = absurd was
+absent-decided files below (Rejected rule) was = λ uri is. cc
+absent-decided files below (Is says) was = λ uri is. cc
 
-unneeded : (files : Files) → Turned files role_is.Unneeded role_is.Unneeded
-unneeded files = record { absent = λ uri is. cc; keeps = omega arith }
-
-module _ {Says : Type 0} (files : Files) (below : Says → Says) where
-  -- a file that was just read
-  turned-read : (part : Part Says) (uri : HashValue) → WasRead part → Turned files (role_is.Missing uri) (state (looked_below below part))
-  turned-read Unneeded uri was = absurd was
-  turned-read (Missing missed) uri was = absurd was
-  turned-read (Rejected rule) uri was = record { absent = λ missed is. cc; keeps = omega arith }
-  turned-read (Is says) uri was = record { absent = λ missed is. cc; keeps = omega arith }
-
-  pub turned-up : (read : List ℕ → Part Says) (part : Part Says) → ((bytes : List ℕ) → WasRead (read bytes))
-      → Turned files (state part) (state (looked_up read below files part))
-  turned-up read Unneeded was = unneeded files
-  turned-up read (Missing uri) was =
-      elim (file_at uri files) as (λ file. file_at uri files ≡ file → Turned files (role_is.Missing uri) (state (looked_at read below uri file))) [
-        | None ↦ λ there. record {
-          absent = λ missed is. let same : uri ≡ missed = cc in ap (λ u. file_at u files) (sym same) ∙ there;
-          keeps = omega arith;
-        }
-        | Some bytes ↦ λ there. turned-read (read bytes) uri (was bytes)
+module _ {Says : Type 0} (files : Files) (below : Says → Says) (read : List ℕ → Part Says) where
+  absent-up : (part : Part Says) → ((bytes : List ℕ) → WasRead (read bytes)) → Absent files (state (looked_up read below files part))
+  absent-up Unneeded was = λ uri is. cc
+  absent-up (Missing uri) was =
+      elim (file_at uri files) as (λ file. file_at uri files ≡ file → Absent files (state (looked_at read below uri file))) [
+        | None ↦ λ there. λ missed is. let same : uri ≡ missed = cc in ap (λ u. file_at u files) (sym same) ∙ there
+        | Some bytes ↦ λ there. absent-decided files below (read bytes) (was bytes)
       ] refl
-  turned-up read (Rejected rule) was = record { absent = λ uri is. cc; keeps = omega arith }
-  turned-up read (Is says) was = record { absent = λ uri is. cc; keeps = omega arith }
+  absent-up (Rejected rule) was = λ uri is. cc
+  absent-up (Is says) was = λ uri is. cc
 
-  module _ (stands : Says → RoleState) (turned : (says : Says) → Turned files (stands says) (stands (below says))) where
-    -- a role below a file that was just read
-    turned-new : (part : Part Says) → Turned files role_is.Unneeded (state_below stands (looked_below below part))
-    turned-new Unneeded = unneeded files
-    turned-new (Missing uri) = unneeded files
-    turned-new (Rejected rule) = unneeded files
-    turned-new (Is says) = record { absent = (turned says).absent; keeps = omega arith }
+  module _ (stands : Says → RoleState) (absent : (says : Says) → Absent files (stands (below says))) where
+    absent-new : (part : Part Says) → Absent files (state_below stands (looked_below below part))
+    absent-new Unneeded = λ uri is. cc
+    absent-new (Missing uri) = λ missed is. cc
+    absent-new (Rejected rule) = λ uri is. cc
+    absent-new (Is says) = absent says
 
-    pub turned-below : (read : List ℕ → Part Says) (part : Part Says)
-        → Turned files (state_below stands part) (state_below stands (looked_up read below files part))
-    turned-below read Unneeded = unneeded files
-    turned-below read (Missing uri) =
-        elim (file_at uri files) as (λ file. Turned files role_is.Unneeded (state_below stands (looked_at read below uri file))) [
-          | None ↦ unneeded files
-          | Some bytes ↦ turned-new (read bytes)
+    absent-below : (part : Part Says) → Absent files (state_below stands (looked_up read below files part))
+    absent-below Unneeded = λ uri is. cc
+    absent-below (Missing uri) =
+        elim (file_at uri files) as (λ file. Absent files (state_below stands (looked_at read below uri file))) [
+          | None ↦ λ missed is. cc
+          | Some bytes ↦ absent-new (read bytes)
         ]
-    turned-below read (Rejected rule) = unneeded files
-    turned-below read (Is says) = turned says
+    absent-below (Rejected rule) = λ uri is. cc
+    absent-below (Is says) = absent says
 
 -- a part none of whose missing files was received
 looked_up-rest : {Says : Type 0} (read : List ℕ → Part Says) (below : Says → Says) (files : Files) (part : Part Says)
@@ -311,43 +295,39 @@ known_from-rest files bound none =
     core_over-rest bound.context files branch (below CoreProof (none.absent CoreProof)) (below Provisional (none.absent Provisional))
     (below ProvisionalProof (none.absent ProvisionalProof)) (below Chunk (none.absent Chunk))))
 
--- each role changes that way
+-- so the file of each role that is still missing wasn't received
 module _ (context : Context) (files : Files) where
-  turned-provisional : (role : Role) (core : CoreIndex) (branch : ProvisionalBranch)
-      → Turned files (provisional_state role branch) (provisional_state role (provisional_over context core files branch))
-  turned-provisional Core core branch = unneeded files
-  turned-provisional CoreProof core branch = unneeded files
-  turned-provisional Provisional core branch = unneeded files
-  turned-provisional ProvisionalProof core branch =
-      turned-up files as_it_is (provisional_proof_in context branch.says) branch.proofs (provisional_proof_in-read context branch.says)
-  turned-provisional Chunk core branch = turned-up files as_it_is (chunk_in context core branch.says) branch.chunk (chunk_in-read context core branch.says)
+  absent-provisional : (role : Role) (core : CoreIndex) (branch : ProvisionalBranch)
+      → Absent files (provisional_state role (provisional_over context core files branch))
+  absent-provisional Core core branch = λ uri is. cc
+  absent-provisional CoreProof core branch = λ uri is. cc
+  absent-provisional Provisional core branch = λ uri is. cc
+  absent-provisional ProvisionalProof core branch =
+      absent-up files as_it_is (provisional_proof_in context branch.says) branch.proofs (provisional_proof_in-read context branch.says)
+  absent-provisional Chunk core branch = absent-up files as_it_is (chunk_in context core branch.says) branch.chunk (chunk_in-read context core branch.says)
 
-  turned-below_provisional : (role : Role) (branch : CoreBranch)
-      → Turned files (state_below (provisional_state role) branch.provisional) (state_below (provisional_state role) (core_over context files branch).provisional)
-  turned-below_provisional role branch =
-      turned-below files (provisional_over context branch.says files) (provisional_state role) (turned-provisional role branch.says)
-      (provisional_in context branch.says) branch.provisional
+  absent-below_provisional : (role : Role) (branch : CoreBranch)
+      → Absent files (state_below (provisional_state role) (core_over context files branch).provisional)
+  absent-below_provisional role branch =
+      absent-below files (provisional_over context branch.says files) (provisional_in context branch.says) (provisional_state role)
+      (absent-provisional role branch.says) branch.provisional
 
-  turned-core : (role : Role) (branch : CoreBranch) → Turned files (core_state role branch) (core_state role (core_over context files branch))
-  turned-core Core branch = unneeded files
-  turned-core CoreProof branch = turned-up files as_it_is (core_proof_in context branch.says) branch.proofs (core_proof_in-read context branch.says)
-  turned-core Provisional branch =
-      turned-up files (provisional_over context branch.says files) (provisional_in context branch.says) branch.provisional (provisional_in-read context branch.says)
-  turned-core ProvisionalProof branch = turned-below_provisional ProvisionalProof branch
-  turned-core Chunk branch = turned-below_provisional Chunk branch
+  absent-core : (role : Role) (branch : CoreBranch) → Absent files (core_state role (core_over context files branch))
+  absent-core Core branch = λ uri is. cc
+  absent-core CoreProof branch = absent-up files as_it_is (core_proof_in context branch.says) branch.proofs (core_proof_in-read context branch.says)
+  absent-core Provisional branch =
+      absent-up files (provisional_over context branch.says files) (provisional_in context branch.says) branch.provisional (provisional_in-read context branch.says)
+  absent-core ProvisionalProof branch = absent-below_provisional ProvisionalProof branch
+  absent-core Chunk branch = absent-below_provisional Chunk branch
 
-  turned-below_core : (role : Role) (part : Part CoreBranch)
-      → Turned files (state_below (core_state role) part) (state_below (core_state role) (looked_up (core_in context) (core_over context files) files part))
-  turned-below_core role part = turned-below files (core_over context files) (core_state role) (turned-core role) (core_in context) part
+  absent-below_core : (role : Role) (part : Part CoreBranch)
+      → Absent files (state_below (core_state role) (looked_up (core_in context) (core_over context files) files part))
+  absent-below_core role part = absent-below files (core_over context files) (core_in context) (core_state role) (absent-core role) part
 
-pub turned : (role : Role) (files : Files) (bound : Known) → Turned files (role_state role bound) (role_state role (known_from files bound))
+pub known_from-missing : (role : Role) (files : Files) (bound : Known) → Absent files (role_state role (known_from files bound))
 unfolding known_from role_state
-turned Core files bound = turned-up files (core_over bound.context files) (core_in bound.context) bound.core (core_in-read bound.context)
-turned CoreProof files bound = turned-below_core bound.context files CoreProof bound.core
-turned Provisional files bound = turned-below_core bound.context files Provisional bound.core
-turned ProvisionalProof files bound = turned-below_core bound.context files ProvisionalProof bound.core
-turned Chunk files bound = turned-below_core bound.context files Chunk bound.core
-
-pub known_from-missing : (role : Role) (files : Files) (bound : Known) (uri : HashValue)
-    → role_state role (known_from files bound) ≡ role_is.Missing uri → file_at uri files ≡ None
-known_from-missing role files bound = (turned role files bound).absent
+known_from-missing Core files bound = absent-up files (core_over bound.context files) (core_in bound.context) bound.core (core_in-read bound.context)
+known_from-missing CoreProof files bound = absent-below_core bound.context files CoreProof bound.core
+known_from-missing Provisional files bound = absent-below_core bound.context files Provisional bound.core
+known_from-missing ProvisionalProof files bound = absent-below_core bound.context files ProvisionalProof bound.core
+known_from-missing Chunk files bound = absent-below_core bound.context files Chunk bound.core

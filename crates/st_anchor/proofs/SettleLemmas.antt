@@ -24,7 +24,7 @@ pub settles-bind : (files : Files) (start : Known) (before : Counts) (bound : Kn
     → Settles files start before (bound_with role file bound) after
 settles-bind files start before bound work role file after so come counts =
     let one : decided_roles (bound_with role file bound) ≡ decided_roles bound + 1 = decided_roles-with role bound (uri_of file) file come.missing in
-    let more : opened_proofs bound ≤ opened_proofs (bound_with role file bound) = opened_proofs-with role bound file in
+    let more : opened_proofs bound ≤ opened_proofs (bound_with role file bound) = opened_proofs-with role bound (uri_of file) file come.missing in
     let files_now : 1 + (decided_roles bound - decided_roles start) ≡ decided_roles (bound_with role file bound) - decided_roles start = omega (arith, so.decided) in
     let proofs_now : opened_by role file bound + (opened_proofs bound - opened_proofs start) ≡ opened_proofs (bound_with role file bound) - opened_proofs start = omega (arith, so.opened) in
     record {
@@ -71,7 +71,7 @@ pub settled-wanting : (files : Files) (start : Known) (before : Counts) (bound :
 settled-wanting files start before bound work role file after so come few =
     let next : Known = bound_with role file bound in
     let one : decided_roles next ≡ decided_roles bound + 1 = decided_roles-with role bound (uri_of file) file come.missing in
-    let more : opened_proofs bound ≤ opened_proofs next = opened_proofs-with role bound file in
+    let more : opened_proofs bound ≤ opened_proofs next = opened_proofs-with role bound (uri_of file) file come.missing in
     let same : known_from files next ≡ known_from files start = known_from-with role files bound (uri_of file) file come.missing come.there ∙ so.same in
     let decided_up : decided_roles next ≤ decided_roles (known_from files start) = subst (λ b. decided_roles next ≤ decided_roles b) same (decided_roles-up files next) in
     let opened_up : opened_proofs next ≤ opened_proofs (known_from files start) = subst (λ b. opened_proofs next ≤ opened_proofs b) same (opened_proofs-up files next) in

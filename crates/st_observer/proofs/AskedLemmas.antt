@@ -7,21 +7,20 @@ use Rattle.std.specs.Cmp.{both_ways}
 use Rattle.std.specs.List.{flat_map, list_any}
 use Rattle.std.specs.List.Sorted.{IsStrictlySortedBy}
 use Rattle.std.proofs.lemmas.Bool.{cases_lt, false≢true}
-use Rattle.std.proofs.lemmas.List.{get_or-map, length-map}
+use Rattle.std.proofs.lemmas.List.{get_or-map, get_or_past, length-map}
 use Rattle.std.proofs.lemmas.List.Folds.{Any-from_list_any, list_any-append, list_any_at}
 use Rattle.std.proofs.lemmas.Option.{get_or_from_slice_get, slice_get-get_or, slice_get-map, slice_get_within}
-use Rattle.st_anchor.specs.Known.{Known}
 use Rattle.st_anchor.specs.States.{role_states}
 use Rattle.st_hash.specs.Hash.{HashValue, same_hash}
 use Rattle.st_ledger.specs.declared.entry.Entry.{Entry}
-use Rattle.st_observer.specs.Kept.{IsKept, no_needs}
-use Rattle.st_observer.specs.Observed.{Observed, known_of, verdicts_on}
+use Rattle.st_observer.specs.Kept.{IsKept, no_needs, unknown}
+use Rattle.st_observer.specs.Observed.{Observed, verdicts_on}
 use Rattle.st_observer.specs.Waiting.{AreRead, IsWaitedFor, is_waiting}
 use Rattle.st_observer.specs.Wanted.{IsMissed, is_wanted, missed_files, missed_in, one_misses, text_cmp, wanted}
 use Rattle.st_observer.specs.declared.kept.Kept.{Kept}
+use Rattle.st_observer.proofs.BoundsLemmas.{needs_none}
 use Rattle.st_observer.proofs.GoingLemmas.{bound-is, kept-length}
 use Rattle.st_observer.proofs.WaitingLemmas.{text-same}
-use Rattle.st_observer.proofs.WaitsLemmas.{roles-inside, roles-past}
 use Rattle.st_observer.proofs.WantedLemmas.{ascending_once-has, ascending_once-is}
 
 -- one of the items in a list of lists
@@ -49,16 +48,15 @@ missed-asked uri observed =
 pub waits-asked : (uri : HashValue) (observed : Observed) (kept : Kept) (n : ℕ) (d : Entry) → IsKept observed kept → n < length observed.ledger
     → is_waiting uri n kept.waiting ≡ asks uri observed (get_or observed.ledger n d)
 waits-asked uri observed kept n d is inside =
-    let entry : Entry = get_or observed.ledger n d in
-    let bound : Known = known_of observed.schedule observed.files entry in
-    let within : n < length kept.bounds.items = omega (arith, inside, kept-length observed kept is) in
     is.waits.each uri n
-    ∙ ap (one_misses uri) (roles-inside n kept.bounds.items bound within ∙ ap role_states (bound-is observed kept n bound d is within))
+    ∙ ap (λ bound. one_misses uri (role_states bound)) (bound-is observed kept n d is (omega (arith, inside, kept-length observed kept is)))
 
 waits-past : (uri : HashValue) (observed : Observed) (kept : Kept) (n : ℕ) → IsKept observed kept → length observed.ledger ≤ n
     → is_waiting uri n kept.waiting ≡ false
 waits-past uri observed kept n is past =
-    is.waits.each uri n ∙ ap (one_misses uri) (roles-past n kept.bounds.items (omega (arith, past, kept-length observed kept is)))
+    is.waits.each uri n
+    ∙ ap (λ bound. one_misses uri (role_states bound)) (get_or_past kept.bounds.items n unknown (omega (arith, past, kept-length observed kept is)))
+    ∙ ap (one_misses uri) needs_none
 
 waited-asked : (uri : HashValue) (observed : Observed) (kept : Kept) → IsKept observed kept → IsWaitedFor uri kept.waiting
     → list_any (asks uri observed) observed.ledger ≡ true

@@ -1,16 +1,16 @@
 -- The last entry is removed, on the way to the first one that is cut.
 --     taken-length, taken-first    the remaining entries
 --     taken-turn, taken-waits      its states, and that it no longer waits for any file
-use Rattle.std.proofs.Common.{◌≡◌, ◌∙◌, ℕ, ◌+◌, ◌-◌, ◌<◌, List, [], ◌∷◌, ◌++◌, length, take, get_or, ap, subst, sym, arith}
-use Rattle.std.proofs.lemmas.List.{length-take-le, take-take, take_more, take_all}
+use Rattle.std.proofs.Common.{◌≡◌, ◌∙◌, ℕ, ◌-◌, ◌<◌, List, length, take, ap, subst, sym, arith}
+use Rattle.std.proofs.lemmas.List.{length-take-le, take-take}
 use Rattle.st_anchor.specs.Known.{Known}
 use Rattle.st_anchor.specs.declared.role_state.RoleState.{RoleState}
 use Rattle.st_hash.specs.Hash.{HashValue}
 use Rattle.st_observer.specs.Kept.{WaitsAgree, no_needs, roles_at}
-use Rattle.st_observer.specs.Steps.{unknown}
 use Rattle.st_observer.specs.Waiting.{TurnsTo, Waits, is_waiting}
 use Rattle.st_observer.specs.Wanted.{one_misses}
-use Rattle.st_observer.proofs.WaitsLemmas.{waits-popped}
+use Rattle.st_observer.proofs.BoundsLemmas.{becomes-taken, needs_none}
+use Rattle.st_observer.proofs.WaitsLemmas.{waits-turned}
 
 module _ (start bounds after : List Known) (left fewer : ℕ) (first : bounds ≡ take left start) (many : left ≡ length bounds) (some : 0 < left)
     (one : fewer ≡ left - 1)
@@ -33,9 +33,6 @@ module _ (start bounds after : List Known) (left fewer : ℕ) (first : bounds �
   pub taken-waits : (states : List RoleState) (old new : Waits) → states ≡ no_needs → TurnsTo fewer states old new → WaitsAgree bounds old
       → WaitsAgree after new
   taken-waits states old new none turns agree =
-      let whole : bounds ≡ after ++ get_or bounds fewer unknown ∷ [] =
-      sym (take_all (fewer + 1) bounds (omega (arith, many, one))) ∙ take_more bounds fewer unknown (omega (arith, many, one, some))
-      ∙ ap (λ xs. xs ++ get_or bounds fewer unknown ∷ []) (sym rest-is) in
-      waits-popped after (get_or bounds fewer unknown) fewer old new taken-length
-      (subst (λ (xs : List RoleState). TurnsTo fewer xs old new) none turns)
-      (subst (λ (xs : List Known). WaitsAgree xs old) whole agree)
+      subst (λ (xs : List Known). WaitsAgree xs new) (sym rest-is)
+      (waits-turned (becomes-taken bounds fewer (omega (arith, many, one, some)))
+      (subst (λ (xs : List RoleState). TurnsTo fewer xs old new) (none ∙ sym needs_none) turns) agree)

@@ -3,10 +3,10 @@
 --     going-start      before the first of them
 --     going-settled    one of them
 --     going-end        after the last of them, it is the stored data with the file
-use Rattle.std.proofs.Common.{◌≡◌, ◌≢◌, ◌∙◌, ◌⊎◌, ⊎_elim, inl, inr, ℕ, ◌+◌, ◌<◌, ◌≤◌, ◌==◌, Bool, true, false, List, [], ◌∷◌, length, map, drop, set, get_or, refl, sym, ap, subst, arith}
+use Rattle.std.proofs.Common.{◌≡◌, ◌∙◌, ◌⊎◌, ⊎_elim, inl, inr, ℕ, ◌+◌, ◌<◌, ◌≤◌, ◌==◌, Bool, true, false, List, [], ◌∷◌, length, map, drop, set, get_or, refl, sym, ap, subst, arith}
 use Rattle.std.specs.List.{AllByRecursion, list_any}
-use Rattle.std.proofs.lemmas.Bool.{cases_eq, eqb-true, or_from, or_parts, true≢false}
-use Rattle.std.proofs.lemmas.List.{get_or-map, get_or-set_other, get_or-set_same, length-map, length-set, map-set, same_lists, set-get_or}
+use Rattle.std.proofs.lemmas.Bool.{cases_eq, cases_lt, eqb-true, or_from, or_parts, true≢false}
+use Rattle.std.proofs.lemmas.List.{ext_get_or, get_or-map, get_or_past, length-map, map-set, set-get_or}
 use Rattle.st_anchor.specs.Coming.{Extends, IsUnmissed}
 use Rattle.st_anchor.specs.Known.{Known, known, known_from, known_of_text}
 use Rattle.st_anchor.specs.States.{role_state, role_states}
@@ -21,14 +21,15 @@ use Rattle.st_hash.proofs.SameHash.{same_hash-itself}
 use Rattle.st_ledger.specs.declared.entry.Entry.{Entry}
 use Rattle.st_params.specs.Limits.{Limits}
 use Rattle.st_base.proofs.Lists.{next_item}
-use Rattle.st_observer.specs.Kept.{IsKept, StatesAgree, WaitsAgree, gifts}
+use Rattle.st_observer.specs.Kept.{IsKept, StatesAgree, WaitsAgree, bound_at, unknown}
 use Rattle.st_observer.specs.Observed.{Observed, arrived, known_of}
-use Rattle.st_observer.specs.Steps.{IsGoing, IsSettled, Settles, bound_at, is_among, unknown}
+use Rattle.st_observer.specs.Steps.{IsGoing, IsSettled, Settles, is_among}
 use Rattle.st_observer.specs.Waiting.{is_waiting}
 use Rattle.st_observer.specs.Wanted.{misses, one_misses}
 use Rattle.st_observer.specs.declared.kept.Kept.{Kept}
+use Rattle.st_observer.proofs.BoundsLemmas.{Becomes, adds-nothing, becomes-set}
 use Rattle.st_observer.proofs.OperationsLemmas.{agree-settled}
-use Rattle.st_observer.proofs.WaitsLemmas.{roles-inside, waits-settled}
+use Rattle.st_observer.proofs.WaitsLemmas.{waits-turned}
 
 -- ---- how many entries
 
@@ -103,21 +104,32 @@ no_entry : Entry
 no_entry = record { height = 0; text = [] }
 
 -- what is known about the entry with this number
-pub bound-is : (observed : Observed) (kept : Kept) (n : ℕ) (d : Known) (entry : Entry) → IsKept observed kept → n < length kept.bounds.items
-    → get_or kept.bounds.items n d ≡ known_of observed.schedule observed.files (get_or observed.ledger n entry)
-bound-is observed kept n d entry is inside =
-    ap (λ xs. get_or xs n d) is.same
-    ∙ get_or-map (known_of observed.schedule observed.files) observed.ledger n entry d (omega (arith, inside, kept-length observed kept is))
+pub bound-is : (observed : Observed) (kept : Kept) (n : ℕ) (entry : Entry) → IsKept observed kept → n < length kept.bounds.items
+    → bound_at n kept.bounds.items ≡ known_of observed.schedule observed.files (get_or observed.ledger n entry)
+bound-is observed kept n entry is inside =
+    ap (bound_at n) is.same
+    ∙ get_or-map (known_of observed.schedule observed.files) observed.ledger n entry unknown (omega (arith, inside, kept-length observed kept is))
+
+-- the files have added all that they can
+kept-settled : (observed : Observed) (kept : Kept) (n : ℕ) → IsKept observed kept → IsSettled observed.files kept.bounds.items n
+kept-settled observed kept n is = elim (cases_lt n (length kept.bounds.items)) [
+  | inl inside ↦
+      let entry : Entry = get_or observed.ledger n no_entry in
+      let at : bound_at n kept.bounds.items ≡ known_of observed.schedule observed.files entry = bound-is observed kept n no_entry is inside in
+      ap (known_from observed.files) at ∙ known-later observed.files observed.files (record { kept = λ uri file there. there }) _ entry.text ∙ sym at
+  | inr past ↦
+      let none : bound_at n kept.bounds.items ≡ unknown = get_or_past kept.bounds.items n unknown past in
+      ap (known_from observed.files) none ∙ adds-nothing observed.files ∙ sym none
+]
 
 start-settled : (file : List ℕ) (observed : Observed) (kept : Kept) (n : ℕ) → IsKept observed kept → is_waiting (uri_of file) n kept.waiting ≡ false
     → IsSettled (with_file file observed.files) kept.bounds.items n
-start-settled file observed kept n is none d inside =
-    let entry : Entry = get_or observed.ledger n no_entry in
-    let at : get_or kept.bounds.items n d ≡ known_of observed.schedule observed.files entry = bound-is observed kept n d no_entry is inside in
-    let unasked : one_misses (uri_of file) (role_states (known_of observed.schedule observed.files entry)) ≡ false =
-    ap (λ b. one_misses (uri_of file) (role_states b)) (sym at) ∙ ap (one_misses (uri_of file)) (sym (roles-inside n kept.bounds.items d inside))
-    ∙ sym (is.waits.each (uri_of file) n) ∙ none in
-    ap (known_from (with_file file observed.files)) at ∙ known_of-later file observed entry ∙ known_of-unmissed file observed entry unasked ∙ sym at
+start-settled file observed kept n is none =
+    let bound : Known = bound_at n kept.bounds.items in
+    let same : known_from observed.files bound ≡ bound = kept-settled observed kept n is in
+    let unasked : one_misses (uri_of file) (role_states (known_from observed.files bound)) ≡ false =
+    ap (λ b. one_misses (uri_of file) (role_states b)) same ∙ sym (is.waits.each (uri_of file) n) ∙ none in
+    known_from-unmissed file observed.files bound (unmissed (uri_of file) (known_from observed.files bound) unasked) ∙ same
 
 -- The file was received; it adds nothing to the entries that don't wait for it.
 pub going-start : (file : List ℕ) (observed : Observed) (kept : Kept) → IsKept observed kept
@@ -144,28 +156,20 @@ map-settled files bounds n =
     ∙ sym (map-set (known_from files) bounds n (bound_at n bounds))
     ∙ ap (map (known_from files)) (set-get_or bounds n unknown)
 
-settled-at : (files : Files) (bounds : List Known) (n m : ℕ) (d : Known) → n < length bounds → m ≡ n
-    → known_from files (get_or (set bounds n (known_from files (bound_at n bounds))) m d) ≡ get_or (set bounds n (known_from files (bound_at n bounds))) m d
-settled-at files bounds n m d inside here =
-    let more : Known = known_from files (bound_at n bounds) in
-    let at : get_or (set bounds n more) m d ≡ more = ap (λ k. get_or (set bounds n more) k d) here ∙ get_or-set_same bounds n more d inside in
-    ap (known_from files) at ∙ known_from-twice files (bound_at n bounds) ∙ sym at
-
-settled-other : (files : Files) (bounds : List Known) (n m : ℕ) (d : Known) → m ≢ n → m < length bounds → IsSettled files bounds m
-    → known_from files (get_or (set bounds n (known_from files (bound_at n bounds))) m d) ≡ get_or (set bounds n (known_from files (bound_at n bounds))) m d
-settled-other files bounds n m d other inside settled =
-    let more : Known = known_from files (bound_at n bounds) in
-    let at : get_or (set bounds n more) m d ≡ get_or bounds m d = get_or-set_other bounds n m more d other in
-    ap (known_from files) at ∙ settled d inside ∙ sym at
-
+-- and the entry is settled, as those that were
 settled-next : (files : Files) (bounds : List Known) (n m : ℕ) (still : Bool) → n < length bounds → (still ≡ false → IsSettled files bounds m)
     → (still ≡ false) ⊎ (m ≡ n) → IsSettled files (set bounds n (known_from files (bound_at n bounds))) m
-settled-next files bounds n m still inside settled (inr here) d within = settled-at files bounds n m d inside here
-settled-next files bounds n m still inside settled (inl done) d within =
-    ⊎_elim (λ (here : m ≡ n). settled-at files bounds n m d inside here)
-    (λ (other : m ≢ n). settled-other files bounds n m d other (omega (arith, within, length-set bounds n (known_from files (bound_at n bounds))))
-    (settled done))
-    (cases_eq m n)
+settled-next files bounds n m still inside settled left =
+    let more : Known = known_from files (bound_at n bounds) in
+    let becomes : Becomes n more bounds (set bounds n more) = becomes-set bounds more n inside in
+    elim (cases_eq m n) [
+      | inl here ↦
+          let own : bound_at m (set bounds n more) ≡ more = ap (λ k. bound_at k (set bounds n more)) here ∙ becomes.own in
+          ap (known_from files) own ∙ known_from-twice files (bound_at n bounds) ∙ sym own
+      | inr apart ↦
+          let other : bound_at m (set bounds n more) ≡ bound_at m bounds = becomes.others m apart in
+          ap (known_from files) other ∙ settled (⊎_elim (λ done. done) (λ here. absurd (apart here)) left) ∙ sym other
+    ]
 
 pub going-settled : (observed : Observed) (still next : ℕ → Bool) (n : ℕ) (entry : Entry) (before after : Kept)
     → IsGoing observed still before → Settles observed.files n entry.height before after
@@ -181,11 +185,11 @@ going-settled observed still next n entry before after going step inside is left
           subst (λ xs. IsSettled observed.files xs m) (sym step.bounds)
           (settled-next observed.files bounds n m (still m) inside (going.settled m) (left m done));
       waits = subst (λ xs. WaitsAgree xs after.waiting) (sym step.bounds)
-          (waits-settled bounds more n before.waiting after.waiting inside step.waits going.waits);
+          (waits-turned (becomes-set bounds more n inside) step.waits going.waits);
       schedule = step.states.schedule ∙ going.schedule;
       states =
-          subst (λ xs. StatesAgree (gifts observed.ledger xs) after.index) (sym step.bounds)
-          (agree-settled observed.ledger bounds entry observed.files unknown n before.index after.index
+          subst (λ xs. StatesAgree observed.ledger xs after.index) (sym step.bounds)
+          (agree-settled observed.ledger bounds entry observed.files n before.index after.index
           (going-length observed still before going) inside is going.states step.states);
     }
 
@@ -195,8 +199,10 @@ pub going-skipped : (observed : Observed) (still next : ℕ → Bool) (n : ℕ) 
     → IsGoing observed next kept
 going-skipped observed still next n kept going past left = record {
   same = going.same;
-  settled = λ m done d inside.
-      ⊎_elim (λ (before : still m ≡ false). going.settled m before d inside) (λ (here : m ≡ n). absurd (omega (arith, here, inside, past))) (left m done);
+  settled = λ m done.
+      ⊎_elim (λ (before : still m ≡ false). going.settled m before) (λ (here : m ≡ n).
+      let none : bound_at m kept.bounds.items ≡ unknown = get_or_past kept.bounds.items m unknown (omega (arith, here, past)) in
+      ap (known_from observed.files) none ∙ adds-nothing observed.files ∙ sym none) (left m done);
   waits = going.waits;
   schedule = going.schedule;
   states = going.states;
@@ -218,8 +224,8 @@ among-left entries at n inside is m none =
 pub going-end : (observed : Observed) (still : ℕ → Bool) (kept : Kept) → ((n : ℕ) → still n ≡ false) → IsGoing observed still kept → IsKept observed kept
 going-end observed still kept none going = record {
   same =
-      same_lists kept.bounds.items (map (known_from observed.files) kept.bounds.items) (sym (length-map kept.bounds.items (known_from observed.files)))
-      (λ n d inside. sym (going.settled n (none n) d inside) ∙ sym (get_or-map (known_from observed.files) kept.bounds.items n d d inside))
+      ext_get_or unknown kept.bounds.items (map (known_from observed.files) kept.bounds.items) (sym (length-map kept.bounds.items (known_from observed.files)))
+      (λ n inside. sym (going.settled n (none n)) ∙ sym (get_or-map (known_from observed.files) kept.bounds.items n unknown unknown inside))
       ∙ going.same;
   waits = going.waits;
   schedule = going.schedule;

@@ -1,5 +1,5 @@
 -- Changes that leave the operations of an identifier.
-use Rattle.std.proofs.Common.{◌≡◌, ◌∙◌, ℕ, ◌+◌, false, List, [], ◌∷◌, ◌++◌, length, take, drop, Option, option_map, refl, sym, ap, append-nil}
+use Rattle.std.proofs.Common.{◌≡◌, ◌∙◌, ℕ, ◌+◌, false, List, [], ◌∷◌, ◌++◌, take, drop, Option, option_map, refl, sym, ap}
 use Rattle.std.specs.List.{AllByRecursion, cons_option}
 use Rattle.std.proofs.lemmas.List.{take-append-drop}
 use Rattle.st_apply.specs.Anchored.{Anchored, resolved}
@@ -11,40 +11,37 @@ use Rattle.st_observer.specs.Observed.{Observed, anchored_by, anchored_for, give
 use Rattle.st_observer.specs.ObserverLaws.{AppendLeaves, ArrivalLeaves, CutLeaves, GivesNothing, OperationsDecide}
 use Rattle.st_observer.specs.Work.{is_missed_by}
 use Rattle.st_anchor.specs.Gives.{given}
-use Rattle.st_observer.proofs.GiftsLemmas.{given_from-append}
 use Rattle.st_observer.proofs.GoingLemmas.{known_of-unmissed}
 
 pub operations-decide : OperationsDecide
 operations-decide suffix first second schedules same =
     ap (λ schedule. resolved schedule (operations suffix first)) schedules ∙ ap (resolved second.schedule) same
 
--- entries that give no operation for the suffix
-nothing-from : (suffix : HashValue) (observed : Observed) (number : ℕ) (entries : List Entry) → AllByRecursion (GivesNothing suffix observed) entries
-    → given_from (anchored_for suffix observed.schedule observed.files) number entries ≡ []
-nothing-from suffix observed number [] each = refl
-nothing-from suffix observed number (entry ∷ entries) each =
-    ap (λ found. cons_option (option_map (anchored_by number entry) found)
-    (given_from (anchored_for suffix observed.schedule observed.files) (number + 1) entries)) each.0
-    ∙ nothing-from suffix observed (number + 1) entries each.1
+module _ (suffix : HashValue) (observed : Observed) where
+  abbrev give : ℕ → Entry → Option Anchored
+  give number entry = anchored_for suffix observed.schedule observed.files number entry
 
-behind : (suffix : HashValue) (observed : Observed) (front back : List Entry) → AllByRecursion (GivesNothing suffix observed) back
-    → given_from (anchored_for suffix observed.schedule observed.files) 0 (front ++ back) ≡ given_from
-    (anchored_for suffix observed.schedule observed.files) 0 front
-behind suffix observed front back each =
-    let give : ℕ → Entry → Option Anchored = anchored_for suffix observed.schedule observed.files in
-    given_from-append give 0 front back
-    ∙ ap (λ rest. given_from give 0 front ++ rest) (nothing-from suffix observed (0 + length front) back each)
-    ∙ append-nil (given_from give 0 front)
+  -- entries that give no operation for the suffix, alone and behind others
+  nothing-from : (number : ℕ) (entries : List Entry) → AllByRecursion (GivesNothing suffix observed) entries → given_from give number entries ≡ []
+  nothing-from number [] each = refl
+  nothing-from number (entry ∷ entries) each =
+      ap (λ found. cons_option (option_map (anchored_by number entry) found) (given_from give (number + 1) entries)) each.0
+      ∙ nothing-from (number + 1) entries each.1
+
+  behind : (number : ℕ) (front back : List Entry) → AllByRecursion (GivesNothing suffix observed) back
+      → given_from give number (front ++ back) ≡ given_from give number front
+  behind number [] back each = nothing-from number back each
+  behind number (entry ∷ front) back each = ap (cons_option (give number entry)) (behind (number + 1) front back each)
 
 pub append-leaves : AppendLeaves
 unfolding operations
-append-leaves suffix observed entry nothing = behind suffix observed observed.ledger (entry ∷ []) (nothing, tt)
+append-leaves suffix observed entry nothing = behind suffix observed 0 observed.ledger (entry ∷ []) (nothing, tt)
 
 pub cut-leaves : CutLeaves
 unfolding operations
 cut-leaves suffix observed n each =
-    let give : ℕ → Entry → Option Anchored = anchored_for suffix observed.schedule observed.files in
-    sym (behind suffix observed (take n observed.ledger) (drop n observed.ledger) each) ∙ ap (given_from give 0) (take-append-drop n observed.ledger)
+    sym (behind suffix observed 0 (take n observed.ledger) (drop n observed.ledger) each)
+    ∙ ap (given_from (give suffix observed) 0) (take-append-drop n observed.ledger)
 
 unmissed-from : (suffix : HashValue) (observed : Observed) (file : List ℕ) (number : ℕ) (entries : List Entry)
     → AllByRecursion (λ entry. is_missed_by file observed entry ≡ false) entries

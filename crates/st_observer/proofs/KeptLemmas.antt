@@ -1,10 +1,9 @@
 -- The stored data, as the observer's calls use and change it.
---     kept-operations, kept-state     the operations and the state of an identifier
+--     kept-state                      the state of an identifier
 --     kept-folded                     after pending changes are folded
 --     kept-pushed, kept-cut           after an entry is appended, or entries are cut
---     losing-covers                   the identifiers that then have fewer operations
 --     settled-known    what a new entry's text and the files give
-use Rattle.std.proofs.Common.{◌≡◌, ◌∙◌, ℕ, ◌≤◌, List, [], ◌∷◌, ◌++◌, length, take, Option, Some, None, option_map, unwrap_or, sym, ap, subst, arith}
+use Rattle.std.proofs.Common.{◌≡◌, ◌∙◌, ℕ, ◌≤◌, List, [], ◌∷◌, ◌++◌, length, take, Option, Some, None, option_map, unwrap_or, sym, ap, subst}
 use Rattle.std.proofs.lemmas.List.{map_push, take-map}
 use Rattle.st_anchor.specs.Known.{Known, known, known_from, known_of_text}
 use Rattle.st_apply.specs.Anchored.{Anchored, place_of, resolved}
@@ -14,26 +13,21 @@ use Rattle.st_apply.proofs.LawLemmas.{given_ascend}
 use Rattle.st_content.specs.Files.{Files}
 use Rattle.st_hash.specs.Hash.{HashValue, hash_cmp}
 use Rattle.st_ledger.specs.declared.entry.Entry.{Entry}
-use Rattle.st_opindex.specs.ByKey.{CoversLosing, items_at}
+use Rattle.st_opindex.specs.ByKey.{items_at}
 use Rattle.st_opindex.specs.Items.{folded}
 use Rattle.st_ops.specs.Operation.{PlainOperation}
 use Rattle.st_params.specs.Limits.{Limits}
-use Rattle.st_observer.specs.Kept.{IsKept, IsObserved, StatesAgree, WaitsAgree, gifts}
+use Rattle.st_observer.specs.Kept.{IsKept, IsObserved, StatesAgree, WaitsAgree}
 use Rattle.st_observer.specs.Observed.{Observed, anchored_by, anchored_for, appended, cut_to, given_for, gives_of, known_of, operations, state_of}
-use Rattle.st_observer.specs.States.{at_place, operations_in, stepped}
+use Rattle.st_observer.specs.States.{operations_in, stepped}
 use Rattle.st_observer.specs.Steps.{Cuts, Folds, Pushes}
 use Rattle.st_observer.specs.Waiting.{Waits}
-use Rattle.st_observer.specs.Work.{from_place, losing}
 use Rattle.st_observer.specs.declared.kept.Kept.{Kept}
+use Rattle.st_observer.proofs.BoundsLemmas.{becomes-pushed}
 use Rattle.st_observer.proofs.GoingLemmas.{kept-length}
-use Rattle.st_observer.proofs.NamesLemmas.{covers-here, losing-has}
-use Rattle.st_observer.proofs.OperationsLemmas.{agree-cut, agree-pushed, operations-agree}
-use Rattle.st_observer.proofs.StatesLemmas.{loses, state_resolved}
-use Rattle.st_observer.proofs.WaitsLemmas.{waits-pushed}
-
-pub kept-operations : (suffix : HashValue) (observed : Observed) (kept : Kept) → IsKept observed kept
-    → operations_in suffix kept.index ≡ operations suffix observed
-kept-operations suffix observed kept is = operations-agree suffix observed kept.bounds.items kept.index is.same is.states
+use Rattle.st_observer.proofs.OperationsLemmas.{agree-cut, agree-pushed, kept-operations}
+use Rattle.st_observer.proofs.StatesLemmas.{state_resolved}
+use Rattle.st_observer.proofs.WaitsLemmas.{waits-turned}
 
 -- the operations of an identifier have ascending places
 pub operations-ascend : (suffix : HashValue) (observed : Observed) → PlacesAscend place_of (operations suffix observed)
@@ -65,7 +59,7 @@ kept-folded observed before after is step = record {
     waits = subst (λ (xs : List Known). WaitsAgree xs after.waiting) (sym step.bounds)
         (subst (λ (waits : Waits). WaitsAgree before.bounds.items waits) (sym step.waiting) is.waits);
     schedule = step.schedule ∙ is.schedule;
-    states = subst (λ (xs : List Known). StatesAgree (gifts observed.ledger xs) after.index) (sym step.bounds)
+    states = subst (λ (xs : List Known). StatesAgree observed.ledger xs after.index) (sym step.bounds)
         (record { each = λ suffix. step.operations suffix ∙ is.states.each suffix });
   };
   none = step.none;
@@ -89,11 +83,11 @@ kept-pushed observed entry n before after is number step =
       same =
           step.bounds ∙ ap (λ xs. xs ++ bound ∷ []) is.same
           ∙ sym (map_push (known_of observed.schedule observed.files) observed.ledger entry);
-      waits = subst (λ xs. WaitsAgree xs after.waiting) (sym step.bounds) (waits-pushed bounds bound n before.waiting after.waiting number step.waits is.waits);
+      waits = subst (λ xs. WaitsAgree xs after.waiting) (sym step.bounds) (waits-turned (becomes-pushed bounds bound n number) step.waits is.waits);
       schedule = step.states.schedule ∙ is.schedule;
       states =
-          subst (λ xs. StatesAgree (gifts (observed.ledger ++ entry ∷ []) xs) after.index) (sym step.bounds)
-          (agree-pushed observed.ledger bounds entry bound n before.index after.index (kept-length observed before is) number is.states step.states);
+          subst (λ xs. StatesAgree (observed.ledger ++ entry ∷ []) xs after.index) (sym step.bounds)
+          (agree-pushed entry n bound before.index after.index step.states observed.ledger bounds (kept-length observed before is) number is.states);
     }
 
 -- ---- entries are cut
@@ -105,16 +99,6 @@ kept-cut observed n before after is within step = record {
   waits = step.waits;
   schedule = step.schedule ∙ is.schedule;
   states =
-      subst (λ xs. StatesAgree (gifts (take n observed.ledger) xs) after.index) (sym step.bounds)
-      (agree-cut observed.ledger before.bounds.items n before.index after.index (kept-length observed before is) within is.states step.operations);
+      subst (λ xs. StatesAgree (take n observed.ledger) xs after.index) (sym step.bounds)
+      (agree-cut observed.ledger before.bounds.items n before.index after.index within is.states step.operations);
 }
-
--- ---- an identifier loses operations
-
--- the suffixes that lose an operation cover the changes of a cut
-pub losing-covers : (n : ℕ) (observed seen : Observed) (kept : Kept) → IsKept observed kept → observed ≡ seen
-    → CoversLosing hash_cmp (at_place n (losing n seen)) n kept.index.items
-losing-covers n observed seen kept is same suffix any =
-    covers-here n suffix n (losing n seen) (omega arith) (losing-has n seen suffix
-    (subst (λ (xs : List Anchored). 1 ≤ length (from_place n xs)) (kept-operations suffix observed kept is ∙ ap (operations suffix) same)
-    (loses n suffix kept.index.items any)))

@@ -2,7 +2,7 @@
 mod WaitingLemmas
 mod WantedLemmas
 mod StatesLemmas
-mod GiftsLemmas
+mod BoundsLemmas
 mod OperationsLemmas
 mod WaitsLemmas
 mod GoingLemmas
@@ -13,7 +13,6 @@ mod LookingLemmas
 mod AskedLemmas
 mod IsolationLemmas
 mod KeptLemmas
-mod BackLemmas
 mod AppendLemmas
 mod ArriveLemmas
 mod CutLemmas

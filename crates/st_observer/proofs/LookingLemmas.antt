@@ -14,7 +14,8 @@ use Rattle.st_base.specs.Work.{Counts}
 use Rattle.st_hash.specs.Hash.{HashValue, hash_cmp}
 use Rattle.st_ledger.specs.declared.entry.Entry.{Entry}
 use Rattle.st_observer.specs.Observed.{Observed, known_of}
-use Rattle.st_observer.specs.Steps.{CoversWhere, GrewOver, IsGoing, Settles, bound_at, is_among, unknown}
+use Rattle.st_observer.specs.Kept.{bound_at, unknown}
+use Rattle.st_observer.specs.Steps.{CoversWhere, GrewOver, IsGoing, Settles, is_among}
 use Rattle.st_observer.specs.Work.{GrewAtMost, ReadExactly}
 use Rattle.st_observer.specs.declared.kept.Kept.{Kept}
 use Rattle.st_observer.proofs.GoingLemmas.{among-left, going-length, going-settled, going-skipped}

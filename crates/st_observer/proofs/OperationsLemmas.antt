@@ -1,192 +1,209 @@
--- The operations of a suffix, from what is known about the entries.
---     gifts-length, gifts-append, gifts-take, gifts-at   the operations of entries, as lists
---     operations-known    what is known about each entry is what the files give
---     given-stays         a suffix with an operation has one over more files too
---     operations-pushed, operations-settled   after an entry is appended, and after more is known about one
---     agree-pushed, agree-settled, agree-cut  the states still agree with what is known
-use Rattle.std.proofs.Common.{◌≡◌, ◌∙◌, ℕ, zero, suc, ◌+◌, ◌<◌, ◌≤◌, Bool, true, false, ◌||◌, cond, List, [], ◌∷◌, ◌++◌, length, map, take, drop, set, get_or, Option, Some, None, is_some, refl, sym, ap, arith}
-use Rattle.std.specs.List.{cons_option, list_any}
-use Rattle.std.proofs.lemmas.Bool.{false≢true}
-use Rattle.std.proofs.lemmas.List.{drop_more, length-take-le, set_split, take-append-drop}
-use Rattle.st_anchor.specs.Gives.{given, suffixes_given}
+-- The operations that entries give for a suffix.
+--     kept-operations      what is known about each entry is what the files give
+--     agree-pushed, agree-settled, agree-cut    after an entry is appended or checked again, and after entries are cut
+use Rattle.std.proofs.Common.{◌≡◌, ◌∙◌, ℕ, zero, suc, ◌+◌, ◌<◌, ◌≤◌, Bool, true, false, nat_lt, List, [], ◌∷◌, ◌++◌, length, filter, map, take, set, get_or, Option, Some, None, is_some, option_map, refl, sym, ap, subst, arith}
+use Rattle.std.specs.List.{cons_option}
+use Rattle.std.proofs.lemmas.Bool.{false≢true, le-ltb, lt-ltb}
+use Rattle.std.proofs.lemmas.List.{get_or-map, get_or-take, get_or_past, get_or_push, length-take-le, length_push}
+use Rattle.std.proofs.lemmas.Map.Made.{is_some-lookup}
+use Rattle.st_anchor.specs.Gives.{given}
 use Rattle.st_anchor.specs.Known.{Known, known_from}
 use Rattle.st_anchor.proofs.OnceLemmas.{given-kept}
+use Rattle.st_apply.specs.Anchored.{Anchored}
 use Rattle.st_apply.specs.Numbered.{given_from}
 use Rattle.st_content.specs.Files.{Files}
 use Rattle.st_hash.specs.Hash.{HashValue, same_hash}
 use Rattle.st_ledger.specs.declared.entry.Entry.{Entry}
 use Rattle.st_ops.specs.Operation.{PlainOperation}
-use Rattle.st_observer.specs.Kept.{Gift, StatesAgree, anchored_in, gifts, operations_from}
-use Rattle.st_observer.specs.Observed.{Observed, anchored_for, given_for, known_of, operations}
-use Rattle.st_observer.specs.States.{Operations, before_place, operations_in, with_given}
+use Rattle.st_observer.specs.Kept.{IsKept, StatesAgree, anchored_in, bound_at, operations_from, unknown}
+use Rattle.st_observer.specs.Observed.{Observed, anchored_by, anchored_for, given_for, known_of, operations}
+use Rattle.st_observer.specs.States.{Operations, after_place, before_place, operations_in, with_given}
 use Rattle.st_observer.specs.Steps.{PutsGiven}
-use Rattle.st_observer.proofs.GiftsLemmas.{operations-first, operations-put}
+use Rattle.st_observer.specs.declared.kept.Kept.{Kept}
+use Rattle.st_observer.proofs.BoundsLemmas.{Becomes, becomes-pushed, becomes-set, gives-nothing}
 
--- ---- what entries give, as lists
+-- ---- the operation of one entry, before others
 
-pub gifts-length : (entries : List Entry) (bounds : List Known) → length bounds ≡ length entries → length (gifts entries bounds) ≡ length entries
-gifts-length [] bounds many = refl
-gifts-length (entry ∷ entries) [] many = cc
-gifts-length (entry ∷ entries) (bound ∷ bounds) many = ap suc (gifts-length entries bounds (omega (arith, many)))
+module _ (test : Anchored → Bool) (number : ℕ) (entry : Entry) where
+  one-passes : (found : Option PlainOperation) (rest : List Anchored) → ((item : Anchored) → item.place ≡ number → test item ≡ true)
+      → filter test (cons_option (option_map (anchored_by number entry) found) rest) ≡ cons_option (option_map (anchored_by number entry) found) (filter test rest)
+  one-passes None rest passes = refl
+  one-passes (Some operation) rest passes = rw (passes (anchored_by number entry operation) refl) refl
 
-pub gifts-append : (entries : List Entry) (bounds : List Known) (entry : Entry) (bound : Known) → length bounds ≡ length entries
-    → gifts (entries ++ entry ∷ []) (bounds ++ bound ∷ []) ≡ gifts entries bounds ++ (entry.height, given bound) ∷ []
-gifts-append [] [] entry bound many = refl
-gifts-append [] (first ∷ bounds) entry bound many = cc
-gifts-append (first ∷ entries) [] entry bound many = cc
-gifts-append (first ∷ entries) (one ∷ bounds) entry bound many =
-    ap (λ rest. (first.height, given one) ∷ rest) (gifts-append entries bounds entry bound (omega (arith, many)))
+  one-fails : (found : Option PlainOperation) (rest : List Anchored) → ((item : Anchored) → item.place ≡ number → test item ≡ false)
+      → filter test (cons_option (option_map (anchored_by number entry) found) rest) ≡ filter test rest
+  one-fails None rest fails = refl
+  one-fails (Some operation) rest fails = rw (fails (anchored_by number entry operation) refl) refl
 
-pub gifts-take : (n : ℕ) (entries : List Entry) (bounds : List Known) → gifts (take n entries) (take n bounds) ≡ take n (gifts entries bounds)
-gifts-take zero entries bounds = refl
-gifts-take (suc n) [] bounds = refl
-gifts-take (suc n) (entry ∷ entries) [] = refl
-gifts-take (suc n) (entry ∷ entries) (bound ∷ bounds) = ap (λ rest. (entry.height, given bound) ∷ rest) (gifts-take n entries bounds)
+module _ (n : ℕ) (entry : Entry) where
+  -- it is given at this place,
+  put-here : (new was : Option PlainOperation) (rest : List Anchored) → (new ≡ None → was ≡ None)
+      → before_place n rest ≡ [] → after_place n rest ≡ rest
+      → with_given n entry.height new (cons_option (option_map (anchored_by n entry) was) rest) ≡ cons_option (option_map (anchored_by n entry) new) rest
+  put-here None was rest stays none all = ap (λ found. cons_option (option_map (anchored_by n entry) found) rest) (stays refl)
+  put-here (Some operation) was rest stays none all = λ i.
+      (one-fails (λ item. nat_lt item.place n) n entry was rest (λ item is. le-ltb item.place n (omega (arith, is))) ∙ none) i
+      ++ anchored_by n entry operation
+      ∷ (one-fails (λ item. nat_lt n item.place) n entry was rest (λ item is. le-ltb n item.place (omega (arith, is))) ∙ all) i
 
--- the knowledge of the entry with this number changes
-pub gifts-set : (entries : List Entry) (bounds : List Known) (n : ℕ) (bound : Known) (entry : Entry) → n < length entries → n < length bounds
-    → get_or entries n entry ≡ entry
-    → gifts entries (set bounds n bound) ≡ set (gifts entries bounds) n (entry.height, given bound)
-gifts-set [] bounds n bound entry inside within is = absurd (omega (arith, inside))
-gifts-set (first ∷ entries) [] n bound entry inside within is = absurd (omega (arith, within))
-gifts-set (first ∷ entries) (one ∷ bounds) zero bound entry inside within is = ap (λ (e : Entry). (e.height, given bound) ∷ gifts entries bounds) is
-gifts-set (first ∷ entries) (one ∷ bounds) (suc n) bound entry inside within is =
-    ap (λ rest. (first.height, given one) ∷ rest) (gifts-set entries bounds n bound entry (omega (arith, inside)) (omega (arith, within)) is)
+  -- or at a later one
+  put-later : (new found : Option PlainOperation) (number : ℕ) (first : Entry) (rest : List Anchored) → number < n
+      → with_given n entry.height new (cons_option (option_map (anchored_by number first) found) rest)
+      ≡ cons_option (option_map (anchored_by number first) found) (with_given n entry.height new rest)
+  put-later None found number first rest less = refl
+  put-later (Some operation) None number first rest less = refl
+  put-later (Some operation) (Some other) number first rest less = rw (lt-ltb number n less, le-ltb n number (omega (arith, less))) refl
 
--- the operations of the entry with this number
-pub gifts-at : (entries : List Entry) (bounds : List Known) (n : ℕ) (gift : Gift) (bound : Known) → n < length entries → n < length bounds
-    → (get_or (gifts entries bounds) n gift).1 ≡ given (get_or bounds n bound)
-gifts-at [] bounds n gift bound inside within = absurd (omega (arith, inside))
-gifts-at (first ∷ entries) [] n gift bound inside within = absurd (omega (arith, within))
-gifts-at (first ∷ entries) (one ∷ bounds) zero gift bound inside within = refl
-gifts-at (first ∷ entries) (one ∷ bounds) (suc n) gift bound inside within = gifts-at entries bounds n gift bound (omega (arith, inside))
-    (omega (arith, within))
+-- ---- the operations of entries
 
--- ---- from what the files give the entries
+module _ (suffix : HashValue) (bounds : List Known) where
+  module _ (test : Anchored → Bool) where
+    -- all pass, if all from the first number on do,
+    all-pass : (number : ℕ) (entries : List Entry) → ((item : Anchored) → number ≤ item.place → test item ≡ true)
+        → filter test (operations_from suffix bounds number entries) ≡ operations_from suffix bounds number entries
+    all-pass number [] passes = refl
+    all-pass number (entry ∷ entries) passes =
+        one-passes test number entry (given_for suffix (given (bound_at number bounds))) (operations_from suffix bounds (number + 1) entries)
+        (λ item is. passes item (omega (arith, is)))
+        ∙ ap (cons_option (anchored_in suffix bounds number entry)) (all-pass (number + 1) entries (λ item late. passes item (omega (arith, late))))
 
-known-from : (suffix : HashValue) (schedule : Option ℕ) (files : Files) (number : ℕ) (entries : List Entry)
-    → given_from (anchored_for suffix schedule files) number entries ≡ operations_from suffix number (gifts entries (map (known_of schedule files) entries))
-known-from suffix schedule files number [] = refl
-known-from suffix schedule files number (entry ∷ entries) =
-    ap (cons_option (anchored_for suffix schedule files number entry)) (known-from suffix schedule files (number + 1) entries)
+    -- and none passes, if none of these does
+    none-pass : (number : ℕ) (entries : List Entry) → ((item : Anchored) → number ≤ item.place → test item ≡ false)
+        → filter test (operations_from suffix bounds number entries) ≡ []
+    none-pass number [] fails = refl
+    none-pass number (entry ∷ entries) fails =
+        one-fails test number entry (given_for suffix (given (bound_at number bounds))) (operations_from suffix bounds (number + 1) entries)
+        (λ item is. fails item (omega (arith, is)))
+        ∙ none-pass (number + 1) entries (λ item late. fails item (omega (arith, late)))
 
--- The operations of a suffix are those of the entries, from what the files give them.
-pub operations-known : (suffix : HashValue) (observed : Observed)
-    → operations suffix observed ≡ operations_from suffix 0 (gifts observed.ledger (map (known_of observed.schedule observed.files) observed.ledger))
+  -- those before a place are those of the first entries
+  before-first : (count number place : ℕ) (entries : List Entry) → number + count ≡ place
+      → before_place place (operations_from suffix bounds number entries) ≡ operations_from suffix bounds number (take count entries)
+  before-first zero number place entries here =
+      none-pass (λ item. nat_lt item.place place) number entries (λ item late. le-ltb item.place place (omega (arith, late, here)))
+  before-first (suc count) number place [] here = refl
+  before-first (suc count) number place (entry ∷ entries) here =
+      one-passes (λ item. nat_lt item.place place) number entry (given_for suffix (given (bound_at number bounds)))
+      (operations_from suffix bounds (number + 1) entries) (λ item is. lt-ltb item.place place (omega (arith, is, here)))
+      ∙ ap (cons_option (anchored_in suffix bounds number entry)) (before-first count (number + 1) place entries (omega (arith, here)))
+
+  -- one more entry that gives nothing
+  nothing-more : (number place : ℕ) (entries : List Entry) (entry : Entry) → number + length entries ≡ place → anchored_in suffix bounds place entry ≡ None
+      → operations_from suffix bounds number entries ≡ operations_from suffix bounds number (entries ++ entry ∷ [])
+  nothing-more number place [] entry here none =
+      let same : place ≡ number = omega (arith, here) in
+      ap (λ found. cons_option found []) (sym (subst (λ m. anchored_in suffix bounds m entry ≡ None) same none))
+  nothing-more number place (first ∷ entries) entry here none =
+      ap (cons_option (anchored_in suffix bounds number first)) (nothing-more (number + 1) place entries entry (omega (arith, here)) none)
+
+-- entries that give the same
+alike : (give other : ℕ → Entry → Option Anchored) (number : ℕ) (entries : List Entry)
+    → ((place at : ℕ) (entry : Entry) → number + at ≡ place → at < length entries → get_or entries at entry ≡ entry → give place entry ≡ other place entry)
+    → given_from give number entries ≡ given_from other number entries
+alike give other number [] same = refl
+alike give other number (entry ∷ entries) same = λ i.
+    cons_option (same number 0 entry (omega arith) (omega arith) refl i)
+    (alike give other (number + 1) entries
+    (λ place at later here inside is. same place (suc at) later (omega (arith, here)) (omega (arith, inside)) is) i)
+
+-- the operation of an entry that gives the same
+abbrev one_known : HashValue → ℕ → Entry → Known → Option Anchored
+one_known suffix number entry bound = option_map (anchored_by number entry) (given_for suffix (given bound))
+
+-- Something else is known about the entry with this number, and it still gives an operation for the suffix if it gave one.
+module _ (suffix : HashValue) {n : ℕ} {bound : Known} {before after : List Known} (becomes : Becomes n bound before after)
+    (stays : given_for suffix (given bound) ≡ None → given_for suffix (given (bound_at n before)) ≡ None) where
+  put-first : (entry : Entry) (entries : List Entry)
+      → with_given n entry.height (given_for suffix (given bound)) (operations_from suffix before n (entry ∷ entries))
+      ≡ operations_from suffix after n (entry ∷ entries)
+  put-first entry entries =
+      put-here n entry (given_for suffix (given bound)) (given_for suffix (given (bound_at n before))) (operations_from suffix before (n + 1) entries) stays
+      (none-pass suffix before (λ item. nat_lt item.place n) (n + 1) entries (λ item late. le-ltb item.place n (omega (arith, late))))
+      (all-pass suffix before (λ item. nat_lt n item.place) (n + 1) entries (λ item late. lt-ltb n item.place (omega (arith, late))))
+      ∙ (λ i. cons_option (one_known suffix n entry (sym becomes.own i))
+      (alike (anchored_in suffix before) (anchored_in suffix after) (n + 1) entries
+      (λ place at later here inside is. ap (one_known suffix place later) (sym (becomes.others place (λ same. omega (arith, here, same))))) i))
+
+  put-at : (count number : ℕ) (entries : List Entry) (entry : Entry) → number + count ≡ n → count < length entries → get_or entries count entry ≡ entry
+      → with_given n entry.height (given_for suffix (given bound)) (operations_from suffix before number entries) ≡ operations_from suffix after number entries
+  put-at count number [] entry here inside is = absurd (omega (arith, inside))
+  put-at zero number (first ∷ entries) entry here inside is =
+      let same : n ≡ number = omega (arith, here) in
+      subst (λ m. with_given n entry.height (given_for suffix (given bound)) (operations_from suffix before m (first ∷ entries))
+      ≡ operations_from suffix after m (first ∷ entries)) same
+      (subst (λ (e : Entry). with_given n e.height (given_for suffix (given bound)) (operations_from suffix before n (first ∷ entries))
+      ≡ operations_from suffix after n (first ∷ entries)) is (put-first first entries))
+  put-at (suc count) number (first ∷ entries) entry here inside is =
+      put-later n entry (given_for suffix (given bound)) (given_for suffix (given (bound_at number before))) number first
+      (operations_from suffix before (number + 1) entries) (omega (arith, here))
+      ∙ (λ i. cons_option (one_known suffix number first (sym (becomes.others number (λ same. omega (arith, here, same))) i))
+      (put-at count (number + 1) entries entry (omega (arith, here)) (omega (arith, inside)) is i))
+
+-- ---- the states agree with what is known
+
+-- What is known about each entry is what the files give.
+pub kept-operations : (suffix : HashValue) (observed : Observed) (kept : Kept) → IsKept observed kept
+    → operations_in suffix kept.index ≡ operations suffix observed
 unfolding operations
-operations-known suffix observed = known-from suffix observed.schedule observed.files 0 observed.ledger
+kept-operations suffix observed kept is =
+    let knows : Entry → Known = known_of observed.schedule observed.files in
+    is.states.each suffix ∙ ap (λ bounds. operations_from suffix bounds 0 observed.ledger) is.same
+    ∙ alike (anchored_in suffix (map knows observed.ledger)) (anchored_for suffix observed.schedule observed.files) 0 observed.ledger
+    (λ place at entry here inside same.
+    let number : place ≡ at = omega (arith, here) in
+    ap (one_known suffix place entry)
+    (ap (λ m. bound_at m (map knows observed.ledger)) number ∙ get_or-map knows observed.ledger at entry unknown inside ∙ ap knows same))
 
-pub operations-agree : (suffix : HashValue) (observed : Observed) (bounds : List Known) (states : Operations)
-    → bounds ≡ map (known_of observed.schedule observed.files) observed.ledger → StatesAgree (gifts observed.ledger bounds) states
-    → operations_in suffix states ≡ operations suffix observed
-operations-agree suffix observed bounds states same agree =
-    agree.each suffix ∙ ap (λ b. operations_from suffix 0 (gifts observed.ledger b)) same ∙ sym (operations-known suffix observed)
+module _ (entry : Entry) (n : ℕ) (bound : Known) (old new : Operations) (puts : PutsGiven n entry.height (given bound) old new) where
+  agree-put : {before after : List Known} (entries : List Entry) → Becomes n bound before after → n < length entries → get_or entries n entry ≡ entry
+      → ((suffix : HashValue) → given_for suffix (given bound) ≡ None → given_for suffix (given (bound_at n before)) ≡ None)
+      → StatesAgree entries before old → StatesAgree entries after new
+  agree-put entries becomes inside is stays agree = record {
+    each = λ suffix.
+        puts.operations suffix ∙ ap (with_given n entry.height (given_for suffix (given bound))) (agree.each suffix)
+        ∙ put-at suffix becomes (stays suffix) n 0 entries entry (omega arith) inside is;
+  }
 
--- ---- an operation that is given stays given
+  -- an entry is appended
+  pub agree-pushed : (entries : List Entry) (bounds : List Known) → length bounds ≡ length entries → n ≡ length bounds → StatesAgree entries bounds old
+      → StatesAgree (entries ++ entry ∷ []) (bounds ++ bound ∷ []) new
+  agree-pushed entries bounds many number agree =
+      let none : (suffix : HashValue) → given_for suffix (given (bound_at n bounds)) ≡ None =
+      λ suffix. ap (given_for suffix) (ap given (get_or_past bounds n unknown (omega (arith, number))) ∙ gives-nothing) in
+      agree-put (entries ++ entry ∷ []) (becomes-pushed bounds bound n number) (omega (arith, number, many, length_push entries entry))
+      (get_or_push entries entry entry n (omega (arith, number, many))) (λ suffix _. none suffix)
+      (record {
+        each = λ suffix.
+            agree.each suffix
+            ∙ nothing-more suffix bounds 0 n entries entry (omega (arith, number, many)) (ap (option_map (anchored_by n entry)) (none suffix));
+      })
 
-some_or : {X : Type 0} (here : Bool) (x : X) (found : Option X) (any : Bool) → is_some found ≡ any → is_some (cond here (Some x) found) ≡ (here || any)
-some_or true x found any e = refl
-some_or false x found any e = e
+-- if no operation is found later, none was found before
+none_or : {X : Type 0} (found later : Option X) → (is_some found ≡ true → is_some later ≡ true) → later ≡ None → found ≡ None
+none_or None later grows none = refl
+none_or (Some x) later grows none = absurd (false≢true (sym (ap is_some none) ∙ grows refl))
 
-given-some : (suffix : HashValue) (given : List (HashValue × PlainOperation))
-    → is_some (given_for suffix given) ≡ list_any (same_hash suffix) (suffixes_given given)
-given-some suffix [] = refl
-given-some suffix (entry ∷ given) =
-    some_or (same_hash suffix entry.0) entry.1 (given_for suffix given) (list_any (same_hash suffix) (suffixes_given given)) (given-some suffix given)
-
-none_from : {X : Type 0} (found : Option X) → is_some found ≡ false → found ≡ None
-none_from None e = refl
-none_from (Some x) e = absurd (false≢true (sym e))
-
-none_before : (before after : Bool) → (before ≡ true → after ≡ true) → after ≡ false → before ≡ false
-none_before true after grows none = absurd (false≢true (sym none ∙ grows refl))
-none_before false after grows none = refl
-
--- If no operation is given for a suffix over more files, none was given before.
-pub given-stays : (suffix : HashValue) (files : Files) (bound : Known) → given_for suffix (given (known_from files bound)) ≡ None
-    → given_for suffix (given bound) ≡ None
-given-stays suffix files bound none =
-    none_from (given_for suffix (given bound)) (given-some suffix (given bound)
-    ∙ none_before (list_any (same_hash suffix) (suffixes_given (given bound))) (list_any (same_hash suffix) (suffixes_given (given (known_from files bound))))
-    (given-kept files bound suffix)
-    (sym (given-some suffix (given (known_from files bound))) ∙ ap is_some none))
-
--- ---- the states agree
-
--- the items before a place, the one there, and those after it
-split : {X : Type 0} (xs : List X) (n : ℕ) (d : X) → n < length xs → xs ≡ take n xs ++ get_or xs n d ∷ drop (n + 1) xs
-split xs n d inside = sym (take-append-drop n xs) ∙ ap (λ rest. take n xs ++ rest) (drop_more xs n d inside)
-
-with-set : {X : Type 0} (xs : List X) (n : ℕ) (x : X) → n < length xs → set xs n x ≡ take n xs ++ x ∷ drop (n + 1) xs
-with-set xs n x inside = set_split xs n x inside ∙ ap (λ m. take n xs ++ x ∷ drop m xs) (let e : suc n ≡ n + 1 = omega arith in e)
-
--- the entry with this number gives this from now on
-put-at : (suffix : HashValue) (height : ℕ) (all : List Gift) (n : ℕ) (gift : Gift) (new : List (HashValue × PlainOperation)) → n < length all
-    → (given_for suffix new ≡ None → given_for suffix (get_or all n gift).1 ≡ None)
-    → with_given n height (given_for suffix new) (operations_from suffix 0 all) ≡ operations_from suffix 0 (set all n (height, new))
-put-at suffix height all n gift new inside stays =
-    ap (λ xs. with_given n height (given_for suffix new) (operations_from suffix 0 xs)) (split all n gift inside)
-    ∙ operations-put suffix height (take n all) (drop (n + 1) all) (get_or all n gift) new n (length-take-le n all (omega (arith, inside))) stays
-    ∙ ap (operations_from suffix 0) (sym (with-set all n (height, new) inside))
-
-nothing-from : (suffix : HashValue) (number : ℕ) (all : List Gift) (height : ℕ)
-    → operations_from suffix number all ≡ operations_from suffix number (all ++ (height, []) ∷ [])
-nothing-from suffix number [] height = refl
-nothing-from suffix number (gift ∷ all) height = ap (cons_option (anchored_in suffix number gift)) (nothing-from suffix (number + 1) all height)
-
--- An entry is appended, and gives this.
-pub operations-pushed : (suffix : HashValue) (entries : List Entry) (bounds : List Known) (entry : Entry) (bound : Known) (n : ℕ) (states : Operations)
-    → length bounds ≡ length entries → n ≡ length bounds → StatesAgree (gifts entries bounds) states
-    → with_given n entry.height (given_for suffix (given bound)) (operations_in suffix states)
-    ≡ operations_from suffix 0 (gifts (entries ++ entry ∷ []) (bounds ++ bound ∷ []))
-operations-pushed suffix entries bounds entry bound n states many number agree =
-    let none : List (HashValue × PlainOperation) = [] in
-    ap (with_given n entry.height (given_for suffix (given bound))) (agree.each suffix ∙ nothing-from suffix 0 (gifts entries bounds) entry.height)
-    ∙ operations-put suffix entry.height (gifts entries bounds) [] (entry.height, none) (given bound) n
-    (gifts-length entries bounds many ∙ sym many ∙ sym number) (λ empty. refl)
-    ∙ ap (operations_from suffix 0) (sym (gifts-append entries bounds entry bound many))
-
-pub agree-pushed : (entries : List Entry) (bounds : List Known) (entry : Entry) (bound : Known) (n : ℕ) (old new : Operations)
-    → length bounds ≡ length entries → n ≡ length bounds → StatesAgree (gifts entries bounds) old → PutsGiven n entry.height (given bound) old new
-    → StatesAgree (gifts (entries ++ entry ∷ []) (bounds ++ bound ∷ [])) new
-agree-pushed entries bounds entry bound n old new many number agree puts = record {
-  each = λ suffix. puts.operations suffix ∙ operations-pushed suffix entries bounds entry bound n old many number agree;
-}
-
--- More is known about the entry with this number over more files.
-pub operations-settled : (suffix : HashValue) (entries : List Entry) (bounds : List Known) (entry : Entry) (files : Files) (d : Known) (n : ℕ)
-    (states : Operations)
-    → length bounds ≡ length entries → n < length bounds → get_or entries n entry ≡ entry → StatesAgree (gifts entries bounds) states
-    → with_given n entry.height (given_for suffix (given (known_from files (get_or bounds n d)))) (operations_in suffix states)
-    ≡ operations_from suffix 0 (gifts entries (set bounds n (known_from files (get_or bounds n d))))
-operations-settled suffix entries bounds entry files d n states many inside is agree =
-    let none : List (HashValue × PlainOperation) = [] in
-    let more : Known = known_from files (get_or bounds n d) in
-    let within : n < length entries = omega (arith, inside, many) in
-    ap (with_given n entry.height (given_for suffix (given more))) (agree.each suffix)
-    ∙ put-at suffix entry.height (gifts entries bounds) n (entry.height, none) (given more)
-    (omega (arith, within, gifts-length entries bounds many))
-    (λ empty. ap (given_for suffix) (gifts-at entries bounds n (entry.height, none) d within inside) ∙ given-stays suffix files (get_or bounds n d) empty)
-    ∙ ap (operations_from suffix 0) (sym (gifts-set entries bounds n more entry within inside is))
-
-pub agree-settled : (entries : List Entry) (bounds : List Known) (entry : Entry) (files : Files) (d : Known) (n : ℕ) (old new : Operations)
-    → length bounds ≡ length entries → n < length bounds → get_or entries n entry ≡ entry → StatesAgree (gifts entries bounds) old
-    → PutsGiven n entry.height (given (known_from files (get_or bounds n d))) old new
-    → StatesAgree (gifts entries (set bounds n (known_from files (get_or bounds n d)))) new
-agree-settled entries bounds entry files d n old new many inside is agree puts = record {
-  each = λ suffix. puts.operations suffix ∙ operations-settled suffix entries bounds entry files d n old many inside is agree;
-}
+-- more is known about the entry with this number over more files
+pub agree-settled : (entries : List Entry) (bounds : List Known) (entry : Entry) (files : Files) (n : ℕ) (old new : Operations)
+    → length bounds ≡ length entries → n < length bounds → get_or entries n entry ≡ entry → StatesAgree entries bounds old
+    → PutsGiven n entry.height (given (known_from files (bound_at n bounds))) old new
+    → StatesAgree entries (set bounds n (known_from files (bound_at n bounds))) new
+agree-settled entries bounds entry files n old new many inside is agree puts =
+    let bound : Known = bound_at n bounds in
+    let more : Known = known_from files bound in
+    agree-put entry n more old new puts entries (becomes-set bounds more n inside) (omega (arith, inside, many)) is
+    (λ suffix none. none_or (given_for suffix (given bound)) (given_for suffix (given more))
+    (λ some. is_some-lookup (same_hash suffix) (given more)
+    ∙ given-kept files bound suffix (sym (is_some-lookup (same_hash suffix) (given bound)) ∙ some)) none)
+    agree
 
 -- only the first entries
-pub agree-cut : (entries : List Entry) (bounds : List Known) (n : ℕ) (old new : Operations)
-    → length bounds ≡ length entries → n ≤ length entries → StatesAgree (gifts entries bounds) old
+pub agree-cut : (entries : List Entry) (bounds : List Known) (n : ℕ) (old new : Operations) → n ≤ length entries → StatesAgree entries bounds old
     → ((suffix : HashValue) → operations_in suffix new ≡ before_place n (operations_in suffix old))
-    → StatesAgree (gifts (take n entries) (take n bounds)) new
-agree-cut entries bounds n old new many within agree before = record {
+    → StatesAgree (take n entries) (take n bounds) new
+agree-cut entries bounds n old new within agree before = record {
   each = λ suffix.
-      let all : List Gift = gifts entries bounds in
-      before suffix
-      ∙ ap (before_place n) (agree.each suffix ∙ ap (operations_from suffix 0) (sym (take-append-drop n all)))
-      ∙ operations-first suffix (take n all) (drop n all) n (length-take-le n all (omega (arith, within, gifts-length entries bounds many)))
-      ∙ ap (operations_from suffix 0) (sym (gifts-take n entries bounds));
+      before suffix ∙ ap (before_place n) (agree.each suffix) ∙ before-first suffix bounds n 0 n entries (omega arith)
+      ∙ alike (anchored_in suffix bounds) (anchored_in suffix (take n bounds)) 0 (take n entries) (λ place at entry here inside is.
+      ap (one_known suffix place entry) (sym (get_or-take n bounds place unknown (omega (arith, here, inside, length-take-le n entries within)))));
 }

@@ -1,31 +1,29 @@
 -- Operations at their places, stored by suffix.
 --     put_operations, cut_operations          the operations of each identifier after a put and a cut of the index
 --     state_resolved                          the state that the index folds is the one the operations resolve to
---     goes_on, way-done                       given operations, put one after another
+--     puts-next, popped                       given operations, put from the last to the first
 --     covers-itself, covers-before, covers-put     names that cover changes
 --     from-length, loses                      the operations folded from a place on, and those that a cut drops
-use Rattle.std.proofs.Common.{◌≡◌, ◌∙◌, ℕ, ◌≤◌, Bool, true, false, cond, ltb, leb, List, [], ◌∷◌, ◌++◌, length, filter, reverse, sym, ap, subst, refl, arith, append-nil, append_assoc, inl, inr}
-use Rattle.std.specs.Prelude.{map, Option, Some, None, ◌||◌, ◌&&◌}
+use Rattle.std.proofs.Common.{◌≡◌, ◌∙◌, ℕ, ◌≤◌, Bool, true, false, cond, ltb, leb, nat_lt, List, [], ◌∷◌, ◌++◌, length, filter, drop, reverse, sym, ap, subst, refl, arith, append-nil, append_assoc, inl, inr}
+use Rattle.std.specs.Prelude.{map, Option, Some, None, ◌&&◌}
 use Rattle.std.specs.BTreeMap.{is_at}
 use Rattle.std.specs.List.{AllByRecursion, list_any}
-use Rattle.std.specs.Map.{lookup}
-use Rattle.std.proofs.lemmas.Bool.{le-leb, cases_Bool, false≢true, or_left, or_parts, or_right}
-use Rattle.std.proofs.lemmas.List.{length-map, map-append, map_push, reverse-append}
+use Rattle.std.proofs.lemmas.Bool.{le-leb, le-ltb, ltb-true, cases_Bool, false≢true, or_left, or_right}
+use Rattle.std.proofs.lemmas.List.{drop_at, length-map, map-append, reverse-append}
+use Rattle.std.proofs.lemmas.List.Elements.{filter-append}
 use Rattle.std.proofs.lemmas.List.Folds.{fold-map, list_any-append}
 use Rattle.st_anchor.specs.Gives.{suffixes_given}
-use Rattle.st_anchor.proofs.OnceLemmas.{has_twice-front}
-use Rattle.st_apply.specs.Anchored.{place_of, resolved}
+use Rattle.st_apply.specs.Anchored.{Anchored, place_of, resolved}
 use Rattle.st_apply.specs.Laws.{PlacesAscend}
 use Rattle.st_apply.specs.Applied.{applied}
 use Rattle.st_apply.specs.Seen.{absent}
 use Rattle.st_apply.proofs.ResolvedLemmas.{resolved_fold}
-use Rattle.st_base.specs.Twice.{has_twice}
-use Rattle.st_base.proofs.Quantifiers.{each-append, each-weaker}
+use Rattle.st_base.proofs.Quantifiers.{each-append, each-passes, each-weaker, filter_all, filter_none}
 use Rattle.st_hash.specs.Hash.{HashValue, hash_cmp, same_hash}
 use Rattle.st_hash.specs.Order.{same_hash-equivalence, same_hash-ties}
-use Rattle.st_hash.proofs.SameHash.{same_hash-is, same_hash-itself}
+use Rattle.st_hash.proofs.SameHash.{same_hash-itself}
 use Rattle.st_observer.specs.Observed.{given_for}
-use Rattle.st_observer.specs.States.{BySuffix, Operations, after_place, anchored_item, at_place, before_place, operations_at, stepped, with_given}
+use Rattle.st_observer.specs.States.{BySuffix, Operations, after_place, anchored_item, at_place, before_place, operations_at, operations_in, stepped, with_given}
 use Rattle.st_observer.specs.Steps.{PutsGiven}
 use Rattle.st_observer.specs.Work.{from_place}
 use Rattle.st_opindex.specs.ByKey.{ChangesAt, Covers, items_at}
@@ -132,104 +130,73 @@ state_resolved schedule suffix items ascend =
     sym (fold-map (λ state anchored. applied (params_at schedule anchored.height) state anchored.operation) anchored_item absent kept)
     ∙ resolved_fold schedule (map anchored_item kept) ascend
 
--- ---- a list of given operations, put one after another
-
-module _ {X : Type 0} (test : HashValue → Bool) where
-  -- a lookup finds the last one if it finds none before,
-  lookup-last : (given : List (HashValue × X)) (last : HashValue × X) → lookup test given ≡ None → test last.0 ≡ true
-      → lookup test (given ++ last ∷ []) ≡ Some last.1
-  lookup-last [] last none is = rw is refl
-  lookup-last (first ∷ given) last none is = elim (cases_Bool (test first.0)) [
-    | inl here ↦ let found : Some first.1 ≡ None = rw here at none in cc
-    | inr apart ↦ let rest : lookup test given ≡ None = rw apart at none in rw apart (lookup-last given last rest is)
-  ]
-
-  -- and what it found before if the last has another name
-  lookup-other : (given : List (HashValue × X)) (last : HashValue × X) → test last.0 ≡ false → lookup test (given ++ last ∷ []) ≡ lookup test given
-  lookup-other [] last not = rw not refl
-  lookup-other (first ∷ given) last not = rw (lookup-other given last not) refl
-
--- if no suffix appears twice, the last one's does not appear before
-last_once : {X : Type 0} (given : List (HashValue × X)) (last : HashValue × X) → has_twice same_hash (map (λ entry. entry.0) (given ++ last ∷ [])) ≡ false
-    → lookup (same_hash last.0) given ≡ None
-last_once [] last once = refl
-last_once (first ∷ given) last once =
-    let parts = or_parts (list_any (same_hash first.0) (map (λ entry. entry.0) (given ++ last ∷ [])))
-    (has_twice same_hash (map (λ entry. entry.0) (given ++ last ∷ []))) once in
-    let none : list_any (same_hash first.0) (map (λ entry. entry.0) given ++ last.0 ∷ []) ≡ false =
-    ap (list_any (same_hash first.0)) (sym (map_push (λ entry. entry.0) given last)) ∙ parts.0 in
-    let apart = or_parts (list_any (same_hash first.0) (map (λ entry. entry.0) given)) (same_hash first.0 last.0 || false)
-    (sym (list_any-append (same_hash first.0) (map (λ entry. entry.0) given) (last.0 ∷ [])) ∙ none) in
-    let differs : same_hash last.0 first.0 ≡ false = same_hash-equivalence.symm last.0 first.0 ∙ (or_parts (same_hash first.0 last.0) false apart.1).0 in
-    rw differs (last_once given last parts.1)
-
 abbrev Givens : Type 0
 Givens = List (HashValue × PlainOperation)
 
--- putting the rest leads from here to the result of putting all from the start
-pub record IsOnWay (place height : ℕ) (all left : Givens) (first now : Operations) : Type 0 where
-  pub once : has_twice same_hash (suffixes_given left) ≡ false
-  pub schedule : now.folder.schedule ≡ first.folder.schedule
-  pub leads : (suffix : HashValue) → with_given place height (given_for suffix left) (operations_at suffix now.items)
-      ≡ with_given place height (given_for suffix all) (operations_at suffix first.items)
-  pub changes : now.changes ++ reverse (at_place place (suffixes_given left)) ≡ first.changes ++ reverse (at_place place (suffixes_given all))
+-- ---- a list of given operations, put from the last to the first
 
--- the last of the remaining ones is put
-module _ {place height : ℕ} {all whole : Givens} {first now : Operations} (left : Givens) (last : HashValue × PlainOperation)
-    (split : whole ≡ left ++ last ∷ []) (way : IsOnWay place height all whole first now) where
-  with_last : IsOnWay place height all (left ++ last ∷ []) first now
-  with_last = subst (λ (given : Givens). IsOnWay place height all given first now) split way
+module _ (n : ℕ) (operations : List Anchored) where
+  none-before : before_place n (after_place n operations) ≡ []
+  none-before =
+      filter_none (λ item. nat_lt item.place n) (after_place n operations)
+      (each-weaker (λ item. nat_lt n item.place ≡ true) (λ item. nat_lt item.place n ≡ false)
+      (λ item is. le-ltb item.place n (omega (arith, ltb-true n item.place is))) (after_place n operations) (each-passes (λ item. nat_lt n item.place) operations))
 
-  last_leads : with_given place height (Some last.1) (operations_at last.0 now.items) ≡ with_given place height (given_for last.0 all) (operations_at last.0 first.items)
-  last_leads =
-      ap (λ given. with_given place height given (operations_at last.0 now.items))
-      (sym (lookup-last (same_hash last.0) left last (last_once left last with_last.once) (same_hash-itself last.0)))
-      ∙ with_last.leads last.0
+  none-after : after_place n (before_place n operations) ≡ []
+  none-after =
+      filter_none (λ item. nat_lt n item.place) (before_place n operations)
+      (each-weaker (λ item. nat_lt item.place n ≡ true) (λ item. nat_lt n item.place ≡ false)
+      (λ item is. le-ltb n item.place (omega (arith, ltb-true item.place n is))) (before_place n operations) (each-passes (λ item. nat_lt item.place n) operations))
 
-  pub goes_on : (new : Operations) → new.folder.schedule ≡ now.folder.schedule → new.changes ≡ now.changes ++ (last.0, place) ∷ []
-      → ((suffix : HashValue) → operations_at suffix new.items ≡ with_given place height (given_for suffix (last ∷ [])) (operations_at suffix now.items))
-      → IsOnWay place height all left first new
-  goes_on new schedule more puts = record {
-    once = has_twice-front same_hash same_hash-equivalence.symm (suffixes_given left) (last.0 ∷ [])
-        (ap (has_twice same_hash) (sym (map_push (λ entry. entry.0) left last)) ∙ with_last.once);
-    schedule = schedule ∙ way.schedule;
-    changes = ap (λ changes. changes ++ reverse (at_place place (suffixes_given left))) more
-        ∙ append_assoc now.changes ((last.0, place) ∷ []) (reverse (at_place place (suffixes_given left)))
-        ∙ ap (λ back. now.changes ++ back) (sym pushed) ∙ with_last.changes;
-    leads = λ suffix. elim (cases_Bool (same_hash suffix last.0)) [
-      | inl same ↦ subst (λ (suffix : HashValue). with_given place height (given_for suffix left) (operations_at suffix new.items)
-          ≡ with_given place height (given_for suffix all) (operations_at suffix first.items))
-          (sym (same_hash-is suffix last.0 same)) at_last
-      | inr other ↦
-          let stays : operations_at suffix new.items ≡ operations_at suffix now.items =
-          puts suffix ∙ ap (λ given. with_given place height given (operations_at suffix now.items)) (lookup-other (same_hash suffix) [] last other) in
-          ap (with_given place height (given_for suffix left)) stays
-          ∙ ap (λ given. with_given place height given (operations_at suffix now.items)) (sym (lookup-other (same_hash suffix) left last other))
-          ∙ with_last.leads suffix
-    ];
-  }
-    where
-      pushed : reverse (at_place place (suffixes_given (left ++ last ∷ []))) ≡ (last.0, place) ∷ reverse (at_place place (suffixes_given left))
-      pushed =
-          ap (λ suffixes. reverse (at_place place suffixes)) (map_push (λ entry. entry.0) left last)
-          ∙ ap reverse (map_push (λ suffix. (suffix, place)) (suffixes_given left) last.0)
-          ∙ reverse-append (at_place place (suffixes_given left)) ((last.0, place) ∷ [])
+  -- one at a place replaces the one there
+  given-again : (height : ℕ) (found : Option PlainOperation) (new : PlainOperation)
+      → with_given n height (Some new) (with_given n height found operations) ≡ with_given n height (Some new) operations
+  given-again height None new = refl
+  given-again height (Some old) new =
+      let item : Anchored = record { place = n; height = height; operation = old } in
+      let same : nat_lt n n ≡ false = le-ltb n n (omega arith) in
+      let early : List Anchored = before_place n operations in
+      let late : List Anchored = after_place n operations in
+      let front : before_place n (item ∷ late) ≡ [] = rw same none-before in
+      let back : after_place n (item ∷ late) ≡ late = rw same (filter_all (λ item. nat_lt n item.place) late (each-passes (λ item. nat_lt n item.place) operations)) in
+      let first : before_place n (early ++ item ∷ late) ≡ early =
+      filter-append (λ item. nat_lt item.place n) early (item ∷ late)
+      ∙ (λ i. filter_all (λ item. nat_lt item.place n) early (each-passes (λ item. nat_lt item.place n) operations) i ++ front i) ∙ append-nil early in
+      let last : after_place n (early ++ item ∷ late) ≡ late =
+      filter-append (λ item. nat_lt n item.place) early (item ∷ late) ∙ (λ i. none-after i ++ back i) in
+      λ i. first i ++ record { place = n; height = height; operation = new } ∷ last i
 
-      at_last : with_given place height (given_for last.0 left) (operations_at last.0 new.items)
-          ≡ with_given place height (given_for last.0 all) (operations_at last.0 first.items)
-      at_last =
-          ap (λ given. with_given place height given (operations_at last.0 new.items)) (last_once left last with_last.once)
-          ∙ puts last.0
-          ∙ ap (λ given. with_given place height given (operations_at last.0 now.items)) (lookup-last (same_hash last.0) [] last refl (same_hash-itself last.0))
-          ∙ last_leads
+  -- so the first of them stays
+  given-first : (height : ℕ) (suffix : HashValue) (first : HashValue × PlainOperation) (rest : Givens)
+      → with_given n height (given_for suffix (first ∷ [])) (with_given n height (given_for suffix rest) operations)
+      ≡ with_given n height (given_for suffix (first ∷ rest)) operations
+  given-first height suffix first rest = elim (cases_Bool (same_hash suffix first.0)) [
+    | inl is ↦ rw is (given-again height (given_for suffix rest) first.1)
+    | inr not ↦ rw not refl
+  ]
 
--- after all are put
-pub way-done : {place height : ℕ} {all : Givens} {first now : Operations} → IsOnWay place height all [] first now → PutsGiven place height all first now
-way-done {now = now} way = record {
-  schedule = way.schedule;
-  operations = way.leads;
-  changes = sym (append-nil now.changes) ∙ way.changes;
+-- The last of the remaining ones is put.
+pub puts-next : {n height : ℕ} {rest : Givens} {first now next : Operations} (last : HashValue × PlainOperation) → PutsGiven n height rest first now
+    → next.folder.schedule ≡ now.folder.schedule → next.changes ≡ now.changes ++ (last.0, n) ∷ []
+    → ((suffix : HashValue) → operations_at suffix next.items ≡ with_given n height (given_for suffix (last ∷ [])) (operations_at suffix now.items))
+    → PutsGiven n height (last ∷ rest) first next
+puts-next {n} {height} {rest} {first} last puts schedule changes given = record {
+  schedule = schedule ∙ puts.schedule;
+  operations = λ suffix.
+      given suffix ∙ ap (with_given n height (given_for suffix (last ∷ []))) (puts.operations suffix)
+      ∙ given-first n (operations_in suffix first) height suffix last rest;
+  changes =
+      changes ∙ ap (λ before. before ++ (last.0, n) ∷ []) puts.changes
+      ∙ append_assoc first.changes (reverse (at_place n (suffixes_given rest))) ((last.0, n) ∷ [])
+      ∙ ap (λ more. first.changes ++ more) (sym (reverse-append ((last.0, n) ∷ []) (at_place n (suffixes_given rest))));
 }
+
+-- the items before the last one, and those from it on
+pub popped : {X : Type 0} (all left front : List X) (last : X) → all ≡ left ++ drop (length left) all → left ≡ front ++ last ∷ []
+    → drop (length front) all ≡ last ∷ drop (length left) all
+popped all left front last split is =
+    ap (drop (length front)) (split ∙ ap (λ xs. xs ++ drop (length left) all) is ∙ append_assoc front (last ∷ []) (drop (length left) all))
+    ∙ drop_at front (last ∷ drop (length left) all) (length front) refl
 
 -- ---- names that cover changes
 

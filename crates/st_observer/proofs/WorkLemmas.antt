@@ -14,7 +14,8 @@ use Rattle.st_anchor.proofs.CountLemmas.{decided_roles-up, opened_proofs-up}
 use Rattle.st_anchor.proofs.CountingLemmas.{counted_more-both}
 use Rattle.st_base.specs.Work.{AppliesAtMost, Counts, counted}
 use Rattle.st_content.specs.Files.{Files}
-use Rattle.st_observer.specs.Steps.{GrewOver, bound_at, decided_of, opened_of, unknown}
+use Rattle.st_observer.specs.Kept.{bound_at, unknown}
+use Rattle.st_observer.specs.Steps.{GrewOver, decided_of, opened_of}
 use Rattle.st_observer.specs.Work.{GrewAtMost, NoneFell, ReadExactly}
 use Rattle.st_observer.proofs.FellLemmas.{fell-both}
 use Rattle.st_observer.proofs.GoingLemmas.{map-settled}

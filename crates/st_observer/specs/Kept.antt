@@ -3,18 +3,29 @@ use Rattle.std.specs.Prelude.{◌≡◌, ℕ, List, [], ◌∷◌, map, slice_in
 use Rattle.st_anchor.specs.Gives.{given}
 use Rattle.st_anchor.specs.Known.{Known}
 use Rattle.st_anchor.specs.States.{role_states}
+use Rattle.st_anchor.specs.declared.part.Part.TheVariants as part_is
 use Rattle.st_anchor.specs.declared.role_state.RoleState.{RoleState}
 use Rattle.st_anchor.specs.declared.role_state.RoleState.TheVariants.{Unneeded}
 use Rattle.st_apply.specs.Anchored.{Anchored}
 use Rattle.st_apply.specs.Numbered.{given_from}
 use Rattle.st_hash.specs.Hash.{HashValue}
 use Rattle.st_ledger.specs.declared.entry.Entry.{Entry}
-use Rattle.st_ops.specs.Operation.{PlainOperation}
-use Rattle.st_observer.specs.Observed.{Observed, given_for, known_of}
+use Rattle.st_params.specs.Limits.{limits_of}
+use Rattle.st_observer.specs.Observed.{Observed, anchored_by, given_for, known_of}
 use Rattle.st_observer.specs.States.{Operations, operations_in}
 use Rattle.st_observer.specs.Waiting.{Waits, is_waiting}
 use Rattle.st_observer.specs.Wanted.{one_misses}
 use Rattle.st_observer.specs.declared.kept.Kept.{Kept}
+
+-- ---- what is known about entries
+
+-- nothing is known about an entry that does not exist
+abbrev pub unknown : Known
+unknown = record { context = record { count = 0; params = limits_of 1 }; core = part_is.Unneeded }
+
+-- what is known about the entry with this number
+abbrev pub bound_at : ℕ → List Known → Known
+bound_at n bounds = slice_index_or bounds n unknown
 
 -- ---- which entries wait
 
@@ -24,7 +35,7 @@ no_needs = Unneeded ∷ Unneeded ∷ Unneeded ∷ Unneeded ∷ Unneeded ∷ []
 
 -- the states of the roles of the entry with this number, from what is known about the entries
 abbrev pub roles_at : ℕ → List Known → List RoleState
-roles_at n bounds = slice_index_or (map role_states bounds) n no_needs
+roles_at n bounds = role_states (bound_at n bounds)
 
 -- each entry waits for exactly the files that its roles miss
 pub record WaitsAgree (bounds : List Known) (waits : Waits) : Type 0 where
@@ -32,31 +43,17 @@ pub record WaitsAgree (bounds : List Known) (waits : Waits) : Type 0 where
 
 -- ---- which operations there are
 
--- the height of an entry, and its operations
-abbrev pub Gift : Type 0
-Gift = ℕ × List (HashValue × PlainOperation)
-
--- those of each entry, from what is known about it; both lists are equally long, so the second case never occurs
-abbrev pub gifts : List Entry → List Known → List Gift
-gifts [] bounds = []
-gifts (entry ∷ entries) [] = []
-gifts (entry ∷ entries) (bound ∷ bounds) = (entry.height, given bound) ∷ gifts entries bounds
-
--- an operation at the number and the height of its entry
-abbrev pub anchored_at : ℕ → ℕ → PlainOperation → Anchored
-anchored_at number height operation = record { place = number; height = height; operation = operation }
-
--- the operation of the entry with this number for a suffix
-abbrev pub anchored_in : HashValue → ℕ → Gift → Option Anchored
-anchored_in suffix number gift = option_map (anchored_at number gift.0) (given_for suffix gift.1)
+-- the operation of the entry with this number for a suffix, from what is known about it
+abbrev pub anchored_in : HashValue → List Known → ℕ → Entry → Option Anchored
+anchored_in suffix bounds number entry = option_map (anchored_by number entry) (given_for suffix (given (bound_at number bounds)))
 
 -- the operations of entries for a suffix; the first entry has this number
-abbrev pub operations_from : HashValue → ℕ → List Gift → List Anchored
-operations_from suffix number gifts = given_from (anchored_in suffix) number gifts
+abbrev pub operations_from : HashValue → List Known → ℕ → List Entry → List Anchored
+operations_from suffix bounds number entries = given_from (anchored_in suffix bounds) number entries
 
 -- each identifier has the operations that the entries give for it
-pub record StatesAgree (given : List Gift) (index : Operations) : Type 0 where
-  pub each : (suffix : HashValue) → operations_in suffix index ≡ operations_from suffix 0 given
+pub record StatesAgree (ledger : List Entry) (bounds : List Known) (index : Operations) : Type 0 where
+  pub each : (suffix : HashValue) → operations_in suffix index ≡ operations_from suffix bounds 0 ledger
 
 -- ---- all of it
 
@@ -66,7 +63,7 @@ pub record IsKept (observed : Observed) (kept : Kept) : Type 0 where
   pub same : kept.bounds.items ≡ map (known_of observed.schedule observed.files) observed.ledger
   pub waits : WaitsAgree kept.bounds.items kept.waiting
   pub schedule : kept.index.folder.schedule ≡ observed.schedule
-  pub states : StatesAgree (gifts observed.ledger kept.bounds.items) kept.index
+  pub states : StatesAgree observed.ledger kept.bounds.items kept.index
 
 -- and no change is pending
 pub record IsObserved (observed : Observed) (kept : Kept) : Type 0 where

@@ -1,19 +1,17 @@
 -- The steps by which the stored data follows changes of entries and files. No contract of a public call mentions
 -- them.
-use Rattle.std.specs.Prelude.{◌≡◌, ℕ, ◌-◌, ◌<◌, ◌==◌, Bool, true, false, List, [], ◌∷◌, ◌++◌, length, map, reverse, slice_get, slice_index_or, slice_set, take, Option, Some}
+use Rattle.std.specs.Prelude.{◌≡◌, ℕ, ◌-◌, ◌==◌, Bool, true, false, List, [], ◌∷◌, ◌++◌, map, reverse, slice_get, slice_set, take, Option, Some}
 use Rattle.std.specs.List.{AllByRecursion, list_any, sum_by}
 use Rattle.st_anchor.specs.Gives.{given, suffixes_given}
 use Rattle.st_anchor.specs.Known.{Known, known_from}
 use Rattle.st_anchor.specs.States.{decided_roles, opened_proofs, role_states}
-use Rattle.st_anchor.specs.declared.part.Part.TheVariants as part_is
 use Rattle.st_base.specs.Work.{Counts}
 use Rattle.st_content.specs.Files.{Files}
 use Rattle.st_hash.specs.Hash.{HashValue, hash_cmp}
 use Rattle.st_ledger.specs.declared.entry.Entry.{Entry}
 use Rattle.st_opindex.specs.ByKey.{Covers, CoversLosing}
 use Rattle.st_ops.specs.Operation.{PlainOperation}
-use Rattle.st_params.specs.Limits.{limits_of}
-use Rattle.st_observer.specs.Kept.{StatesAgree, WaitsAgree, gifts}
+use Rattle.st_observer.specs.Kept.{StatesAgree, WaitsAgree, bound_at}
 use Rattle.st_observer.specs.Observed.{Observed, given_for, gives_of, known_of}
 use Rattle.st_observer.specs.States.{Operations, at_place, before_place, operations_in, with_given}
 use Rattle.st_observer.specs.Waiting.{TurnsTo}
@@ -34,14 +32,6 @@ pub record Pushes (n height : ℕ) (bound : Known) (before after : Kept) : Type 
   pub waits : TurnsTo n (role_states bound) before.waiting after.waiting
   pub states : PutsGiven n height (given bound) before.index after.index
 
--- nothing is known about an entry that does not exist
-abbrev pub unknown : Known
-unknown = record { context = record { count = 0; params = limits_of 1 }; core = part_is.Unneeded }
-
--- what is known about the entry with this number
-abbrev pub bound_at : ℕ → List Known → Known
-bound_at n bounds = slice_index_or bounds n unknown
-
 -- an entry of this number and height is checked again over these files
 pub record Settles (files : Files) (n height : ℕ) (before after : Kept) : Type 0 where
   pub bounds : after.bounds.items ≡ slice_set before.bounds.items n (known_from files (bound_at n before.bounds.items))
@@ -58,10 +48,9 @@ over schedule ledger files = record { schedule = schedule; ledger = ledger; file
 abbrev pub is_among : List ℕ → ℕ → Bool
 is_among numbers n = list_any (λ m. m == n) numbers
 
--- These files add nothing to what is known about an entry. (The value for an entry that does not exist is never
--- used.)
+-- these files add nothing to what is known about the entry with this number
 abbrev pub IsSettled : Files → List Known → ℕ → Type 0
-IsSettled files bounds n = (d : Known) → n < length bounds → known_from files (slice_index_or bounds n d) ≡ slice_index_or bounds n d
+IsSettled files bounds n = known_from files (bound_at n bounds) ≡ bound_at n bounds
 
 -- The stored data is consistent, and the files add the same to it as to the entries. They add at most to entries that
 -- are still to be checked.
@@ -70,7 +59,7 @@ pub record IsGoing (observed : Observed) (still : ℕ → Bool) (kept : Kept) : 
   pub settled : (n : ℕ) → still n ≡ false → IsSettled observed.files kept.bounds.items n
   pub waits : WaitsAgree kept.bounds.items kept.waiting
   pub schedule : kept.index.folder.schedule ≡ observed.schedule
-  pub states : StatesAgree (gifts observed.ledger kept.bounds.items) kept.index
+  pub states : StatesAgree observed.ledger kept.bounds.items kept.index
 
 -- the number of decided roles of these entries
 abbrev pub decided_of : List Known → ℕ

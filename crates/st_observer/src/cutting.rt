@@ -56,6 +56,7 @@ fn forget_from(
 }
 
 // Removes the last entry, and returns the states of its roles.
+#[tactic(auto, using(crate::proofs::BoundsLemmas::needs_none))]
 fn take_last(bounds: &mut Vec<Bound>) -> [RoleState; 5]
     ensures roles { result ≡ roles_at (length bounds.old.items - 1) bounds.old.items }
     ensures rest { bounds.new.items ≡ take (length bounds.old.items - 1) bounds.old.items }

@@ -1,13 +1,12 @@
-ghost use Rattle.std.specs.Prelude.{◌≡◌, ℕ, ◌+◌, ◌<◌, ◌≤◌, [], List, length, slice_set, IfOk, OnOk};
-ghost use Rattle.std.specs.List.{AllByRecursion, swap_remove};
+ghost use Rattle.std.specs.Prelude.{◌≡◌, ℕ, ◌<◌, List, length, slice_set, IfOk, OnOk};
+ghost use Rattle.std.specs.List.{AllByRecursion};
 ghost use Rattle.st_anchor.specs.Coming.{newly_decided, newly_opened};
 ghost use Rattle.st_anchor.specs.Gives.{given};
-ghost use Rattle.st_anchor.specs.Known.{Known};
 ghost use Rattle.st_base.specs.Work.{AppliesAtMost};
 ghost use Rattle.st_hash.specs.Hash.{HashValue, hash_cmp};
-ghost use Rattle.st_observer.specs.Kept.{IsObserved, WaitsAgree};
+ghost use Rattle.st_observer.specs.Kept.{IsObserved, WaitsAgree, bound_at};
 ghost use Rattle.st_observer.specs.Observed.{nothing_yet};
-ghost use Rattle.st_observer.specs.Steps.{Folds, Pushes, PutsGiven, Settles, bound_at};
+ghost use Rattle.st_observer.specs.Steps.{Folds, Pushes, PutsGiven, Settles};
 ghost use Rattle.st_observer.specs.Work.{GrewAtMost, ReadExactly, ReadsNothing};
 ghost use Rattle.st_opindex.specs.ByKey.{Covers, cover_cost};
 
@@ -22,6 +21,7 @@ use st_hash::Hash;
 use st_opindex::Index;
 use st_params::Schedule;
 use std::alloc::Global;
+use std::mem;
 
 // The data kept for the entries of a ledger: what is known about each, by its number; which of them
 // wait for which file; and the operations that they give, with the state of each identifier.
@@ -101,12 +101,14 @@ impl Kept {
             mut waiting,
             index,
         } = self;
-        let bound = take_out(&mut bounds, n);
+        // Meanwhile an entry without a text is at its place.
+        let meanwhile = Bound::new(alloc, &[], &Schedule::new().at(height))?;
+        let bound = replaced(&mut bounds, n, meanwhile);
         let before = roles_of(&bound);
         let bound = bound.settle(alloc, content, work)?;
         waiting.turn(alloc, n, &before, &roles_of(&bound))?;
         let index = put_given(alloc, n, height, &bound, index)?;
-        put_back(&mut bounds, n, bound)?;
+        let _meanwhile = replaced(&mut bounds, n, bound);
         Ok(Kept {
             bounds,
             waiting,
@@ -152,24 +154,11 @@ fn put_given(
     Ok(index)
 }
 
-// Takes out what is known about an entry. The last entry's fills the gap until `put_back`.
-fn take_out(bounds: &mut Vec<Bound>, n: u32) -> Bound
+// Replaces what is known about an entry, and returns what was known before.
+fn replaced(bounds: &mut Vec<Bound>, n: u32, bound: Bound) -> Bound
     requires { n < length bounds.old.items }
     ensures value { result ≡ bound_at n bounds.old.items }
-    ensures rest { bounds.new.items ≡ swap_remove bounds.old.items n result }
-    ensures fewer { length bounds.new.items + 1 ≡ length bounds.old.items }
+    ensures rest { bounds.new.items ≡ slice_set bounds.old.items n bound }
 {
-    bounds.swap_remove(n as usize)
-}
-
-// Puts it back, as it is known now.
-fn put_back(bounds: &mut Vec<Bound>, n: u32, bound: Bound) -> Result<(), WantOfMemory>
-    requires { n ≤ length bounds.old.items }
-    ensures { OnOk result ((all : List Known) (out : Known) → n < length all → bounds.old.items ≡ swap_remove all n out
-        → bounds.new.items ≡ slice_set all n bound) }
-{
-    let last = bounds.len();
-    bounds.push(bound)?;
-    bounds.swap(n as usize, last);
-    Ok(())
+    mem::replace(&mut bounds[n as usize], bound)
 }

@@ -121,10 +121,10 @@ impl Observer {
             kept,
         } = self;
         let anchored = Bound::new(alloc, text.as_slice(), &schedule.at(height))?;
-        let bound = anchored.settle(alloc, &content, work)?;
-        let later = kept.take().push(alloc, ledger.len(), height, bound)?;
-        let kept = later.fold(alloc, work)?;
         let number = ledger.append(alloc, height, text)?;
+        let bound = anchored.settle(alloc, &content, work)?;
+        let later = kept.take().push(alloc, number, height, bound)?;
+        let kept = later.fold(alloc, work)?;
         let observer = Observer {
             schedule,
             ledger,

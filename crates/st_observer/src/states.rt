@@ -1,7 +1,6 @@
-ghost use Rattle.std.specs.Prelude.{◌≡◌, ◌∷◌, [], ◌++◌, false, map, IfOk};
-ghost use Rattle.st_anchor.specs.Gives.{plain_given, suffixes_given};
-ghost use Rattle.st_base.specs.Twice.{has_twice};
-ghost use Rattle.st_hash.specs.Hash.{HashValue, same_hash};
+ghost use Rattle.std.specs.Prelude.{◌≡◌, ◌∷◌, [], ◌++◌, map, IfOk};
+ghost use Rattle.st_anchor.specs.Gives.{plain_given};
+ghost use Rattle.st_hash.specs.Hash.{HashValue};
 ghost use Rattle.st_observer.specs.Observed.{given_for};
 ghost use Rattle.st_observer.specs.States.{anchored_item, operations_at, plain_held, with_given};
 ghost use Rattle.st_observer.specs.Steps.{PutsGiven};
@@ -36,8 +35,8 @@ impl Copied for Held {
 }
 
 // Puts the operations of the entry of this place and height at its place; each replaces the one of
-// its identifier there. They are put from the last to the first: no suffix appears twice among
-// them, so their order does not matter.
+// its identifier there. They are put from the last to the first, so of two for one identifier the
+// first would stay.
 pub fn put_all(
     alloc: Global,
     index: Index<Hash, Steps>,
@@ -45,7 +44,6 @@ pub fn put_all(
     height: u32,
     given: Vec<Given>,
 ) -> Result<Index<Hash, Steps>, WantOfMemory>
-    requires { has_twice same_hash (suffixes_given (map plain_given given.items)) ≡ false }
     ensures { IfOk result (PutsGiven place height (map plain_given given.items) index) }
 {
     let mut done = index;

@@ -23,17 +23,13 @@ pub returns-clause-bound : goal.returns-clause-bound
 returns-clause-bound c = λ names covers.
     folded-few (over c.args.kept.index.folder.schedule c.args.ledger.now c.args.content.now) c.args.kept c.in_ok-later.later names
     c.args.work.now c.settle_entries.new.work c.fold.new.work
-    (going-end (over c.args.kept.index.folder.schedule c.args.ledger.now c.args.content.now) (λ n. false) c.in_ok-later.later (λ n. refl)
-    c.in_ok-later.ensures.state)
-    c.in_ok-later.ensures.bound (c.fold.ensures.bound names (c.in_ok-later.ensures.changes names covers))
+    c.in_ok-later.ensures.state c.in_ok-later.ensures.bound (c.fold.ensures.bound names (c.in_ok-later.ensures.changes names covers))
 
 pub returns-in_err-kept-clause-bound : goal.returns-in_err-kept-clause-bound
 returns-in_err-kept-clause-bound c = λ names covers.
     folded-few (over c.args.kept.index.folder.schedule c.args.ledger.now c.args.content.now) c.args.kept c.in_ok-later.later names
     c.args.work.now c.settle_entries.new.work c.fold.new.work
-    (going-end (over c.args.kept.index.folder.schedule c.args.ledger.now c.args.content.now) (λ n. false) c.in_ok-later.later (λ n. refl)
-    c.in_ok-later.ensures.state)
-    c.in_ok-later.ensures.bound (c.fold.ensures.bound names (c.in_ok-later.ensures.changes names covers))
+    c.in_ok-later.ensures.state c.in_ok-later.ensures.bound (c.fold.ensures.bound names (c.in_ok-later.ensures.changes names covers))
 
 pub returns-in_err-later-clause-bound : goal.returns-in_err-later-clause-bound
 returns-in_err-later-clause-bound c = λ names covers.

@@ -1,14 +1,11 @@
 use Rattle.std.proofs.Common.{◌≤◌, ap, arith, length, List, subst, sym}
-use Rattle.st_base.proofs.Counted.{applies-few}
 use Rattle.st_ledger.specs.declared.entry.Entry.{Entry}
 use Rattle.st_observer.specs.Kept.{IsObserved}
 use Rattle.st_observer.specs.Observed.{Observed, cut_to}
-use Rattle.st_observer.specs.States.{at_place}
 use Rattle.st_observer.specs.Steps.{over}
-use Rattle.st_observer.specs.Work.{losing}
 use Rattle.st_observer.specs.declared.kept.Kept.{Kept}
-use Rattle.st_observer.proofs.CostLemmas.{cut-cost}
-use Rattle.st_observer.proofs.KeptLemmas.{kept-cut, kept-folded, losing-covers}
+use Rattle.st_observer.proofs.CostLemmas.{cut-few}
+use Rattle.st_observer.proofs.KeptLemmas.{kept-cut, kept-folded}
 use Rattle.st_observer.proofs.observer.Observer.cut.Goals as goal
 
 pub invariant_of-observer : goal.invariant_of-observer
@@ -22,20 +19,10 @@ invariant_of-observer c =
 
 pub returns-clause-bound : goal.returns-clause-bound
 returns-clause-bound c =
-    let observed = over c.self.inside.schedule c.self.inside.ledger c.self.inside.content in
-    let held : IsObserved observed c.take.result = subst (λ (k : Kept). IsObserved observed k) (sym c.take.ensures) c.self.invariant in
-    let step = c.in_ok-later.ensures in
-    let losing = losing c.args.n c.args.self in
-    applies-few _ _ (cut-cost c.args.n c.take.result.index c.in_ok-later.later.index step.operations losing)
-    (c.fold.ensures.bound (at_place c.args.n losing) (step.changes (at_place c.args.n losing) (rw held.none tt)
-    (losing-covers c.args.n observed c.args.self c.take.result held.is c.self.view_is)))
+    cut-few c.args.n (over c.self.inside.schedule c.self.inside.ledger c.self.inside.content) c.args.self c.self.inside.kept c.take.result
+    c.in_ok-later.later c.self.invariant c.self.view_is c.take.ensures c.in_ok-later.ensures c.fold.ensures.bound
 
 pub returns-in_err-kept-clause-bound : goal.returns-in_err-kept-clause-bound
 returns-in_err-kept-clause-bound c =
-    let observed = over c.self.inside.schedule c.self.inside.ledger c.self.inside.content in
-    let held : IsObserved observed c.take.result = subst (λ (k : Kept). IsObserved observed k) (sym c.take.ensures) c.self.invariant in
-    let step = c.in_ok-later.ensures in
-    let losing = losing c.args.n c.args.self in
-    applies-few _ _ (cut-cost c.args.n c.take.result.index c.in_ok-later.later.index step.operations losing)
-    (c.fold.ensures.bound (at_place c.args.n losing) (step.changes (at_place c.args.n losing) (rw held.none tt)
-    (losing-covers c.args.n observed c.args.self c.take.result held.is c.self.view_is)))
+    cut-few c.args.n (over c.self.inside.schedule c.self.inside.ledger c.self.inside.content) c.args.self c.self.inside.kept c.take.result
+    c.in_ok-later.later c.self.invariant c.self.view_is c.take.ensures c.in_ok-later.ensures c.fold.ensures.bound

@@ -4,7 +4,8 @@ use Rattle.st_observer.specs.Kept.{IsObserved}
 use Rattle.st_observer.specs.States.{anchored_item}
 use Rattle.st_observer.specs.Steps.{over}
 use Rattle.st_observer.specs.declared.kept.Kept.{Kept}
-use Rattle.st_observer.proofs.KeptLemmas.{kept-operations, operations-ascend}
+use Rattle.st_observer.proofs.KeptLemmas.{operations-ascend}
+use Rattle.st_observer.proofs.OperationsLemmas.{kept-operations}
 use Rattle.st_observer.proofs.StatesLemmas.{kept_operations}
 use Rattle.st_observer.proofs.observer.Observer.items.Goals as goal
 
