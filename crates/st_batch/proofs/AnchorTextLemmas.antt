@@ -15,11 +15,11 @@ use Rattle.st_base.specs.Words.{HasNo, cut_at}
 use Rattle.st_base.proofs.Cuts.{cut_at-append}
 use Rattle.st_base.proofs.Numbers.{number_of-decimal}
 use Rattle.st_hash.specs.Hash.{HashValue, hash_of_text, hash_text}
+use Rattle.st_indexfiles.proofs.PassingLemmas.{none_failing}
 use Rattle.st_ledger.specs.Anchor.{anchor_of, anchor_rules, core_of, count_in, count_of, dot}
 use Rattle.st_ledger.specs.declared.anchor.AnchorRule.TheVariants.{A2}
 use Rattle.st_params.specs.Limits.{Limits}
 use Rattle.st_batch.specs.BatchFiles.{anchor_text}
-use Rattle.st_batch.proofs.KnownRuleLemmas.{none_failing}
 
 digits_no_dot : (digits : List ℕ) → AllDigits 10 digits → HasNo dot digits
 digits_no_dot [] all = tt

@@ -1,6 +1,6 @@
 -- The length of the files of operations, by the sums of their entries.
 use Rattle.std.proofs.Common.{◌≡◌, ◌≢◌, ◌∙◌, ℕ, ◌+◌, ◌≤◌, List, [], ◌∷◌, codes, length, map, Option, option_map, refl, ap, sym, arith}
-use Rattle.std.specs.List.{filter_map}
+use Rattle.std.specs.List.{filter_map, sum_by}
 use Rattle.std.proofs.lemmas.Bool.{ne_eqb}
 use Rattle.st_plain.specs.Canonical.{canonical, escape}
 use Rattle.st_plain.specs.Measure.{size_of}
@@ -10,6 +10,7 @@ use Rattle.st_datafiles.specs.ProofFiles.{core_proof_json, proof_json, provision
 use Rattle.st_datafiles.specs.declared.role.Role.{Role}
 use Rattle.st_datafiles.specs.declared.role.Role.TheVariants.{Core, CoreProof, Provisional, ProvisionalProof, Chunk}
 use Rattle.st_hash.specs.Hash.{uri_of}
+use Rattle.st_indexfiles.proofs.FileUriLemmas.{uri_is_hash}
 use Rattle.st_indexfiles.specs.CoreIndex.{core_operations}
 use Rattle.st_indexfiles.specs.Hashes.{hash_json}
 use Rattle.st_indexfiles.specs.ProvisionalIndex.{chunk_json as chunk_entry_json, provisional_json, provisional_operations}
@@ -19,14 +20,13 @@ use Rattle.st_indexfiles.specs.declared.core_index.CoreIndex.{CoreIndex}
 use Rattle.st_ops.specs.Operation.{PlainOperation}
 use Rattle.st_ops.specs.RequestText.{delta_there}
 use Rattle.st_batch.specs.BatchFiles.{bytes_there, chunk_text, core_file, core_index, core_proof_file, file_in, if_any, provisional_file, provisional_index, provisional_proof_file}
-use Rattle.st_batch.specs.Groups.{Grouped, grouped, is_deactivate, is_recover, is_update, signed_text_in, with_core_proof, with_delta}
-use Rattle.st_batch.proofs.Sizes.{Sizes, chunk_size, core_proof_size, core_size, file_size, in_brackets, member_size, provisional_proof_size, provisional_size, sizes_of, uri_size, where_any, with_core_proof_size, with_delta_size}
-use Rattle.st_batch.proofs.AgainHashLemmas.{uri_is_hash}
+use Rattle.st_batch.specs.Groups.{Grouped, grouped, signed_text_in, suffix_data_in, target_in, with_core_proof, with_delta}
+use Rattle.st_batch.proofs.Sizes.{Sizes, chunk_size, core_proof_size, core_size, file_size, in_brackets, member_size, provisional_proof_size, provisional_size, size_by, sizes_of, uri_size, where_any}
 use Rattle.st_batch.proofs.ExactSizeLemmas.{IsBare, entries_weight, list_there, object_size, object_there}
 use Rattle.st_batch.proofs.FirstSizeLemmas.{member_weight, weight, weight_there}
 use Rattle.st_batch.proofs.HashSizeLemmas.{hash_size}
 use Rattle.st_batch.proofs.MemberSizeLemmas.{core_kinds, core_members, one_member, proof_kinds, provisional_members}
-use Rattle.st_batch.proofs.OperationSizeLemmas.{IsAnyBy, any_kind, any_with_core_proof, any_with_delta, creates_sum, deltas_sum, proofs_sum, targets_sum}
+use Rattle.st_batch.proofs.OperationSizeLemmas.{deltas_sum, for_chunk, for_core_proof, for_update_proof, weighed}
 
 -- ---- parts of files
 
@@ -38,20 +38,23 @@ any_some : (entries size : ℕ) → 1 ≤ entries → where_any entries size ≡
 any_some entries size some = let other : entries ≢ 0 = omega (arith, some) in rw (ne_eqb entries 0 other) refl
 
 -- the URI of a file that is there if there are operations
-uri_there : (operations : List PlainOperation) (entries : ℕ) (name said : List ℕ) → IsAnyBy operations entries → IsBare name
+uri_there : (operations : List PlainOperation) (entries : ℕ) (name said : List ℕ) → entries ≡ length operations → IsBare name
     → weight_there name (option_map hash_json (option_map uri_of (if_any operations said))) ≡ uri_size name entries
-uri_there [] entries name said any bare = rw any refl
-uri_there (operation ∷ operations) entries name said any bare = omega (arith, uri_weight name said bare, any_some entries (length name + 52) any)
+uri_there [] entries name said is bare = rw is refl
+uri_there (operation ∷ operations) entries name said is bare =
+    omega (arith, uri_weight name said bare, any_some entries (length name + 52) (omega (arith, is)))
 
-list_of : (name : List ℕ) (entries : List Plain) (size : ℕ) → IsBare name → entries_weight entries ≡ size
-    → weight_there name (some_list entries) ≡ member_size name size
-list_of name entries size bare is = list_there name entries bare ∙ ap (member_size name) is
+-- a member with the entries written from a part of operations
+list_of : {Part : Type 0} (name : List ℕ) (write : Part → Plain) (part : PlainOperation → Option Part) (operations : List PlainOperation) → IsBare name
+    → weight_there name (some_list (map write (filter_map part operations))) ≡ member_size name (sum_by (size_by write part) operations)
+list_of name write part operations bare =
+    list_there name (map write (filter_map part operations)) bare ∙ ap (member_size name) (weighed write part operations)
 
 -- the length of a file that is there if there are operations
-there_long : (operations : List PlainOperation) (entries size : ℕ) (said : List ℕ) → IsAnyBy operations entries → length said ≡ size
+there_long : (operations : List PlainOperation) (entries size : ℕ) (said : List ℕ) → entries ≡ length operations → length said ≡ size
     → bytes_there (if_any operations said) ≡ where_any entries size
-there_long [] entries size said any long = rw any refl
-there_long (operation ∷ operations) entries size said any long = long ∙ sym (any_some entries size any)
+there_long [] entries size said is long = rw is refl
+there_long (operation ∷ operations) entries size said is long = long ∙ sym (any_some entries size (omega (arith, is)))
 
 -- ---- files
 
@@ -87,20 +90,21 @@ module _ (operations : List PlainOperation) where
   unfolding core_file core_index core_proof_file provisional_file grouped core_size escape
   core_long =
       let index = core_index groups in
-      let create = list_of (codes "create") (map create_json index.creates) sizes.creates refl (creates_sum operations) in
-      let recover = list_of (codes "recover") (map target_json index.recovers) sizes.recovers refl (targets_sum is_recover (λ suffix_data delta. refl) operations) in
-      let deactivate = list_of (codes "deactivate") (map target_json index.deactivates) sizes.deactivates refl (targets_sum is_deactivate (λ suffix_data delta. refl) operations) in
+      let create : weight_there (codes "create") (some_list (map create_json index.creates)) ≡ member_size (codes "create") sizes.creates =
+      list_of (codes "create") create_json suffix_data_in groups.creates refl in
+      let recover : weight_there (codes "recover") (some_list (map target_json index.recovers)) ≡ member_size (codes "recover") sizes.recovers =
+      list_of (codes "recover") target_json target_in groups.recovers refl in
+      let deactivate : weight_there (codes "deactivate") (some_list (map target_json index.deactivates)) ≡ member_size (codes "deactivate") sizes.deactivates =
+      list_of (codes "deactivate") target_json target_in groups.deactivates refl in
       let kinds = core_kinds (some_list (map create_json index.creates)) (some_list (map target_json index.recovers))
       (some_list (map target_json index.deactivates)) in
       let inside : weight (core_operations index) ≡ member_size (codes "create") sizes.creates
       + member_size (codes "recover") sizes.recovers + member_size (codes "deactivate") sizes.deactivates =
       omega (arith, create, recover, deactivate, kinds) in
       let third = object_there (codes "operations") (core_operations index) refl ∙ ap (member_size (codes "operations")) inside in
-      let first = uri_there (with_core_proof groups) (with_core_proof_size sizes) (codes "coreProofFileUri")
-      (core_proof_text groups) (any_with_core_proof operations) refl in
-      let second = uri_there (with_delta groups) (with_delta_size sizes) (codes "provisionalIndexFileUri")
-      (canonical (provisional_json (provisional_index groups)))
-      (any_with_delta operations) refl in
+      let first = uri_there (with_core_proof groups) sizes.for_core_proof (codes "coreProofFileUri") (core_proof_text groups) (for_core_proof operations) refl in
+      let second = uri_there (with_delta groups) sizes.for_chunk (codes "provisionalIndexFileUri")
+      (canonical (provisional_json (provisional_index groups))) (for_chunk operations) refl in
       let members = core_members (option_map hash_json index.core_proof) (option_map hash_json index.provisional) (some_object (core_operations index)) in
       object_size (index_members index) ∙ ap in_brackets (omega (arith, members, first, second, third))
 
@@ -110,8 +114,10 @@ module _ (operations : List PlainOperation) where
   core_proof_long =
       let recovers = map signed_json (filter_map signed_text_in groups.recovers) in
       let deactivates = map signed_json (filter_map signed_text_in groups.deactivates) in
-      let recover = list_of (codes "recover") recovers sizes.recover_proofs refl (proofs_sum is_recover operations) in
-      let deactivate = list_of (codes "deactivate") deactivates sizes.deactivate_proofs refl (proofs_sum is_deactivate operations) in
+      let recover : weight_there (codes "recover") (some_list recovers) ≡ member_size (codes "recover") sizes.recover_proofs =
+      list_of (codes "recover") signed_json signed_text_in groups.recovers refl in
+      let deactivate : weight_there (codes "deactivate") (some_list deactivates) ≡ member_size (codes "deactivate") sizes.deactivate_proofs =
+      list_of (codes "deactivate") signed_json signed_text_in groups.deactivates refl in
       let kinds = proof_kinds (some_list recovers) (some_list deactivates) in
       let pairs : List (List ℕ × Option Plain) = (codes "recover", some_list recovers) ∷ (codes "deactivate", some_list deactivates) ∷ [] in
       let inside : weight (some_listed pairs) ≡ member_size (codes "recover") sizes.recover_proofs
@@ -122,11 +128,10 @@ module _ (operations : List PlainOperation) where
       ≡ in_brackets (member_size (codes "operations") (member_size (codes "update") sizes.update_proofs))
   unfolding grouped escape
   provisional_proof_long =
-      let updates = map signed_json (filter_map signed_text_in groups.updates) in
-      let update = list_of (codes "update") updates sizes.update_proofs refl (proofs_sum is_update operations) in
-      let pairs : List (List ℕ × Option Plain) = (codes "update", some_list updates) ∷ [] in
+      let updates = some_list (map signed_json (filter_map signed_text_in groups.updates)) in
+      let pairs : List (List ℕ × Option Plain) = (codes "update", updates) ∷ [] in
       let inside : weight (some_listed pairs) ≡ member_size (codes "update") sizes.update_proofs =
-      one_member (codes "update") (some_list updates) ∙ update in
+      one_member (codes "update") updates ∙ list_of (codes "update") signed_json signed_text_in groups.updates refl in
       proofs_long (some_listed pairs) ∙ ap (λ n. in_brackets (member_size (codes "operations") n)) inside
 
   chunk_long : length (chunk_text groups) ≡ in_brackets (member_size (codes "deltas") sizes.deltas)
@@ -135,8 +140,8 @@ module _ (operations : List PlainOperation) where
       let deltas = filter_map delta_there (with_delta groups) in
       let pairs : List (List ℕ × Option Plain) = (codes "deltas", some_list deltas) ∷ [] in
       object_size (some_listed pairs)
-      ∙ ap in_brackets
-      (one_member (codes "deltas") (some_list deltas) ∙ list_of (codes "deltas") deltas sizes.deltas refl (deltas_sum operations))
+      ∙ ap in_brackets (one_member (codes "deltas") (some_list deltas)
+      ∙ (list_there (codes "deltas") deltas refl ∙ ap (member_size (codes "deltas")) (deltas_sum operations)))
 
   chunk_entry_long : size_of (chunk_entry_json (uri_of (chunk_text groups))) ≡ in_brackets (uri_size (codes "chunkFileUri") 1)
   unfolding escape
@@ -147,20 +152,21 @@ module _ (operations : List PlainOperation) where
       object_size only ∙ ap in_brackets inside
 
   provisional_long : length (canonical (provisional_json (provisional_index groups))) ≡ in_brackets (
-      uri_size (codes "provisionalProofFileUri") sizes.updates
+      uri_size (codes "provisionalProofFileUri") sizes.for_update_proof
       + member_size (codes "chunks") (in_brackets (uri_size (codes "chunkFileUri") 1) + 1)
       + member_size (codes "operations") (member_size (codes "update") sizes.updates))
   unfolding provisional_index provisional_proof_file grouped escape
   provisional_long =
       let index = provisional_index groups in
-      let updates = map target_json index.updates in
+      let updates = some_list (map target_json index.updates) in
       let chunks = chunk_entry_json index.chunk ∷ [] in
-      let update = list_of (codes "update") updates sizes.updates refl (targets_sum is_update (λ suffix_data delta. refl) operations) in
-      let inside = one_member (codes "update") (some_list updates) ∙ update in
+      let inside : weight (provisional_operations index) ≡ member_size (codes "update") sizes.updates =
+      one_member (codes "update") updates ∙ list_of (codes "update") target_json target_in groups.updates refl in
       let third = object_there (codes "operations") (provisional_operations index) refl ∙ ap (member_size (codes "operations")) inside in
-      let second = list_of (codes "chunks") chunks (in_brackets (uri_size (codes "chunkFileUri") 1) + 1) refl (omega (arith, chunk_entry_long)) in
-      let first = uri_there groups.updates sizes.updates (codes "provisionalProofFileUri")
-      (canonical (provisional_proof_json (filter_map signed_text_in groups.updates))) (any_kind is_update operations) refl in
+      let long : entries_weight chunks ≡ in_brackets (uri_size (codes "chunkFileUri") 1) + 1 = omega (arith, chunk_entry_long) in
+      let second = list_there (codes "chunks") chunks refl ∙ ap (member_size (codes "chunks")) long in
+      let first = uri_there groups.updates sizes.for_update_proof (codes "provisionalProofFileUri")
+      (canonical (provisional_proof_json (filter_map signed_text_in groups.updates))) (for_update_proof operations) refl in
       let members = provisional_members (option_map hash_json index.proof) (some_list chunks) (some_object (provisional_operations index)) in
       let pairs : List (List ℕ × Option Plain) =
       (codes "provisionalProofFileUri", option_map hash_json index.proof) ∷ (codes "chunks", some_list chunks)
@@ -171,14 +177,10 @@ module _ (operations : List PlainOperation) where
   pub file_long : (role : Role) → bytes_there (file_in role groups) ≡ file_size role sizes
   unfolding core_proof_file provisional_file provisional_proof_file core_proof_size provisional_size provisional_proof_size chunk_size grouped
   file_long Core = core_long
-  file_long CoreProof =
-      there_long (with_core_proof groups) (with_core_proof_size sizes) _ (core_proof_text groups)
-      (any_with_core_proof operations) core_proof_long
+  file_long CoreProof = there_long (with_core_proof groups) sizes.for_core_proof _ (core_proof_text groups) (for_core_proof operations) core_proof_long
   file_long Provisional =
-      there_long (with_delta groups) (with_delta_size sizes) _ (canonical (provisional_json (provisional_index groups)))
-      (any_with_delta operations) provisional_long
+      there_long (with_delta groups) sizes.for_chunk _ (canonical (provisional_json (provisional_index groups))) (for_chunk operations) provisional_long
   file_long ProvisionalProof =
-      there_long groups.updates sizes.updates _ (canonical (provisional_proof_json (filter_map signed_text_in groups.updates)))
-      (any_kind is_update operations) provisional_proof_long
-  file_long Chunk =
-      there_long (with_delta groups) (with_delta_size sizes) _ (chunk_text groups) (any_with_delta operations) chunk_long
+      there_long groups.updates sizes.for_update_proof _ (canonical (provisional_proof_json (filter_map signed_text_in groups.updates)))
+      (for_update_proof operations) provisional_proof_long
+  file_long Chunk = there_long (with_delta groups) sizes.for_chunk _ (chunk_text groups) (for_chunk operations) chunk_long

@@ -17,7 +17,9 @@ use Rattle.st_plain.specs.Canonical.{canonical}
 use Rattle.st_plain.specs.Plain.{Plain}
 use Rattle.st_content.specs.Files.{Files}
 use Rattle.st_datafiles.specs.ProofFiles.{core_proof_json, provisional_proof_json}
+use Rattle.st_datafiles.specs.declared.role.Role.TheVariants.{Core, CoreProof, Provisional, ProvisionalProof, Chunk}
 use Rattle.st_hash.specs.Hash.{uri_of}
+use Rattle.st_indexfiles.proofs.FileUriLemmas.{uri_of_again}
 use Rattle.st_indexfiles.specs.ProvisionalIndex.{provisional_json}
 use Rattle.st_indexfiles.specs.declared.core_index.CoreIndex.{CoreIndex}
 use Rattle.st_indexfiles.specs.declared.provisional_index.ProvisionalIndex.{ProvisionalIndex}
@@ -26,7 +28,6 @@ use Rattle.st_ops.specs.RequestText.{delta_there}
 use Rattle.st_params.specs.Limits.{Limits}
 use Rattle.st_batch.specs.BatchFiles.{anchor_text, chunk_text, core_file, core_index, core_proof_file, if_any, provisional_file, provisional_index, provisional_proof_file}
 use Rattle.st_batch.specs.Groups.{Grouped, is_create, is_recover, listed, signed_text_in, suffix_data_in, target_in, with_core_proof, with_delta}
-use Rattle.st_batch.proofs.AgainHashLemmas.{uri_again}
 use Rattle.st_batch.proofs.AnchorTextLemmas.{anchor_known}
 use Rattle.st_batch.proofs.GivenOperationsLemmas.{IsOfKind, as_many, create_data, creates_back, deactivates_back, delta_kept, opened, recovers_back, target_there, updates_back}
 use Rattle.st_batch.proofs.KnownBatchLemmas.{AreReadyGroups, FilesAreThere, IsThere, chunk_is, core_is, core_proof_is, core_proofs, looked_named, part_of, provisional_is, provisional_proof_is, there_for}
@@ -111,7 +112,7 @@ module _ (limits : Limits) (count : ℕ) (groups : Grouped) (are : AreReadyGroup
 
     proofs_are : branch.proofs ≡ proofs_part
     unfolding core_index
-    proofs_are = looked_named (core_proof_in context (core_index groups)) as_it_is content limits.max_proofs (core_proof_file groups) there.core_proof
+    proofs_are = looked_named (core_proof_in context (core_index groups)) as_it_is content limits.max_proofs (core_proof_file groups) (there CoreProof)
 
     abbrev over : ProvisionalBranch → ProvisionalBranch
     over = provisional_over context (core_index groups) content
@@ -121,7 +122,7 @@ module _ (limits : Limits) (count : ℕ) (groups : Grouped) (are : AreReadyGroup
 
     provisional_are : branch.provisional ≡ provisional_part
     unfolding core_index
-    provisional_are = looked_named (provisional_in context (core_index groups)) over content limits.max_index (provisional_file groups) there.provisional
+    provisional_are = looked_named (provisional_in context (core_index groups)) over content limits.max_index (provisional_file groups) (there Provisional)
 
     -- ---- recovers and deactivates
 
@@ -129,7 +130,7 @@ module _ (limits : Limits) (count : ℕ) (groups : Grouped) (are : AreReadyGroup
         → IsThere content limits.max_proofs (canonical (core_proof_json (core_proofs groups)))
     unfolding core_proof_file
     proof_there some = there_for (with_core_proof groups) (canonical (core_proof_json (core_proofs groups))) (IsThere content limits.max_proofs)
-        (one some) there.core_proof
+        (one some) (there CoreProof)
       where
         one : (1 ≤ length groups.recovers) ⊎ (1 ≤ length groups.deactivates) → 1 ≤ length (with_core_proof groups)
         one (inl some) = omega (arith, some, length-append groups.recovers groups.deactivates)
@@ -160,14 +161,14 @@ module _ (limits : Limits) (count : ℕ) (groups : Grouped) (are : AreReadyGroup
 
     provisional_there : 1 ≤ length (with_delta groups) → IsThere content limits.max_index provisional_text
     unfolding provisional_file
-    provisional_there some = there_for (with_delta groups) provisional_text (IsThere content limits.max_index) some there.provisional
+    provisional_there some = there_for (with_delta groups) provisional_text (IsThere content limits.max_index) some (there Provisional)
 
     provisional_read : 1 ≤ length (with_delta groups)
         → looked_below over (provisional_in context (core_index groups) provisional_text) ≡ Is (over (provisional_branch (provisional_index groups)))
     provisional_read some = ap (looked_below over) (provisional_is limits count groups are some (provisional_there some).1)
 
     chunk_there : 1 ≤ length (with_delta groups) → IsThere content limits.max_chunk (chunk_text groups)
-    chunk_there some = there_for (with_delta groups) (chunk_text groups) (IsThere content limits.max_chunk) some there.chunk
+    chunk_there some = there_for (with_delta groups) (chunk_text groups) (IsThere content limits.max_chunk) some (there Chunk)
 
     chunk_read : 1 ≤ length (with_delta groups) → (over (provisional_branch (provisional_index groups))).chunk ≡ Is (filter_map delta_there (with_delta groups))
     unfolding provisional_index
@@ -191,14 +192,14 @@ module _ (limits : Limits) (count : ℕ) (groups : Grouped) (are : AreReadyGroup
 
     update_proof_there : 1 ≤ length groups.updates → IsThere content limits.max_proofs update_proof_text
     unfolding provisional_proof_file update_proof_text
-    update_proof_there some = there_for groups.updates update_proof_text (IsThere content limits.max_proofs) some there.provisional_proof
+    update_proof_there some = there_for groups.updates update_proof_text (IsThere content limits.max_proofs) some (there ProvisionalProof)
 
     update_proofs_are : (over (provisional_branch (provisional_index groups))).proofs
         ≡ part_of (provisional_proof_in context (provisional_index groups)) as_it_is (provisional_proof_file groups)
     unfolding provisional_index
     update_proofs_are =
         looked_named (provisional_proof_in context (provisional_index groups)) as_it_is content limits.max_proofs
-        (provisional_proof_file groups) there.provisional_proof
+        (provisional_proof_file groups) (there ProvisionalProof)
 
     updates_read : updates_given (provisional_index groups) update_deltas (over (provisional_branch (provisional_index groups))).proofs ≡ groups.updates
     unfolding provisional_index provisional_proof_file update_proof_text
@@ -258,10 +259,10 @@ module _ (limits : Limits) (count : ℕ) (groups : Grouped) (are : AreReadyGroup
         → gives content limits (anchor_text count (uri_of (core_file groups))) ≡ map with_suffix (listed groups)
     unfolding given known known_from
     gives_these some within fits =
-        let text_known = anchor_known limits count (uri_of (core_file groups)) some within fits (uri_again (core_file groups)) in
+        let text_known = anchor_known limits count (uri_of (core_file groups)) some within fits (uri_of_again (core_file groups)) in
         let read = core_in context in
-        let found = ap (looked_at read (core_over context content) (uri_of (core_file groups))) there.core.0 in
-        let says = ap (looked_below (core_over context content)) (core_is limits count groups are there.core.1) in
+        let found = ap (looked_at read (core_over context content) (uri_of (core_file groups))) (there Core).0 in
+        let says = ap (looked_below (core_over context content)) (core_is limits count groups are (there Core).1) in
         ap (λ bound. given (known_from content bound)) text_known
         ∙ ap (λ part. map with_suffix (operations_of part)) (found ∙ says)
         ∙ ap (map with_suffix) below_are

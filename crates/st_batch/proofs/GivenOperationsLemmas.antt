@@ -5,6 +5,7 @@ use Rattle.std.specs.List.{AllByRecursion, cons_option, filter_map}
 use Rattle.st_anchor.specs.Gives.{creates_given, deactivating_only, signed_given}
 use Rattle.st_anchor.specs.SignedTexts.{proof_of}
 use Rattle.st_plain.specs.Plain.{Plain}
+use Rattle.st_indexfiles.proofs.WrittenLemmas.{IsAgain, create_again, target_again}
 use Rattle.st_indexfiles.specs.SuffixData.{create_json, create_of, suffix_of as suffix_of_data}
 use Rattle.st_indexfiles.specs.Target.{target_json, target_of}
 use Rattle.st_indexfiles.specs.declared.suffix_data.SuffixData.{SuffixData}
@@ -13,7 +14,6 @@ use Rattle.st_ops.specs.Operation.{PlainOperation, Proof, creating, updating, re
 use Rattle.st_ops.specs.RequestText.{delta_there}
 use Rattle.st_params.specs.Limits.{Limits}
 use Rattle.st_batch.specs.Groups.{is_create, is_deactivate, is_recover, is_update, signed_text_in, suffix_data_in, target_in}
-use Rattle.st_batch.proofs.AgainEntryLemmas.{IsAgain, create_again, target_again}
 use Rattle.st_batch.proofs.ReadBackFitLemmas.{IsReady}
 
 abbrev pub IsOfKind : Limits → (PlainOperation → Bool) → PlainOperation → Type 0

@@ -5,40 +5,25 @@ use Rattle.std.specs.List.{AllByRecursion, list_any}
 use Rattle.std.proofs.lemmas.Bool.{eqb-false, eqb-true, or_parts}
 use Rattle.std.proofs.lemmas.List.{length-take-le, take-map}
 use Rattle.st_base.specs.Twice.{has_twice}
-use Rattle.st_base.proofs.Quantifiers.{each-append, each-take}
+use Rattle.st_base.proofs.Quantifiers.{each-take}
 use Rattle.st_datafiles.specs.declared.role.Role.{Role}
 use Rattle.st_datafiles.specs.declared.role.Role.TheVariants.{Core, CoreProof, Provisional, ProvisionalProof, Chunk}
 use Rattle.st_hash.specs.Hash.{same_hash, uri_of}
 use Rattle.st_ops.specs.Operation.{PlainOperation, suffix_of}
 use Rattle.st_params.specs.Limits.{Limits}
-use Rattle.st_batch.specs.BatchFiles.{batch_with, chunk_file, core_file, core_proof_file, filed, files_of, provisional_file, provisional_proof_file}
+use Rattle.st_batch.specs.BatchFiles.{batch_with, chunk_file, core_file, core_proof_file, file_in, filed, files_of, provisional_file, provisional_proof_file}
 use Rattle.st_batch.specs.BatchLaws.{AreBatched}
 use Rattle.st_batch.specs.Groups.{Grouped, grouped}
 use Rattle.st_batch.specs.Kept.{AreDifferent, IsFormed, suffixes_of}
 use Rattle.st_batch.specs.Prefix.{IsLongest, batch_count, batched, greatest, is_batch}
 use Rattle.st_batch.specs.ReadBack.{AreNamed, AscendFrom}
-use Rattle.st_batch.specs.declared.batch.BatchFile.{BatchFile}
+use Rattle.st_batch.proofs.SmallLemmas.{all_roles}
 
 -- ---- files
 
 filed_named : (role : Role) (file : Option (List ℕ)) → AreNamed (filed role file)
 filed_named role None = tt
 filed_named role (Some bytes) = (refl, tt)
-
-abbrev Named : BatchFile → Type 0
-Named file = file.uri ≡ uri_of file.bytes
-
-files_named : (groups : Grouped) → AreNamed (files_of groups)
-unfolding files_of
-files_named groups =
-    let core = filed Core (Some (core_file groups)) in
-    let core_proof = filed CoreProof (core_proof_file groups) in
-    let provisional = filed Provisional (provisional_file groups) in
-    let provisional_proof = filed ProvisionalProof (provisional_proof_file groups) in
-    let two = each-append Named core core_proof (filed_named Core (Some (core_file groups))) (filed_named CoreProof (core_proof_file groups)) in
-    let three = each-append Named (core ++ core_proof) provisional two (filed_named Provisional (provisional_file groups)) in
-    let four = each-append Named (core ++ core_proof ++ provisional) provisional_proof three (filed_named ProvisionalProof (provisional_proof_file groups)) in
-    each-append Named (core ++ core_proof ++ provisional ++ provisional_proof) (filed Chunk (chunk_file groups)) four (filed_named Chunk (chunk_file groups))
 
 files_ascend : (groups : Grouped) → AscendFrom 0 (files_of groups)
 unfolding files_of
@@ -67,7 +52,9 @@ files_ascend groups = by (core_file groups) (core_proof_file groups) (provisiona
 -- the files of a batch
 pub batch_named : (operations : List PlainOperation) → AreNamed (batch_with operations).files
 unfolding batch_with
-batch_named operations = files_named (grouped operations)
+batch_named operations =
+    let groups = grouped operations in
+    all_roles (λ file. file.uri ≡ uri_of file.bytes) groups (λ role. filed_named role (file_in role groups))
 
 pub batch_ascends : (operations : List PlainOperation) → AscendFrom 0 (batch_with operations).files
 unfolding batch_with

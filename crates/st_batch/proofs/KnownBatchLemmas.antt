@@ -4,23 +4,28 @@ use Rattle.std.proofs.Common.{◌≡◌, ◌∙◌, ℕ, suc, ◌+◌, ◌≤◌
 use Rattle.std.specs.Prelude.{◌||◌, is_some, IfSome}
 use Rattle.std.specs.List.{AllByRecursion, filter_map, list_all}
 use Rattle.std.specs.Str.{IsUtf8}
-use Rattle.std.proofs.lemmas.Bool.{and_parts}
 use Rattle.std.proofs.lemmas.Bool.Decides.{nat_tests}
 use Rattle.std.proofs.lemmas.List.{length-append}
-use Rattle.st_anchor.specs.Known.{chunk_in, core_branch, core_in, core_proof_in, delta_count, looked_at, looked_below, looked_up, named as named_part, provisional_branch, provisional_in, provisional_proof_in}
+use Rattle.st_anchor.specs.Known.{chunk_in, core_branch, core_in, core_proof_in, delta_count, judged, looked_at, looked_below, looked_up, named as named_part, provisional_branch, provisional_in, provisional_judged, provisional_proof_in}
 use Rattle.st_anchor.specs.SignedTexts.{opened_of, proof_of}
 use Rattle.st_anchor.specs.declared.branches.Context.{Context}
 use Rattle.st_anchor.specs.declared.part.Part.{Part}
 use Rattle.st_anchor.specs.declared.part.Part.TheVariants.{Is, Unneeded}
+use Rattle.st_anchor.specs.declared.rule.Rule.TheVariants as fails
 use Rattle.st_base.specs.Twice.{has_twice}
-use Rattle.st_base.proofs.Quantifiers.{each-append, each-both, each-weaker}
+use Rattle.st_base.proofs.Quantifiers.{each-append, each-weaker}
 use Rattle.st_plain.specs.Canonical.{canonical}
 use Rattle.st_content.specs.Files.{Files, file_at}
+use Rattle.st_datafiles.proofs.ChunkLemmas.{chunk_again}
+use Rattle.st_datafiles.proofs.ProofLemmas.{core_proof_again, provisional_proof_again}
 use Rattle.st_datafiles.specs.ProofFiles.{core_proof_json, provisional_proof_json}
 use Rattle.st_datafiles.specs.declared.core_proofs.CoreProofs.{CoreProofs}
 use Rattle.st_datafiles.specs.declared.role.Role.{Role}
-use Rattle.st_datafiles.specs.declared.role.Role.TheVariants.{Core, CoreProof, Provisional, ProvisionalProof, Chunk}
 use Rattle.st_hash.specs.Hash.{HashValue, same_hash, uri_of}
+use Rattle.st_indexfiles.proofs.CoreLemmas.{IsCoreSound, core_again}
+use Rattle.st_indexfiles.proofs.FileUriLemmas.{file_uri_again, uri_of_again}
+use Rattle.st_indexfiles.proofs.ProvisionalLemmas.{IsProvisionalSound, provisional_again}
+use Rattle.st_indexfiles.proofs.WrittenLemmas.{IsAgain}
 use Rattle.st_indexfiles.specs.CoreIndex.{suffixes_of as suffixes_of_index}
 use Rattle.st_indexfiles.specs.CoreRules.{one_alone}
 use Rattle.st_indexfiles.specs.ProvisionalIndex.{provisional_json, suffixes_in}
@@ -30,22 +35,16 @@ use Rattle.st_indexfiles.specs.Target.{target_json, target_of}
 use Rattle.st_ops.specs.Operation.{PlainOperation}
 use Rattle.st_ops.specs.RequestText.{delta_there}
 use Rattle.st_params.specs.Limits.{Limits}
-use Rattle.st_batch.specs.BatchFiles.{chunk_file, chunk_text, core_file, core_index, core_proof_file, filed, files_of, if_any, provisional_file, provisional_index, provisional_proof_file}
+use Rattle.st_batch.specs.BatchFiles.{bytes_there, chunk_text, core_file, core_index, core_proof_file, file_in, filed, files_of, if_any, provisional_file, provisional_index, provisional_proof_file}
 use Rattle.st_batch.specs.Groups.{Grouped, is_create, is_deactivate, is_recover, is_update, signed_text_in, suffix_data_in, target_in, with_delta}
 use Rattle.st_batch.specs.Kept.{suffixes_of}
 use Rattle.st_batch.specs.Prefix.{is_small, most_bytes}
 use Rattle.st_batch.specs.ReadBack.{HasFiles}
-use Rattle.st_batch.specs.declared.batch.BatchFile.{BatchFile}
-use Rattle.st_batch.proofs.AgainEntryLemmas.{IsAgain}
-use Rattle.st_batch.proofs.AgainHashLemmas.{uri_again}
 use Rattle.st_plain.proofs.ReadableLemmas.{IsReadable}
 use Rattle.st_batch.proofs.GivenDifferentLemmas.{apart, different, named_in_groups, times, times-append}
 use Rattle.st_batch.proofs.GivenOperationsLemmas.{AreOfKind, HasDelta, IsOfKind, as_many, create_data, create_suffixes, data_again, delta_kept, each_taken, named_again, target_suffixes, target_there, text_there}
-use Rattle.st_batch.proofs.KnownCoreLemmas.{IsCoreSound, core_known}
-use Rattle.st_batch.proofs.KnownDataLemmas.{chunk_known, core_proof_known, provisional_proof_known}
-use Rattle.st_batch.proofs.KnownProvisionalLemmas.{IsProvisionalSound, provisional_known}
-use Rattle.st_batch.proofs.KnownRuleLemmas.{IsUriAgain, below}
 use Rattle.st_batch.proofs.ReadBackFitLemmas.{IsReady}
+use Rattle.st_batch.proofs.SmallLemmas.{each_role, small_each, small_short}
 
 -- `count` ready operations by kind, each suffix once
 pub record AreReadyGroups (limits : Limits) (count : ℕ) (groups : Grouped) : Type 0 where
@@ -57,11 +56,6 @@ pub record AreReadyGroups (limits : Limits) (count : ℕ) (groups : Grouped) : T
   pub once : (hash : HashValue) → named_in_groups hash groups ≤ 1
 
 -- ---- files that are there
-
--- a file's own URI is read from its text
-file_uri_again : (file : Option (List ℕ)) → IsUriAgain (option_map uri_of file)
-file_uri_again None = tt
-file_uri_again (Some bytes) = uri_again bytes
 
 -- the content has the file by its URI, and it has at most this many bytes
 abbrev pub IsThere : Files → ℕ → List ℕ → Type 0
@@ -84,53 +78,20 @@ there_for [] said P some there = absurd (omega arith)
 there_for (operation ∷ operations) said P some there = there
 
 -- the files of operations by kind are there
-pub record FilesAreThere (limits : Limits) (content : Files) (groups : Grouped) : Type 0 where
-  pub core : IsThere content limits.max_index (core_file groups)
-  pub core_proof : IfSome (core_proof_file groups) (IsThere content limits.max_proofs)
-  pub provisional : IfSome (provisional_file groups) (IsThere content limits.max_index)
-  pub provisional_proof : IfSome (provisional_proof_file groups) (IsThere content limits.max_proofs)
-  pub chunk : IfSome (chunk_file groups) (IsThere content limits.max_chunk)
-
-each_split : {Item : Type 0} (P : Item → Type 0) (xs ys : List Item) → AllByRecursion P (xs ++ ys) → AllByRecursion P xs × AllByRecursion P ys
-each_split P [] ys all = (tt, all)
-each_split P (x ∷ xs) ys all = let later = each_split P xs ys all.1 in ((all.0, later.0), later.1)
-
-each_small : {Item : Type 0} (test : Item → Bool) (items : List Item) → list_all test items ≡ true → AllByRecursion (λ item. test item ≡ true) items
-each_small test [] all = tt
-each_small test (item ∷ items) all =
-    let parts = and_parts (test item) (list_all test items) all in (parts.0, each_small test items parts.1)
+abbrev pub FilesAreThere : Limits → Files → Grouped → Type 0
+FilesAreThere limits content groups = (role : Role) → IfSome (file_in role groups) (IsThere content (most_bytes limits role))
 
 module _ (limits : Limits) (content : Files) where
-  -- it is there, and small
-  abbrev Stands : BatchFile → Type 0
-  Stands file = (file_at file.uri content ≡ Some file.bytes) × (is_small limits file ≡ true)
-
-  filed_there : (role : Role) (file : Option (List ℕ)) → AllByRecursion Stands (filed role file) → IfSome file (IsThere content (most_bytes limits role))
-  filed_there role None all = tt
-  filed_there role (Some bytes) all = (all.0.0, below (length bytes) (most_bytes limits role) all.0.1)
+  filed_there : (role : Role) (file : Option (List ℕ)) → HasFiles content (filed role file) → bytes_there file ≤ most_bytes limits role
+      → IfSome file (IsThere content (most_bytes limits role))
+  filed_there role None has short = tt
+  filed_there role (Some bytes) has short = (has.0, short)
 
   pub files_there : (groups : Grouped) → HasFiles content (files_of groups) → list_all (is_small limits) (files_of groups) ≡ true
       → FilesAreThere limits content groups
-  unfolding files_of
-  files_there groups has small =
-      let all = each-both (λ file. file_at file.uri content ≡ Some file.bytes) (λ file. is_small limits file ≡ true) Stands
-      (λ file there fits. (there, fits)) (files_of groups)
-      has (each_small (is_small limits) (files_of groups) small) in
-      let core = filed Core (Some (core_file groups)) in
-      let core_proof = filed CoreProof (core_proof_file groups) in
-      let provisional = filed Provisional (provisional_file groups) in
-      let provisional_proof = filed ProvisionalProof (provisional_proof_file groups) in
-      let fourth = each_split Stands (core ++ core_proof ++ provisional ++ provisional_proof) (filed Chunk (chunk_file groups)) all in
-      let third = each_split Stands (core ++ core_proof ++ provisional) provisional_proof fourth.0 in
-      let second = each_split Stands (core ++ core_proof) provisional third.0 in
-      let first = each_split Stands core core_proof second.0 in
-      record {
-        core = filed_there Core (Some (core_file groups)) first.0;
-        core_proof = filed_there CoreProof (core_proof_file groups) first.1;
-        provisional = filed_there Provisional (provisional_file groups) second.1;
-        provisional_proof = filed_there ProvisionalProof (provisional_proof_file groups) third.1;
-        chunk = filed_there Chunk (chunk_file groups) fourth.1;
-      }
+  files_there groups has small = λ role.
+      filed_there role (file_in role groups) (each_role (λ file. file_at file.uri content ≡ Some file.bytes) groups has role)
+      (small_short limits groups role (small_each limits groups small role))
 
 -- ---- a file is named if and only if there is an operation for it
 
@@ -210,12 +171,14 @@ module _ (limits : Limits) (count : ℕ) (groups : Grouped) (are : AreReadyGroup
   pub core_sound : IsCoreSound limits count (core_index groups)
   unfolding core_index core_proof_file
   core_sound = record {
-    core_proof = file_uri_again (core_proof_file groups);
-    provisional = file_uri_again (provisional_file groups);
-    creates = each_taken suffix_data_in (IsOfKind limits is_create) (IsAgain (create_of limits.version) create_json)
-        (λ operation right. data_again limits operation right.0) groups.creates are.creates;
-    recovers = targets_again is_recover groups.recovers are.recovers;
-    deactivates = targets_again is_deactivate groups.deactivates are.deactivates;
+    parts = record {
+      core_proof = file_uri_again (core_proof_file groups);
+      provisional = file_uri_again (provisional_file groups);
+      creates = each_taken suffix_data_in (IsOfKind limits is_create) (IsAgain (create_of limits.version) create_json)
+          (λ operation right. data_again limits operation right.0) groups.creates are.creates;
+      recovers = targets_again is_recover groups.recovers are.recovers;
+      deactivates = targets_again is_deactivate groups.deactivates are.deactivates;
+    };
     few = omega (arith, creates_long, recovers_long, deactivates_long, are.counted);
     different = core_different;
     proved = named_for_two groups.recovers groups.deactivates (canonical (core_proof_json (core_proofs groups))) _ _ recovers_long deactivates_long;
@@ -224,9 +187,11 @@ module _ (limits : Limits) (count : ℕ) (groups : Grouped) (are : AreReadyGroup
   pub provisional_sound : 1 ≤ length (with_delta groups) → IsProvisionalSound limits count (core_index groups) (provisional_index groups)
   unfolding core_index provisional_index provisional_proof_file
   provisional_sound some = record {
-    proof = file_uri_again (provisional_proof_file groups);
-    chunk = uri_again (chunk_text groups);
-    updates = targets_again is_update groups.updates are.updates;
+    parts = record {
+      proof = file_uri_again (provisional_proof_file groups);
+      chunk = uri_of_again (chunk_text groups);
+      updates = targets_again is_update groups.updates are.updates;
+    };
     different = updates_different;
     few = omega (arith, creates_long, recovers_long, deactivates_long, updates_long, are.counted);
     proved = named_for_one groups.updates (canonical (provisional_proof_json (filter_map signed_text_in groups.updates))) _ updates_long;
@@ -288,8 +253,10 @@ module _ (limits : Limits) (count : ℕ) (groups : Grouped) (are : AreReadyGroup
   context = record { count = count; params = limits }
 
   pub core_is : length (core_file groups) ≤ limits.max_index → core_in context (core_file groups) ≡ Is (core_branch (core_index groups))
-  unfolding core_file
-  core_is small = core_known context (core_index groups) core_sound small
+  unfolding core_file core_in
+  core_is small =
+      let back = core_again limits count (core_index groups) core_sound small in
+      λ i. judged fails.Core (back.0 i) (core_branch (back.1 i))
 
   some_proof : (1 ≤ length groups.recovers) ⊎ (1 ≤ length groups.deactivates)
       → (1 ≤ length (filter_map signed_text_in groups.recovers)) ⊎ (1 ≤ length (filter_map signed_text_in groups.deactivates))
@@ -299,35 +266,43 @@ module _ (limits : Limits) (count : ℕ) (groups : Grouped) (are : AreReadyGroup
   pub core_proof_is : (1 ≤ length groups.recovers) ⊎ (1 ≤ length groups.deactivates)
       → length (canonical (core_proof_json (core_proofs groups))) ≤ limits.max_proofs
       → core_proof_in context (core_index groups) (canonical (core_proof_json (core_proofs groups))) ≡ Is (opened_of limits.max_signed (core_proofs groups))
-  unfolding core_index
-  core_proof_is some small = core_proof_known context (core_index groups) (core_proofs groups) (record {
-    some = some_proof some;
-    recovers_utf8 = texts_utf8 is_recover groups.recovers are.recovers;
-    deactivates_utf8 = texts_utf8 is_deactivate groups.deactivates are.deactivates;
-    recovers_long = omega (arith, recover_texts_long, recovers_long);
-    deactivates_long = omega (arith, deactivate_texts_long, deactivates_long);
-  }) small
+  unfolding core_index core_proof_in
+  core_proof_is some small =
+      let back = core_proof_again limits (length (core_index groups).recovers) (length (core_index groups).deactivates) (core_proofs groups) (record {
+        some = some_proof some;
+        recovers_utf8 = texts_utf8 is_recover groups.recovers are.recovers;
+        deactivates_utf8 = texts_utf8 is_deactivate groups.deactivates are.deactivates;
+        recovers_long = omega (arith, recover_texts_long, recovers_long);
+        deactivates_long = omega (arith, deactivate_texts_long, deactivates_long);
+      }) small in
+      λ i. judged fails.Proofs (back.0 i) (opened_of limits.max_signed (back.1 i))
 
   pub provisional_is : 1 ≤ length (with_delta groups) → length (canonical (provisional_json (provisional_index groups))) ≤ limits.max_index
       → provisional_in context (core_index groups) (canonical (provisional_json (provisional_index groups)))
       ≡ Is (provisional_branch (provisional_index groups))
-  provisional_is some small = provisional_known context (core_index groups) (provisional_index groups) (provisional_sound some) small
+  unfolding provisional_in
+  provisional_is some small =
+      let back = provisional_again limits count (core_index groups) (provisional_index groups) (provisional_sound some) small in
+      λ i. provisional_judged (back.0 i) (back.1 i)
 
   pub provisional_proof_is : 1 ≤ length groups.updates
       → length (canonical (provisional_proof_json (filter_map signed_text_in groups.updates))) ≤ limits.max_proofs
       → provisional_proof_in context (provisional_index groups) (canonical (provisional_proof_json (filter_map signed_text_in groups.updates)))
       ≡ Is (map (proof_of limits.max_signed) (filter_map signed_text_in groups.updates))
-  unfolding provisional_index
+  unfolding provisional_index provisional_proof_in
   provisional_proof_is some small =
-      provisional_proof_known context (provisional_index groups) (filter_map signed_text_in groups.updates) (omega (arith, some, update_texts_long))
-      (texts_utf8 is_update groups.updates are.updates) (omega (arith, update_texts_long, updates_long)) small
+      let back = provisional_proof_again limits (length (provisional_index groups).updates) (filter_map signed_text_in groups.updates)
+      (omega (arith, some, update_texts_long)) (texts_utf8 is_update groups.updates are.updates) (omega (arith, update_texts_long, updates_long)) small in
+      λ i. judged fails.Proofs (back.0 i) (map (proof_of limits.max_signed) (back.1 i))
 
   pub chunk_is : 1 ≤ length (with_delta groups) → length (chunk_text groups) ≤ limits.max_chunk
       → chunk_in context (core_index groups) (provisional_index groups) (chunk_text groups) ≡ Is (filter_map delta_there (with_delta groups))
-  unfolding chunk_text core_index provisional_index
+  unfolding chunk_text core_index provisional_index chunk_in
   chunk_is some small =
       let many : length (filter_map delta_there (with_delta groups)) ≡ delta_count (core_index groups) (provisional_index groups) =
       omega (arith, deltas_long, creates_long, recovers_long, updates_long) in
       let first : 1 ≤ length (filter_map delta_there (with_delta groups)) =
       omega (arith, some, deltas_long, length-append (groups.creates ++ groups.recovers) groups.updates, length-append groups.creates groups.recovers) in
-      chunk_known context (core_index groups) (provisional_index groups) (filter_map delta_there (with_delta groups)) first all_readable many small
+      let back = chunk_again limits (delta_count (core_index groups) (provisional_index groups)) (filter_map delta_there (with_delta groups)) first all_readable
+      many small in
+      λ i. judged fails.Chunk (back.0 i) (back.1 i)

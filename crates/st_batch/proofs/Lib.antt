@@ -2,16 +2,9 @@
 mod DeltaLemmas
 mod QueueLemmas
 mod CountedLemmas
--- A written text is read again: values, hashes, entries of files.
-mod AgainEntryLemmas
-mod AgainHashLemmas
 -- The anchor string of a batch, and what is known from its files.
 mod AnchorTextLemmas
 mod KnownBatchLemmas
-mod KnownCoreLemmas
-mod KnownDataLemmas
-mod KnownProvisionalLemmas
-mod KnownRuleLemmas
 -- An entry with that string gives the operations of the batch.
 mod GivenBatchLemmas
 mod GivenDifferentLemmas

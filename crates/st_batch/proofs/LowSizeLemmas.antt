@@ -1,10 +1,12 @@
 -- The length of the entries that one operation adds to lists, if it fits the limits of some version; and the sums
--- over many of them.
-use Rattle.std.proofs.Common.{◌≡◌, ℕ, ◌+◌, ◌*◌, ◌≤◌, Bool, true, false, if◌then◌else◌, Option, Some, None, option_map, List, [], ◌∷◌, length, subst, arith}
+-- over those of a kind.
+use Rattle.std.proofs.Common.{◌≡◌, ℕ, ◌+◌, ◌*◌, ◌≤◌, Bool, true, false, if◌then◌else◌, Option, Some, None, option_map, List, filter, length, subst, arith}
 use Rattle.std.specs.Prelude.{◌==◌, is_some, IfSome}
 use Rattle.std.specs.List.{AllByRecursion, sum_by}
-use Rattle.std.proofs.lemmas.List.Sums.{sum_by-cons}
+use Rattle.std.proofs.lemmas.List.Elements.{All-from_recursion}
+use Rattle.std.proofs.lemmas.List.Sums.{sum_by-le}
 use Rattle.st_apply.specs.Counting.{counted}
+use Rattle.st_base.proofs.Quantifiers.{each-filter, each-weaker}
 use Rattle.st_plain.specs.Measure.{size_of}
 use Rattle.st_plain.specs.Plain.{Plain}
 use Rattle.st_datafiles.specs.ProofFiles.{signed_json}
@@ -18,9 +20,9 @@ use Rattle.st_ops.specs.RequestText.{delta_there, request_text}
 use Rattle.st_ops.proofs.AcceptedLemmas.{accepted}
 use Rattle.st_params.specs.Limits.{Limits, in_version, limits_of}
 use Rattle.st_batch.specs.Fits.{Fits}
-use Rattle.st_batch.specs.Groups.{is_deactivate, is_recover, signed_text_in}
+use Rattle.st_batch.specs.Groups.{signed_text_in}
 use Rattle.st_batch.specs.Kept.{IsQueued}
-use Rattle.st_batch.proofs.Sizes.{delta_size, entry_size, index_size, of_kind, proof_size}
+use Rattle.st_batch.proofs.Sizes.{create_size, delta_size, entry_size, proof_size, target_size}
 use Rattle.st_batch.proofs.DeltaLemmas.{counted_size, right_holds}
 use Rattle.st_batch.proofs.EntrySizeLemmas.{create_long, target_long, text_short}
 use Rattle.st_batch.proofs.SignedSizeLemmas.{Opens, opened_within}
@@ -37,20 +39,27 @@ longest_delta version = most (version == 1)
 
 -- each of its entries is short
 pub record IsLow (operation : PlainOperation) : Type 0 where
-  pub index : index_size operation ≤ 300
+  pub create : create_size operation ≤ 300
+  pub target : target_size operation ≤ 300
   pub proof : proof_size operation ≤ 15000
   pub delta : delta_size operation ≤ 5000
 
-target_low : (target : Target) → IsHash target.suffix × IsHash target.reveal → size_of (target_json target) + 1 ≤ 300
-target_low target are =
+create_low : (operation : PlainOperation) → HasHashes operation → create_size operation ≤ 300
+create_low (creating create delta) are =
+    omega (arith, create_long create are.0 are.1, text_short create.delta_hash are.0, text_short create.recovery_commitment are.1)
+create_low (updating target proof delta) are = omega arith
+create_low (recovering target proof delta) are = omega arith
+create_low (deactivating target proof) are = omega arith
+
+one_low_target : (target : Target) → IsHash target.suffix × IsHash target.reveal → size_of (target_json target) + 1 ≤ 300
+one_low_target target are =
     omega (arith, target_long target are.0 are.1, text_short target.suffix are.0, text_short target.reveal are.1)
 
-index_low : (operation : PlainOperation) → HasHashes operation → index_size operation ≤ 300
-index_low (creating create delta) are =
-    omega (arith, create_long create are.0 are.1, text_short create.delta_hash are.0, text_short create.recovery_commitment are.1)
-index_low (updating target proof delta) are = target_low target are
-index_low (recovering target proof delta) are = target_low target are
-index_low (deactivating target proof) are = target_low target are
+target_low : (operation : PlainOperation) → HasHashes operation → target_size operation ≤ 300
+target_low (creating create delta) are = omega arith
+target_low (updating target proof delta) are = one_low_target target are
+target_low (recovering target proof delta) are = one_low_target target are
+target_low (deactivating target proof) are = one_low_target target are
 
 -- ---- signed texts
 
@@ -80,7 +89,7 @@ module _ (version : ℕ) where
       low None short = tt
       low (Some delta) short = omega (arith, short, longest_delta version)
 
-  entry_low : (there : Option Plain) → IfSome there (λ delta. size_of delta ≤ 2000) → entry_size there ≤ 5000
+  entry_low : (there : Option Plain) → IfSome there (λ delta. size_of delta ≤ 2000) → entry_size (option_map (λ (delta : Plain). delta) there) ≤ 5000
   entry_low None short = omega arith
   entry_low (Some delta) short = omega (arith, short)
 
@@ -95,7 +104,8 @@ module _ (version : ℕ) where
 
   pub one_low : (operation : PlainOperation) → HasHashes operation → Fits (limits_of version) operation → IsLow operation
   one_low operation are fits = record {
-    index = index_low operation are;
+    create = create_low operation are;
+    target = target_low operation are;
     proof = signed_low (signed_text_in operation) (opens_there operation are fits);
     delta = delta_low operation fits;
   }
@@ -108,65 +118,18 @@ module _ (operation : PlainOperation) (is : IsQueued operation) where
   pub queued_low : IsLow operation
   queued_low = one_low is.limits.version operation is.formed.hashes fitted
 
--- ---- sums
+-- ---- many operations
 
--- the bytes that operations add to files, by how many they are
-sums_by : (operations : List PlainOperation) → AllByRecursion IsLow operations
-    → (sum_by index_size operations ≤ length operations * 300) × (sum_by proof_size operations ≤ length operations * 15000)
-    × (sum_by delta_size operations ≤ length operations * 5000)
-sums_by [] all = (omega arith, omega arith, omega arith)
-sums_by (operation ∷ operations) all =
-    let later = sums_by operations all.1 in (
-      omega (arith, all.0.index, later.0, sum_by-cons index_size operation operations),
-      omega (arith, all.0.proof, later.1, sum_by-cons proof_size operation operations),
-      omega (arith, all.0.delta, later.2, sum_by-cons delta_size operation operations),
-    )
-
--- few enough bytes that no file of the operations is too long in any version
+-- up to 1,000
 pub record AreLow (operations : List PlainOperation) : Type 0 where
-  pub index : sum_by index_size operations ≤ 300000
-  pub proofs : sum_by proof_size operations ≤ 15000000
-  pub deltas : sum_by delta_size operations ≤ 5000000
+  pub each : AllByRecursion IsLow operations
+  pub few : length operations ≤ 1000
 
--- up to 1,000 operations
-pub sums_low : (operations : List PlainOperation) → AllByRecursion IsLow operations → length operations ≤ 1000 → AreLow operations
-sums_low operations all few =
-    let sums = sums_by operations all in
-    record { index = omega (arith, few, sums.0); proofs = omega (arith, few, sums.1); deltas = omega (arith, few, sums.2) }
-
--- operations of one kind add at most as much to a list as all would
-pub kind_within : (is_kind : PlainOperation → Bool) (size : PlainOperation → ℕ) (operations : List PlainOperation)
-    → sum_by (of_kind is_kind size) operations ≤ sum_by size operations
-kind_within is_kind size [] = omega arith
-kind_within is_kind size (operation ∷ operations) =
-    omega (
-      arith,
-      one (is_kind operation) (size operation),
-      kind_within is_kind size operations,
-      sum_by-cons (of_kind is_kind size) operation operations,
-      sum_by-cons size operation operations,
-    )
-  where
-    one : (is : Bool) (n : ℕ) → (if is then n else 0) ≤ n
-    one true n = omega arith
-    one false n = omega arith
-
--- nor do recovers and deactivates together
-pub both_within : (size : PlainOperation → ℕ) (operations : List PlainOperation)
-    → sum_by (of_kind is_recover size) operations + sum_by (of_kind is_deactivate size) operations ≤ sum_by size operations
-both_within size [] = omega arith
-both_within size (operation ∷ operations) =
-    omega (
-      arith,
-      one operation,
-      both_within size operations,
-      sum_by-cons (of_kind is_recover size) operation operations,
-      sum_by-cons (of_kind is_deactivate size) operation operations,
-      sum_by-cons size operation operations,
-    )
-  where
-    one : (operation : PlainOperation) → of_kind is_recover size operation + of_kind is_deactivate size operation ≤ size operation
-    one (creating create delta) = omega arith
-    one (updating target proof delta) = omega arith
-    one (recovering target proof delta) = omega arith
-    one (deactivating target proof) = omega arith
+-- the bytes that those of a kind add to a list, by how many they are
+pub kind_low : (operations : List PlainOperation) → AllByRecursion IsLow operations → (size : PlainOperation → ℕ) (most : ℕ)
+    → ((operation : PlainOperation) → IsLow operation → size operation ≤ most) → (is_kind : PlainOperation → Bool)
+    → sum_by size (filter is_kind operations) ≤ length (filter is_kind operations) * most
+kind_low operations low size most holds is_kind =
+    let Short : PlainOperation → Type 0 = λ operation. size operation ≤ most in
+    let all = each-weaker IsLow Short holds (filter is_kind operations) (each-filter IsLow is_kind operations low) in
+    sum_by-le size most (filter is_kind operations) (All-from_recursion Short (filter is_kind operations) all)

@@ -1,10 +1,9 @@
 -- More operations make no file shorter, so a batch that can't take one more is the longest.
-use Rattle.std.proofs.Common.{◌≡◌, ◌∙◌, ℕ, zero, suc, ◌+◌, ◌<◌, ◌≤◌, ◌&&◌, Bool, true, false, nat_le, List, [], ◌∷◌, length, take, Some, None, refl, sym, ap, arith}
+use Rattle.std.proofs.Common.{◌≡◌, ◌∙◌, ℕ, ◌+◌, ◌<◌, ◌≤◌, true, false, nat_le, List, filter, length, take, Some, None, sym, ap, arith}
 use Rattle.std.specs.Prelude.{min}
 use Rattle.std.specs.List.{sum_by}
-use Rattle.std.proofs.lemmas.Bool.{and_parts}
+use Rattle.std.proofs.lemmas.Bool.{and_from, and_left, and_parts, and_right, le-leb, leb-true, lt-leb}
 use Rattle.std.proofs.lemmas.List.{length-take-le}
-use Rattle.std.proofs.lemmas.List.Sums.{sum_by-cons}
 use Rattle.std.proofs.lemmas.Option.{cond_some}
 use Rattle.st_ops.specs.Operation.{PlainOperation}
 use Rattle.st_params.specs.Limits.{Limits}
@@ -15,31 +14,17 @@ use Rattle.st_batch.specs.Prefix.{are_files_small, batch_count, batch_of, batch_
 use Rattle.st_batch.specs.declared.batch.Batch.{Batch}
 use Rattle.st_batch.proofs.FileSizeLemmas.{file_long}
 use Rattle.st_batch.proofs.GivenPrefixLemmas.{batch_longest}
-use Rattle.st_batch.proofs.KnownRuleLemmas.{below, both}
 use Rattle.st_batch.proofs.MoreSizeLemmas.{file_more}
-use Rattle.st_batch.proofs.SmallLemmas.{none_fails, over, passes_below, short_small, small_all, small_each, small_short}
-
--- ---- sums over a prefix
-
-sum_within : (size : PlainOperation → ℕ) (few many : ℕ) (operations : List PlainOperation) → few ≤ many
-    → sum_by size (take few operations) ≤ sum_by size (take many operations)
-sum_within size zero many operations less = omega arith
-sum_within size (suc few) zero operations less = absurd (omega (arith, less))
-sum_within size (suc few) (suc many) [] less = omega arith
-sum_within size (suc few) (suc many) (operation ∷ operations) less =
-    omega (
-      arith,
-      sum_by-cons size operation (take few operations),
-      sum_by-cons size operation (take many operations),
-      sum_within size few many operations (omega (arith, less)),
-    )
+use Rattle.st_batch.proofs.OperationSizeLemmas.{grows}
+use Rattle.st_batch.proofs.SmallLemmas.{none_fails, short_small, small_all, small_each, small_short}
 
 -- a longer prefix has no shorter file
 pub never_shorter : NeverShorter
 never_shorter role queue fewer more less =
     let few = file_long (take fewer queue) role in
     let many = file_long (take more queue) role in
-    let within = file_more (λ size. sum_by size (take fewer queue)) (λ size. sum_by size (take more queue)) (λ size. sum_within size fewer more queue less) role in
+    let within = file_more (λ is_kind size. sum_by size (filter is_kind (take fewer queue))) (λ is_kind size. sum_by size (filter is_kind (take more queue)))
+    (λ is_kind size. grows is_kind size fewer more queue less) role in
     rw (few, many) within
 
 -- ---- batches
@@ -59,10 +44,10 @@ fewer_go : (limits : Limits) (few many : ℕ) (operations : List PlainOperation)
     → is_batch limits (take many operations) ≡ true → is_batch limits (take few operations) ≡ true
 fewer_go limits few many operations less within go =
     let parts = and_parts (nat_le (length (take many operations)) limits.max_operations) (are_files_small limits (take many operations)) go in
-    let most = below (length (take many operations)) limits.max_operations parts.0 in
-    let count = passes_below (length (take few operations)) limits.max_operations
+    let most = leb-true (length (take many operations)) limits.max_operations parts.0 in
+    let count = le-leb (length (take few operations)) limits.max_operations
     (omega (arith, less, within, most, length-take-le few operations, length-take-le many operations)) in
-    both (nat_le (length (take few operations)) limits.max_operations) (are_files_small limits (take few operations)) count
+    and_from (nat_le (length (take few operations)) limits.max_operations) (are_files_small limits (take few operations)) count
     (fewer_small limits few many operations less parts.1)
 
 -- this many first operations go, and either there are no more or one more does not go
@@ -88,19 +73,12 @@ last_is_count limits operations n last =
 
 -- ---- how many a batch takes
 
-first_fails : (a b : Bool) → a ≡ false → (a && b) ≡ false
-first_fails a b fails = rw fails refl
-
-second_fails : (a b : Bool) → b ≡ false → (a && b) ≡ false
-second_fails true b fails = rw fails refl
-second_fails false b fails = refl
-
 -- this many are at most as many as a batch may declare, and no file of theirs is too long
 goes_by : (limits : Limits) (operations : List PlainOperation) (n : ℕ) → n ≤ length operations → n ≤ limits.max_operations
     → are_files_small limits (take n operations) ≡ true → is_batch limits (take n operations) ≡ true
 goes_by limits operations n within few small =
-    both (nat_le (length (take n operations)) limits.max_operations) (are_files_small limits (take n operations))
-    (passes_below (length (take n operations)) limits.max_operations (omega (arith, few, length-take-le n operations within))) small
+    and_from (nat_le (length (take n operations)) limits.max_operations) (are_files_small limits (take n operations))
+    (le-leb (length (take n operations)) limits.max_operations (omega (arith, few, length-take-le n operations within))) small
 
 -- as many as a batch may declare, or all, if no file of these is too long
 pub most_go : (limits : Limits) (operations : List PlainOperation)
@@ -111,8 +89,8 @@ most_go limits operations small =
     last_is_count limits operations most (record {
       within = omega arith;
       goes = λ some. goes_by limits operations most (omega arith) (omega arith) small;
-      stops = λ more. first_fails (nat_le (length (take (most + 1) operations)) limits.max_operations) (are_files_small limits (take (most + 1) operations))
-          (over (length (take (most + 1) operations)) limits.max_operations (omega (arith, more, length-take-le (most + 1) operations)));
+      stops = λ more. and_left (nat_le (length (take (most + 1) operations)) limits.max_operations) (are_files_small limits (take (most + 1) operations))
+          (lt-leb (length (take (most + 1) operations)) limits.max_operations (omega (arith, more, length-take-le (most + 1) operations)));
     })
 
 -- those taken are at most as many as it may declare, and no file of theirs is too long
@@ -125,7 +103,7 @@ taken_of limits operations some =
     let count = batch_count limits operations in
     let longest = batch_longest limits operations in
     let parts = and_parts (nat_le (length (take count operations)) limits.max_operations) (are_files_small limits (take count operations)) (longest.goes some) in
-    let few = below (length (take count operations)) limits.max_operations parts.0 in
+    let few = leb-true (length (take count operations)) limits.max_operations parts.0 in
     record { few = omega (arith, few, length-take-le count operations longest.within); small = parts.1 }
 
 -- ---- halving
@@ -177,7 +155,7 @@ module _ (limits : Limits) (operations : List PlainOperation) where
         last_is_count limits operations goes (record {
           within = omega (arith, between.less, between.within);
           goes = λ some. goes_by limits operations goes (omega (arith, between.less, between.within)) (omega (arith, between.less, between.few)) (between.small some);
-          stops = λ more. second_fails (nat_le (length (take (goes + 1) operations)) limits.max_operations) (are_files_small limits (take (goes + 1) operations))
+          stops = λ more. and_right (nat_le (length (take (goes + 1) operations)) limits.max_operations) (are_files_small limits (take (goes + 1) operations))
               (ap (λ n. are_files_small limits (take n operations)) (sym is) ∙ between.long);
         })
 

@@ -1,7 +1,7 @@
 -- The batch of operations that fit is read back as these.
 use Rattle.std.proofs.Common.{◌≡◌, ◌+◌, ◌<◌, ◌≤◌, ◌^◌, Bool, true, nat_le, List, [], ◌∷◌, filter, length, map, refl, ap, arith}
 use Rattle.std.specs.List.{AllByRecursion}
-use Rattle.std.proofs.lemmas.Bool.{and_parts}
+use Rattle.std.proofs.lemmas.Bool.{and_parts, leb-true}
 use Rattle.st_anchor.specs.Gives.{given, gives, with_suffix}
 use Rattle.st_anchor.specs.Known.{known, known_from}
 use Rattle.st_base.proofs.Quantifiers.{each-both, each-filter, each-passes}
@@ -21,7 +21,6 @@ use Rattle.st_batch.proofs.GivenBatchLemmas.{gives_these}
 use Rattle.st_batch.proofs.GivenDifferentLemmas.{grouped_times, once}
 use Rattle.st_batch.proofs.GivenOperationsLemmas.{AreOfKind, IsOfKind}
 use Rattle.st_batch.proofs.KnownBatchLemmas.{AreReadyGroups, files_there}
-use Rattle.st_batch.proofs.KnownRuleLemmas.{below}
 use Rattle.st_batch.proofs.ReadBackFitLemmas.{IsReady, ready, says_all}
 
 -- operations of this kind, of those that are ready
@@ -32,7 +31,7 @@ of_kind limits is_kind operations all =
     (each-filter (IsReady limits) is_kind operations all) (each-passes is_kind operations)
 
 -- each operation is of one kind
-all_counted : (operations : List PlainOperation)
+pub all_counted : (operations : List PlainOperation)
     → length (filter is_create operations) + length (filter is_recover operations) + length (filter is_deactivate operations)
     + length (filter is_update operations) ≡ length operations
 all_counted [] = refl
@@ -70,7 +69,7 @@ module _ (limits : Limits) (content : Files) where
       (are.goes some) in
       gives_these limits (length (operation ∷ operations)) (grouped (operation ∷ operations))
       (ready_groups limits (operation ∷ operations) are.different all) content
-      (files_there limits content (grouped (operation ∷ operations)) has parts.1) some (below _ _ parts.0) fits
+      (files_there limits content (grouped (operation ∷ operations)) has parts.1) some (leb-true _ _ parts.0) fits
 
 -- The batch of operations is read back as these, if their number fits in a machine word.
 pub batch_is_read_back : (limits : Limits) (operations : List PlainOperation) → AreBatched limits operations → length operations < 2 ^ 64

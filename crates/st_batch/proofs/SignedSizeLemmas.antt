@@ -4,6 +4,7 @@ use Rattle.std.proofs.Common.{◌≡◌, ◌∙◌, ℕ, ◌+◌, ◌≤◌, ◌
 use Rattle.std.specs.List.{flat_map}
 use Rattle.std.specs.Option.{ok_or}
 use Rattle.std.specs.Result.{result_ok}
+use Rattle.std.proofs.lemmas.Bool.{leb-true}
 use Rattle.std.proofs.lemmas.List.Concat.{flat_map-append}
 use Rattle.std.proofs.lemmas.Option.{same_Some}
 use Rattle.st_base.specs.Answers.{◌>>=◌, ◌>>◌, holds_or}
@@ -21,7 +22,6 @@ use Rattle.st_jws.specs.declared.refused.SignedRefused.TheVariants.{BadForm}
 use Rattle.st_ops.specs.Operation.{Proof}
 use Rattle.st_ops.specs.SignedPart.{proof_of}
 use Rattle.st_batch.proofs.EntrySizeLemmas.{signed_long}
-use Rattle.st_batch.proofs.KnownRuleLemmas.{below}
 
 -- ---- steps that gave a value
 
@@ -104,7 +104,7 @@ opening_of limit signed opens =
 opened_short : (limit : ℕ) (signed : List ℕ) → Opens limit signed → length signed ≤ limit
 opened_short limit signed opens =
     let opening = opening_of limit signed opens in
-    below (length signed) limit (held (nat_le (length signed) limit) BadForm _ opening.0 opening.1).0
+    leb-true (length signed) limit (held (nat_le (length signed) limit) BadForm _ opening.0 opening.1).0
 
 -- and nothing in it is escaped
 pub opened_bare : (limit : ℕ) (signed : List ℕ) → Opens limit signed → IsBare signed

@@ -1,14 +1,14 @@
--- Files that are small enough, role by role.
---     small_each, small_all      all files of operations are, if and only if that of each role is
+-- The files of operations, role by role.
+--     each_role, all_roles       each has a property, if and only if that of each role has
+--     small_each, small_all      all are small enough, if and only if that of each role is
 --     small_short, short_small   one is, if and only if it has at most as many bytes as it may have
 --     not_all                    if one is not, not all are
-use Rattle.std.proofs.Common.{◌≡◌, ◌∙◌, ℕ, ◌<◌, ◌≤◌, ◌&&◌, Bool, true, false, cond, nat_le, List, ◌++◌, length, Option, Some, None, refl, sym, ap, arith}
-use Rattle.std.specs.List.{list_all}
+use Rattle.std.proofs.Common.{◌≡◌, ◌∙◌, ℕ, ◌≤◌, Bool, true, false, cond, nat_le, List, [], ◌∷◌, ◌++◌, length, Option, Some, None, refl, sym, ap, arith}
+use Rattle.std.specs.List.{AllByRecursion, list_all}
 use Rattle.std.proofs.Math.Bool.{and-true}
-use Rattle.std.proofs.lemmas.Bool.{and_parts}
-use Rattle.std.proofs.lemmas.Bool.Decides.{nat_tests}
-use Rattle.std.proofs.lemmas.List.Folds.{list_all-append}
+use Rattle.std.proofs.lemmas.Bool.{and_from, and_parts, le-leb, leb-true}
 use Rattle.std.proofs.lemmas.Option.{cond_some}
+use Rattle.st_base.proofs.Quantifiers.{each-append}
 use Rattle.st_datafiles.specs.declared.role.Role.{Role}
 use Rattle.st_datafiles.specs.declared.role.Role.TheVariants.{Core, CoreProof, Provisional, ProvisionalProof, Chunk}
 use Rattle.st_params.specs.Limits.{Limits}
@@ -17,15 +17,6 @@ use Rattle.st_batch.specs.Groups.{Grouped}
 use Rattle.st_batch.specs.Prefix.{batch_where_small, is_small, most_bytes, where_small}
 use Rattle.st_batch.specs.declared.batch.Batch.{Batch}
 use Rattle.st_batch.specs.declared.batch.BatchFile.{BatchFile}
-use Rattle.st_batch.proofs.KnownRuleLemmas.{below}
-
--- the test of a bound passes
-pub passes_below : (n most : ℕ) → n ≤ most → nat_le n most ≡ true
-passes_below n most within = grind (arith, nat_tests)
-
--- and that of a smaller bound fails
-pub over : (n most : ℕ) → most < n → nat_le n most ≡ false
-over n most above = grind (arith, nat_tests)
 
 -- the test failed if there is no value
 pub none_fails : {Found : Type 0} (test : Bool) (found : Found) → cond test (Some found) None ≡ None → test ≡ false
@@ -36,27 +27,56 @@ none_fails false found none = refl
 
 filed_test : (limits : Limits) (role : Role) (file : Option (List ℕ))
     → list_all (is_small limits) (filed role file) ≡ nat_le (bytes_there file) (most_bytes limits role)
-filed_test limits role None = sym (passes_below 0 (most_bytes limits role) (omega arith))
+filed_test limits role None = sym (le-leb 0 (most_bytes limits role) (omega arith))
 filed_test limits role (Some bytes) = and-true (nat_le (length bytes) (most_bytes limits role))
 
--- a file that was written
-pub filed_small : (limits : Limits) (role : Role) (bytes : List ℕ) → nat_le (length bytes) (most_bytes limits role) ≡ true
-    → where_small limits (filed role (Some bytes)) ≡ Some (filed role (Some bytes))
-filed_small limits role bytes small = rw small refl
-
+-- a file that is too long is not written
 pub filed_long : (limits : Limits) (role : Role) (bytes : List ℕ) → nat_le (length bytes) (most_bytes limits role) ≡ false
     → where_small limits (filed role (Some bytes)) ≡ None
 filed_long limits role bytes long = rw long refl
 
 -- ---- those of operations
 
-five_tests : {Item : Type 0} (test : Item → Bool) (a b c d e : List Item)
-    → list_all test (a ++ b ++ c ++ d ++ e) ≡ (list_all test a && list_all test b && list_all test c && list_all test d && list_all test e)
-five_tests test a b c d e =
-    rw (list_all-append test (a ++ b ++ c ++ d) e, list_all-append test (a ++ b ++ c) d, list_all-append test (a ++ b) c, list_all-append test a b) refl
+module _ (P : BatchFile → Type 0) where
+  split : (xs ys : List BatchFile) → AllByRecursion P (xs ++ ys) → AllByRecursion P xs × AllByRecursion P ys
+  split [] ys all = (tt, all)
+  split (x ∷ xs) ys all = let later = split xs ys all.1 in ((all.0, later.0), later.1)
 
-all_five : (a b c d e : Bool) → a ≡ true → b ≡ true → c ≡ true → d ≡ true → e ≡ true → (a && b && c && d && e) ≡ true
-all_five a b c d e is_a is_b is_c is_d is_e = rw (is_a, is_b, is_c, is_d, is_e) refl
+  module _ (groups : Grouped) where
+    abbrev in_role : Role → List BatchFile
+    in_role role = filed role (file_in role groups)
+
+    pub each_role : AllByRecursion P (files_of groups) → (role : Role) → AllByRecursion P (filed role (file_in role groups))
+    unfolding files_of
+    each_role all role =
+        let four = split (in_role Core ++ in_role CoreProof ++ in_role Provisional ++ in_role ProvisionalProof) (in_role Chunk) all in
+        let three = split (in_role Core ++ in_role CoreProof ++ in_role Provisional) (in_role ProvisionalProof) four.0 in
+        let two = split (in_role Core ++ in_role CoreProof) (in_role Provisional) three.0 in
+        let one = split (in_role Core) (in_role CoreProof) two.0 in
+        elim role as (λ role. AllByRecursion P (filed role (file_in role groups))) [
+          | Core ↦ one.0
+          | CoreProof ↦ one.1
+          | Provisional ↦ two.1
+          | ProvisionalProof ↦ three.1
+          | Chunk ↦ four.1
+        ]
+
+    pub all_roles : ((role : Role) → AllByRecursion P (filed role (file_in role groups))) → AllByRecursion P (files_of groups)
+    unfolding files_of
+    all_roles each =
+        let two = each-append P (in_role Core) (in_role CoreProof) (each Core) (each CoreProof) in
+        let three = each-append P (in_role Core ++ in_role CoreProof) (in_role Provisional) two (each Provisional) in
+        let four = each-append P (in_role Core ++ in_role CoreProof ++ in_role Provisional) (in_role ProvisionalProof) three (each ProvisionalProof) in
+        each-append P (in_role Core ++ in_role CoreProof ++ in_role Provisional ++ in_role ProvisionalProof) (in_role Chunk) four (each Chunk)
+
+each_of_all : {Item : Type 0} (test : Item → Bool) (items : List Item) → list_all test items ≡ true → AllByRecursion (λ item. test item ≡ true) items
+each_of_all test [] all = tt
+each_of_all test (item ∷ items) all =
+    let parts = and_parts (test item) (list_all test items) all in (parts.0, each_of_all test items parts.1)
+
+all_of_each : {Item : Type 0} (test : Item → Bool) (items : List Item) → AllByRecursion (λ item. test item ≡ true) items → list_all test items ≡ true
+all_of_each test [] each = refl
+all_of_each test (item ∷ items) each = and_from (test item) (list_all test items) each.0 (all_of_each test items each.1)
 
 module _ (limits : Limits) (groups : Grouped) where
   -- whether the file of a role is small
@@ -67,29 +87,17 @@ module _ (limits : Limits) (groups : Grouped) where
   abbrev pub are_all_small : Bool
   are_all_small = list_all (is_small limits) (files_of groups)
 
-  by_role : are_all_small ≡ (is_role_small Core && is_role_small CoreProof && is_role_small Provisional && is_role_small ProvisionalProof && is_role_small Chunk)
-  unfolding files_of
-  by_role =
-      five_tests (is_small limits) (filed Core (file_in Core groups)) (filed CoreProof (file_in CoreProof groups))
-      (filed Provisional (file_in Provisional groups)) (filed ProvisionalProof (file_in ProvisionalProof groups)) (filed Chunk (file_in Chunk groups))
+  abbrev Small : BatchFile → Type 0
+  Small file = is_small limits file ≡ true
 
   pub small_each : are_all_small ≡ true → (role : Role) → is_role_small role ≡ true
   small_each small role =
-      let four = and_parts (is_role_small Core && is_role_small CoreProof && is_role_small Provisional && is_role_small ProvisionalProof)
-      (is_role_small Chunk) (sym by_role ∙ small) in
-      let three = and_parts (is_role_small Core && is_role_small CoreProof && is_role_small Provisional) (is_role_small ProvisionalProof) four.0 in
-      let two = and_parts (is_role_small Core && is_role_small CoreProof) (is_role_small Provisional) three.0 in
-      let one = and_parts (is_role_small Core) (is_role_small CoreProof) two.0 in
-      elim role as (λ role. is_role_small role ≡ true) [
-        | Core ↦ one.0
-        | CoreProof ↦ one.1
-        | Provisional ↦ two.1
-        | ProvisionalProof ↦ three.1
-        | Chunk ↦ four.1
-      ]
+      all_of_each (is_small limits) (filed role (file_in role groups)) (each_role Small groups (each_of_all (is_small limits) (files_of groups) small) role)
 
   pub small_all : ((role : Role) → is_role_small role ≡ true) → are_all_small ≡ true
-  small_all each = by_role ∙ all_five _ _ _ _ _ (each Core) (each CoreProof) (each Provisional) (each ProvisionalProof) (each Chunk)
+  small_all each =
+      all_of_each (is_small limits) (files_of groups)
+      (all_roles Small groups (λ role. each_of_all (is_small limits) (filed role (file_in role groups)) (each role)))
 
   -- files that were written are these
   pub role_kept : (role : Role) {found : List BatchFile} → where_small limits (filed role (file_in role groups)) ≡ Some found
@@ -104,11 +112,11 @@ module _ (limits : Limits) (groups : Grouped) where
       by false e = refl
 
   pub small_short : (role : Role) → is_role_small role ≡ true → bytes_there (file_in role groups) ≤ most_bytes limits role
-  small_short role small = below (bytes_there (file_in role groups)) (most_bytes limits role) (sym (filed_test limits role (file_in role groups)) ∙ small)
+  small_short role small = leb-true (bytes_there (file_in role groups)) (most_bytes limits role) (sym (filed_test limits role (file_in role groups)) ∙ small)
 
   pub short_small : (role : Role) → bytes_there (file_in role groups) ≤ most_bytes limits role → is_role_small role ≡ true
   short_small role short =
-      filed_test limits role (file_in role groups) ∙ passes_below (bytes_there (file_in role groups)) (most_bytes limits role) short
+      filed_test limits role (file_in role groups) ∙ le-leb (bytes_there (file_in role groups)) (most_bytes limits role) short
 
 -- ---- a batch
 

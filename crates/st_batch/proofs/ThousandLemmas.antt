@@ -1,7 +1,9 @@
 -- Up to 1,000 operations that fit the limits of some version fit into files at the limits of each version. So in
 -- version 1 a batch takes the first 1,000 of a queue, and always the first one.
-use Rattle.std.proofs.Common.{◌≡◌, ◌∙◌, ℕ, ◌+◌, ◌<◌, ◌≤◌, ◌==◌, Bool, true, false, nat_le, if◌then◌else◌, List, [], ◌∷◌, codes, length, take, sym, arith}
+use Rattle.std.proofs.Common.{◌≡◌, ◌∙◌, ℕ, ◌+◌, ◌<◌, ◌≤◌, ◌==◌, Bool, true, false, nat_le, if◌then◌else◌, List, [], ◌∷◌, ◌*◌, codes, filter, length, take, sym, arith}
 use Rattle.std.specs.Prelude.{min}
+use Rattle.std.specs.List.{sum_by}
+use Rattle.std.proofs.lemmas.Bool.{and_from, le-leb}
 use Rattle.std.proofs.lemmas.Bool.Decides.{nat_tests}
 use Rattle.std.proofs.lemmas.List.{length-take-le}
 use Rattle.st_base.proofs.Quantifiers.{each-take, each-weaker}
@@ -17,11 +19,11 @@ use Rattle.st_batch.specs.Groups.{grouped, is_create, is_deactivate, is_recover,
 use Rattle.st_batch.specs.Prefix.{are_files_small, batch_count, is_batch, most_bytes}
 use Rattle.st_batch.proofs.FileSizeLemmas.{file_long}
 use Rattle.st_batch.proofs.GivenPrefixLemmas.{batch_longest}
-use Rattle.st_batch.proofs.KnownRuleLemmas.{both}
-use Rattle.st_batch.proofs.LowSizeLemmas.{AreLow, IsLow, both_within, kind_within, one_low, queued_low, sums_low}
+use Rattle.st_batch.proofs.LowSizeLemmas.{AreLow, IsLow, kind_low, one_low, queued_low}
 use Rattle.st_batch.proofs.PrefixSizeLemmas.{most_go}
-use Rattle.st_batch.proofs.Sizes.{Sizes, chunk_size, core_proof_size, core_size, file_size, index_size, member_size, proof_size, provisional_proof_size, provisional_size, sizes_of, uri_size, where_any, with_core_proof_size, with_delta_size}
-use Rattle.st_batch.proofs.SmallLemmas.{passes_below, short_small, small_all}
+use Rattle.st_batch.proofs.ReadBackLemmas.{all_counted}
+use Rattle.st_batch.proofs.Sizes.{Sizes, chunk_size, core_proof_size, core_size, create_size, delta_size, file_size, member_size, proof_size, provisional_proof_size, provisional_size, sizes_of, target_size, uri_size, where_any}
+use Rattle.st_batch.proofs.SmallLemmas.{short_small, small_all}
 
 -- ---- files of this few bytes
 
@@ -41,6 +43,19 @@ module _ (operations : List PlainOperation) (low : AreLow operations) where
   abbrev sizes : Sizes
   sizes = sizes_of operations
 
+  -- at most so many bytes for each operation of a kind
+  creates : sizes.creates ≤ length (filter is_create operations) * 300
+  creates = kind_low operations low.each create_size 300 (λ operation is. is.create) is_create
+
+  targets : (is_kind : PlainOperation → Bool) → sum_by target_size (filter is_kind operations) ≤ length (filter is_kind operations) * 300
+  targets = kind_low operations low.each target_size 300 (λ operation is. is.target)
+
+  proofs : (is_kind : PlainOperation → Bool) → sum_by proof_size (filter is_kind operations) ≤ length (filter is_kind operations) * 15000
+  proofs = kind_low operations low.each proof_size 15000 (λ operation is. is.proof)
+
+  deltas : (is_kind : PlainOperation → Bool) → sum_by delta_size (filter is_kind operations) ≤ length (filter is_kind operations) * 5000
+  deltas = kind_low operations low.each delta_size 5000 (λ operation is. is.delta)
+
   core_low : core_size sizes ≤ 1000000
   unfolding core_size
   core_low =
@@ -49,12 +64,9 @@ module _ (operations : List PlainOperation) (low : AreLow operations) where
       let deactivate = member_within (codes "deactivate") sizes.deactivates in
       let all = member_within (codes "operations") (member_size (codes "create") sizes.creates
       + member_size (codes "recover") sizes.recovers + member_size (codes "deactivate") sizes.deactivates) in
-      let first = uri_within (codes "coreProofFileUri") (with_core_proof_size sizes) in
-      let second = uri_within (codes "provisionalIndexFileUri") (with_delta_size sizes) in
-      let creates = kind_within is_create index_size operations in
-      let recovers = kind_within is_recover index_size operations in
-      let deactivates = kind_within is_deactivate index_size operations in
-      omega (arith, low.index, creates, recovers, deactivates, create, recover, deactivate, all, first, second)
+      let first = uri_within (codes "coreProofFileUri") sizes.for_core_proof in
+      let second = uri_within (codes "provisionalIndexFileUri") sizes.for_chunk in
+      omega (arith, low.few, all_counted operations, creates, targets is_recover, targets is_deactivate, create, recover, deactivate, all, first, second)
 
   core_proof_low : core_proof_size sizes ≤ 16000000
   unfolding core_proof_size
@@ -63,26 +75,34 @@ module _ (operations : List PlainOperation) (low : AreLow operations) where
       let deactivate = member_within (codes "deactivate") sizes.deactivate_proofs in
       let all = member_within (codes "operations") (member_size (codes "recover") sizes.recover_proofs
       + member_size (codes "deactivate") sizes.deactivate_proofs) in
-      any_below (with_core_proof_size sizes) _ 16000000 (omega (arith, low.proofs, both_within proof_size operations, recover, deactivate, all))
+      any_below sizes.for_core_proof _ 16000000 (omega (arith, low.few, all_counted operations, proofs is_recover, proofs is_deactivate, recover, deactivate, all))
 
   provisional_low : provisional_size sizes ≤ 1000000
   unfolding provisional_size
   provisional_low =
       let update = member_within (codes "update") sizes.updates in
       let all = member_within (codes "operations") (member_size (codes "update") sizes.updates) in
-      let first = uri_within (codes "provisionalProofFileUri") sizes.updates in
-      any_below (with_delta_size sizes) _ 1000000 (omega (arith, low.index, kind_within is_update index_size operations, update, all, first))
+      let first = uri_within (codes "provisionalProofFileUri") sizes.for_update_proof in
+      any_below sizes.for_chunk _ 1000000 (omega (arith, low.few, all_counted operations, targets is_update, update, all, first))
 
   provisional_proof_low : provisional_proof_size sizes ≤ 16000000
   unfolding provisional_proof_size
   provisional_proof_low =
       let update = member_within (codes "update") sizes.update_proofs in
       let all = member_within (codes "operations") (member_size (codes "update") sizes.update_proofs) in
-      any_below sizes.updates _ 16000000 (omega (arith, low.proofs, kind_within is_update proof_size operations, update, all))
+      any_below sizes.for_update_proof _ 16000000 (omega (arith, low.few, all_counted operations, proofs is_update, update, all))
 
   chunk_low : chunk_size sizes ≤ 10000000
   unfolding chunk_size
-  chunk_low = any_below (with_delta_size sizes) _ 10000000 (omega (arith, low.deltas, member_within (codes "deltas") sizes.deltas))
+  chunk_low = any_below sizes.for_chunk _ 10000000 (omega (
+    arith,
+    low.few,
+    all_counted operations,
+    deltas is_create,
+    deltas is_recover,
+    deltas is_update,
+    member_within (codes "deltas") sizes.deltas,
+  ))
 
   file_low : (version : ℕ) (role : Role) → file_size role sizes ≤ most_bytes (limits_of version) role
   file_low version Core = core_low
@@ -100,7 +120,7 @@ module _ (operations : List PlainOperation) (low : AreLow operations) where
 -- ---- operations that fit
 
 pub thousand_fit : ThousandFit
-thousand_fit version operations are few = low_small operations (sums_low operations (each-weaker IsQueued IsLow queued_low operations are) few) version
+thousand_fit version operations are few = low_small operations (record { each = each-weaker IsQueued IsLow queued_low operations are; few = few }) version
 
 -- in version 1 the first 1,000 go into one batch, or all
 pub takes_a_thousand : TakesAThousand
@@ -121,9 +141,9 @@ many false = omega arith
 goes_alone : (first second : ℕ) (operation : PlainOperation) → HasHashes operation → Fits (limits_of first) operation
     → is_batch (limits_of second) (operation ∷ []) ≡ true
 goes_alone first second operation are fits =
-    both (nat_le 1 (in_version second 1000 5000)) (are_files_small (limits_of second) (operation ∷ []))
-    (passes_below 1 (in_version second 1000 5000) (many (second == 1)))
-    (low_small (operation ∷ []) (sums_low (operation ∷ []) (one_low first operation are fits, tt) (omega arith)) second)
+    and_from (nat_le 1 (in_version second 1000 5000)) (are_files_small (limits_of second) (operation ∷ []))
+    (le-leb 1 (in_version second 1000 5000) (many (second == 1)))
+    (low_small (operation ∷ []) (record { each = (one_low first operation are fits, tt); few = omega arith }) second)
 
 pub takes_the_first : TakesTheFirst
 takes_the_first first second operation waiting are fits =

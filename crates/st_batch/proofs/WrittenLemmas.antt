@@ -1,13 +1,9 @@
 -- The written form of operations by kind: which files there are, and the content of each.
-use Rattle.std.proofs.Common.{◌≡◌, ◌∙◌, ℕ, ◌≤◌, Bool, true, false, nat_lt, List, [], ◌∷◌, ◌++◌, codes, length, Option, Some, None, option_map, refl, ap, arith}
+use Rattle.std.proofs.Common.{◌≡◌, ◌∙◌, ℕ, ◌≤◌, Bool, true, false, nat_lt, List, [], ◌∷◌, ◌++◌, length, Option, Some, None, option_map, refl, ap, arith}
 use Rattle.std.specs.Prelude.{slice_get}
 use Rattle.std.specs.List.{filter_map}
 use Rattle.std.proofs.lemmas.Bool.Decides.{nat_tests}
-use Rattle.st_plain.specs.Canonical.{canonical, canonical_items, escape}
-use Rattle.st_plain.specs.Objects.{put_some, some_list}
-use Rattle.st_plain.specs.Plain.{Plain}
-use Rattle.st_plain.specs.Entries.{items_of}
-use Rattle.st_datafiles.specs.Chunk.{chunk_json}
+use Rattle.st_plain.specs.Canonical.{canonical}
 use Rattle.st_datafiles.specs.ProofFiles.{core_proof_json, provisional_proof_json}
 use Rattle.st_datafiles.specs.declared.role.Role.{Role}
 use Rattle.st_hash.specs.Hash.{HashValue, uri_of}
@@ -34,25 +30,6 @@ no_more n are e is = grind (arith, nat_tests)
 
 pub are_some : (n : ℕ) (are : Bool) → are ≡ nat_lt 0 n → are ≡ true → 1 ≤ n
 are_some n are e is = grind (arith, nat_tests)
-
--- ---- the text of a chunk file
-
--- without deltas
-pub no_chunk : (deltas : List Plain) → length deltas ≡ 0 → codes "{}" ≡ canonical (chunk_json deltas)
-unfolding put_some some_list
-no_chunk [] none = refl
-no_chunk (delta ∷ deltas) none = absurd (omega (arith, none))
-
-closed : (bytes : List ℕ) → bytes ++ 93 ∷ 125 ∷ [] ≡ ((bytes ++ 93 ∷ []) ++ []) ++ 125 ∷ []
-closed [] = refl
-closed (byte ∷ bytes) = ap (λ others. byte ∷ others) (closed bytes)
-
--- and with some, with commas between them
-pub some_chunk : (deltas : List Plain) → 1 ≤ length deltas
-    → (codes "{\"deltas\":[" ++ canonical_items false (items_of deltas)) ++ codes "]}" ≡ canonical (chunk_json deltas)
-unfolding put_some some_list escape
-some_chunk [] some = absurd (omega (arith, some))
-some_chunk (delta ∷ deltas) some = ap (λ rest. codes "{\"deltas\":[" ++ rest) (closed (canonical_items false (items_of (delta ∷ deltas))))
 
 -- ---- URIs
 

@@ -8,13 +8,12 @@ ghost use Rattle.st_batch.specs.Prefix.{where_small};
 ghost use Rattle.st_datafiles.specs.declared.role.Role.TheVariants.{Chunk, CoreProof, ProvisionalProof};
 ghost use Rattle.st_ops.specs.RequestText.{delta_there};
 
-use crate::chunk_text::chunk_text;
 use crate::files::{Fitting, filed};
-use crate::gathering::{push_deltas, signed_texts_of};
+use crate::gathering::{parts_of, push_parts};
 use crate::grouping::Groups;
-use st_base::{List, WantOfMemory};
+use st_base::{KeptText, List, WantOfMemory};
 use st_canon::PackedJson;
-use st_datafiles::{CoreProofs, Role, write_core_proof, write_provisional_proof};
+use st_datafiles::{CoreProofs, Role, write_chunk, write_core_proof, write_provisional_proof};
 use st_params::Params;
 use std::alloc::Global;
 
@@ -50,8 +49,8 @@ fn core_proofs(alloc: Global, groups: &Groups) -> Result<CoreProofs, WantOfMemor
       deactivates = filter_map signed_text_in (plain_groups groups.now).deactivates;
     }) }
 {
-    let recovers = signed_texts_of(alloc, groups.recovers.as_slice())?;
-    let deactivates = signed_texts_of(alloc, groups.deactivates.as_slice())?;
+    let recovers = parts_of(alloc, groups.recovers.as_slice())?;
+    let deactivates = parts_of(alloc, groups.deactivates.as_slice())?;
     Ok(CoreProofs {
         recovers,
         deactivates,
@@ -69,7 +68,7 @@ pub(crate) fn provisional_proof_file(
     if groups.updates.len() == 0 {
         return Ok(Ok(List::new(alloc)));
     }
-    let proofs = signed_texts_of(alloc, groups.updates.as_slice())?;
+    let proofs: List<KeptText> = parts_of(alloc, groups.updates.as_slice())?;
     let bytes = write_provisional_proof(alloc, proofs.as_slice())?;
     Ok(filed(alloc, Role::ProvisionalProof, bytes, params)?)
 }
@@ -86,7 +85,7 @@ pub(crate) fn chunk_file(
         return Ok(Ok(List::new(alloc)));
     }
     let deltas = deltas(alloc, groups)?;
-    let bytes = chunk_text(alloc, deltas.as_slice())?;
+    let bytes = write_chunk(alloc, deltas.as_slice())?;
     Ok(filed(alloc, Role::Chunk, bytes, params)?)
 }
 
@@ -107,8 +106,8 @@ fn deltas(alloc: Global, groups: &Groups) -> Result<List<PackedJson>, WantOfMemo
     ensures { IfOk result (λ deltas. deltas ≡ filter_map delta_there (with_delta (plain_groups groups.now))) }
 {
     let mut deltas = List::new(alloc);
-    push_deltas(alloc, &mut deltas, groups.creates.as_slice())?;
-    push_deltas(alloc, &mut deltas, groups.recovers.as_slice())?;
-    push_deltas(alloc, &mut deltas, groups.updates.as_slice())?;
+    push_parts(alloc, &mut deltas, groups.creates.as_slice())?;
+    push_parts(alloc, &mut deltas, groups.recovers.as_slice())?;
+    push_parts(alloc, &mut deltas, groups.updates.as_slice())?;
     Ok(deltas)
 }

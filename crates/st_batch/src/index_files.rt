@@ -9,7 +9,7 @@ ghost use Rattle.st_datafiles.specs.declared.role.Role.TheVariants.{Chunk, CoreP
 
 use crate::batch::BatchFile;
 use crate::files::{Fitting, filed, first_uri};
-use crate::gathering::{suffix_data_of, targets_of};
+use crate::gathering::parts_of;
 use crate::grouping::Groups;
 use st_base::{Bytes, List, WantOfMemory};
 use st_datafiles::Role;
@@ -51,7 +51,7 @@ fn provisional_index(
       updates = filter_map target_in (plain_groups groups.now).updates;
     }) }
 {
-    let updates = targets_of(alloc, groups.updates.as_slice())?;
+    let updates = parts_of(alloc, groups.updates.as_slice())?;
     Ok(ProvisionalIndex {
         proof,
         chunk,
@@ -88,9 +88,9 @@ fn core_index(
       deactivates = filter_map target_in (plain_groups groups.now).deactivates;
     }) }
 {
-    let creates = suffix_data_of(alloc, groups.creates.as_slice())?;
-    let recovers = targets_of(alloc, groups.recovers.as_slice())?;
-    let deactivates = targets_of(alloc, groups.deactivates.as_slice())?;
+    let creates = parts_of(alloc, groups.creates.as_slice())?;
+    let recovers = parts_of(alloc, groups.recovers.as_slice())?;
+    let deactivates = parts_of(alloc, groups.deactivates.as_slice())?;
     Ok(CoreIndex {
         core_proof,
         provisional,

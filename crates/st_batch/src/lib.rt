@@ -5,7 +5,6 @@
 
 mod asking;
 mod batch;
-mod chunk_text;
 mod data_files;
 mod delta_checking;
 mod entries;
@@ -13,7 +12,6 @@ mod files;
 mod flushing;
 mod gathering;
 mod grouping;
-mod in_files;
 mod index_files;
 mod knowing;
 mod laws;

@@ -1,2 +1,3 @@
--- For the crates above.
+-- For the crates above: a written file fails no rule and is read again.
+pub mod ChunkLemmas
 pub mod ProofLemmas

@@ -1,37 +1,163 @@
--- The content of the JSON of a core index that was written.
-use Rattle.std.proofs.Common.{◌≡◌, ◌∙◌, ℕ, true, List, Some, codes, refl, ap}
-use Rattle.std.proofs.lemmas.Bool.{and_parts}
+-- The JSON of a core index that was written: its content is the index, and it fails no rule.
+use Rattle.std.proofs.Common.{◌≡◌, ◌∙◌, ℕ, ◌+◌, ◌≤◌, true, false, nat_lt, List, codes, length, map, Option, Some, None, refl, sym, ap, arith}
+use Rattle.std.specs.Prelude.{◌||◌, is_some, option_map}
+use Rattle.std.specs.List.{AllByRecursion, filter_map}
+use Rattle.std.proofs.lemmas.Bool.{and_from, and_parts, le-ltb, not_from_true}
+use Rattle.st_base.specs.Each.{each_is}
+use Rattle.st_base.specs.Twice.{has_twice}
+use Rattle.st_plain.specs.Canonical.{canonical}
 use Rattle.st_plain.specs.Find.{member_at}
-use Rattle.st_plain.specs.Shapes.{member_in}
-use Rattle.st_plain.proofs.ObjectLemmas.{member_at-some_listed, member_in-some_object}
-use Rattle.st_indexfiles.specs.CoreIndex.{core_index_of, core_json, core_lists, core_members, core_operations}
-use Rattle.st_indexfiles.specs.CoreRules.{has_core_entries, has_core_members}
+use Rattle.st_plain.specs.Objects.{some_list, some_object}
+use Rattle.st_plain.specs.Plain.{Plain}
+use Rattle.st_plain.specs.Shapes.{entries_in, is_list_if_there, json_in, member_in}
+use Rattle.st_plain.proofs.ObjectLemmas.{entries_in-some_list, has_only-some_listed, member_at-some_listed, member_in-some_object}
+use Rattle.st_plain.proofs.ReadableLemmas.{json_again}
+use Rattle.st_hash.specs.Hash.{same_hash}
+use Rattle.st_indexfiles.specs.CoreIndex.{core_index_of, core_json, core_lists, core_members, core_operations, operations_of, suffixes_of}
+use Rattle.st_indexfiles.specs.CoreParts.{says_stray_proof}
+use Rattle.st_indexfiles.specs.CoreRules.{core_json_rules, core_kinds, core_names, first_failing_core_rule, has_core_entries, has_core_form, has_core_members, has_signed, one_alone, operation_count}
+use Rattle.st_indexfiles.specs.Hashes.{hash_json, is_uri_if_there, uri_in}
+use Rattle.st_indexfiles.specs.ProvisionalRules.{core_count}
 use Rattle.st_indexfiles.specs.SuffixData.{create_json, create_of}
 use Rattle.st_indexfiles.specs.Target.{target_json, target_of}
 use Rattle.st_indexfiles.specs.Written.{IsCoreReadAgain}
 use Rattle.st_indexfiles.specs.declared.core_index.CoreIndex.{CoreIndex}
-use Rattle.st_indexfiles.proofs.WrittenLemmas.{entries_again, uri_again}
+use Rattle.st_indexfiles.specs.declared.core_rule.CoreRule.TheVariants.{C1, C2}
+use Rattle.st_params.specs.Limits.{Limits}
+use Rattle.st_indexfiles.proofs.PassingLemmas.{list_passes, lists_pass, written_passes}
+use Rattle.st_indexfiles.proofs.ReadLemmas.{counted_core, stray_core}
+use Rattle.st_indexfiles.proofs.ReadableLemmas.{core_readable}
+use Rattle.st_indexfiles.proofs.WrittenLemmas.{IsAgain, IsUriAgain, all_again, each_again, now_again, uri_again, uri_passes, uri_read}
+
+-- each part of a core index is read from its written form
+pub record IsCoreRead (version : ℕ) (index : CoreIndex) : Type 0 where
+  pub core_proof : IsUriAgain index.core_proof
+  pub provisional : IsUriAgain index.provisional
+  pub creates : AllByRecursion (IsAgain (create_of version) create_json) index.creates
+  pub recovers : AllByRecursion (IsAgain (target_of version) target_json) index.recovers
+  pub deactivates : AllByRecursion (IsAgain (target_of version) target_json) index.deactivates
+
+-- properties of a core index that is written at these limits under this count
+pub record IsCoreSound (limits : Limits) (count : ℕ) (index : CoreIndex) : Type 0 where
+  pub parts : IsCoreRead limits.version index
+  pub few : length index.creates + length index.recovers + length index.deactivates ≤ count
+  pub different : has_twice same_hash (suffixes_of index) ≡ false
+  pub proved : one_alone (is_some index.core_proof) (nat_lt 0 (length index.recovers) || nat_lt 0 (length index.deactivates)) ≡ false
 
 module _ (index : CoreIndex) where
-  kind_there : (kind : List ℕ) → member_in kind (member_in (codes "operations") (Some (core_json index))) ≡ member_at kind (core_operations index)
-  kind_there kind =
-      ap (member_in kind) (member_at-some_listed (codes "operations") (core_members index) refl) ∙ member_in-some_object kind (core_operations index)
+  -- ---- its members
 
-  -- if its parts have their form, the JSON of an index has this index as its content
-  pub core_index_of-core_json : (version max_lock_id : ℕ) → IsCoreReadAgain index
-      → has_core_members max_lock_id (Some (core_json index)) ≡ true → has_core_entries version (Some (core_json index)) ≡ true
-      → core_index_of version (Some (core_json index)) ≡ index
-  unfolding core_index_of has_core_members has_core_entries
-  core_index_of-core_json version max_lock_id again are_members are_entries =
+  abbrev json : Option Plain
+  json = Some (core_json index)
+
+  operations_there : member_in (codes "operations") json ≡ some_object (core_operations index)
+  operations_there = member_at-some_listed (codes "operations") (core_members index) refl
+
+  kind_there : (kind : List ℕ) (entries : List Plain) → member_at kind (core_operations index) ≡ some_list entries → operations_of kind json ≡ entries
+  kind_there kind entries there =
+      ap entries_in (ap (member_in kind) operations_there ∙ member_in-some_object kind (core_operations index) ∙ there) ∙ entries_in-some_list entries
+
+  creates_at : operations_of (codes "create") json ≡ map create_json index.creates
+  creates_at = kind_there (codes "create") _ (member_at-some_listed (codes "create") (core_lists index) refl)
+
+  recovers_at : operations_of (codes "recover") json ≡ map target_json index.recovers
+  recovers_at = kind_there (codes "recover") _ (member_at-some_listed (codes "recover") (core_lists index) refl)
+
+  deactivates_at : operations_of (codes "deactivate") json ≡ map target_json index.deactivates
+  deactivates_at = kind_there (codes "deactivate") _ (member_at-some_listed (codes "deactivate") (core_lists index) refl)
+
+  core_proof_at : member_in (codes "coreProofFileUri") json ≡ option_map hash_json index.core_proof
+  core_proof_at = member_at-some_listed (codes "coreProofFileUri") (core_members index) refl
+
+  provisional_at : member_in (codes "provisionalIndexFileUri") json ≡ option_map hash_json index.provisional
+  provisional_at = member_at-some_listed (codes "provisionalIndexFileUri") (core_members index) refl
+
+  no_lock : member_in (codes "writerLockId") json ≡ None
+  no_lock = member_at-some_listed (codes "writerLockId") (core_members index) refl
+
+  -- ---- its content
+
+  -- the content of its JSON is this index
+  pub core_says : (version : ℕ) → IsCoreRead version index → core_index_of version json ≡ index
+  unfolding core_index_of
+  core_says version parts =
+      let core_proof = ap uri_in core_proof_at ∙ uri_read index.core_proof parts.core_proof in
+      let provisional = ap uri_in provisional_at ∙ uri_read index.provisional parts.provisional in
+      let creates = ap (filter_map (create_of version)) creates_at ∙ all_again (create_of version) create_json index.creates parts.creates in
+      let recovers = ap (filter_map (target_of version)) recovers_at ∙ all_again (target_of version) target_json index.recovers parts.recovers in
+      let deactivates = ap (filter_map (target_of version)) deactivates_at
+      ∙ all_again (target_of version) target_json index.deactivates parts.deactivates in
+      λ i. record { core_proof = core_proof i; provisional = provisional i; creates = creates i; recovers = recovers i; deactivates = deactivates i }
+
+  -- each part of a written index is read, if the parts have their form
+  pub core_parts : (version max_lock_id : ℕ) → IsCoreReadAgain index → has_core_members max_lock_id json ≡ true → has_core_entries version json ≡ true
+      → IsCoreRead version index
+  unfolding has_core_members has_core_entries
+  core_parts version max_lock_id again are_members are_entries =
       let uris = and_parts _ _ are_members in
       let lists = and_parts _ _ are_entries in
       let later = and_parts _ _ lists.1 in
-      let core_proof = uri_again index.core_proof _ again.core_proof (member_at-some_listed (codes "coreProofFileUri") (core_members index) refl) uris.0 in
-      let provisional = uri_again index.provisional _ again.provisional (member_at-some_listed (codes "provisionalIndexFileUri") (core_members index) refl) (and_parts _ _ uris.1).0 in
-      let creates = entries_again create_of create_json version index.creates _ again.creates
-      (kind_there (codes "create") ∙ member_at-some_listed (codes "create") (core_lists index) refl) lists.0 in
-      let recovers = entries_again target_of target_json version index.recovers _ again.recovers
-      (kind_there (codes "recover") ∙ member_at-some_listed (codes "recover") (core_lists index) refl) later.0 in
-      let deactivates = entries_again target_of target_json version index.deactivates _ again.deactivates
-      (kind_there (codes "deactivate") ∙ member_at-some_listed (codes "deactivate") (core_lists index) refl) later.1 in
-      λ i. record { core_proof = core_proof i; provisional = provisional i; creates = creates i; recovers = recovers i; deactivates = deactivates i }
+      record {
+        core_proof = uri_again index.core_proof (sym (ap is_uri_if_there core_proof_at) ∙ uris.0) again.core_proof;
+        provisional = uri_again index.provisional (sym (ap is_uri_if_there provisional_at) ∙ (and_parts _ _ uris.1).0) again.provisional;
+        creates = now_again create_of create_json version index.creates (sym (ap (each_is (create_of version)) creates_at) ∙ lists.0) again.creates;
+        recovers = now_again target_of target_json version index.recovers (sym (ap (each_is (target_of version)) recovers_at) ∙ later.0) again.recovers;
+        deactivates = now_again target_of target_json version index.deactivates (sym (ap (each_is (target_of version)) deactivates_at) ∙ later.1)
+            again.deactivates;
+      }
+
+  -- ---- the rules
+
+  form_passes : has_core_form json ≡ true
+  unfolding has_core_form
+  form_passes =
+      let names = has_only-some_listed core_names (core_members index) refl in
+      let create = ap is_list_if_there (member_at-some_listed (codes "create") (core_lists index) refl) ∙ list_passes (map create_json index.creates) in
+      let recover = ap is_list_if_there (member_at-some_listed (codes "recover") (core_lists index) refl) ∙ list_passes (map target_json index.recovers) in
+      let deactivate = ap is_list_if_there (member_at-some_listed (codes "deactivate") (core_lists index) refl) ∙ list_passes (map target_json index.deactivates) in
+      let lists = lists_pass core_kinds (core_operations index) (has_only-some_listed core_kinds (core_lists index) refl)
+      (and_from _ _ create (and_from _ _ recover (and_from _ _ deactivate refl))) in
+      and_from _ _ names (rw operations_there lists)
+
+module _ (limits : Limits) (count : ℕ) (index : CoreIndex) (sound : IsCoreSound limits count index) where
+  says : core_index_of limits.version (json index) ≡ index
+  says = core_says index limits.version sound.parts
+
+  members_pass : has_core_members limits.max_lock_id (json index) ≡ true
+  unfolding has_core_members
+  members_pass =
+      and_from _ _ (ap is_uri_if_there (core_proof_at index) ∙ uri_passes index.core_proof sound.parts.core_proof)
+      (and_from _ _ (ap is_uri_if_there (provisional_at index) ∙ uri_passes index.provisional sound.parts.provisional) (rw (no_lock index) refl))
+
+  entries_pass : has_core_entries limits.version (json index) ≡ true
+  unfolding has_core_entries
+  entries_pass =
+      and_from _ _ (ap (each_is (create_of limits.version)) (creates_at index) ∙ each_again (create_of limits.version) create_json index.creates sound.parts.creates)
+      (and_from _ _ (ap (each_is (target_of limits.version)) (recovers_at index) ∙ each_again (target_of limits.version) target_json index.recovers sound.parts.recovers)
+      (ap (each_is (target_of limits.version)) (deactivates_at index)
+      ∙ each_again (target_of limits.version) target_json index.deactivates sound.parts.deactivates))
+
+  count_passes : nat_lt count (operation_count (json index)) ≡ false
+  count_passes =
+      let counted : operation_count (json index) ≡ length index.creates + length index.recovers + length index.deactivates =
+      sym (counted_core limits.version (json index) entries_pass) ∙ ap core_count says in
+      le-ltb count (operation_count (json index)) (omega (arith, sound.few, counted))
+
+  proved_passes : one_alone (is_some (member_in (codes "coreProofFileUri") (json index))) (has_signed (json index)) ≡ false
+  unfolding says_stray_proof
+  proved_passes =
+      sym (stray_core limits.version (json index) entries_pass limits.max_lock_id members_pass) ∙ (ap says_stray_proof says ∙ sound.proved)
+
+  -- its file fails no rule, and its content is the index
+  pub core_again : length (canonical (core_json index)) ≤ limits.max_index
+      → (first_failing_core_rule limits count (canonical (core_json index)) ≡ None)
+      × (core_index_of limits.version (json_in (canonical (core_json index))) ≡ index)
+  core_again small =
+      let different : has_twice same_hash (suffixes_of (core_index_of limits.version (json index))) ≡ false =
+      ap (λ said. has_twice same_hash (suffixes_of said)) says ∙ sound.different in (
+        written_passes C1 C2 (core_json_rules limits count) limits.max_index (core_json index) (core_readable index) small (
+          not_from_true _ (form_passes index),
+          (not_from_true _ members_pass, (not_from_true _ entries_pass, (count_passes, (different, (proved_passes, tt))))),
+        ),
+        ap (core_index_of limits.version) (json_again (core_json index) (core_readable index)) ∙ says,
+      )

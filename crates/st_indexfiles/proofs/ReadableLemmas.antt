@@ -30,24 +30,13 @@ hash_text_utf8 hash = IsUtf8-from_ascii (hash_text hash) (IsAscii-encode_of url_
 pub hash_readable : (hash : HashValue) → IsReadable 1 (hash_json hash)
 hash_readable hash = (hash_text_utf8 hash, omega arith)
 
--- ---- lists
-
-pub each_map : {Item Said : Type 0} (write : Said → Item) (P : Said → Type 0) (Q : Item → Type 0) → ((one : Said) → P one → Q (write one))
-    → (said : List Said) → AllByRecursion P said → AllByRecursion Q (map write said)
-each_map write P Q follows [] all = tt
-each_map write P Q follows (one ∷ more) all = (follows one all.0, each_map write P Q follows more all.1)
-
-pub each_holds : {Item : Type 0} (P : Item → Type 0) → ((one : Item) → P one) → (items : List Item) → AllByRecursion P items
-each_holds P holds [] = tt
-each_holds P holds (one ∷ more) = (holds one, each_holds P holds more)
-
 -- ---- entries
 
 -- a name that is a literal
 pub utf8 : (literal : List ℕ) → (scalars literal ≡ true) × (encodes literal ≡ literal) → IsUtf8 literal
 utf8 literal is = (literal, is)
 
-pub target_readable : (target : Target) → IsReadable 2 (target_json target)
+pub target_readable : (target : Target) → IsReadable 3 (target_json target)
 unfolding names_on_literals encode
 target_readable target = (
   (
@@ -77,14 +66,12 @@ create_readable create = (
 )
 
 targets_readable : (targets : List Target) → AllByRecursion (IsReadable 3) (map target_json targets)
-targets_readable targets =
-    each_map target_json (λ one. IsReadable 2 (target_json one)) (IsReadable 3) (λ one readable. deeper 2 3 (target_json one) (omega arith) readable) targets
-    (each_holds (λ one. IsReadable 2 (target_json one)) target_readable targets)
+targets_readable [] = tt
+targets_readable (target ∷ targets) = (target_readable target, targets_readable targets)
 
 creates_readable : (creates : List SuffixData) → AllByRecursion (IsReadable 3) (map create_json creates)
-creates_readable creates =
-    each_map create_json (λ one. IsReadable 3 (create_json one)) (IsReadable 3) (λ one readable. readable) creates
-    (each_holds (λ one. IsReadable 3 (create_json one)) create_readable creates)
+creates_readable [] = tt
+creates_readable (create ∷ creates) = (create_readable create, creates_readable creates)
 
 -- an optional URI
 pub uri_readable : (most : ℕ) (uri : Option HashValue) → 1 ≤ most → IsReadableThere most (option_map hash_json uri)

@@ -1,17 +1,19 @@
 -- What was written is read again: hashes, lists of entries, URIs.
-use Rattle.std.specs.Prelude.{is_some}
-use Rattle.std.specs.List.{cons_option, filter_map}
+use Rattle.std.specs.Prelude.{is_some, IfSome}
+use Rattle.std.specs.List.{AllByRecursion, filter_map}
 use Rattle.std.specs.Option.{option_or}
-use Rattle.std.proofs.Common.{◌≡◌, ◌∙◌, ℕ, ◌==◌, Bool, true, false, cond, List, [], ◌∷◌, Option, Some, None, option_and_then, option_map, map, refl, sym, ap}
+use Rattle.std.proofs.Common.{◌≡◌, ℕ, ◌==◌, Bool, true, false, cond, List, [], ◌∷◌, Option, Some, None, option_and_then, option_map, map, refl, ap}
 use Rattle.std.proofs.lemmas.Bool.{and_parts}
 use Rattle.st_base.specs.Each.{each_is}
-use Rattle.st_plain.specs.Objects.{some_list}
 use Rattle.st_plain.specs.Plain.{Plain}
-use Rattle.st_plain.specs.Shapes.{entries_in}
-use Rattle.st_plain.proofs.ObjectLemmas.{entries_in-some_list}
+use Rattle.st_plain.proofs.OnLiterals.{names_on_literals}
 use Rattle.st_hash.specs.Hash.{HashValue, hash_of_text, hash_of_text_at, hash_of_text_with, hash_text}
 use Rattle.st_indexfiles.specs.Hashes.{hash_json, is_uri_if_there, uri_in}
+use Rattle.st_indexfiles.specs.SuffixData.{create_json, create_of}
+use Rattle.st_indexfiles.specs.Target.{target_json, target_of}
 use Rattle.st_indexfiles.specs.Written.{AreReadAgain, IsHashReadAgain, IsUriReadAgain, ReadsAs}
+use Rattle.st_indexfiles.specs.declared.suffix_data.SuffixData.{SuffixData}
+use Rattle.st_indexfiles.specs.declared.target.Target.{Target}
 
 -- ---- hashes
 
@@ -45,31 +47,56 @@ read_as (Some found) said some again = ap Some again
 
 -- ---- lists of entries
 
-read_one : {Said : Type 0} (read : Option Said) (one : Said) (others : List Said) → is_some read ≡ true → ReadsAs read one
-    → cons_option read others ≡ one ∷ others
-read_one None one others some again = cc
-read_one (Some found) one others some again = ap (λ first. first ∷ others) again
+-- this is read from its written form
+abbrev pub IsAgain : {Item Said : Type 0} → (Item → Option Said) → (Said → Item) → Said → Type 0
+IsAgain read write said = read (write said) ≡ Some said
 
-read_again : {Said : Type 0} (read : ℕ → Plain → Option Said) (json : Said → Plain) (version : ℕ) (said : List Said)
-    → each_is (read version) (map json said) ≡ true → AreReadAgain read json said → filter_map (read version) (map json said) ≡ said
-read_again read json version [] some again = refl
-read_again read json version (one ∷ more) some again =
+module _ {Item Said : Type 0} (read : Item → Option Said) (write : Said → Item) where
+  -- each entry is read
+  pub each_again : (said : List Said) → AllByRecursion (IsAgain read write) said → each_is read (map write said) ≡ true
+  each_again [] all = refl
+  each_again (one ∷ more) all = rw all.0 (each_again more all.1)
+
+  -- and they are read as their originals
+  pub all_again : (said : List Said) → AllByRecursion (IsAgain read write) said → filter_map read (map write said) ≡ said
+  all_again [] all = refl
+  all_again (one ∷ more) all = rw all.0 (ap (λ others. one ∷ others) (all_again more all.1))
+
+-- entries that are read are read as their originals, if they are in each version that reads them
+pub now_again : {Said : Type 0} (read : ℕ → Plain → Option Said) (json : Said → Plain) (version : ℕ) (said : List Said)
+    → each_is (read version) (map json said) ≡ true → AreReadAgain read json said → AllByRecursion (IsAgain (read version) json) said
+now_again read json version [] some again = tt
+now_again read json version (one ∷ more) some again =
     let parts = and_parts (is_some (read version (json one))) (each_is (read version) (map json more)) some in
-    read_one (read version (json one)) one _ parts.0 (again.0 version) ∙ ap (λ rest. one ∷ rest) (read_again read json version more parts.1 again.1)
+    (read_as (read version (json one)) one parts.0 (again.0 version), now_again read json version more parts.1 again.1)
 
--- written entries are read as their originals, if each is read
-pub entries_again : {Said : Type 0} (read : ℕ → Plain → Option Said) (json : Said → Plain) (version : ℕ) (said : List Said) (there : Option Plain)
-    → AreReadAgain read json said → there ≡ some_list (map json said) → each_is (read version) (entries_in there) ≡ true
-    → filter_map (read version) (entries_in there) ≡ said
-entries_again read json version said there again is some =
-    let entries : entries_in there ≡ map json said = ap entries_in is ∙ entries_in-some_list (map json said) in
-    ap (filter_map (read version)) entries ∙ read_again read json version said (sym (ap (each_is (read version)) entries) ∙ some) again
+-- an entry is read if its hashes are
+pub target_again : (version : ℕ) (target : Target) → hash_of_text_at version (hash_text target.suffix) ≡ Some target.suffix
+    → hash_of_text_at version (hash_text target.reveal) ≡ Some target.reveal → IsAgain (target_of version) target_json target
+unfolding names_on_literals
+target_again version target suffix reveal = rw (suffix, reveal) refl
+
+pub create_again : (version : ℕ) (create : SuffixData) → hash_of_text_at version (hash_text create.delta_hash) ≡ Some create.delta_hash
+    → hash_of_text_at version (hash_text create.recovery_commitment) ≡ Some create.recovery_commitment
+    → IsAgain (create_of version) create_json create
+unfolding names_on_literals
+create_again version create first second = rw (first, second) refl
 
 -- ---- URIs
 
--- a written URI is read as itself, if the value is a URI or missing
-pub uri_again : (uri : Option HashValue) (there : Option Plain) → IsUriReadAgain uri → there ≡ option_map hash_json uri
-    → is_uri_if_there there ≡ true → uri_in there ≡ uri
-uri_again None there again is holds = ap uri_in is
-uri_again (Some uri) there again is holds =
-    ap uri_in is ∙ read_as (uri_in (Some (hash_json uri))) uri (sym (ap is_uri_if_there is) ∙ holds) (again 1)
+-- an optional URI is read from its text
+abbrev pub IsUriAgain : Option HashValue → Type 0
+IsUriAgain uri = IfSome uri (λ found. hash_of_text (hash_text found) ≡ Some found)
+
+pub uri_read : (uri : Option HashValue) → IsUriAgain uri → uri_in (option_map hash_json uri) ≡ uri
+uri_read None again = refl
+uri_read (Some uri) again = again
+
+pub uri_passes : (uri : Option HashValue) → IsUriAgain uri → is_uri_if_there (option_map hash_json uri) ≡ true
+uri_passes None again = refl
+uri_passes (Some uri) again = rw again refl
+
+-- a URI that is read is read as itself, if it is in each version that reads it
+pub uri_again : (uri : Option HashValue) → is_uri_if_there (option_map hash_json uri) ≡ true → IsUriReadAgain uri → IsUriAgain uri
+uri_again None is again = tt
+uri_again (Some uri) is again = read_as (uri_in (Some (hash_json uri))) uri is (again 1)

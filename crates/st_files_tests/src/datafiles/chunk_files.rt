@@ -1,6 +1,6 @@
 use super::case_of;
-use st_base::{Bytes, Copied, FileRefused, List, Shared, WantOfMemory, Work};
-use st_canon::{Json, PackedJson, equal, read, write};
+use st_base::{Bytes, Copied, FileRefused, Shared, WantOfMemory, Work};
+use st_canon::{PackedJson, equal, read, write};
 use st_datafiles::{Role, read_chunk, write_chunk};
 use st_params::Schedule;
 use std::alloc::Global;
@@ -91,21 +91,12 @@ fn a_chunk_file_has_a_largest_size(rt: HostRuntime) -> Result<(), Fail> {
     Ok(())
 }
 
-fn unpacked(alloc: Global, deltas: &[PackedJson]) -> Result<List<Json>, WantOfMemory> {
-    let mut unpacked = List::new(alloc);
-    for delta in deltas {
-        unpacked.push(alloc, delta.unpack(alloc)?)?;
-    }
-    Ok(unpacked)
-}
-
-// Whether these packed deltas are written as their canonical text, and one of them as it is read.
-fn are_written(alloc: Global, packed: &[PackedJson]) -> Result<bool, WantOfMemory> {
-    let deltas = unpacked(alloc, packed)?;
-    let written = write_chunk(alloc, deltas.as_slice())?;
+// Whether these deltas are written as their canonical text, and the first of them as it is read.
+fn are_written(alloc: Global, deltas: &[PackedJson]) -> Result<bool, WantOfMemory> {
+    let written = write_chunk(alloc, deltas)?;
     Ok(
         written.as_slice() == b"{\"deltas\":[{\"a\":-1,\"b\":[null]},\"x\"]}".as_slice()
-            && is_first(alloc, deltas.as_slice(), b"{\"a\":-1,\"b\":[null]}"),
+            && is_first(alloc, deltas, b"{\"a\":-1,\"b\":[null]}")?,
     )
 }
 
@@ -121,13 +112,13 @@ fn are_written_again(rt: &HostRuntime) -> Result<bool, WantOfMemory> {
     }
 }
 
-fn is_first(alloc: Global, deltas: &[Json], text: &[u8]) -> bool {
+fn is_first(alloc: Global, deltas: &[PackedJson], text: &[u8]) -> Result<bool, WantOfMemory> {
     match read(alloc, text) {
         Ok(value) => match deltas.first() {
-            Some(first) => equal(first, &value),
-            None => false,
+            Some(first) => Ok(equal(&first.unpack(alloc)?, &value)),
+            None => Ok(false),
         },
-        Err(_) => false,
+        Err(_) => Ok(false),
     }
 }
 

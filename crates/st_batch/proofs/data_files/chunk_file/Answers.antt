@@ -12,6 +12,6 @@ pub returns : goal.returns
 unfolding chunk_text
 returns c =
     let some = are_some _ _ c.has_chunk.ensures c.if-not-has_chunk.false in
-    c.in_ok-filed.ensures ∙ ap (λ file. where_small c.args.params.now (filed Chunk file)) (ap Some (c.in_ok-bytes.ensures
+    c.in_ok-filed.ensures ∙ ap (λ file. where_small c.args.params.now (filed Chunk file)) (ap Some (c.in_ok-bytes.ensures.text
     ∙ ap (λ deltas. canonical (chunk_json deltas)) (c.as_slice.ensures ∙ c.in_ok-deltas.ensures))
     ∙ sym (chunk_some (plain_groups c.args.groups.now) some))

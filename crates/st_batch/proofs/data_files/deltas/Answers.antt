@@ -11,7 +11,7 @@ pub returns : goal.returns
 returns c =
     let groups = plain_groups c.args.groups.now in
     let deltas = λ (operations : List Operation). filter_map delta_there (map plain_operation operations) in
-    behind deltas c.in_ok-push_deltas-3.ensures c.as_slice-3.ensures
-    (behind deltas c.in_ok-push_deltas-2.ensures c.as_slice-2.ensures
-    (behind deltas c.in_ok-push_deltas.ensures c.as_slice.ensures c.new-deltas.ensures))
+    behind deltas c.in_ok-push_parts-3.ensures c.as_slice-3.ensures
+    (behind deltas c.in_ok-push_parts-2.ensures c.as_slice-2.ensures
+    (behind deltas c.in_ok-push_parts.ensures c.as_slice.ensures c.new-deltas.ensures))
     ∙ parts_of_three delta_there groups.creates groups.recovers groups.updates

@@ -1,10 +1,11 @@
 use Rattle.std.proofs.Common.{◌≡◌, ◌∙◌, ◌≤◌, length, Some, true, sym, ap, arith}
 use Rattle.std.specs.Result.{result_ok}
+use Rattle.std.proofs.lemmas.Bool.{lt-leb}
 use Rattle.st_datafiles.specs.declared.role.Role.TheVariants.{Core, CoreProof, Provisional, ProvisionalProof, Chunk}
 use Rattle.st_hash.specs.Hash.{uri_of}
 use Rattle.st_batch.specs.BatchFiles.{anchor_text, core_file, filed, files_of}
 use Rattle.st_batch.specs.Grouping.{plain_groups}
-use Rattle.st_batch.proofs.SmallLemmas.{filed_long, is_role_small, none_long, one_long, over, role_kept, short_small}
+use Rattle.st_batch.proofs.SmallLemmas.{filed_long, is_role_small, none_long, one_long, role_kept, short_small}
 use Rattle.st_batch.proofs.WrittenLemmas.{batch_said, put_behind}
 use Rattle.st_batch.proofs.writing.write_batch.Goals as goal
 
@@ -30,7 +31,7 @@ returns-then-long-most c =
     let limits = c.args.params.now in
     let same = ap length (c.as_slice-long.ensures ∙ c.in_ok-core.ensures) in
     one_long limits c.args.count groups Core
-    (sym (filed_long limits Core (core_file groups) (over (length (core_file groups)) limits.max_index (omega (arith, c.if-long-most.true, same, c.max_index-most.ensures)))))
+    (sym (filed_long limits Core (core_file groups) (lt-leb (length (core_file groups)) limits.max_index (omega (arith, c.if-long-most.true, same, c.max_index-most.ensures)))))
 
 pub returns : goal.returns
 unfolding files_of

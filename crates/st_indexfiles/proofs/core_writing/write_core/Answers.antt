@@ -6,7 +6,7 @@ use Rattle.st_plain.proofs.ReadableLemmas.{json_again}
 use Rattle.st_indexfiles.specs.CoreIndex.{core_index_of, core_json}
 use Rattle.st_indexfiles.specs.CoreRules.{core_rules, has_core_entries, has_core_members}
 use Rattle.st_indexfiles.specs.Written.{IsCoreReadAgain}
-use Rattle.st_indexfiles.proofs.CoreLemmas.{core_index_of-core_json}
+use Rattle.st_indexfiles.proofs.CoreLemmas.{core_parts, core_says}
 use Rattle.st_indexfiles.proofs.MemberLemmas.{core_text, in_five}
 use Rattle.st_indexfiles.proofs.ReadableLemmas.{core_readable}
 use Rattle.st_indexfiles.proofs.core_writing.write_core.Goals as goal
@@ -39,4 +39,4 @@ returns-clause-read c = λ limits count none.
       recovers = operations.recovers;
       deactivates = operations.deactivates;
     } in
-    ap (core_index_of limits.version) again ∙ core_index_of-core_json index limits.version limits.max_lock_id read members entries
+    ap (core_index_of limits.version) again ∙ core_says index limits.version (core_parts index limits.version limits.max_lock_id read members entries)

@@ -8,7 +8,7 @@ use Rattle.st_indexfiles.specs.ProvisionalIndex.{chunk_in, provisional_index_of,
 use Rattle.st_indexfiles.specs.ProvisionalRules.{has_provisional_entries, provisional_rules}
 use Rattle.st_indexfiles.specs.Written.{IsProvisionalReadAgain}
 use Rattle.st_indexfiles.proofs.MemberLemmas.{in_six, provisional_text}
-use Rattle.st_indexfiles.proofs.ProvisionalLemmas.{provisional_index_of-provisional_json}
+use Rattle.st_indexfiles.proofs.ProvisionalLemmas.{provisional_parts, provisional_says}
 use Rattle.st_indexfiles.proofs.ReadableLemmas.{provisional_readable}
 use Rattle.st_indexfiles.proofs.provisional_writing.write_provisional.Goals as goal
 
@@ -34,4 +34,4 @@ returns-clause-read c = λ limits count core none.
       chunk = c.in_ok-append_hash.ensures.read;
       updates = c.in_ok-append_operations.ensures.updates;
     } in
-    ap (provisional_index_of limits.version) again ∙ provisional_index_of-provisional_json index limits.version read chunk entries
+    ap (provisional_index_of limits.version) again ∙ provisional_says index limits.version (provisional_parts index limits.version read chunk entries)
