@@ -6,6 +6,20 @@ use st_wallet::{Wallet, WalletRefused};
 use std::alloc::Global;
 use std::test::Fail;
 
+// A vault of a type whose signatures are quick to compute, a key, and four requests that are
+// signed. Two calls of the disk open it if it is empty, eight make the vault, and two spend each
+// counter.
+const LINES: &str = "\
+format 2 5 07070707070707070707070707070707 0a0a0a0a0a0a0a0a0a0a0a0a0a0a0a0a0b0b0b0b0b0b0b0b0b0b0b0b0b0b0b0b
+key -
+update EiDjsMRCmPwcFJr79MiZb7kkJ65B5GSbk0yklZkbeFK4VQ - {\"patches\":[],\"updateCommitment\":\"EiDjsMRCmPwcFJr79MiZb7kkJ65B5GSbk0yklZkbeFK4VQ\"}
+update EiDjsMRCmPwcFJr79MiZb7kkJ65B5GSbk0yklZkbeFK4VQ - {\"patches\":[],\"updateCommitment\":\"EiDjsMRCmPwcFJr79MiZb7kkJ65B5GSbk0yklZkbeFK4VQ\"}
+update EiDjsMRCmPwcFJr79MiZb7kkJ65B5GSbk0yklZkbeFK4VQ - {\"patches\":[],\"updateCommitment\":\"EiDjsMRCmPwcFJr79MiZb7kkJ65B5GSbk0yklZkbeFK4VQ\"}
+update EiDjsMRCmPwcFJr79MiZb7kkJ65B5GSbk0yklZkbeFK4VQ - {\"patches\":[],\"updateCommitment\":\"EiDjsMRCmPwcFJr79MiZb7kkJ65B5GSbk0yklZkbeFK4VQ\"}
+";
+
+const CALLS: u64 = 2 + 8 + 4 * 2;
+
 // Two signatures of two levels, the first of which is the last of its lower key. Four calls open
 // the vault.
 const HSS_LINES: &str = "\
@@ -219,6 +233,14 @@ fn each_counter_is_released_once(rt: HostRuntime) -> Result<(), Fail> {
         ) => Ok(()),
         _ => Err(Fail::from("not each counter, or one twice")),
     }
+}
+
+#[test]
+fn no_stop_releases_a_counter_twice(rt: HostRuntime) -> Result<(), Fail> {
+    if calls_of_all(rt.alloc(), &[], LINES, CALLS)? == Some(CALLS) {
+        return Ok(());
+    }
+    Err(Fail::from("a counter came twice, or the run was whole at another call"))
 }
 
 #[test]
