@@ -1,4 +1,4 @@
-ghost use Rattle.std.specs.Prelude.{◌≡◌, ◌≢◌, ◌↔◌, ◌⊎◌, ◌≤◌, IsErr, IsErrOf, IfOk, IfErr};
+ghost use Rattle.std.specs.Prelude.{◌≡◌, ◌≢◌, ◌↔◌, ◌≤◌, IsErr, IsErrOf, IfOk, IfErr};
 ghost use Rattle.st_io.specs.Spent.{SpentInAll};
 ghost use Rattle.st_io.specs.Storage.{storage};
 ghost use Rattle.st_io.specs.Tears.{IfTold};
@@ -108,11 +108,11 @@ impl HssVault {
     /// The result is `Exhausted` if and only if no counter is left; it returns the vault, and the
     /// disk is unchanged. It is `DiskFault` only if the disk's count of faults rose: the vault is
     /// lost, the counter may be spent or not, and the disk must be opened again. If it runs out of
-    /// memory, the vault is lost too, and the disk is unchanged, or the counter is spent and lost.
+    /// memory, the vault is lost too, and the counter is spent and lost.
     ///
     /// The first signature computes the leaves of the top key, and the first with each lower key
-    /// those of that key, before the counter is spent; they are stored for the later signatures,
-    /// which compute none.
+    /// those of that key and its signature; they are stored for the later signatures, which compute
+    /// none.
     pub fn sign<D: Disk>(
         self,
         alloc: Global,
@@ -127,9 +127,9 @@ impl HssVault {
         ensures has_spent { IfOk result (λ given.
             HasSpent self given.0 (storage D.reads D.past D.faults disk.old disk.new)) }
 
-        // If it ran out of memory, nothing was spent, or the counter was and is lost.
-        ensures lost { IsErrOf result HssSignRefused.WantOfMemory → (disk.new ≡ disk.old)
-            ⊎ IfTold (D.reads disk.old) (λ image. SpentInAll IsSpent (D.past disk.new) self.next) }
+        // Nothing is computed before the counter is spent: if memory ran out, it was, and is lost.
+        ensures lost { IsErrOf result HssSignRefused.WantOfMemory
+            → IfTold (D.reads disk.old) (λ image. SpentInAll IsSpent (D.past disk.new) self.next) }
         ensures later { D.faults disk.old ≤ D.faults disk.new }
     {
         let HssVault { vault, kept } = self;
@@ -139,9 +139,9 @@ impl HssVault {
             return Err(HssSignRefused::Exhausted(HssVault { vault, kept }));
         }
         let n = COUNTERS - left;
-        let trees = trees_for(alloc, &vault, kept, n / LEAVES)?;
         match vault.reserve(disk) {
             Ok((vault, counter)) => {
+                let trees = trees_for(alloc, &vault, kept, n / LEAVES)?;
                 let signature = signature_with(alloc, counter, &trees, message)?;
                 Ok((
                     HssVault {
@@ -152,10 +152,7 @@ impl HssVault {
                 ))
             }
             Err(ReserveRefused::Exhausted(vault)) => {
-                Err(HssSignRefused::Exhausted(HssVault {
-                    vault,
-                    kept: Some(trees),
-                }))
+                Err(HssSignRefused::Exhausted(HssVault { vault, kept }))
             }
             Err(ReserveRefused::DiskFault) => Err(HssSignRefused::DiskFault),
         }

@@ -103,10 +103,11 @@ impl Wallet {
     /// The result is `DiskFault` only if the disk's count of faults rose, and `WantOfMemory` if
     /// memory ran out. In both cases the wallet is lost and the disk must be opened again: its
     /// state is that before the line or after it, and a counter without a reply is lost. Everything
-    /// except the signature and the text of its reply is made before the counter is reserved. The
-    /// first line that needs a key, or a signed request, computes all leaves of the tree; the first
-    /// signature of two levels those of two trees of height 5, and then one of 32 those of one.
-    /// Otherwise a signature computes only its own chains.
+    /// is made before the counter is reserved, except the signature, the trees of a signature of
+    /// two levels, and the text of the reply. The first line that needs a key, or a signed request,
+    /// computes all leaves of the tree; the first signature of two levels those of two trees of
+    /// height 5, and then one of 32 those of one. Otherwise a signature computes only its own
+    /// chains.
     pub fn step<D: Disk>(
         self,
         alloc: Global,
