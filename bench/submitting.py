@@ -1,13 +1,16 @@
 """The writer: the processor time of a node for requests and for the batches that are made of them, beside the
-bare cost of reading the JSON of the requests and hashing their bytes once; and that of a great flush beside
-small ones of the same operations.
+bare cost of reading the JSON of the requests and hashing their bytes once; that of a great flush beside small
+ones of the same operations; and that of a flush of which a file is too long beside one that just fits.
 
 The bare program is bench/programs/submit_cost.txt, over the same kit crates. It makes no batch.
 """
 import os
 
-from formats import submit_line
-from load import full_create
+import re
+import subprocess
+
+from formats import delta, hash_text, key_of, submit_line, update
+from load import full_create, same_service, secret
 from measuring import best_times, build, node, peak, write_lines
 
 # How many creates, in how many rounds; a queue holds a round, and a batch of version 2 half of it.
@@ -45,9 +48,27 @@ def flushed(folder, ours, requests):
           flush=True)
 
 
+def cut(folder, ours):
+    """Prints what a flush of updates takes whose proof file would be too long, beside one of just those that fit. All
+    reveal one key of LM-OTS type 1 and have one delta, so they share a signed text of 11 kilobytes."""
+    key, made = key_of(secret(1), "cut"), delta([same_service(1)], key_of(secret(1), "next"))
+    one = submit_line(update("SUFFIX", key, 0, made))
+    requests = [one.replace("SUFFIX", hash_text(b"%d" % number)) for number in range(GREAT)]
+    whole = write_lines(os.path.join(folder, "whole"), [*requests, "flush"])
+    with open(whole, "rb") as given:
+        replies = subprocess.run(ours, stdin=given, capture_output=True, text=True, check=True).stdout
+    fits = int(re.search(r"^batch ([0-9]+)", replies, re.M)[1])
+    runs = [whole, *(write_lines(os.path.join(folder, name), lines) for name, lines in
+                     (("asked", requests), ("fits", [*requests[:fits], "flush"]), ("few", requests[:fits])))]
+    great, without, fitting, few = best_times([(ours, given) for given in runs], 5)
+    print("a flush of %d updates, of which %d fit, takes %.2f ms, %.2f times the time of a flush of those"
+          % (GREAT, fits, (great - without) * 1e3, (great - without) / (fitting - few)), flush=True)
+
+
 def measure(folder):
-    """Prints a line for the requests with their batches, and one for a flush."""
+    """Prints a line for the requests with their batches, one for a flush, and one for a flush that is cut."""
     ours = [*node(), "--v2-at=0"]
     requests = [submit_line(full_create(number)) for number in range(CREATES)]
     requested(folder, ours, requests)
     flushed(folder, ours, requests[:2 * GREAT])
+    cut(folder, ours)
