@@ -3,7 +3,7 @@
 
 usage: bench/stops.py [PROGRAM]
 
-A wallet gets 30 requests at once, and a node with a journal 400 files. The reader goes away after the first reply, 20
+A wallet gets 30 requests at once, and a node with a journal 2,000 files. The reader goes away after the first reply, 20
 times each, after another pause each time. A pipe holds replies that nobody has read, so the program is halted first,
 the pipe is drained, and what was in it counts as written; then the pipe is closed, and the program goes on. PROGRAM is
 the built node; without one it is built by the launcher. The status is 1 if a run spent or recorded more than one line
@@ -22,7 +22,7 @@ from measuring import node
 from refusing import MAP_AT, records
 
 RUNS = 20
-REQUESTS, FILES = 30, 400
+REQUESTS, FILES = 30, 2_000
 FORMAT = b"format 3 5 %s %s\n" % (b"01" * 16, b"23" * 32)
 DELTA = (b'{"patches":[{"action":"add-services","services":[{"id":"home","type":"Site","serviceEndpoint":'
          b'"https://example.com/"}]}],"updateCommitment":"%s"}')
@@ -46,7 +46,8 @@ def begun_before_the_reader_went(command, folder, lines, pause):
         while b"\n" not in replies:
             replies += os.read(ended, 1)
         time.sleep(pause)
-        run.send_signal(signal.SIGSTOP)
+        # (`send_signal` would take in the status of a program that has ended, and nothing would be left to wait for)
+        os.kill(run.pid, signal.SIGSTOP)
         os.waitid(os.P_PID, run.pid, os.WSTOPPED | os.WEXITED | os.WNOWAIT)
         os.set_blocking(ended, False)
         try:
