@@ -28,20 +28,16 @@ def resolves(folder):
     ours = node()
     empty, asking = (os.path.join(folder, name) for name in ("empty", "asking"))
 
-    def time_of(history, between):
+    def time_of(history):
         lines, ask = history
-        # A rollback of nothing changes nothing, but lets replies that are kept go.
-        anew = ["rollback %d" % sum(line.startswith("anchor ") for line in lines)] if between else []
-        write_lines(empty, lines + anew * ASKED)
-        write_lines(asking, lines + [*anew, ask] * ASKED)
+        write_lines(empty, lines)
+        write_lines(asking, lines + [ask] * ASKED)
         without, whole = best_times([(ours, empty), (ours, asking)], 5)
         return (whole - without) / ASKED
     for what, small, great in (("entries in the ledger", 10, 10_000), ("updates of the identifier", 1, 500)):
         make = ledger if "ledger" in what else load.chain
-        for said, between in (("asked anew", True), ("whose reply is kept", False)):
-            one, other = time_of(make(small), between), time_of(make(great), between)
-            print("a resolve with %d %s, %s, takes %.2f us, %.2f times that with %d" % (great, what, said, other * 1e6, other / one, small),
-                  flush=True)
+        one, other = time_of(make(small)), time_of(make(great))
+        print("a resolve with %d %s takes %.2f us, %.2f times that with %d" % (great, what, other * 1e6, other / one, small), flush=True)
 
 
 def made_create(number, made):
