@@ -62,7 +62,8 @@ module _ (one : ℕ) (core_proofs : OpenedCore → ℕ) (proofs : List (Option P
   weigh-named count None = refl
   weigh-named count (Some uri) = refl
 
-  provisional-judged : (failing : Option ProvisionalRule) (says : Option ProvisionalIndex) → weigh one provisional_weight (provisional_judged failing says) ≡ one
+  provisional-judged : (failing : Option ProvisionalRule) (says : Option ProvisionalIndex)
+      → weigh one provisional_weight (provisional_judged failing says) ≡ one
   provisional-judged (Some failing) says = refl
   provisional-judged None (Some index) = omega (arith, weigh-named proofs index.proof)
   provisional-judged None None = refl
@@ -167,27 +168,32 @@ module _ (one : ℕ) (core_proofs : OpenedCore → ℕ) (proofs : List (Option P
         (subst Counts (sym (provisional-in context branch.says bytes)) of_one) in
         (gains.0, gains.1, omega (arith, gains.2))
     core-gains ProvisionalProof context branch uri bytes is =
-        let gains = gains-below provisional_weight (provisional_with ProvisionalProof context branch.says bytes) (provisional_state ProvisionalProof) branch.provisional uri is
+        let gains = gains-below provisional_weight
+        (provisional_with ProvisionalProof context branch.says bytes) (provisional_state ProvisionalProof) branch.provisional uri is
         (λ says. provisional-gains ProvisionalProof context branch.says says uri bytes) in
         (gains.0, gains.1, omega (arith, gains.2))
     core-gains Chunk context branch uri bytes is =
-        let gains = gains-below provisional_weight (provisional_with Chunk context branch.says bytes) (provisional_state Chunk) branch.provisional uri is
+        let gains = gains-below provisional_weight
+        (provisional_with Chunk context branch.says bytes) (provisional_state Chunk) branch.provisional uri is
         (λ says. provisional-gains Chunk context branch.says says uri bytes) in
         (gains.0, gains.1, omega (arith, gains.2))
+
+    gains-below_core : (role : Role) (bound : Known) (uri : HashValue) (bytes : List ℕ)
+        → state_below (core_state role) bound.core ≡ role_is.Missing uri
+        → Gains (weight bound) (weigh one core_weight (looked_below (core_with role bound.context bytes) bound.core))
+    gains-below_core role bound uri bytes is =
+        gains-below core_weight (core_with role bound.context bytes) (core_state role) bound.core uri is
+        (λ says. core-gains role bound.context says uri bytes)
 
     known-gains : (role : Role) (bound : Known) (uri : HashValue) (bytes : List ℕ) → role_state role bound ≡ role_is.Missing uri
         → Gains (weight bound) (weight (bound_with role bytes bound))
     unfolding role_state bound_with
     known-gains Core bound uri bytes is =
         gains-filled core_weight (core_in bound.context) bound.core uri bytes is (subst Counts (sym (core-in bound.context bytes)) of_one)
-    known-gains CoreProof bound uri bytes is =
-        gains-below core_weight (core_with CoreProof bound.context bytes) (core_state CoreProof) bound.core uri is (λ says. core-gains CoreProof bound.context says uri bytes)
-    known-gains Provisional bound uri bytes is =
-        gains-below core_weight (core_with Provisional bound.context bytes) (core_state Provisional) bound.core uri is (λ says. core-gains Provisional bound.context says uri bytes)
-    known-gains ProvisionalProof bound uri bytes is =
-        gains-below core_weight (core_with ProvisionalProof bound.context bytes) (core_state ProvisionalProof) bound.core uri is (λ says. core-gains ProvisionalProof bound.context says uri bytes)
-    known-gains Chunk bound uri bytes is =
-        gains-below core_weight (core_with Chunk bound.context bytes) (core_state Chunk) bound.core uri is (λ says. core-gains Chunk bound.context says uri bytes)
+    known-gains CoreProof bound uri bytes is = gains-below_core CoreProof bound uri bytes is
+    known-gains Provisional bound uri bytes is = gains-below_core Provisional bound uri bytes is
+    known-gains ProvisionalProof bound uri bytes is = gains-below_core ProvisionalProof bound uri bytes is
+    known-gains Chunk bound uri bytes is = gains-below_core Chunk bound uri bytes is
 
 -- ---- decided roles: each file that was read or rejected counts 1
 

@@ -1,5 +1,5 @@
 -- Sums of files read and of signed texts opened.
-use Rattle.std.proofs.Common.{◌≡◌, ◌∙◌, ℕ, zero, suc, ◌+◌, ◌<◌, ◌≤◌, sym, ap, arith}
+use Rattle.std.proofs.Common.{◌≡◌, ◌∙◌, ℕ, zero, suc, ◌+◌, ◌<◌, sym, ap, subst, arith}
 use Rattle.st_base.specs.Work.{Counts, counted, one_file, one_proof}
 use Rattle.st_anchor.specs.Counting.{WorkedAtMost, counted_more, more_proofs, one_file_with, worked}
 
@@ -27,25 +27,15 @@ pub worked-few : (files proofs : ℕ) (old new : Counts) → new ≡ worked file
 worked-few files proofs old new counts =
     record { files_read = files; proofs_opened = proofs; few_files = omega arith; few_proofs = omega arith; counts = counts }
 
-pub few-more : (files proofs more_files more : ℕ) (old new : Counts) → files ≤ more_files → proofs ≤ more
-    → WorkedAtMost files proofs old new → WorkedAtMost more_files more old new
-few-more files proofs more_files more old new fits_files fits_proofs few = record {
-  files_read = few.files_read;
-  proofs_opened = few.proofs_opened;
-  few_files = omega (arith, few.few_files);
-  few_proofs = omega (arith, few.few_proofs);
-  counts = few.counts;
-}
-
 -- first this much, and then at most this much more
-pub few-after : (files proofs more_files more : ℕ) (old mid new : Counts) → mid ≡ worked files proofs old
-    → WorkedAtMost more_files more mid new → WorkedAtMost (more_files + files) (more + proofs) old new
-few-after files proofs more_files more old mid new counts few = record {
+pub few-after : (files proofs more_files more : ℕ) (old new : Counts)
+    → WorkedAtMost more_files more (worked files proofs old) new → WorkedAtMost (more_files + files) (more + proofs) old new
+few-after files proofs more_files more old new few = record {
   files_read = few.files_read + files;
   proofs_opened = few.proofs_opened + proofs;
   few_files = omega (arith, few.few_files);
   few_proofs = omega (arith, few.few_proofs);
-  counts = few.counts ∙ ap (worked few.files_read few.proofs_opened) counts ∙ worked-both files proofs few.files_read few.proofs_opened old;
+  counts = few.counts ∙ worked-both files proofs few.files_read few.proofs_opened old;
 }
 
 -- one file without signed texts
@@ -61,16 +51,21 @@ file-then proofs more old mid new same first counts =
 pub file-then_few : (proofs more : ℕ) (old mid new : Counts) → proofs ≡ more → mid ≡ one_file old → WorkedAtMost 0 more mid new
     → WorkedAtMost 1 proofs old new
 file-then_few proofs more old mid new same first few =
-    few-more (0 + 1) (more + 0) 1 proofs old new (omega arith) (omega arith) (few-after 1 0 0 more old mid new first few)
+    subst (λ n. WorkedAtMost 1 n old new) (let e : more + 0 ≡ proofs = omega (arith, same) in e)
+    (few-after 1 0 0 more old new (subst (λ mid. WorkedAtMost 0 more mid new) first few))
 
 pub file_with-few : (proofs : ℕ) (old new : Counts) → new ≡ one_file_with proofs old → WorkedAtMost 1 proofs old new
 file_with-few proofs old new counts = worked-few 1 proofs old new counts
 
 -- one signed text after some
 pub few-one : (done most : ℕ) (old mid new : Counts) → done < most → mid ≡ more_proofs done old → new ≡ one_proof mid → WorkedAtMost 0 most old new
-few-one done most old mid new inside before one =
-    few-more 0 (done + 1) 0 most old new (omega arith) (omega arith)
-    (worked-few 0 (done + 1) old new (one ∙ ap one_proof before ∙ one_more-proof done old))
+few-one done most old mid new inside before one = record {
+  files_read = 0;
+  proofs_opened = done + 1;
+  few_files = omega arith;
+  few_proofs = omega (arith, inside);
+  counts = one ∙ ap one_proof before ∙ one_more-proof done old;
+}
 
 -- signed texts of two lists
 pub more_proofs-both : (first second : ℕ) (old mid new : Counts) → mid ≡ more_proofs first old → new ≡ more_proofs second mid
@@ -82,4 +77,5 @@ more_proofs-both first second old mid new before after =
 pub few-both : (first second : ℕ) (old mid new : Counts) → mid ≡ more_proofs first old → WorkedAtMost 0 second mid new
     → WorkedAtMost 0 (first + second) old new
 few-both first second old mid new before few =
-    few-more (0 + 0) (second + first) 0 (first + second) old new (omega arith) (omega arith) (few-after 0 first 0 second old mid new before few)
+    subst (λ n. WorkedAtMost 0 n old new) (let e : second + first ≡ first + second = omega arith in e)
+    (few-after 0 first 0 second old new (subst (λ mid. WorkedAtMost 0 second mid new) before few))

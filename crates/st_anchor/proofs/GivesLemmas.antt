@@ -1,7 +1,7 @@
 -- One more operation is given: the earlier ones, and the item at its place with what belongs to it.
 use Rattle.std.proofs.Common.{◌≡◌, ◌∙◌, ℕ, zero, suc, ◌+◌, ◌<◌, ◌≤◌, List, [], ◌∷◌, ◌++◌, drop, get_or, length, map, take, Option, refl, sym, ap, subst, append_assoc, arith}
 use Rattle.std.specs.Prelude.{slice_get}
-use Rattle.std.proofs.lemmas.List.{map_more, map_push, take_all}
+use Rattle.std.proofs.lemmas.List.{map_more, take_all}
 use Rattle.st_anchor.specs.Gives.{beside}
 
 pub length-beside : {Item Other : Type 0} (items : List Item) (others : List Other) → length (beside items others) ≡ length items
@@ -21,11 +21,6 @@ at-beside (first ∷ items) others (suc at) item none inside =
     at-beside items (drop 1 others) at item none (omega arith)
     ∙ ap (λ other. (get_or items at item, other)) (get-rest others at)
 
-pub entry-beside : {Item Other : Type 0} (items : List Item) (others : List Other) (at : ℕ) (item : Item) (other : Option Other) (none : Item × Option Other)
-    → at < length items → item ≡ get_or items at item → other ≡ slice_get others at → (item, other) ≡ get_or (beside items others) at none
-entry-beside items others at item other none inside is found =
-    (λ i. (is i, found i)) ∙ sym (at-beside items others at item none inside)
-
 pub inside-beside : {Item Other : Type 0} (items : List Item) (others : List Other) (at : ℕ) → at < length items → at < length (beside items others)
 inside-beside items others at inside = subst (λ n. at < n) (sym (length-beside items others)) inside
 
@@ -39,13 +34,12 @@ map-twice g f [] = refl
 map-twice g f (x ∷ xs) = ap (λ rest. g (f x) ∷ rest) (map-twice g f xs)
 
 module _ {Item Given Made Seen : Type 0} (view : Given → Seen) (seen : Made → Seen) (make : Item → Made) where
-  pub given-more : (items : List Item) (at : ℕ) (item : Item) (given : Given) (list : List Given) (start : List Seen) → at < length items
-      → view given ≡ seen (make (get_or items at item)) → map view list ≡ start ++ map (λ item. seen (make item)) (take at items)
-      → map view (list ++ given ∷ []) ≡ start ++ map (λ item. seen (make item)) (take (at + 1) items)
-  given-more items at item given list start inside is before =
-      map_push view list given ∙ ap (λ done. done ++ view given ∷ []) before
-      ∙ append_assoc start (map (λ item. seen (make item)) (take at items)) (view given ∷ [])
-      ∙ ap (λ one. start ++ (map (λ item. seen (make item)) (take at items) ++ one ∷ [])) is
+  pub given-more : (items : List Item) (at : ℕ) (item : Item) (list : List Given) (start : List Seen) → at < length items
+      → map view list ≡ start ++ map (λ item. seen (make item)) (take at items)
+      → map view list ++ seen (make (get_or items at item)) ∷ [] ≡ start ++ map (λ item. seen (make item)) (take (at + 1) items)
+  given-more items at item list start inside before =
+      ap (λ done. done ++ seen (make (get_or items at item)) ∷ []) before
+      ∙ append_assoc start (map (λ item. seen (make item)) (take at items)) (seen (make (get_or items at item)) ∷ [])
       ∙ ap (λ done. start ++ done) (sym (map_more (λ item. seen (make item)) items at item inside))
 
   pub given-all : (items : List Item) (at : ℕ) (list : List Given) (start : List Seen) → length items ≤ at

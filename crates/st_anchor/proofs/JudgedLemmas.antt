@@ -1,5 +1,5 @@
 -- A reader's answer is the part from the bytes; and the number of signed texts.
-use Rattle.std.proofs.Common.{◌≡◌, ◌∙◌, ◌+◌, ℕ, List, codes, length, map, Option, Some, None, refl, sym, ap}
+use Rattle.std.proofs.Common.{◌≡◌, ◌∙◌, ◌+◌, ℕ, List, codes, length, map, Option, option_map, Some, None, refl, sym, ap}
 use Rattle.std.proofs.lemmas.List.{length-map}
 use Rattle.st_plain.specs.Plain.{Plain}
 use Rattle.st_plain.specs.Shapes.{json_in}
@@ -23,10 +23,10 @@ use Rattle.st_anchor.specs.declared.part.Part.TheVariants.{Rejected, Is}
 use Rattle.st_anchor.specs.declared.rule.Rule.{Rule}
 use Rattle.st_anchor.specs.declared.rule.Rule.TheVariants as fails
 
--- a file that fails no rule, with another view of its content
-pub judged-says : {Failing Said Says : Type 0} (rule_of : Failing → Rule) (view : Said → Says) (failing : Option Failing) (said found : Said)
-    → failing ≡ None → Some said ≡ Some found → Is (view found) ≡ judged rule_of failing (view said)
-judged-says rule_of view failing said found none is =
+-- a file that fails no rule
+pub judged-says : {Failing Says : Type 0} (rule_of : Failing → Rule) (failing : Option Failing) (said found : Says)
+    → failing ≡ None → Some said ≡ Some found → Is found ≡ judged rule_of failing said
+judged-says rule_of failing said found none is =
     let same : said ≡ found = cc in
     rw (none, same) refl
 
@@ -71,8 +71,8 @@ module _ (context : Context) (core : CoreIndex) (bytes : List ℕ) (recovers dea
       → Some (core_proofs_of (json_in bytes)) ≡ Some proofs → Is (opened_of context.params.max_signed proofs) ≡ core_proof_in context core bytes
   unfolding core_proof_in
   core_proof-says proofs none is =
-      judged-says fails.Proofs (opened_of context.params.max_signed) _ _ proofs
-      ((λ i. first_failing_core_proof_rule context.params (sym r i) (sym d i) bytes) ∙ none) is
+      judged-says fails.Proofs _ _ (opened_of context.params.max_signed proofs)
+      ((λ i. first_failing_core_proof_rule context.params (sym r i) (sym d i) bytes) ∙ none) (ap (option_map (opened_of context.params.max_signed)) is)
 
   pub core_proof-fails : (rule : ProofRule) → first_failing_core_proof_rule context.params recovers deactivates bytes ≡ Some rule
       → Rejected (fails.Proofs rule) ≡ core_proof_in context core bytes
@@ -92,8 +92,8 @@ module _ (context : Context) (provisional : ProvisionalIndex) (bytes : List ℕ)
       → Is (map (proof_of context.params.max_signed) texts) ≡ provisional_proof_in context provisional bytes
   unfolding provisional_proof_in
   provisional_proof-says texts none is =
-      judged-says fails.Proofs (map (proof_of context.params.max_signed)) _ _ texts
-      (ap (λ n. first_failing_provisional_proof_rule context.params n bytes) (sym u) ∙ none) is
+      judged-says fails.Proofs _ _ (map (proof_of context.params.max_signed) texts)
+      (ap (λ n. first_failing_provisional_proof_rule context.params n bytes) (sym u) ∙ none) (ap (option_map (map (proof_of context.params.max_signed))) is)
 
   pub provisional_proof-fails : (rule : ProofRule) → first_failing_provisional_proof_rule context.params updates bytes ≡ Some rule
       → Rejected (fails.Proofs rule) ≡ provisional_proof_in context provisional bytes
@@ -112,7 +112,7 @@ module _ (context : Context) (core : CoreIndex) (provisional : ProvisionalIndex)
       → Some (deltas_of (json_in bytes)) ≡ Some deltas → Is deltas ≡ chunk_in context core provisional bytes
   unfolding chunk_in
   chunk-says deltas none is =
-      judged-says fails.Chunk (λ found. found) _ _ deltas (ap (λ n. first_failing_chunk_rule context.params n bytes) (sym w) ∙ none) is
+      judged-says fails.Chunk _ _ deltas (ap (λ n. first_failing_chunk_rule context.params n bytes) (sym w) ∙ none) is
 
   pub chunk-fails : (rule : ChunkRule) → first_failing_chunk_rule context.params wanted bytes ≡ Some rule
       → Rejected (fails.Chunk rule) ≡ chunk_in context core provisional bytes

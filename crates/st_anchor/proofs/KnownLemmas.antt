@@ -10,14 +10,14 @@ use Rattle.st_datafiles.specs.Chunk.{first_failing_chunk_rule}
 use Rattle.st_datafiles.specs.ProofRules.{first_failing_core_proof_rule, first_failing_provisional_proof_rule}
 use Rattle.st_datafiles.specs.declared.role.Role.{Role}
 use Rattle.st_datafiles.specs.declared.role.Role.TheVariants.{Core, CoreProof, Provisional, ProvisionalProof, Chunk}
-use Rattle.st_hash.specs.Hash.{HashValue}
+use Rattle.st_hash.specs.Hash.{HashValue, uri_of}
 use Rattle.st_indexfiles.specs.CoreRules.{first_failing_core_rule}
 use Rattle.st_indexfiles.specs.ProvisionalIndex.{provisional_index_of}
 use Rattle.st_indexfiles.specs.ProvisionalRules.{first_failing_provisional_rule}
 use Rattle.st_indexfiles.specs.declared.core_index.CoreIndex.{CoreIndex}
 use Rattle.st_indexfiles.specs.declared.provisional_index.ProvisionalIndex.{ProvisionalIndex}
 use Rattle.st_indexfiles.specs.declared.provisional_rule.ProvisionalRule.{ProvisionalRule}
-use Rattle.st_anchor.specs.Coming.{Extends, NoneHasCome}
+use Rattle.st_anchor.specs.Coming.{Extends, HasCome, NoneHasCome}
 use Rattle.st_anchor.specs.Known.{Known, as_it_is, bound_with, chunk_in, core_in, core_over, core_proof_in, core_with, delta_count, filled, judged, known_from, looked_at, looked_below, looked_up, provisional_in, provisional_judged, provisional_over, provisional_proof_in, provisional_with}
 use Rattle.st_anchor.specs.States.{core_state, provisional_state, role_state, state, state_below}
 use Rattle.st_anchor.specs.declared.branches.Context.{Context}
@@ -80,27 +80,14 @@ looked_up-read read below files (Missing uri) was = absurd was
 looked_up-read read below files (Rejected rule) was = refl
 looked_up-read read below files (Is says) was = refl
 
--- a part whose missing file is filled in
-looked_up-filled : {Says : Type 0} (read : List ℕ → Part Says) (below : Says → Says) (files : Files) (part : Part Says) (uri : HashValue) (bytes : List ℕ)
-    → state part ≡ role_is.Missing uri → file_at uri files ≡ Some bytes → WasRead (read bytes)
-    → looked_up read below files (filled read bytes part) ≡ looked_up read below files part
-looked_up-filled read below files Unneeded uri bytes is there was = cc
-looked_up-filled read below files (Missing missed) uri bytes is there was =
-    let same : missed ≡ uri = cc in
-    let found : file_at missed files ≡ Some bytes = ap (λ u. file_at u files) same ∙ there in
-    looked_up-read read below files (read bytes) was ∙ sym (ap (looked_at read below missed) found)
-looked_up-filled read below files (Rejected rule) uri bytes is there was = cc
-looked_up-filled read below files (Is says) uri bytes is there was = cc
-
 -- a part below which a missing file is filled in
-looked_up-below : {Says : Type 0} (read : List ℕ → Part Says) (below with : Says → Says) (stands : Says → RoleState) (files : Files) (part : Part Says) (uri : HashValue)
-    → state_below stands part ≡ role_is.Missing uri
-    → ((says : Says) → stands says ≡ role_is.Missing uri → below (with says) ≡ below says)
+looked_up-below : {Says : Type 0} (read : List ℕ → Part Says) (below with : Says → Says) (files : Files) (part : Part Says)
+    → ((says : Says) → part ≡ Is says → below (with says) ≡ below says)
     → looked_up read below files (looked_below with part) ≡ looked_up read below files part
-looked_up-below read below with stands files Unneeded uri is same = refl
-looked_up-below read below with stands files (Missing missed) uri is same = refl
-looked_up-below read below with stands files (Rejected rule) uri is same = refl
-looked_up-below read below with stands files (Is says) uri is same = ap (λ s. Is s) (same says is)
+looked_up-below read below with files Unneeded same = refl
+looked_up-below read below with files (Missing missed) same = refl
+looked_up-below read below with files (Rejected rule) same = refl
+looked_up-below read below with files (Is says) same = ap (λ s. Is s) (same says refl)
 
 looked_up-below_read : {Says : Type 0} (read : List ℕ → Part Says) (below after : Says → Says) (later : Files) (part : Part Says)
     → WasRead part → ((says : Says) → after (below says) ≡ after says)
@@ -109,21 +96,6 @@ looked_up-below_read read below after later Unneeded was same = absurd was
 looked_up-below_read read below after later (Missing uri) was same = absurd was
 looked_up-below_read read below after later (Rejected rule) was same = refl
 looked_up-below_read read below after later (Is says) was same = ap (λ s. Is s) (same says)
-
--- a part over more files, if it was looked up before
-looked_up-again : {Says : Type 0} (read : List ℕ → Part Says) (below after : Says → Says) (files later : Files) (part : Part Says)
-    → Extends files later → ((bytes : List ℕ) → WasRead (read bytes)) → ((says : Says) → after (below says) ≡ after says)
-    → looked_up read after later (looked_up read below files part) ≡ looked_up read after later part
-looked_up-again read below after files later Unneeded more was same = refl
-looked_up-again read below after files later (Missing uri) more was same =
-    elim (file_at uri files) as (λ file. file_at uri files ≡ file → looked_up read after later (looked_at read below uri file) ≡ looked_at read after uri (file_at uri later)) [
-      | None ↦ λ _. refl
-      | Some bytes ↦ λ there.
-          looked_up-below_read read below after later (read bytes) (was bytes) same
-          ∙ sym (ap (looked_at read after uri) (more.kept uri bytes there))
-    ] refl
-looked_up-again read below after files later (Rejected rule) more was same = refl
-looked_up-again read below after files later (Is says) more was same = ap (λ s. Is s) (same says)
 
 -- ---- a role after a lookup
 
@@ -138,15 +110,42 @@ absent-decided files below (Rejected rule) was = λ uri is. cc
 absent-decided files below (Is says) was = λ uri is. cc
 
 module _ {Says : Type 0} (files : Files) (below : Says → Says) (read : List ℕ → Part Says) where
-  absent-up : (part : Part Says) → ((bytes : List ℕ) → WasRead (read bytes)) → Absent files (state (looked_up read below files part))
-  absent-up Unneeded was = λ uri is. cc
-  absent-up (Missing uri) was =
-      elim (file_at uri files) as (λ file. file_at uri files ≡ file → Absent files (state (looked_at read below uri file))) [
-        | None ↦ λ there. λ missed is. let same : uri ≡ missed = cc in ap (λ u. file_at u files) (sym same) ∙ there
-        | Some bytes ↦ λ there. absent-decided files below (read bytes) (was bytes)
-      ] refl
-  absent-up (Rejected rule) was = λ uri is. cc
-  absent-up (Is says) was = λ uri is. cc
+  module _ (was : (bytes : List ℕ) → WasRead (read bytes)) where
+    -- a part whose missing file is filled in
+    looked_up-filled : (part : Part Says) (bytes : List ℕ) → state part ≡ role_is.Missing (uri_of bytes) → file_at (uri_of bytes) files ≡ Some bytes
+        → looked_up read below files (filled read bytes part) ≡ looked_up read below files part
+    looked_up-filled Unneeded bytes is there = cc
+    looked_up-filled (Missing missed) bytes is there =
+        let same : missed ≡ uri_of bytes = cc in
+        let found : file_at missed files ≡ Some bytes = ap (λ u. file_at u files) same ∙ there in
+        looked_up-read read below files (read bytes) (was bytes) ∙ sym (ap (looked_at read below missed) found)
+    looked_up-filled (Rejected rule) bytes is there = cc
+    looked_up-filled (Is says) bytes is there = cc
+
+    -- a part over more files, if it was looked up before
+    looked_up-again : (after : Says → Says) (later : Files) (part : Part Says) → Extends files later → ((says : Says) → after (below says) ≡ after says)
+        → looked_up read after later (looked_up read below files part) ≡ looked_up read after later part
+    looked_up-again after later Unneeded more same = refl
+    looked_up-again after later (Missing uri) more same =
+        elim (file_at uri files) as (λ file. file_at uri files ≡ file
+        → looked_up read after later (looked_at read below uri file) ≡ looked_at read after uri (file_at uri later)) [
+          | None ↦ λ _. refl
+          | Some bytes ↦ λ there.
+              looked_up-below_read read below after later (read bytes) (was bytes) same
+              ∙ sym (ap (looked_at read after uri) (more.kept uri bytes there))
+        ] refl
+    looked_up-again after later (Rejected rule) more same = refl
+    looked_up-again after later (Is says) more same = ap (λ s. Is s) (same says)
+
+    absent-up : (part : Part Says) → Absent files (state (looked_up read below files part))
+    absent-up Unneeded = λ uri is. cc
+    absent-up (Missing uri) =
+        elim (file_at uri files) as (λ file. file_at uri files ≡ file → Absent files (state (looked_at read below uri file))) [
+          | None ↦ λ there. λ missed is. let same : uri ≡ missed = cc in ap (λ u. file_at u files) (sym same) ∙ there
+          | Some bytes ↦ λ there. absent-decided files below (read bytes) (was bytes)
+        ] refl
+    absent-up (Rejected rule) = λ uri is. cc
+    absent-up (Is says) = λ uri is. cc
 
   module _ (stands : Says → RoleState) (absent : (says : Says) → Absent files (stands (below says))) where
     absent-new : (part : Part Says) → Absent files (state_below stands (looked_below below part))
@@ -176,86 +175,91 @@ looked_up-rest read below files (Is says) absent same = ap (λ s. Is s) (same sa
 -- ---- the whole tree
 
 -- the received file of a missing role may be bound: the knowledge over the files stays the same
-provisional_over-with : (role : Role) (context : Context) (core : CoreIndex) (files : Files) (branch : ProvisionalBranch) (uri : HashValue) (bytes : List ℕ)
-    → provisional_state role branch ≡ role_is.Missing uri → file_at uri files ≡ Some bytes
+provisional_over-with : (role : Role) (context : Context) (core : CoreIndex) (files : Files) (branch : ProvisionalBranch) (bytes : List ℕ)
+    → provisional_state role branch ≡ role_is.Missing (uri_of bytes) → file_at (uri_of bytes) files ≡ Some bytes
     → provisional_over context core files (provisional_with role context core bytes branch) ≡ provisional_over context core files branch
-provisional_over-with Core context core files branch uri bytes is there = refl
-provisional_over-with CoreProof context core files branch uri bytes is there = refl
-provisional_over-with Provisional context core files branch uri bytes is there = refl
-provisional_over-with ProvisionalProof context core files branch uri bytes is there =
+provisional_over-with Core context core files branch bytes is there = refl
+provisional_over-with CoreProof context core files branch bytes is there = refl
+provisional_over-with Provisional context core files branch bytes is there = refl
+provisional_over-with ProvisionalProof context core files branch bytes is there =
     ap (λ part. record (provisional_over context core files branch) { proofs = part })
-    (looked_up-filled (provisional_proof_in context branch.says) as_it_is files branch.proofs uri bytes is there (provisional_proof_in-read context branch.says bytes))
-provisional_over-with Chunk context core files branch uri bytes is there =
+    (looked_up-filled files as_it_is (provisional_proof_in context branch.says) (provisional_proof_in-read context branch.says) branch.proofs bytes is there)
+provisional_over-with Chunk context core files branch bytes is there =
     ap (λ part. record (provisional_over context core files branch) { chunk = part })
-    (looked_up-filled (chunk_in context core branch.says) as_it_is files branch.chunk uri bytes is there (chunk_in-read context core branch.says bytes))
+    (looked_up-filled files as_it_is (chunk_in context core branch.says) (chunk_in-read context core branch.says) branch.chunk bytes is there)
 
-core_over-with_below : (role : Role) (context : Context) (files : Files) (branch : CoreBranch) (uri : HashValue) (bytes : List ℕ)
-    → state_below (provisional_state role) branch.provisional ≡ role_is.Missing uri → file_at uri files ≡ Some bytes
-    → core_over context files (record branch { provisional = looked_below (provisional_with role context branch.says bytes) branch.provisional }) ≡ core_over context files branch
-core_over-with_below role context files branch uri bytes is there =
+core_over-with_below : (role : Role) (context : Context) (files : Files) (branch : CoreBranch) (bytes : List ℕ)
+    → state_below (provisional_state role) branch.provisional ≡ role_is.Missing (uri_of bytes) → file_at (uri_of bytes) files ≡ Some bytes
+    → core_over context files (record branch { provisional = looked_below (provisional_with role context branch.says bytes) branch.provisional })
+    ≡ core_over context files branch
+core_over-with_below role context files branch bytes is there =
     ap (λ part. record (core_over context files branch) { provisional = part })
-    (looked_up-below (provisional_in context branch.says) (provisional_over context branch.says files) (provisional_with role context branch.says bytes) (provisional_state role) files branch.provisional uri is
-    (λ says still. provisional_over-with role context branch.says files says uri bytes still there))
+    (looked_up-below (provisional_in context branch.says) (provisional_over context branch.says files) (provisional_with role context branch.says bytes)
+    files branch.provisional
+    (λ says says_is. provisional_over-with role context branch.says files says bytes (rw says_is at is) there))
 
-core_over-with : (role : Role) (context : Context) (files : Files) (branch : CoreBranch) (uri : HashValue) (bytes : List ℕ)
-    → core_state role branch ≡ role_is.Missing uri → file_at uri files ≡ Some bytes
+core_over-with : (role : Role) (context : Context) (files : Files) (branch : CoreBranch) (bytes : List ℕ)
+    → core_state role branch ≡ role_is.Missing (uri_of bytes) → file_at (uri_of bytes) files ≡ Some bytes
     → core_over context files (core_with role context bytes branch) ≡ core_over context files branch
-core_over-with Core context files branch uri bytes is there = refl
-core_over-with CoreProof context files branch uri bytes is there =
+core_over-with Core context files branch bytes is there = refl
+core_over-with CoreProof context files branch bytes is there =
     ap (λ part. record (core_over context files branch) { proofs = part })
-    (looked_up-filled (core_proof_in context branch.says) as_it_is files branch.proofs uri bytes is there (core_proof_in-read context branch.says bytes))
-core_over-with Provisional context files branch uri bytes is there =
+    (looked_up-filled files as_it_is (core_proof_in context branch.says) (core_proof_in-read context branch.says) branch.proofs bytes is there)
+core_over-with Provisional context files branch bytes is there =
     ap (λ part. record (core_over context files branch) { provisional = part })
-    (looked_up-filled (provisional_in context branch.says) (provisional_over context branch.says files) files branch.provisional uri bytes is there (provisional_in-read context branch.says bytes))
-core_over-with ProvisionalProof context files branch uri bytes is there = core_over-with_below ProvisionalProof context files branch uri bytes is there
-core_over-with Chunk context files branch uri bytes is there = core_over-with_below Chunk context files branch uri bytes is there
+    (looked_up-filled files (provisional_over context branch.says files) (provisional_in context branch.says) (provisional_in-read context branch.says)
+    branch.provisional bytes is there)
+core_over-with ProvisionalProof context files branch bytes is there = core_over-with_below ProvisionalProof context files branch bytes is there
+core_over-with Chunk context files branch bytes is there = core_over-with_below Chunk context files branch bytes is there
 
-known_from-with_below : (role : Role) (files : Files) (bound : Known) (uri : HashValue) (bytes : List ℕ)
-    → state_below (core_state role) bound.core ≡ role_is.Missing uri → file_at uri files ≡ Some bytes
+known_from-with_below : (role : Role) (files : Files) (bound : Known) (bytes : List ℕ)
+    → state_below (core_state role) bound.core ≡ role_is.Missing (uri_of bytes) → file_at (uri_of bytes) files ≡ Some bytes
     → known_from files (record bound { core = looked_below (core_with role bound.context bytes) bound.core }) ≡ known_from files bound
 unfolding known_from
-known_from-with_below role files bound uri bytes is there =
+known_from-with_below role files bound bytes is there =
     ap (λ part. record bound { core = part })
-    (looked_up-below (core_in bound.context) (core_over bound.context files) (core_with role bound.context bytes) (core_state role) files bound.core uri is
-    (λ says still. core_over-with role bound.context files says uri bytes still there))
+    (looked_up-below (core_in bound.context) (core_over bound.context files) (core_with role bound.context bytes) files bound.core
+    (λ says says_is. core_over-with role bound.context files says bytes (rw says_is at is) there))
 
-pub known_from-with : (role : Role) (files : Files) (bound : Known) (uri : HashValue) (bytes : List ℕ)
-    → role_state role bound ≡ role_is.Missing uri → file_at uri files ≡ Some bytes
-    → known_from files (bound_with role bytes bound) ≡ known_from files bound
+pub known_from-with : (role : Role) (files : Files) (bound : Known) (file : List ℕ) → HasCome files bound role file
+    → known_from files (bound_with role file bound) ≡ known_from files bound
 unfolding known_from role_state bound_with
-known_from-with Core files bound uri bytes is there =
+known_from-with Core files bound file come =
     ap (λ part. record bound { core = part })
-    (looked_up-filled (core_in bound.context) (core_over bound.context files) files bound.core uri bytes is there (core_in-read bound.context bytes))
-known_from-with CoreProof files bound uri bytes is there = known_from-with_below CoreProof files bound uri bytes is there
-known_from-with Provisional files bound uri bytes is there = known_from-with_below Provisional files bound uri bytes is there
-known_from-with ProvisionalProof files bound uri bytes is there = known_from-with_below ProvisionalProof files bound uri bytes is there
-known_from-with Chunk files bound uri bytes is there = known_from-with_below Chunk files bound uri bytes is there
+    (looked_up-filled files (core_over bound.context files) (core_in bound.context) (core_in-read bound.context) bound.core file come.missing come.there)
+known_from-with CoreProof files bound file come = known_from-with_below CoreProof files bound file come.missing come.there
+known_from-with Provisional files bound file come = known_from-with_below Provisional files bound file come.missing come.there
+known_from-with ProvisionalProof files bound file come = known_from-with_below ProvisionalProof files bound file come.missing come.there
+known_from-with Chunk files bound file come = known_from-with_below Chunk files bound file come.missing come.there
 
 -- more files change nothing except by the lookup of missing ones
 provisional_over-again : (context : Context) (core : CoreIndex) (files later : Files) → Extends files later → (branch : ProvisionalBranch)
     → provisional_over context core later (provisional_over context core files branch) ≡ provisional_over context core later branch
 provisional_over-again context core files later more branch =
     ap (λ part. record (provisional_over context core later (provisional_over context core files branch)) { proofs = part })
-    (looked_up-again (provisional_proof_in context branch.says) as_it_is as_it_is files later branch.proofs more (provisional_proof_in-read context branch.says) (λ says. refl))
+    (looked_up-again files as_it_is (provisional_proof_in context branch.says) (provisional_proof_in-read context branch.says)
+    as_it_is later branch.proofs more (λ says. refl))
     ∙ ap (λ part. record (provisional_over context core later branch) { chunk = part })
-    (looked_up-again (chunk_in context core branch.says) as_it_is as_it_is files later branch.chunk more (chunk_in-read context core branch.says) (λ says. refl))
+    (looked_up-again files as_it_is (chunk_in context core branch.says) (chunk_in-read context core branch.says)
+    as_it_is later branch.chunk more (λ says. refl))
 
 core_over-again : (context : Context) (files later : Files) → Extends files later → (branch : CoreBranch)
     → core_over context later (core_over context files branch) ≡ core_over context later branch
 core_over-again context files later more branch =
     ap (λ part. record (core_over context later (core_over context files branch)) { proofs = part })
-    (looked_up-again (core_proof_in context branch.says) as_it_is as_it_is files later branch.proofs more (core_proof_in-read context branch.says) (λ says. refl))
+    (looked_up-again files as_it_is (core_proof_in context branch.says) (core_proof_in-read context branch.says)
+    as_it_is later branch.proofs more (λ says. refl))
     ∙ ap (λ part. record (core_over context later branch) { provisional = part })
-    (looked_up-again (provisional_in context branch.says) (provisional_over context branch.says files) (provisional_over context branch.says later) files later branch.provisional more
-    (provisional_in-read context branch.says) (provisional_over-again context branch.says files later more))
+    (looked_up-again files (provisional_over context branch.says files) (provisional_in context branch.says) (provisional_in-read context branch.says)
+    (provisional_over context branch.says later) later branch.provisional more (provisional_over-again context branch.says files later more))
 
 pub known_from-again : (files later : Files) → Extends files later → (bound : Known)
     → known_from later (known_from files bound) ≡ known_from later bound
 unfolding known_from
 known_from-again files later more bound =
     ap (λ part. record bound { core = part })
-    (looked_up-again (core_in bound.context) (core_over bound.context files) (core_over bound.context later) files later bound.core more
-    (core_in-read bound.context) (core_over-again bound.context files later more))
+    (looked_up-again files (core_over bound.context files) (core_in bound.context) (core_in-read bound.context)
+    (core_over bound.context later) later bound.core more (core_over-again bound.context files later more))
 
 -- no missing file was received: a lookup changes nothing
 provisional_over-rest : (context : Context) (core : CoreIndex) (files : Files) (branch : ProvisionalBranch)
@@ -303,8 +307,8 @@ module _ (context : Context) (files : Files) where
   absent-provisional CoreProof core branch = λ uri is. cc
   absent-provisional Provisional core branch = λ uri is. cc
   absent-provisional ProvisionalProof core branch =
-      absent-up files as_it_is (provisional_proof_in context branch.says) branch.proofs (provisional_proof_in-read context branch.says)
-  absent-provisional Chunk core branch = absent-up files as_it_is (chunk_in context core branch.says) branch.chunk (chunk_in-read context core branch.says)
+      absent-up files as_it_is (provisional_proof_in context branch.says) (provisional_proof_in-read context branch.says) branch.proofs
+  absent-provisional Chunk core branch = absent-up files as_it_is (chunk_in context core branch.says) (chunk_in-read context core branch.says) branch.chunk
 
   absent-below_provisional : (role : Role) (branch : CoreBranch)
       → Absent files (state_below (provisional_state role) (core_over context files branch).provisional)
@@ -314,9 +318,10 @@ module _ (context : Context) (files : Files) where
 
   absent-core : (role : Role) (branch : CoreBranch) → Absent files (core_state role (core_over context files branch))
   absent-core Core branch = λ uri is. cc
-  absent-core CoreProof branch = absent-up files as_it_is (core_proof_in context branch.says) branch.proofs (core_proof_in-read context branch.says)
+  absent-core CoreProof branch = absent-up files as_it_is (core_proof_in context branch.says) (core_proof_in-read context branch.says) branch.proofs
   absent-core Provisional branch =
-      absent-up files (provisional_over context branch.says files) (provisional_in context branch.says) branch.provisional (provisional_in-read context branch.says)
+      absent-up files (provisional_over context branch.says files) (provisional_in context branch.says) (provisional_in-read context branch.says)
+      branch.provisional
   absent-core ProvisionalProof branch = absent-below_provisional ProvisionalProof branch
   absent-core Chunk branch = absent-below_provisional Chunk branch
 
@@ -326,7 +331,7 @@ module _ (context : Context) (files : Files) where
 
 pub known_from-missing : (role : Role) (files : Files) (bound : Known) → Absent files (role_state role (known_from files bound))
 unfolding known_from role_state
-known_from-missing Core files bound = absent-up files (core_over bound.context files) (core_in bound.context) bound.core (core_in-read bound.context)
+known_from-missing Core files bound = absent-up files (core_over bound.context files) (core_in bound.context) (core_in-read bound.context) bound.core
 known_from-missing CoreProof files bound = absent-below_core bound.context files CoreProof bound.core
 known_from-missing Provisional files bound = absent-below_core bound.context files Provisional bound.core
 known_from-missing ProvisionalProof files bound = absent-below_core bound.context files ProvisionalProof bound.core

@@ -41,6 +41,11 @@ module _ {Hash Document Item : Type 0} (rules : Rules Hash Document) (place : It
       → folded_steps rules seen absent items ≡ resolve rules place seen items
   fold_is_walk items ascend = goes_on [] items ascend
 
+  -- so it depends only on how they are seen
+  pub seen_resolve : (items : List Item) → PlacesAscend place items
+      → resolve rules place seen items ≡ fold (step rules) absent (map seen items)
+  seen_resolve items ascend = sym (fold_is_walk items ascend) ∙ sym (fold-map (step rules) seen absent items)
+
   -- a deactivated state stays so
   pub stays_deactivated : (done more : List Item) → PlacesAscend place (done ++ more)
       → resolve rules place seen done ≡ deactivated → resolve rules place seen (done ++ more) ≡ deactivated
@@ -59,18 +64,6 @@ module _ {Hash Document Item : Type 0} (rules : Rules Hash Document) (place : It
         walk_leads (update_after rules place seen items) (λ here. behind place items here.place) (update_nearer rules place seen items)
         _ (before_updates rules from change) (behind_within place items from);
   }
-
--- items that are seen alike resolve alike
-pub seen_alike : {Hash Document Item Other : Type 0} (rules : Rules Hash Document)
-    (place : Item → ℕ) (seen : Item → Seen Hash Document) (place' : Other → ℕ) (seen' : Other → Seen Hash Document)
-    (items : List Item) (others : List Other) → PlacesAscend place items → PlacesAscend place' others
-    → map seen items ≡ map seen' others → resolve rules place seen items ≡ resolve rules place' seen' others
-seen_alike rules place seen place' seen' items others ascend ascend' alike =
-    sym (fold_is_walk rules place seen items ascend)
-    ∙ sym (fold-map (step rules) seen absent items)
-    ∙ ap (fold (step rules) absent) alike
-    ∙ fold-map (step rules) seen' absent others
-    ∙ fold_is_walk rules place' seen' others ascend'
 
 -- ---- items given by entries
 

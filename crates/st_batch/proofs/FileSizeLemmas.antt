@@ -102,7 +102,8 @@ module _ (operations : List PlainOperation) where
       + member_size (codes "recover") sizes.recovers + member_size (codes "deactivate") sizes.deactivates =
       omega (arith, create, recover, deactivate, kinds) in
       let third = object_there (codes "operations") (core_operations index) refl ∙ ap (member_size (codes "operations")) inside in
-      let first = uri_there (with_core_proof groups) sizes.for_core_proof (codes "coreProofFileUri") (core_proof_text groups) (for_core_proof operations) refl in
+      let first = uri_there (with_core_proof groups) sizes.for_core_proof (codes "coreProofFileUri")
+      (core_proof_text groups) (for_core_proof operations) refl in
       let second = uri_there (with_delta groups) sizes.for_chunk (codes "provisionalIndexFileUri")
       (canonical (provisional_json (provisional_index groups))) (for_chunk operations) refl in
       let members = core_members (option_map hash_json index.core_proof) (option_map hash_json index.provisional) (some_object (core_operations index)) in

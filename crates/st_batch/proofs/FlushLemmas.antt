@@ -74,13 +74,13 @@ these_batched limits entries may =
 
 -- the batch of the queue is made, and the entries after those that it takes remain
 pub flushed : (limits : Limits) (entries : List Entry) → MayFlush limits entries
-    → {count : ℕ} {left : List Entry} {made : Batch} → count ≡ batch_count limits (operations_of entries) → left ≡ drop count entries
+    → {left : List Entry} {made : Batch} → left ≡ drop (batch_count limits (operations_of entries)) entries
     → made ≡ batch_of limits (operations_of entries) → IsFlushed limits (operations_of entries) (operations_of left) made
-flushed limits entries may {count} {left} {made} counted others is =
+flushed limits entries may {left} {made} others is =
     let are = these_batched limits entries may in
     record {
       batch = is;
-      rest = ap operations_of (others ∙ ap (λ many. drop many entries) counted) ∙ left_operations (batch_count limits (operations_of entries)) entries;
+      rest = ap operations_of others ∙ left_operations (batch_count limits (operations_of entries)) entries;
       some = some_taken limits entries may;
       longest = batch_longest limits (operations_of entries);
       thousand = λ first. thousand_taken limits entries may first;

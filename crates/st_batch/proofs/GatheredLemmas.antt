@@ -8,9 +8,3 @@ pub parts_of_three : {Item Part : Type 0} (part : Item → Option Part) (first s
     → filter_map part first ++ filter_map part second ++ filter_map part third ≡ filter_map part (first ++ second ++ third)
 parts_of_three part first second third =
     sym (filter_map-append part (first ++ second) third ∙ ap (λ front. front ++ filter_map part third) (filter_map-append part first second))
-
--- new parts after earlier ones
-pub behind : {Item Part : Type 0} (parts : List Item → List Part) {before after sofar : List Part} {seen items : List Item}
-    → after ≡ before ++ parts seen → seen ≡ items → before ≡ sofar → after ≡ sofar ++ parts items
-behind parts {before} {after} {sofar} {seen} {items} e are front =
-    e ∙ (ap (λ first. first ++ parts seen) front ∙ ap (λ these. sofar ++ parts these) are)

@@ -75,7 +75,8 @@ module _ (operations : List PlainOperation) (low : AreLow operations) where
       let deactivate = member_within (codes "deactivate") sizes.deactivate_proofs in
       let all = member_within (codes "operations") (member_size (codes "recover") sizes.recover_proofs
       + member_size (codes "deactivate") sizes.deactivate_proofs) in
-      any_below sizes.for_core_proof _ 16000000 (omega (arith, low.few, all_counted operations, proofs is_recover, proofs is_deactivate, recover, deactivate, all))
+      any_below sizes.for_core_proof _ 16000000
+      (omega (arith, low.few, all_counted operations, proofs is_recover, proofs is_deactivate, recover, deactivate, all))
 
   provisional_low : provisional_size sizes ≤ 1000000
   unfolding provisional_size

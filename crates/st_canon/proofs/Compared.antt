@@ -1,7 +1,7 @@
 -- Items and members that are compared one after another.
 use Rattle.std.proofs.Common.{◌≡◌, ◌↔◌, ℕ, ◌+◌, suc, List, [], ◌∷◌, length, drop, refl, ap, sym, ◌∙◌}
 use Rattle.st_plain.specs.Entries.{entries}
-use Rattle.st_plain.specs.Plain.{Plain, Members, no_members, member}
+use Rattle.st_plain.specs.Plain.{Members, no_members, member}
 use Rattle.st_canon.specs.View.{plain, plain_items, plain_members}
 use Rattle.st_canon.specs.declared.value.Json.{Json}
 use Rattle.st_canon.proofs.ItemLists.{length-entries}
@@ -21,9 +21,6 @@ member_count-plain_members (e ∷ es) = ap suc (member_count-plain_members es)
 pub same_count : (es fs : List (List ℕ × Json)) → plain_members es ≡ plain_members fs → length es ≡ length fs
 same_count es fs same = sym (member_count-plain_members es) ∙ ap member_count same ∙ member_count-plain_members fs
 
-same_member : (n m : List ℕ) (p q : Plain) (ms ns : Members) → n ≡ m → p ≡ q → ms ≡ ns → member n p ms ≡ member m q ns
-same_member n m p q ms ns a b c = cc
-
 module _ (es fs : List (List ℕ × Json)) (i : ℕ) (e f : List ℕ × Json) (W : Type 0) (first : drop i es ≡ e ∷ drop (i + 1) es)
     (second : drop i fs ≡ f ∷ drop (i + 1) fs) (so_far : (plain_members (drop i es) ≡ plain_members (drop i fs)) ↔ W) where
   both : W → member e.0 (plain e.1) (plain_members (drop (i + 1) es)) ≡ member f.0 (plain f.1) (plain_members (drop (i + 1) fs))
@@ -35,6 +32,8 @@ module _ (es fs : List (List ℕ × Json)) (i : ℕ) (e f : List ℕ × Json) (W
 
   pub same_so_far : e.0 ≡ f.0 → plain e.1 ≡ plain f.1 → (plain_members (drop (i + 1) es) ≡ plain_members (drop (i + 1) fs)) ↔ W
   same_so_far named valued = (
-    λ rest. so_far.0 (ap plain_members first ∙ same_member e.0 f.0 (plain e.1) (plain f.1) _ _ named valued rest ∙ sym (ap plain_members second)),
+    λ rest.
+        let same : member e.0 (plain e.1) (plain_members (drop (i + 1) es)) ≡ member f.0 (plain f.1) (plain_members (drop (i + 1) fs)) = cc in
+        so_far.0 (ap plain_members first ∙ same ∙ sym (ap plain_members second)),
     λ whole. let b = both whole in cc,
   )

@@ -136,12 +136,10 @@ names_differ entries left es sorted none names =
     let same : names_in entries ≡ keys_of es = names ∙ ap (λ l. keys_of es ++ names_in l) none ∙ append-nil (keys_of es) in
     subst AreApart same (apart_from_sorted entries sorted)
 
-pub one_more_name : (entries left next : List Entry) (es : Pairs) (name : String Global) (v : Value) (k : List ℕ) (j : Json)
-    → left ≡ (name, v) ∷ next → k ≡ string_bytes name
-    → names_in entries ≡ keys_of es ++ names_in left → names_in entries ≡ keys_of (es ++ (k, j) ∷ []) ++ names_in next
-one_more_name entries left next es name v k j step named names =
-    names ∙ ap (λ l. keys_of es ++ names_in l) step ∙ ap (λ n. keys_of es ++ n ∷ names_in next) (sym named)
-    ∙ sym (append_assoc (keys_of es) (k ∷ []) (names_in next)) ∙ ap (λ l. l ++ names_in next) (sym (keys_pushed es))
+pub one_more_name : (names next : List (List ℕ)) (es : Pairs) (k : List ℕ) (j : Json)
+    → names ≡ keys_of es ++ k ∷ next → names ≡ keys_of (es ++ (k, j) ∷ []) ++ next
+one_more_name names next es k j so_far =
+    so_far ∙ sym (append_assoc (keys_of es) (k ∷ []) next) ∙ ap (λ l. l ++ next) (sym (keys_pushed es))
   where
     keys_pushed : (fs : Pairs) → keys_of (fs ++ (k, j) ∷ []) ≡ keys_of fs ++ k ∷ []
     keys_pushed [] = refl

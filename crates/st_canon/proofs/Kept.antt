@@ -1,11 +1,10 @@
 -- Properties that the items and members of a value keep.
-use Rattle.std.proofs.Common.{◌≡◌, ℕ, zero, suc, ◌+◌, ◌<◌, List, [], ◌∷◌, ◌++◌, length, get_or, drop, sym, subst, Less, Equal, Greater}
+use Rattle.std.proofs.Common.{◌≡◌, ℕ, zero, suc, ◌+◌, List, [], ◌∷◌, ◌++◌, drop, sym, subst, Less, Equal, Greater}
 use Rattle.std.specs.List.{AllByRecursion}
 use Rattle.std.specs.List.Sorted.{IsStrictlySortedBy}
 use Rattle.std.specs.Map.{keys_of}
 use Rattle.std.specs.Ordering.{match_ordering}
 use Rattle.std.specs.Str.{IsUtf8}
-use Rattle.st_base.proofs.Lists.{next_item}
 use Rattle.st_plain.specs.InOrder.{in_order, placed}
 use Rattle.st_plain.specs.Names.{name_cmp, NamesAscend}
 use Rattle.st_plain.specs.Proper.{AllAbove, IsProper, ItemsAreProper, MembersAreProper}
@@ -28,11 +27,11 @@ rest_ascends zero es h = h
 rest_ascends (suc i) [] h = h
 rest_ascends (suc i) (e ∷ es) h = rest_ascends i es h.1
 
-pub one_more_member : (es : List (List ℕ × Json)) (i : ℕ) (e : List ℕ × Json) → NamesAscend es → i < length es
-    → e ≡ get_or es i e → IsUtf8 e.0 → IsProper (plain e.1) → MembersAreProper (plain_members (drop (i + 1) es))
+pub one_more_member : (es : List (List ℕ × Json)) (i : ℕ) (e : List ℕ × Json) → NamesAscend es
+    → drop i es ≡ e ∷ drop (i + 1) es → IsUtf8 e.0 → IsProper (plain e.1)
+    → MembersAreProper (plain_members (drop (i + 1) es))
     → MembersAreProper (plain_members (drop i es))
-one_more_member es i e s lt is u p k =
-    let split : drop i es ≡ e ∷ drop (i + 1) es = next_item es i e lt is in
+one_more_member es i e s split u p k =
     subst (λ l. MembersAreProper (plain_members l)) (sym split) (u, first_above e (drop (i + 1) es) (subst NamesAscend split (rest_ascends i es s)), p, k)
 
 -- ---- values built from proper parts are proper

@@ -1,5 +1,5 @@
 -- How many operations are applied: at most as many as verdicts act.
-use Rattle.std.proofs.Common.{◌≡◌, ◌≤◌, ℕ, ◌+◌, Bool, true, false, cond, List, [], ◌∷◌, length, drop, refl, sym, subst, arith}
+use Rattle.std.proofs.Common.{◌≡◌, ◌≤◌, ℕ, ◌+◌, Bool, true, false, cond, List, [], ◌∷◌, length, refl, subst, arith}
 use Rattle.std.proofs.lemmas.List.Sums.{sum_by-cons}
 use Rattle.st_base.specs.Work.{Counts, AppliesAtMost}
 use Rattle.st_cert.specs.Certificate.{acting_count}
@@ -23,11 +23,12 @@ acting_count-cons : (verdict : Verdict) (verdicts : List Verdict)
 acting_count-cons verdict verdicts = sum_by-cons (λ v. cond (is_acting v) 1 0) verdict verdicts
 
 -- one verdict, and those after it
-pub applied_next : (verdict : Verdict) (verdicts : List Verdict) (old new : Counts)
-    → AppliesAtMost (acting_count verdicts) (counted_if (is_acting verdict) old) new
+pub applied_next : (verdict : Verdict) (verdicts : List Verdict) (old between new : Counts)
+    → between ≡ counted_if (is_acting verdict) old → AppliesAtMost (acting_count verdicts) between new
     → AppliesAtMost (acting_count (verdict ∷ verdicts)) old new
-applied_next verdict verdicts old new bound =
-    rw (acting_count-cons verdict verdicts) (applied_once (is_acting verdict) (acting_count verdicts) old new bound)
+applied_next verdict verdicts old between new counts bound =
+    rw (acting_count-cons verdict verdicts) (applied_once (is_acting verdict) (acting_count verdicts) old new
+    (subst (λ between. AppliesAtMost (acting_count verdicts) between new) counts bound))
 
 one_at_most : (b : Bool) → cond b 1 0 ≤ 1
 one_at_most true = omega arith
@@ -38,11 +39,3 @@ pub acting_within : (verdicts : List Verdict) → acting_count verdicts ≤ leng
 acting_within [] = omega arith
 acting_within (verdict ∷ verdicts) =
     omega (arith, acting_count-cons verdict verdicts, one_at_most (is_acting verdict), acting_within verdicts)
-
--- one of the verdicts of a list, and those after it
-pub stated_next : (stated : List Verdict) (at : ℕ) (verdict : Verdict) (old between new : Counts) → drop at stated ≡ verdict ∷ drop (at + 1) stated
-    → between ≡ counted_if (is_acting verdict) old → AppliesAtMost (acting_count (drop (at + 1) stated)) between new
-    → AppliesAtMost (acting_count (drop at stated)) old new
-stated_next stated at verdict old between new next counts bound =
-    subst (λ vs. AppliesAtMost (acting_count vs) old new) (sym next)
-    (applied_next verdict (drop (at + 1) stated) old new (subst (λ w. AppliesAtMost (acting_count (drop (at + 1) stated)) w new) counts bound))

@@ -64,23 +64,21 @@ found_own uri file (entry ∷ files) =
     (found_own uri file files)
 
 -- and the file of any other URI is unchanged
-other_at : (order : Ordering) (other uri : HashValue) (file : List ℕ) (entry : HashValue × List ℕ) (files later : Files)
-    → same_hash uri entry.0 ≡ is_eq order → same_hash other uri ≡ false → file_at other later ≡ file_at other files
-    → file_at other (match_ordering order ((uri, file) ∷ entry ∷ files) ((entry.0, file) ∷ files) (entry ∷ later))
-    ≡ file_at other (entry ∷ files)
-other_at Less other uri file entry files later same differs stays = rw differs refl
-other_at Equal other uri file entry files later same differs stays =
-    let is : uri ≡ entry.0 = same_hash-is uri entry.0 same in
-    let no : same_hash other entry.0 ≡ false = subst (λ hash. same_hash other hash ≡ false) is differs in
-    rw no refl
-other_at Greater other uri file entry files later same differs stays = rw stays refl
-
 found_other : (other uri : HashValue) (file : List ℕ) (files : Files) → same_hash other uri ≡ false
     → file_at other (insert_entry hash_cmp files uri file) ≡ file_at other files
 found_other other uri file [] differs = rw differs refl
 found_other other uri file (entry ∷ files) differs =
-    other_at (hash_cmp uri entry.0) other uri file entry files (insert_entry hash_cmp files uri file) (same_hash-ties uri entry.0) differs
-    (found_other other uri file files differs)
+    at (hash_cmp uri entry.0) (insert_entry hash_cmp files uri file) (same_hash-ties uri entry.0) (found_other other uri file files differs)
+  where
+    at : (order : Ordering) (later : Files) → same_hash uri entry.0 ≡ is_eq order → file_at other later ≡ file_at other files
+        → file_at other (match_ordering order ((uri, file) ∷ entry ∷ files) ((entry.0, file) ∷ files) (entry ∷ later))
+        ≡ file_at other (entry ∷ files)
+    at Less later same stays = rw differs refl
+    at Equal later same stays =
+        let is : uri ≡ entry.0 = same_hash-is uri entry.0 same in
+        let no : same_hash other entry.0 ≡ false = subst (λ hash. same_hash other hash ≡ false) is differs in
+        rw no refl
+    at Greater later same stays = rw stays refl
 
 -- the file of its URI is the earlier one, if any, or else this one
 first_by : (file : List ℕ) (files : Files) (old : Option (List ℕ)) → file_at (uri_of file) files ≡ old

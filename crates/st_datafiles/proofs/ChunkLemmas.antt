@@ -1,7 +1,7 @@
 -- A chunk file as it was written: its text, its content, and that it fails no rule.
 use Rattle.std.proofs.Common.{◌≡◌, ◌∙◌, ℕ, ◌≤◌, ◌++◌, true, false, List, [], ◌∷◌, codes, length, Some, None, refl, sym, ap, arith}
 use Rattle.std.specs.List.{AllByRecursion}
-use Rattle.std.proofs.lemmas.Bool.{eq-eqb, not_from_true}
+use Rattle.std.proofs.lemmas.Bool.{eq-eqb, le-ltb, not_from_true}
 use Rattle.st_base.proofs.RuleLemmas.{none_fails, passes}
 use Rattle.st_plain.specs.Canonical.{canonical, canonical_items, escape}
 use Rattle.st_plain.specs.Entries.{items_of}
@@ -80,7 +80,7 @@ pub chunk_again : (limits : Limits) (wanted : ℕ) (deltas : List Plain) → 1 �
     → (first_failing_chunk_rule limits wanted (canonical (chunk_json deltas)) ≡ None) × (deltas_of (json_in (canonical (chunk_json deltas))) ≡ deltas)
 chunk_again limits wanted deltas some all long small =
     let counts = not_from_true _ (eq-eqb _ wanted (ap length (deltas_again deltas) ∙ long)) in (
-      written_passes K1 K2 (chunk_json_rules wanted) limits.max_chunk (chunk_json deltas) (chunk_readable deltas all) small
-          (not_from_true _ (form_passes deltas some), (counts, tt)),
+      written_passes K1 K2 (chunk_json_rules wanted) limits.max_chunk (chunk_json deltas) (chunk_readable deltas all)
+          (le-ltb _ _ small, (not_from_true _ (form_passes deltas some), (counts, tt))),
       ap deltas_of (json_again (chunk_json deltas) (chunk_readable deltas all)) ∙ deltas_again deltas,
     )

@@ -2,7 +2,7 @@
 use Rattle.std.proofs.Common.{◌≡◌, ◌∙◌, ℕ, ◌≤◌, true, List, [], ◌∷◌, codes, length, map, Option, Some, None, ◌⊎◌, inl, inr, refl, ap, arith}
 use Rattle.std.specs.List.{AllByRecursion, filter_map}
 use Rattle.std.specs.Str.{IsUtf8}
-use Rattle.std.proofs.lemmas.Bool.{and_from, eq-eqb, not_from_true}
+use Rattle.std.proofs.lemmas.Bool.{and_from, eq-eqb, le-ltb, not_from_true}
 use Rattle.std.proofs.lemmas.List.{length-map}
 use Rattle.st_base.specs.Each.{each_is}
 use Rattle.st_plain.specs.Canonical.{canonical}
@@ -128,8 +128,8 @@ core_proof_again limits recovers deactivates proofs sound small =
     let readable = core_proof_readable proofs sound.recovers_utf8 sound.deactivates_utf8 in
     let counts = and_from _ _ (kind_counts (codes "recover") (some_listed (kinds proofs)) proofs.recovers (recovers_at proofs) recovers sound.recovers_long)
     (kind_counts (codes "deactivate") (some_listed (kinds proofs)) proofs.deactivates (deactivates_at proofs) deactivates sound.deactivates_long) in (
-      written_passes Q1 Q2 (core_proof_json_rules recovers deactivates) limits.max_proofs (core_proof_json proofs) readable small
-          (not_from_true _ (core_form_passes proofs sound.some), (not_from_true _ counts, tt)),
+      written_passes Q1 Q2 (core_proof_json_rules recovers deactivates) limits.max_proofs (core_proof_json proofs) readable
+          (le-ltb _ _ small, (not_from_true _ (core_form_passes proofs sound.some), (not_from_true _ counts, tt))),
       ap core_proofs_of (json_again (core_proof_json proofs) readable) ∙ core_proofs_of-core_proof_json proofs,
     )
 
@@ -169,7 +169,7 @@ pub provisional_proof_again : (limits : Limits) (wanted : ℕ) (texts : List (Li
 provisional_proof_again limits wanted texts some all long small =
     let readable = provisional_proof_readable texts all in
     let counts = kind_counts (codes "update") (some_listed (update_kinds texts)) texts (updates_at texts) wanted long in (
-      written_passes Q1 Q2 (provisional_proof_json_rules wanted) limits.max_proofs (provisional_proof_json texts) readable small
-          (not_from_true _ (provisional_form_passes texts some), (not_from_true _ counts, tt)),
+      written_passes Q1 Q2 (provisional_proof_json_rules wanted) limits.max_proofs (provisional_proof_json texts) readable
+          (le-ltb _ _ small, (not_from_true _ (provisional_form_passes texts some), (not_from_true _ counts, tt))),
       ap (signed_of (codes "update")) (json_again (provisional_proof_json texts) readable) ∙ signed_of-provisional_proof_json texts,
     )

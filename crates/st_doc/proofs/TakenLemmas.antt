@@ -24,14 +24,14 @@ members document =
     ∷ (codes "alsoKnownAs", some_list (map text document.names))
     ∷ []
 
-same_parts : (keys services k s : List Plain) (names n : List (List ℕ)) → k ≡ keys → s ≡ services → n ≡ names
-    → let old : PlainDocument = record { keys = k; services = s; names = n } in old ≡ record { keys = keys; services = services; names = names }
-same_parts keys services k s names n a b c = cc
+same_parts : (it : PlainDocument) (k s : List Plain) (n : List (List ℕ)) → k ≡ it.keys → s ≡ it.services → n ≡ it.names
+    → let old : PlainDocument = record { keys = k; services = s; names = n } in old ≡ record { keys = it.keys; services = it.services; names = it.names }
+same_parts it k s n keys services names = cc
 
 pub document_in-json : (document : PlainDocument) → document_in (document_json document) ≡ document
 unfolding members
 document_in-json document =
-    same_parts document.keys document.services _ _ document.names _
+    same_parts document _ _ _
     (ap entries_in (member_at-some_listed (codes "publicKeys") (members document) refl) ∙ entries-items_of document.keys)
     (ap entries_in (member_at-some_listed (codes "services") (members document) refl) ∙ entries-items_of document.services)
     (ap (λ there. texts_of (entries_in there)) (member_at-some_listed (codes "alsoKnownAs") (members document) refl)

@@ -2,6 +2,7 @@
 use Rattle.std.proofs.Common.{◌≡◌, ◌∙◌, ◌++◌, ℕ, List, [], Option, Some, None, ap, sym, subst, arith, length, length-append}
 use Rattle.std.proofs.lemmas.List.{nil_from_length}
 use Rattle.std.proofs.lemmas.Option.{same_Some}
+use Rattle.std.specs.Prelude.{IfSome}
 use Rattle.std.specs.Io.KnownBytes.{Consumes, Appends}
 use Rattle.st_base.proofs.Cuts.{same_cut}
 use Rattle.st_drive.specs.Lines.{all_lines}
@@ -9,13 +10,14 @@ use Rattle.st_drive.specs.Runs.{Course}
 use Rattle.st_drive.specs.Streams.{Streams, Tells}
 use Rattle.st_drive.specs.Tables.{AnsweredFirst, RunTable, SoFar}
 
-of_source : {over : Course} (had left : Option (List ℕ)) {taken wrote input : List ℕ} → had ≡ Some input → Consumes had left taken
-    → SoFar over left taken wrote → AnsweredFirst over wrote (all_lines input)
-of_source None left is takes so_far = absurd (let none = is in cc)
-of_source (Some all) None is takes so_far = absurd takes
-of_source {over = over} (Some all) (Some rest) {taken = taken} {wrote = wrote} {input = input} is takes so_far =
-    let whole : taken ++ rest ≡ input = sym takes ∙ same_Some all input is in
-    subst (λ b. AnsweredFirst over wrote (all_lines b)) whole so_far.of_all
+-- a prefix of all lines of a source was answered, if it reveals its bytes
+of_source : {over : Course} (had left : Option (List ℕ)) {taken wrote : List ℕ}
+    → Consumes had left taken → SoFar over left taken wrote
+    → IfSome had (λ input. AnsweredFirst over wrote (all_lines input))
+of_source None left takes so_far = tt
+of_source (Some all) None takes so_far = absurd takes
+of_source {over} (Some all) (Some rest) {wrote = wrote} takes so_far =
+    subst (λ input. AnsweredFirst over wrote (all_lines input)) (sym takes) so_far.of_all
 
 -- the written bytes are those that a sink has more than before, if it reveals its bytes
 wrote_is : {held holds : Option (List ℕ)} {wrote before written : List ℕ} → held ≡ Some before → holds ≡ Some (before ++ written)
@@ -31,7 +33,9 @@ wrote_is {held = Some old} {holds = Some new} {wrote = wrote} {before = before} 
 module _ {over : Course} {limit : ℕ} {io : Streams} {status : ℕ} (table : RunTable over limit io status) where
   -- a prefix of all lines of a revealed input was answered
   pub answered_source : {input : List ℕ} → io.had ≡ Some input → AnsweredFirst over table.written (all_lines input)
-  answered_source is = of_source io.had io.left is table.took.takes table.so_far
+  answered_source is =
+      subst (λ had. IfSome had (λ input. AnsweredFirst over table.written (all_lines input))) is
+      (of_source io.had io.left table.took.takes table.so_far)
 
   -- the same, by the bytes of the sink
   pub answered_input : {input written : List ℕ} → Tells io input written → AnsweredFirst over written (all_lines input)

@@ -2,7 +2,6 @@ pub mod LineLemmas
 pub mod CutLemmas
 pub mod RunLemmas
 pub mod ReplyLemmas
-pub mod FitsLemmas
 pub mod Fed
 pub mod Ends
 pub mod TableLemmas

@@ -1,7 +1,7 @@
 -- A machine on a disk: one step, the end of its run, and the run from before its disk is opened.
 use Rattle.std.proofs.Common.{◌≡◌, ◌∙◌, ◌⊎◌, inl, inr, ⊎_elim, ◌++◌, ◌+◌, ◌≤◌, ℕ, List, [], ◌∷◌, refl, ap, sym, subst, arith, append_assoc, append-nil, length, length-append}
 use Rattle.std.proofs.lemmas.List.{nil_from_length}
-use Rattle.st_io.specs.Past.{Past, Leaves}
+use Rattle.st_io.specs.Past.{Past, Images, Leaves}
 use Rattle.st_io.proofs.PastLemmas.{goes_on, splits_since_sync}
 use Rattle.st_drive.specs.DiskLaws.{head_is}
 use Rattle.st_drive.specs.Runs.{Begins, NearlyReplied, course}
@@ -76,13 +76,13 @@ module _ {M C K : Type 0} (rules : Rules M C K) (m : M) (k : K) (line : List ℕ
         (h.0, h.1, omega arith, h.2);
   }
 
--- the machine has replied to a line
-pub replied : {M C K : Type 0} (rules : Rules M C K) (m n : M) (line reply : List ℕ) → reply ≡ rules.reply m line → n ≡ rules.next m line
-    → (more : List (List ℕ)) → replies rules m (line ∷ more) ≡ reply ++ replies rules n more
-replied rules m n line reply is next more =
-    ap (λ x. x ++ replies rules (rules.next m line) more) (sym is) ∙ ap (λ x. reply ++ replies rules x more) (sym next)
-
 module _ {M C K : Type 0} (rules : Rules M C K) where
+  -- the machine has replied to a line
+  pub replied : (m n : M) (line reply : List ℕ) → reply ≡ rules.reply m line → n ≡ rules.next m line
+      → (more : List (List ℕ)) → replies rules m (line ∷ more) ≡ reply ++ replies rules n more
+  replied m n line reply is next more =
+      ap (λ x. x ++ replies rules (rules.next m line) more) (sym is) ∙ ap (λ x. reply ++ replies rules x more) (sym next)
+
   pub replies_more : (m : M) (lines more : List (List ℕ)) → replies rules m (lines ++ more) ≡ replies rules m lines ++ replies rules (after rules m lines) more
   replies_more m [] more = refl
   replies_more m (line ∷ lines) more =
@@ -105,6 +105,44 @@ module _ {M C K : Type 0} (rules : Rules M C K) where
       subst (NearlyReplied (replies rules m) written) same (inr r))
       (λ less. inl (begins_trans (replies rules m first) (replies rules m r.0) written (replies_begin m first r.0 less) r.3))
       (before_or_after first b.0 r.0 r.1 [] (b.1 ∙ sym r.2))
+
+-- ---- a run, from before its disk is opened
+
+module _ {M C K : Type 0} (rules : Rules M C K) (m : M) (k : K) (lines : List (List ℕ)) where
+  -- the images while the disk is opened
+  while_opened : (a b : Past) → Opens rules k a b → (image : List ℕ) → b.left_since a.now image
+      → Images a image ⊎ HoldsFirst rules m k lines image
+  while_opened a b opens image left = ⊎_elim inl (λ holds. inr ([], (lines, refl), holds)) (opens.moments image left)
+
+  -- it was opened, and then lines were answered
+  pub run_leaves : (written : List ℕ) (a b c : Past) → Opens rules k a b
+      → LeavesOnDisk rules m k lines written b c → RunLeaves rules m k lines written a c
+  run_leaves written a b c opens leaves = record {
+    goes = goes_on a b c opens.goes leaves.goes;
+    moments = λ image left. ⊎_elim (while_opened a b opens image) (λ new. inr (leaves.moments image new))
+        (leaves.goes.splits a.now image opens.goes.later left);
+    synced = λ image left. ⊎_elim (λ was. ([], (lines, refl), opens.synced image was)) (leaves.moments image)
+        (splits_since_sync b c leaves.goes a.now image left);
+    end = λ image is. inr (leaves.end image is);
+  }
+
+  -- it could not be opened, and nothing was written
+  pub run_opens : (a b : Past) → Opens rules k a b → RunLeaves rules m k lines [] a b
+  run_opens a b opens = record {
+    goes = opens.goes;
+    moments = while_opened a b opens;
+    synced = λ image left. ([], (lines, refl), opens.synced image left);
+    end = λ image is. ⊎_elim
+        (λ was. inl (was, refl))
+        (λ holds. inr (record {
+          first = [];
+          begins = (lines, refl);
+          released = λ before line later e out. absurd (omega (arith, out));
+          replied = inl ([], refl);
+          holds = holds;
+        }))
+        (opens.moments image (b.earlier a.now b.now image opens.goes.later is));
+  }
 
 module _ {M C K D : Type 0} (rules : Rules M C K) (store : Store D) where
   -- ---- the end of a run
@@ -156,39 +194,7 @@ module _ {M C K D : Type 0} (rules : Rules M C K) (store : Store D) where
         })
         first.context
 
--- ---- a run, from before its disk is opened
-
-module _ {M C K : Type 0} (rules : Rules M C K) where
-  -- the disk was opened, and then lines were answered
-  pub run_leaves : (m : M) (k : K) (lines : List (List ℕ)) (written : List ℕ) (a b c : Past) → Opens rules k a b
-      → LeavesOnDisk rules m k lines written b c → RunLeaves rules m k lines written a c
-  run_leaves m k lines written a b c opens leaves = record {
-    goes = goes_on a b c opens.goes leaves.goes;
-    moments = λ image left. ⊎_elim
-        (λ was. ⊎_elim inl (λ holds. inr ([], (lines, refl), holds)) (opens.moments image was))
-        (λ new. inr (leaves.moments image new))
-        (leaves.goes.splits a.now image opens.goes.later left);
-    synced = λ image left. ⊎_elim
-        (λ was. ([], (lines, refl), opens.synced image was))
-        (λ new. leaves.moments image new)
-        (splits_since_sync b c leaves.goes a.now image left);
-    end = λ image is. inr (leaves.end image is);
-  }
-
-  -- the disk could not be opened, and nothing was written
-  pub run_opens : (m : M) (k : K) (lines : List (List ℕ)) (a b : Past) → Opens rules k a b → RunLeaves rules m k lines [] a b
-  run_opens m k lines a b opens = record {
-    goes = opens.goes;
-    moments = λ image left. ⊎_elim inl (λ holds. inr ([], (lines, refl), holds)) (opens.moments image left);
-    synced = λ image left. ([], (lines, refl), opens.synced image left);
-    end = λ image is. ⊎_elim
-        (λ was. inl (was, refl))
-        (λ holds. inr (record {
-          first = [];
-          begins = (lines, refl);
-          released = λ before line later e out. absurd (omega (arith, out));
-          replied = inl ([], refl);
-          holds = holds;
-        }))
-        (opens.moments image (b.earlier a.now b.now image opens.goes.later is));
-  }
+    -- and from before the disk was opened
+    pub run_on_disk : (k : K) (old : Past) → Opens rules k old (store.past c.1)
+        → AllHold rules k (store.past c.1) → RunLeaves rules m k lines written old (store.past d.1)
+    run_on_disk k old opens all = run_leaves rules m k lines written old (store.past c.1) (store.past d.1) opens (leaves_on_disk k all)

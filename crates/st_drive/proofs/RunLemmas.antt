@@ -1,5 +1,5 @@
 -- Lemmas on runs of a machine.
-use Rattle.std.proofs.Common.{◌≡◌, ◌∙◌, ◌++◌, ◌+◌, ◌≤◌, ℕ, List, [], ◌∷◌, refl, ap, sym, subst, inl, inr, arith, append_assoc, append-nil, length, length-append}
+use Rattle.std.proofs.Common.{◌≡◌, ◌∙◌, ◌++◌, ◌+◌, ◌≤◌, ◌<◌, ◌^◌, ℕ, List, [], ◌∷◌, refl, ap, sym, subst, inl, inr, arith, append_assoc, append-nil, length, length-append, take}
 use Rattle.st_drive.specs.Lines.{CutTo}
 use Rattle.st_drive.specs.Meaning.{Meaning, Laws}
 use Rattle.st_drive.specs.Runs.{Begins, RanOver, GaveUpOver, NearlyReplied, CarriedOut, EndsWithin}
@@ -57,82 +57,84 @@ module _ {M C : Type 0} {means : Meaning M C} {cap : ℕ} (laws : Laws means cap
   nearly_few m written (line ∷ []) few = inr ([], line, refl, (written, ap (λ xs. xs ++ written) (laws.silent m)))
   nearly_few m written (line ∷ next ∷ lines) few = absurd (omega arith)
 
-  -- all replies to executed lines
-  nearly_all : {m n : M} {c d : C} (ls : List (List ℕ)) (w : List ℕ) → Goes means m c ls w n d → means.told c → Begins (means.answers m ls) w
-  nearly_all {m} {n} ls w p told = (
-    [],
-    append-nil (means.answers m ls) ∙ ap (means.answers m) (sym (append-nil ls)) ∙ p.on told [] ∙ ap (λ xs. w ++ xs) (laws.silent n) ∙ append-nil w,
-  )
+  -- ---- some lines were executed
 
-  -- after executed lines
-  nearly_behind : {m n : M} {c d : C} (ls : List (List ℕ)) (w v : List ℕ) → Goes means m c ls w n d → means.told c
-      → (lines : List (List ℕ)) → Begins (means.answers n lines) v → Begins (means.answers m (ls ++ lines)) (w ++ v)
-  nearly_behind {m} {n} ls w v p told lines b = (
-    b.0,
-    ap (λ xs. xs ++ b.0) (p.on told lines) ∙ append_assoc w (means.answers n lines) b.0 ∙ ap (λ xs. w ++ xs) b.1,
-  )
+  module _ {m n : M} {c d : C} {ls : List (List ℕ)} {w : List ℕ} (p : Goes means m c ls w n d) where
+    -- all replies to them
+    nearly_all : means.told c → Begins (means.answers m ls) w
+    nearly_all told = (
+      [],
+      append-nil (means.answers m ls) ∙ ap (means.answers m) (sym (append-nil ls)) ∙ p.on told [] ∙ ap (λ xs. w ++ xs) (laws.silent n) ∙ append-nil w,
+    )
 
-  nearly_more : {m n : M} {c d : C} (ls : List (List ℕ)) (w v : List ℕ) → Goes means m c ls w n d → means.told c
-      → (lines : List (List ℕ)) → NearlyReplied (means.answers n) v lines → NearlyReplied (means.answers m) (w ++ v) (ls ++ lines)
-  nearly_more ls w v p told lines (inl b) = inl (nearly_behind ls w v p told lines b)
-  nearly_more ls w v p told lines (inr r) = inr (
-    ls ++ r.0,
-    r.1,
-    append_assoc ls r.0 (r.1 ∷ []) ∙ ap (λ xs. ls ++ xs) r.2,
-    nearly_behind ls w v p told r.0 r.3,
-  )
+    -- the replies to more lines
+    nearly_behind : (v : List ℕ) → means.told c → (lines : List (List ℕ))
+        → Begins (means.answers n lines) v → Begins (means.answers m (ls ++ lines)) (w ++ v)
+    nearly_behind v told lines b = (
+      b.0,
+      ap (λ xs. xs ++ b.0) (p.on told lines) ∙ append_assoc w (means.answers n lines) b.0 ∙ ap (λ xs. w ++ xs) b.1,
+    )
+
+    nearly_more : (v : List ℕ) → means.told c → (lines : List (List ℕ))
+        → NearlyReplied (means.answers n) v lines → NearlyReplied (means.answers m) (w ++ v) (ls ++ lines)
+    nearly_more v told lines (inl b) = inl (nearly_behind v told lines b)
+    nearly_more v told lines (inr r) = inr (
+      ls ++ r.0,
+      r.1,
+      append_assoc ls r.0 (r.1 ∷ []) ∙ ap (λ xs. ls ++ xs) r.2,
+      nearly_behind v told r.0 r.3,
+    )
+
+    -- the context after them and the rest
+    ends_more : {prompt : Type 0} {e : C} (answered later : List (List ℕ)) (v : List ℕ)
+        → EndsWithin (Ran prompt n d e v) (Gave prompt n d e v) answered later
+        → EndsWithin (Ran prompt m c e (w ++ v)) (Gave prompt m c e (w ++ v)) (ls ++ answered) later
+    ends_more {prompt} {e} answered later v =
+        ends_behind (Ran prompt n d e v) (Gave prompt n d e v) (Ran prompt m c e (w ++ v)) (Gave prompt m c e (w ++ v)) answered later ls
+        (λ ks r. (
+          (r.0.0, laws.ran_more m n r.0.0 c d e ls ks p.context r.0.1),
+          λ now told. nearly_more v told ks (r.1 now (laws.told_stays m n c d ls p.context told)),
+        ))
+        (λ ks r. (
+          laws.gave_up_more m n c d e ls ks p.context r.0,
+          λ now told. nearly_more v told ks (r.1 now (laws.told_stays m n c d ls p.context told)),
+        ))
+
+    goes_more : {o : M} {e : C} {ks : List (List ℕ)} {v : List ℕ} → Goes means n d ks v o e
+        → Goes means m c (ls ++ ks) (w ++ v) o e
+    goes_more {o} {e} {ks} {v} q = record {
+      on =
+          λ told more. ap (means.answers m) (append_assoc ls ks more) ∙ p.on told (ks ++ more) ∙ ap (λ xs. w ++ xs)
+          (q.on (laws.told_stays m n c d ls p.context told) more)
+          ∙ sym (append_assoc w v (means.answers o more));
+      context = laws.ran_more m n o c d e ls ks p.context q.context;
+    }
+
+    stops_more : {prompt : Type 0} {e : C} {ks : List (List ℕ)} {v : List ℕ}
+        → Stops prompt means n d ks v e → Stops prompt means m c (ls ++ ks) (w ++ v) e
+    stops_more {v = v} q = record {
+      answered = ls ++ q.answered;
+      later = q.later;
+      all = append_assoc ls q.answered q.later ∙ ap (λ xs. ls ++ xs) q.all;
+      off = λ told more. let r = q.off (laws.told_stays m n c d ls p.context told) more in (
+        r.0,
+        append_assoc w v r.0 ∙ ap (λ xs. w ++ xs) r.1 ∙ sym (p.on told (q.answered ++ more)) ∙ sym
+            (ap (means.answers m) (append_assoc ls q.answered more)),
+      );
+      context = ends_more q.answered q.later v q.context;
+    }
+
+    -- it may stop at any moment
+    pub goes_stops : {prompt : Type 0} (ks : List (List ℕ)) → Stops prompt means m c (ls ++ ks) w d
+    goes_stops ks = record {
+      answered = ls;
+      later = ks;
+      all = refl;
+      off = λ told more. (means.answers n more, sym (p.on told more));
+      context = inl ((n, p.context), λ now told. inl (nearly_all told));
+    }
 
   -- ---- for whole lines
-
-  -- the context after some lines and the rest
-  ends_more : {prompt : Type 0} {m n : M} {c d e : C} (ls answered later : List (List ℕ)) (w v : List ℕ) → Goes means m c ls w n d
-      → EndsWithin (Ran prompt n d e v) (Gave prompt n d e v) answered later
-      → EndsWithin (Ran prompt m c e (w ++ v)) (Gave prompt m c e (w ++ v)) (ls ++ answered) later
-  ends_more {prompt} {m} {n} {c} {d} {e} ls answered later w v p =
-      ends_behind (Ran prompt n d e v) (Gave prompt n d e v) (Ran prompt m c e (w ++ v)) (Gave prompt m c e (w ++ v)) answered later ls
-      (λ ks r. (
-        (r.0.0, laws.ran_more m n r.0.0 c d e ls ks p.context r.0.1),
-        λ now told. nearly_more ls w v p told ks (r.1 now (laws.told_stays m n c d ls p.context told)),
-      ))
-      (λ ks r. (
-        laws.gave_up_more m n c d e ls ks p.context r.0,
-        λ now told. nearly_more ls w v p told ks (r.1 now (laws.told_stays m n c d ls p.context told)),
-      ))
-
-  goes_more : {m n o : M} {c d e : C} (ls ks : List (List ℕ)) (w v : List ℕ) → Goes means m c ls w n d
-      → Goes means n d ks v o e → Goes means m c (ls ++ ks) (w ++ v) o e
-  goes_more {m} {n} {o} {c} {d} {e} ls ks w v p q = record {
-    on =
-        λ told more. ap (means.answers m) (append_assoc ls ks more) ∙ p.on told (ks ++ more) ∙ ap (λ xs. w ++ xs)
-        (q.on (laws.told_stays m n c d ls p.context told) more)
-        ∙ sym (append_assoc w v (means.answers o more));
-    context = laws.ran_more m n o c d e ls ks p.context q.context;
-  }
-
-  stops_more : {prompt : Type 0} {m n : M} {c d e : C} (ls ks : List (List ℕ)) (w v : List ℕ) → Goes means m c ls w n d
-      → Stops prompt means n d ks v e → Stops prompt means m c (ls ++ ks) (w ++ v) e
-  stops_more {prompt} {m} {n} {c} {d} ls ks w v p q = record {
-    answered = ls ++ q.answered;
-    later = q.later;
-    all = append_assoc ls q.answered q.later ∙ ap (λ xs. ls ++ xs) q.all;
-    off = λ told more. let r = q.off (laws.told_stays m n c d ls p.context told) more in (
-      r.0,
-      append_assoc w v r.0 ∙ ap (λ xs. w ++ xs) r.1 ∙ sym (p.on told (q.answered ++ more)) ∙ sym
-          (ap (means.answers m) (append_assoc ls q.answered more)),
-    );
-    context = ends_more ls q.answered q.later w v p q.context;
-  }
-
-  -- it may stop at any moment
-  pub goes_stops : {prompt : Type 0} {m n : M} {c d : C} (ls ks : List (List ℕ)) (w : List ℕ) → Goes means m c ls w n d
-      → Stops prompt means m c (ls ++ ks) w d
-  goes_stops {prompt} {m} {n} ls ks w p = record {
-    answered = ls;
-    later = ks;
-    all = refl;
-    off = λ told more. (means.answers n more, sym (p.on told more));
-    context = inl ((n, p.context), λ now told. inl (nearly_all ls w p told));
-  }
 
   pub stops_longer : {prompt : Type 0} {m : M} {c d : C} (ls ks : List (List ℕ)) (w : List ℕ) → Stops prompt means m c ls w d
       → Stops prompt means m c (ls ++ ks) w d
@@ -189,27 +191,27 @@ module _ {M C : Type 0} {means : Meaning M C} {cap : ℕ} (laws : Laws means cap
   pub went_none : (m : M) (c : C) → GoesOverCut means cap m c [] [] m c
   went_none m c = record { of = goes_none m c }
 
-  pub went_more : {m n o : M} {c d e : C} {ls ks : List (List ℕ)} {w v : List ℕ}
-      → GoesOverCut means cap m c ls w n d → GoesOverCut means cap n d ks v o e
-      → GoesOverCut means cap m c (ls ++ ks) (w ++ v) o e
-  went_more {m} {n} {o} {c} {d} {e} {ls} {ks} {w} {v} p q = record {
-    of = λ lines cut. let s = cut_append cap lines ls ks cut in subst (λ xs. Goes means m c xs (w ++ v) o e) s.2
-        (goes_more s.0 s.1 w v (p.of s.0 s.3) (q.of s.1 s.4));
-  }
+  module _ {m n : M} {c d : C} {ls : List (List ℕ)} {w : List ℕ} (p : GoesOverCut means cap m c ls w n d) where
+    pub went_more : {o : M} {e : C} {ks : List (List ℕ)} {v : List ℕ}
+        → GoesOverCut means cap n d ks v o e → GoesOverCut means cap m c (ls ++ ks) (w ++ v) o e
+    went_more {o} {e} {ks} {v} q = record {
+      of = λ lines cut. let s = cut_append cap lines ls ks cut in subst (λ xs. Goes means m c xs (w ++ v) o e) s.2
+          (goes_more (p.of s.0 s.3) (q.of s.1 s.4));
+    }
 
-  pub stopped_more : {prompt : Type 0} {m n : M} {c d e : C} {ls ks : List (List ℕ)} {w v : List ℕ}
-      → GoesOverCut means cap m c ls w n d → StopsOverCut prompt means cap n d ks v e
-      → StopsOverCut prompt means cap m c (ls ++ ks) (w ++ v) e
-  stopped_more {prompt} {m} {n} {c} {d} {e} {ls} {ks} {w} {v} p q = record {
-    of = λ lines cut. let s = cut_append cap lines ls ks cut in subst (λ xs. Stops prompt means m c xs (w ++ v) e) s.2
-        (stops_more s.0 s.1 w v (p.of s.0 s.3) (q.of s.1 s.4));
-  }
+    pub stopped_more : {prompt : Type 0} {e : C} {ks : List (List ℕ)} {v : List ℕ}
+        → StopsOverCut prompt means cap n d ks v e → StopsOverCut prompt means cap m c (ls ++ ks) (w ++ v) e
+    stopped_more {prompt} {e} {ks} {v} q = record {
+      of = λ lines cut. let s = cut_append cap lines ls ks cut in subst (λ xs. Stops prompt means m c xs (w ++ v) e) s.2
+          (stops_more (p.of s.0 s.3) (q.of s.1 s.4));
+    }
 
-  pub went_stopped : {prompt : Type 0} {m n : M} {c d : C} {ls : List (List ℕ)} {w : List ℕ} (ks : List (List ℕ))
-      → GoesOverCut means cap m c ls w n d → StopsOverCut prompt means cap m c (ls ++ ks) w d
-  went_stopped {prompt} {m} {n} {c} {d} {ls} {w} ks p = record {
-    of = λ lines cut. let s = cut_append cap lines ls ks cut in subst (λ xs. Stops prompt means m c xs w d) s.2 (goes_stops s.0 s.1 w (p.of s.0 s.3));
-  }
+    -- it may stop at any moment
+    pub went_stopped : {prompt : Type 0} (ks : List (List ℕ)) → StopsOverCut prompt means cap m c (ls ++ ks) w d
+    went_stopped {prompt} ks = record {
+      of = λ lines cut. let s = cut_append cap lines ls ks cut in subst (λ xs. Stops prompt means m c xs w d) s.2
+          (goes_stops (p.of s.0 s.3) s.1);
+    }
 
   pub stopped_longer : {prompt : Type 0} {m : M} {c d : C} {ls : List (List ℕ)} {w : List ℕ} (ks : List (List ℕ))
       → StopsOverCut prompt means cap m c ls w d → StopsOverCut prompt means cap m c (ls ++ ks) w d
@@ -247,34 +249,31 @@ module _ {M C : Type 0} {means : Meaning M C} {cap : ℕ} (laws : Laws means cap
 
   -- ---- one step
 
-  goes_one : {m n : M} {c d : C} (line reply : List ℕ)
-      → (means.told c → (more : List (List ℕ)) → means.answers m (line ∷ more) ≡ reply ++ means.answers n more)
-      → means.ran m c (line ∷ []) n d
-      → (lines : List (List ℕ)) → CutTo cap lines (line ∷ []) → Goes means m c lines reply n d
-  goes_one line reply p r [] cut = absurd cut
-  goes_one {m} {n} {c} {d} line reply p r (f ∷ []) cut = record {
-    on = λ told more. sym (laws.cut_answers m f more cut.0) ∙ ap (λ xs. means.answers m (xs ∷ more)) cut.1 ∙ p told more;
-    context = laws.cut_ran m n c d f cut.0 (subst (λ xs. means.ran m c (xs ∷ []) n d) (sym cut.1) r);
-  }
-  goes_one line reply p r (f ∷ g ∷ gs) cut = absurd cut.2
+  -- lines that are truncated to one are one line
+  one_cut : (line : List ℕ) (lines : List (List ℕ)) → CutTo cap lines (line ∷ [])
+      → (whole : List ℕ) × (whole ∷ [] ≡ lines) × (length whole < 2 ^ 62) × (take cap whole ≡ line)
+  one_cut line [] cut = absurd cut
+  one_cut line (whole ∷ []) cut = (whole, refl, cut.0, cut.1)
+  one_cut line (whole ∷ next ∷ lines) cut = absurd cut.2
 
   pub went_one : {m n : M} {c d : C} (line reply : List ℕ)
       → (means.told c → (more : List (List ℕ)) → means.answers m (line ∷ more) ≡ reply ++ means.answers n more)
       → means.ran m c (line ∷ []) n d → GoesOverCut means cap m c (line ∷ []) reply n d
-  went_one line reply p r = record { of = goes_one line reply p r }
-
-  stops_one : {m : M} {c d : C} (line : List ℕ) → means.gave_up m c (line ∷ []) d → (lines : List (List ℕ))
-      → CutTo cap lines (line ∷ []) → Stops ⊥ means m c lines [] d
-  stops_one line r [] cut = absurd cut
-  stops_one {m} {c} {d} line r (f ∷ []) cut = record {
-    answered = [];
-    later = f ∷ [];
-    all = refl;
-    off = λ told more. (means.answers m more, refl);
-    context = inr (f, [], refl, (laws.cut_gave_up m c d f cut.0 (subst (λ xs. means.gave_up m c (xs ∷ []) d) (sym cut.1) r), λ now. absurd now));
+  went_one {m} {n} {c} {d} line reply p r = record {
+    of = λ lines cut. let s = one_cut line lines cut in subst (λ xs. Goes means m c xs reply n d) s.1 (record {
+      on = λ told more. sym (laws.cut_answers m s.0 more s.2) ∙ ap (λ xs. means.answers m (xs ∷ more)) s.3 ∙ p told more;
+      context = laws.cut_ran m n c d s.0 s.2 (subst (λ xs. means.ran m c (xs ∷ []) n d) (sym s.3) r);
+    });
   }
-  stops_one line r (f ∷ g ∷ gs) cut = absurd cut.2
 
   pub stopped_one : {m : M} {c d : C} (line : List ℕ) → means.gave_up m c (line ∷ []) d
       → StopsOverCut ⊥ means cap m c (line ∷ []) [] d
-  stopped_one line r = record { of = stops_one line r }
+  stopped_one {m} {c} {d} line r = record {
+    of = λ lines cut. let s = one_cut line lines cut in subst (λ xs. Stops ⊥ means m c xs [] d) s.1 (record {
+      answered = [];
+      later = s.0 ∷ [];
+      all = refl;
+      off = λ told more. (means.answers m more, refl);
+      context = inr (s.0, [], refl, (laws.cut_gave_up m c d s.0 s.2 (subst (λ xs. means.gave_up m c (xs ∷ []) d) (sym s.3) r), λ now. absurd now));
+    });
+  }

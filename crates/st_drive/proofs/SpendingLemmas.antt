@@ -4,12 +4,11 @@ use Rattle.std.specs.Prelude.{Contains}
 use Rattle.std.proofs.lemmas.List.Elements.{Contains-append_left, Contains-append_right, Contains-append_cases}
 use Rattle.st_io.specs.Past.{Past, Images, Only, Leaves}
 use Rattle.st_io.specs.Spent.{KeepsSpent, SpentInAll}
-use Rattle.st_drive.specs.OnDisk.{Rules, replies, after, kept, AllHold, Went, GaveUp, HoldsEither, HoldsReplied, Store, IsTold, disk_meaning, RanOnDisk, GaveUpOnDisk, Opens, LeavesOnDisk, RunLeaves}
+use Rattle.st_drive.specs.OnDisk.{Rules, replies, after, kept, AllHold, Went, GaveUp, HoldsEither, HoldsReplied, Store, RanOnDisk, GaveUpOnDisk, Opens, LeavesOnDisk, RunLeaves}
 use Rattle.st_drive.specs.Released.{Ascend, KeepsNumbers}
-use Rattle.st_drive.specs.Runs.{Begins, NearlyReplied, course}
-use Rattle.st_drive.specs.Spending.{Spender, listed, numbers, AllSpent, AllStand, spending, released, NumberLaws, NextLaws, StandsForEither, HasSpent, GaveUpSpending, StandsReplied, KeepsStanding, EndsOpened, EndsStanding, CostsOne, LosesOne, KeptNumbers, run_of}
-use Rattle.st_drive.specs.Tables.{AnsweredFirst}
-use Rattle.st_drive.proofs.OnDiskLemmas.{line_went, line_gave, leaves_on_disk, run_leaves, run_opens}
+use Rattle.st_drive.specs.Runs.{Begins, NearlyReplied}
+use Rattle.st_drive.specs.Spending.{Spender, listed, numbers, AllSpent, spending, released, NumberLaws, NextLaws, HasSpent, GaveUpSpending, StandsReplied, KeepsStanding, EndsOpened, EndsStanding, CostsOne, LosesOne, KeptNumbers, run_of}
+use Rattle.st_drive.proofs.OnDiskLemmas.{line_went, line_gave, run_opens}
 use Rattle.st_drive.proofs.ReleasedLemmas.{none_in, one_in, ascend_lower, at_least, none_twice}
 
 at_or_above : (x q : ℕ) → (q ≤ x) ⊎ (suc x ≤ q)
@@ -29,7 +28,8 @@ module _ {M C : Type 0} (spender : Spender M C) where
   holds_on k a b stays all image left = λ q has. stays.stays q (λ y is. all y is q has) image left
 
   -- numbers spent in every image are so in every later one
-  all_after : (k : List ℕ) (a b : Past) → KeepsSpent spender.spent a b → AllHold rules (inl k) a → AllHold rules (inl k) b
+  pub all_after : (k : List ℕ) (a b : Past) → KeepsSpent spender.spent a b → AllHold rules (inl k) a
+      → AllHold rules (inl k) b
   all_after k a b stays all image is = holds_on k a b stays all image (b.earlier a.now b.now image stays.goes.later is)
 
   -- spent numbers stay so at each moment
@@ -51,28 +51,19 @@ module _ {M C : Type 0} (spender : Spender M C) where
       (Contains-append_cases k (listed (spender.number m line)) q has)
 
   -- a disk is opened
-  spending_opens : (k : List ℕ) (a b : Past) → KeepsSpent spender.spent a b → AllHold rules (inl k) a → Opens rules (inl k) a b
+  pub spending_opens : (k : List ℕ) (a b : Past) → KeepsSpent spender.spent a b → AllHold rules (inl k) a
+      → Opens rules (inl k) a b
   spending_opens k a b stays all = record {
     goes = stays.goes;
     moments = λ image left. inr (holds_on k a b stays all image left);
     synced = λ image left. holds_on k a b stays all image (b.earlier a.now left.0 image (let lt = left.1 in omega arith) left.3);
   }
 
-  ran_kept : (m : M) (line : List ℕ) (a b : Past) → KeepsSpent spender.spent a b
-      → ((q : ℕ) → spender.number m line ≡ Some q → SpentInAll spender.spent b q)
-      → ((before : M) → AllStand spender before a → Leaves (StandsForEither spender before (spender.next m line)) a b)
-      → ((before : M) → AllStand spender before a → AllStand spender (spender.next m line) b)
-      → (k : List ℕ ⊎ M) → AllHold rules k a → Went rules m k (line ∷ []) a b
-  ran_kept m line a b stays given moments now (inl k) all =
-      line_went rules m (inl k) line a b (either m line k a b stays all) (now_spent m line k a b stays all given)
-  ran_kept m line a b stays given moments now (inr before) all =
-      line_went rules m (inr before) line a b (moments before all) (now before all)
-
-  gave_kept : (m : M) (line : List ℕ) (a b : Past) → KeepsSpent spender.spent a b
-      → ((before : M) → AllStand spender before a → Leaves (StandsForEither spender before (spender.next m line)) a b)
-      → (k : List ℕ ⊎ M) → AllHold rules k a → GaveUp rules m k (line ∷ []) a b
-  gave_kept m line a b stays moments (inl k) all = line_gave rules m (inl k) line a b (either m line k a b stays all)
-  gave_kept m line a b stays moments (inr before) all = line_gave rules m (inr before) line a b (moments before all)
+  -- a property of both kinds of state is one of all
+  of_both : (P : List ℕ ⊎ M → Type 0) → ((k : List ℕ) → P (inl k)) → ((before : M) → P (inr before))
+      → (k : List ℕ ⊎ M) → P k
+  of_both P numbers machine (inl k) = numbers k
+  of_both P numbers machine (inr before) = machine before
 
   -- a step with a reply, as a step of a run
   pub has_spent : {D : Type 0} {store : Store D} {m n : M} {c d : C × D} {line : List ℕ} → HasSpent spender store m c line n d
@@ -81,7 +72,12 @@ module _ {M C : Type 0} (spender : Spender M C) where
     effect = p.effect;
     told = p.told;
     came = p.came;
-    disk = λ told k. ran_kept m line (store.past c.1) (store.past d.1) (p.stays told) (p.given told) (p.moments told) (p.now told) k;
+    disk = λ told.
+        let a = store.past c.1 in
+        let b = store.past d.1 in
+        of_both (λ k. AllHold rules k a → Went rules m k (line ∷ []) a b)
+        (λ k all. line_went rules m (inl k) line a b (either m line k a b (p.stays told) all) (now_spent m line k a b (p.stays told) all (p.given told)))
+        (λ before all. line_went rules m (inr before) line a b (p.moments told before all) (p.now told before all));
   }
 
   -- and one that gave up
@@ -89,7 +85,12 @@ module _ {M C : Type 0} (spender : Spender M C) where
       → GaveUpOnDisk rules store m c (line ∷ []) d
   gave_up_spending {D} {store} {m} {c} {d} {line} p = record {
     effect = p.effect;
-    disk = λ told k. gave_kept m line (store.past c.1) (store.past d.1) (p.stays told) (p.moments told) k;
+    disk = λ told.
+        let a = store.past c.1 in
+        let b = store.past d.1 in
+        of_both (λ k. AllHold rules k a → GaveUp rules m k (line ∷ []) a b)
+        (λ k all. line_gave rules m (inl k) line a b (either m line k a b (p.stays told) all))
+        (λ before all. line_gave rules m (inr before) line a b (p.moments told before all));
   }
 
   -- ---- released numbers
@@ -243,28 +244,12 @@ module _ {M C : Type 0} (spender : Spender M C) where
                 (new.earlier old.now new.now left goes.later is);
           }
 
-  -- the disk was opened at b, and a prefix of these lines was answered
-  pub spending_leaves : {D : Type 0} (store : Store D) {m : M} {c d : C × D} {lines : List (List ℕ)} {written : List ℕ} (old : Past)
-      → IsTold store c.1 → KeepsSpent spender.spent old (store.past c.1)
-      → AnsweredFirst (course (disk_meaning rules store) m c d) written lines
-      → (k : List ℕ) → AllHold rules (inl k) old → RunLeaves rules m (inl k) lines written old (store.past d.1)
-  spending_leaves store {m} {c} {d} {lines} {written} old told stays first k all =
-      run_leaves rules m (inl k) lines written old (store.past c.1) (store.past d.1) (spending_opens k old (store.past c.1) stays all)
-      (leaves_on_disk rules store told first (inl k) (all_after k old (store.past c.1) stays all))
-
   -- the disk could not be opened, and nothing was written
   pub spending_opened : (m : M) (lines : List (List ℕ)) (old new : Past) → KeepsSpent spender.spent old new
       → (k : List ℕ) → AllHold rules (inl k) old → RunLeaves rules m (inl k) lines [] old new
   spending_opened m lines old new stays k all = run_opens rules m (inl k) lines old new (spending_opens k old new stays all)
 
   -- ---- the machine of the disk's image
-
-  -- the disk was opened at b as that of m, and a prefix of these lines was answered
-  pub standing_leaves : {D : Type 0} (store : Store D) {m : M} {c d : C × D} {lines : List (List ℕ)} {written : List ℕ} (old : Past)
-      → IsTold store c.1 → Opens rules (inr m) old (store.past c.1) → AllStand spender m (store.past c.1)
-      → AnsweredFirst (course (disk_meaning rules store) m c d) written lines → RunLeaves rules m (inr m) lines written old (store.past d.1)
-  standing_leaves store {m} {c} {d} {lines} {written} old told opens all first =
-      run_leaves rules m (inr m) lines written old (store.past c.1) (store.past d.1) opens (leaves_on_disk rules store told first (inr m) all)
 
   stands_replied : (m : M) (lines : List (List ℕ)) (written image : List ℕ) → HoldsReplied rules m (inr m) lines written image
       → StandsReplied spender m lines written image

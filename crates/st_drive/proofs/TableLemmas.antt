@@ -29,38 +29,37 @@ all_taken input taken None takes end = absurd takes
 all_taken input taken (Some rest) takes end =
     (ap Some end, sym (append-nil taken) ∙ ap (λ more. taken ++ more) (sym end) ∙ sym takes)
 
-whole_input : (answers : List (List ℕ) → List ℕ) (limit : ℕ) (had left held holds : Option (List ℕ)) (taken written : List ℕ)
-    → Consumes had left taken → Appends held holds written → IsAtEnd left → length taken ≤ limit → written ≡ answers (all_lines taken)
-    → IfSome had (λ input. (length input ≤ limit) × (left ≡ Some []) × Appends held holds (answers (all_lines input)))
-whole_input answers limit None left held holds taken written takes writes end fits is = tt
-whole_input answers limit (Some input) left held holds taken written takes writes end fits is =
-    let whole = all_taken input taken left takes end in (
-      subst (λ bytes. length bytes ≤ limit) whole.1 fits,
-      whole.0,
-      subst (Appends held holds) (is ∙ ap (λ bytes. answers (all_lines bytes)) whole.1) writes,
-    )
+-- a property of a value, if there is one
+if_is : {X : Type 0} {P : X → Type 0} (o : Option X) → ((x : X) → o ≡ Some x → P x) → IfSome o P
+if_is None f = tt
+if_is (Some x) f = f x refl
 
 answers_input : {over : Course} {limit : ℕ} {io : Streams} {status : ℕ} → RunTable over limit io status → over.told
     → AnswersInput over limit io status
 answers_input {over} {limit} {io} t told is =
+    let taken = t.took.taken in
     let end = t.took.done is in
-    whole_input over.answers limit io.had io.left io.held io.holds t.took.taken t.written t.took.takes t.writes end.0 end.1 ((t.done is).0 told)
+    if_is io.had (λ input had.
+    let whole = all_taken input taken io.left (subst (λ had. Consumes had io.left taken) had t.took.takes) end.0 in (
+      subst (λ bytes. length bytes ≤ limit) whole.1 end.1,
+      whole.0,
+      subst (Appends io.held io.holds) ((t.done is).0 told ∙ ap (λ bytes. over.answers (all_lines bytes)) whole.1) t.writes,
+    ))
 
 -- ---- if nothing fails
 
-within_input : (input taken : List ℕ) (had left : Option (List ℕ)) (limit : ℕ) → had ≡ Some input → Consumes had left taken
-    → length input ≤ limit → length taken ≡ limit + 1 → ⊥
-within_input input taken had None limit is takes fits over = absurd (subst (λ bytes. Consumes bytes None taken) is takes)
-within_input input taken had (Some rest) limit is takes fits over =
-    let whole : input ≡ taken ++ rest = subst (λ bytes. Consumes bytes (Some rest) taken) is takes in
-    omega (arith, fits, over, ap length whole, length-append taken rest)
+within_input : (input taken : List ℕ) (left : Option (List ℕ)) (limit : ℕ)
+    → Consumes (Some input) left taken → length input ≤ limit → length taken ≡ limit + 1 → ⊥
+within_input input taken None limit takes fits over = absurd takes
+within_input input taken (Some rest) limit takes fits over = omega (arith, fits, over, ap length takes, length-append taken rest)
 
 end_is : (status : ℕ) → IsTrue (is_end status) → status ≢ 2 → status ≢ 3 → status ≢ 4 → status ≢ 5 → (status ≡ 0) ⊎ (status ≡ 6)
 end_is status is not_two not_three not_four not_five = search arith
 
 -- if nothing fails and the input is within the limit, the limit isn't exceeded
 pub not_over : {limit : ℕ} {io : Streams} {status : ℕ} → TakesBytes limit io.had io.left status → GoesWell limit io → status ≢ 5
-not_over {limit} {io} took well five = within_input well.input took.taken io.had io.left limit well.had took.takes well.fits (took.over five)
+not_over {limit} {io} took well five =
+    within_input well.input took.taken io.left limit (subst (λ had. Consumes had io.left took.taken) well.had took.takes) well.fits (took.over five)
 
 module _ {limit : ℕ} {io : Streams} {failed : Type 0} {status : ℕ} where
   ends_well : TakesBytes limit io.had io.left status → Ends io failed status → IsTrue (is_end status) → GoesWell limit io → ¬ failed
@@ -90,15 +89,6 @@ ends_by (Err DeviceFault) finished unfinished cause = search arith
 ends_by (Err OverLimit) finished unfinished cause = search arith
 ends_by (Err WantOfMemory) finished unfinished cause = search arith
 
--- all properties of a run with this result
-pub answers_by : {T : Type 0} {over : Course} {limit : ℕ} {io : Streams} {failed : Type 0} (result : Result T Stop) (status : ℕ)
-    → status ≡ status_of result → IsTrue (is_end status) → RunTable over limit io (status_of result) → OnOk result (io.is_finished ≡ true)
-    → OnErr result (FinishesNothing io.was_finished io.is_finished) → IfErr result (IsRunStop io.read_failed io.write_failed failed)
-    → AnswersLines over limit io failed status
-answers_by {over = over} {limit = limit} {io = io} {failed = failed} result status is end table finished unfinished cause =
-    subst (λ s. AnswersLines over limit io failed s) (sym is)
-    (answers_of table (ends_by result finished unfinished cause) (subst (λ s. IsTrue (is_end s)) is end))
-
 -- a count that rose later has risen
 pub rose_before : (a b c : ℕ) → a ≤ b → Rose b c → Rose a c
 rose_before a b c le rose = search arith
@@ -122,27 +112,6 @@ pub record IsUnread (failed : Type 0) (status : ℕ) : Type 0 where
   pub within : status ≡ 5 → ⊥
   pub disk_fault : status ≡ 4 → failed
 
--- nothing was taken then
-pub took_none : {limit : ℕ} {io : Streams} {failed : Type 0} {status : ℕ} → IsUnread failed status → Unread io
-    → TakesBytes limit io.had io.left status
-took_none {io = io} is unread = record {
-  taken = [];
-  takes = subst (λ left. Consumes io.had left []) (sym unread.left_is) (Consumes-nil io.had);
-  done = λ e. let late = is.late in absurd (omega arith);
-  over = λ e. absurd (is.within e);
-  bound = omega arith;
-  exceeds = λ e. absurd (omega arith);
-}
-
-pub ends_unread : {io : Streams} {failed : Type 0} {status : ℕ} → IsUnread failed status → Unread io → Ends io failed status
-ends_unread is unread = record {
-  finished = λ e. let late = is.late in absurd (omega arith);
-  unfinished = λ no finished. sym unread.finished_is ∙ finished;
-  read_fault = λ e. let late = is.late in absurd (omega arith);
-  write_fault = λ e. absurd (is.no_write e);
-  disk_fault = is.disk_fault;
-}
-
 -- no line was answered
 none_first : (over : Course) → over.ran_over [] → (over.told → over.answers [] ≡ []) → (lines : List (List ℕ)) → AnsweredFirst over [] lines
 none_first over none silent lines = record {
@@ -153,22 +122,43 @@ none_first over none silent lines = record {
   context = inl (none, λ now told. inl ([], ap (λ xs. xs ++ []) (silent told)));
 }
 
-pub not_begun : {limit : ℕ} {io : Streams} {failed : Type 0} {status : ℕ} → IsUnread failed status → Unread io → (over : Course)
-    → over.ran_over [] → (over.told → over.answers [] ≡ []) → IsTrue (is_end status) → AnswersLines over limit io failed status
-unfolding took_none
-not_begun {io = io} is unread over none silent end = answers_of (record {
-  took = took_none is unread;
-  written = [];
-  writes = subst (λ holds. Appends io.held holds []) (sym unread.holds_is) (Appends-nil io.held);
-  done = λ e. let late = is.late in absurd (omega arith);
-  read_fault = λ e. let late = is.late in absurd (omega arith);
-  over = λ e. absurd (is.within e);
-  so_far = record {
-    of_taken = none_first over none silent [];
-    of_all = if_some io.left (λ rest. none_first over none silent (all_lines rest));
-    all_replies = if_some io.left (λ rest told. (over.answers (all_lines rest), refl));
-  };
-}) (ends_unread is unread) end
+module _ {io : Streams} {failed : Type 0} {status : ℕ} (is : IsUnread failed status) (unread : Unread io) where
+  -- nothing was taken then
+  pub took_none : {limit : ℕ} → TakesBytes limit io.had io.left status
+  took_none = record {
+    taken = [];
+    takes = subst (λ left. Consumes io.had left []) (sym unread.left_is) (Consumes-nil io.had);
+    done = λ e. let late = is.late in absurd (omega arith);
+    over = λ e. absurd (is.within e);
+    bound = omega arith;
+    exceeds = λ e. absurd (omega arith);
+  }
+
+  pub ends_unread : Ends io failed status
+  ends_unread = record {
+    finished = λ e. let late = is.late in absurd (omega arith);
+    unfinished = λ no finished. sym unread.finished_is ∙ finished;
+    read_fault = λ e. let late = is.late in absurd (omega arith);
+    write_fault = λ e. absurd (is.no_write e);
+    disk_fault = is.disk_fault;
+  }
+
+  pub not_begun : {limit : ℕ} (over : Course) → over.ran_over [] → (over.told → over.answers [] ≡ [])
+      → IsTrue (is_end status) → AnswersLines over limit io failed status
+  unfolding took_none
+  not_begun over none silent = answers_of (record {
+    took = took_none;
+    written = [];
+    writes = subst (λ holds. Appends io.held holds []) (sym unread.holds_is) (Appends-nil io.held);
+    done = λ e. let late = is.late in absurd (omega arith);
+    read_fault = λ e. let late = is.late in absurd (omega arith);
+    over = λ e. absurd (is.within e);
+    so_far = record {
+      of_taken = none_first over none silent [];
+      of_all = if_some io.left (λ rest. none_first over none silent (all_lines rest));
+      all_replies = if_some io.left (λ rest told. (over.answers (all_lines rest), refl));
+    };
+  }) ends_unread
 
 -- ---- another course
 

@@ -1,5 +1,5 @@
 -- The encoding of a message is decoded again, and a decoded message has that encoding.
-use Rattle.std.proofs.Common.{◌≡◌, ◌∙◌, ℕ, zero, suc, ◌+◌, ◌*◌, ◌-◌, ◌<◌, ◌≤◌, ◌^◌, ◌==◌, nat_le, inl, inr, Bool, true, false, cond, List, [], ◌∷◌, ◌++◌, length, take, drop, get_or, Option, Some, None, option_map, Result, Ok, Err, IfOk, ap, sym, subst, refl, append_assoc, length-append, arith}
+use Rattle.std.proofs.Common.{◌≡◌, ◌∙◌, ℕ, zero, suc, ◌*◌, ◌<◌, ◌≤◌, ◌^◌, ◌==◌, nat_le, inl, inr, Bool, true, false, cond, List, [], ◌∷◌, ◌++◌, length, take, drop, get_or, Option, Some, None, option_map, Result, Ok, Err, IfOk, ap, sym, subst, refl, append_assoc, length-append, arith}
 use Rattle.std.proofs.lemmas.Bool.{eqb-true, eq-eqb, cases_lt}
 use Rattle.std.proofs.lemmas.Bool.Decides.{nat_tests}
 use Rattle.std.proofs.lemmas.List.{take_at, drop_at, take-append-drop, nil_from_length, length-take-le, length-drop, length-take, get_or-take, get_or_past}
@@ -57,27 +57,14 @@ mapped f (Some x) y e = record { x = x; was = refl; is = cc }
 
 -- ---- URIs
 
--- the next one is the first of the rest
-pub uris_of-step : (count i : ℕ) (bytes : List ℕ) → i < count
-    → uris_of (count - i) bytes ≡ record { code = 0x12; digest = take 32 bytes } ∷ uris_of (count - (i + 1)) (drop 32 bytes)
-uris_of-step count i bytes below =
-    let e : count - i ≡ suc (count - (i + 1)) = omega arith in
-    rw e refl
-
 -- one more was read
-pub uris_of-next : (uris next : List HashValue) (uri : HashValue) (count i : ℕ) (rest bytes front back : List ℕ) → i < count
-    → front ≡ take 32 rest → back ≡ drop 32 rest → uri ≡ record { code = 0x12; digest = front } → next ≡ uris ++ uri ∷ []
-    → uris ++ uris_of (count - i) rest ≡ uris_of count bytes → next ++ uris_of (count - (i + 1)) back ≡ uris_of count bytes
-uris_of-next uris next uri count i rest bytes front back below at_front at_back is pushed all =
-    let step = uris_of-step count i rest below in
-    let one : uri ≡ record { code = 0x12; digest = take 32 rest } = is ∙ ap (λ (digest : List ℕ). record { code = 0x12; digest = digest }) at_front in
-    let others = uris_of (count - (i + 1)) (drop 32 rest) in
-    ap (λ (back : List ℕ). next ++ uris_of (count - (i + 1)) back) at_back
-    ∙ ap (λ (front : List HashValue). front ++ others) pushed
-    ∙ append_assoc uris (uri ∷ []) others
-    ∙ ap (λ (one : HashValue). uris ++ one ∷ others) one
-    ∙ ap (λ (left : List HashValue). uris ++ left) (sym step)
-    ∙ all
+pub uris_of-next : (uris next : List HashValue) (left : ℕ) (rest back : List ℕ) → back ≡ drop 32 rest
+    → next ≡ uris ++ record { code = 0x12; digest = take 32 rest } ∷ []
+    → next ++ uris_of left back ≡ uris ++ uris_of (suc left) rest
+uris_of-next uris next left rest back cut pushed =
+    ap (λ (back : List ℕ). next ++ uris_of left back) cut
+    ∙ ap (λ (read : List HashValue). read ++ uris_of left (drop 32 rest)) pushed
+    ∙ append_assoc uris (record { code = 0x12; digest = take 32 rest } ∷ []) (uris_of left (drop 32 rest))
 
 same_uri : (uri : HashValue) (digest : List ℕ) → uri.code ≡ 0x12 → digest ≡ uri.digest → record { code = 0x12; digest = digest } ≡ uri
 same_uri uri digest code is =

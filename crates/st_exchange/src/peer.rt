@@ -1,6 +1,6 @@
-ghost use Rattle.std.specs.Prelude.{◌≡◌, ◌≤◌, ◌+◌, ◌*◌, IfOk};
+ghost use Rattle.std.specs.Prelude.{◌≡◌, IfOk};
 ghost use Rattle.st_exchange.specs.Answer.{is_among};
-ghost use Rattle.st_exchange.specs.Peer.{FileDue, LineDue, Peer as Means, PeerLaws, anchors_told};
+ghost use Rattle.st_exchange.specs.Peer.{FileDue, LineDue, Peer as Means, PeerLaws};
 ghost use Rattle.st_hash.specs.Hash.{uri_of};
 
 use st_base::{Bytes, List, WantOfMemory, Work};
@@ -39,8 +39,6 @@ pub trait Peer: Sized + Drop {
     ) -> Result<(Self, Bytes), WantOfMemory>
         ensures next { IfOk result (λ done. done.0 ≡ peer.next self line.now) }
         ensures reply { IfOk result (λ done. done.1 ≡ peer.reply self line.now) }
-        ensures paid { IfOk result (λ done. work.new.files + peer.due done.0
-            ≤ work.old.files + peer.due self + 5 * anchors_told (peer.reply self line.now)) }
         ensures due { LineDue peer self line.now work.old work.new };
 
     /// Keeps a file, and returns its URI. For any result, it counts no more than was due.

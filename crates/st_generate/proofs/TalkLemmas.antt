@@ -1,30 +1,13 @@
 -- Sending a node one more line.
---     stays_paid     its reads are paid
---     within         so it reads at most five files for each anchor that it accepted
+--     within         at most five files are read for each anchor that was accepted
 --     tell_is        the node afterwards, with its counts
 use Rattle.std.proofs.Common.{◌≡◌, ◌∙◌, ℕ, ◌+◌, ◌*◌, ◌≤◌, ◌<◌, List, ap, arith}
-use Rattle.st_exchange.specs.Peer.{Peer, anchors_told}
+use Rattle.st_exchange.specs.Peer.{Peer}
 use Rattle.st_generate.specs.Paid.{IsPaid}
 use Rattle.st_generate.specs.Talk.{TalkValue, counted, reply, tell}
 use Rattle.st_generate.specs.declared.talk.Accepted.{Accepted}
 
 -- ---- reads are paid
-
-sum_within : (due later some more said read now before after : ℕ) → read + due ≤ 5 * some → after + later ≤ before + due + 5 * said
-    → now + before ≡ read + after → more ≡ some + said → now + later ≤ 5 * more
-sum_within due later some more said read now before after paid counts grown is = omega arith
-
-one_more : (line reply : List ℕ) (had more : Accepted) → more ≡ counted line reply had
-    → more.anchors ≡ had.anchors + anchors_told reply
-unfolding counted
-one_more line reply had more is = ap (λ (all : Accepted). all.anchors) is
-
-pub stays_paid : (line reply : List ℕ) (had more : Accepted) (read due later now before after : ℕ) → IsPaid read due had.anchors
-    → after + later ≤ before + due + 5 * anchors_told reply → now + before ≡ read + after → more ≡ counted line reply had
-    → IsPaid now later more.anchors
-unfolding IsPaid
-stays_paid line reply had more read due later now before after paid counts grown is =
-    sum_within due later had.anchors more.anchors (anchors_told reply) read now before after paid counts grown (one_more line reply had more is)
 
 pub none_read : (due : ℕ) → due ≡ 0 → IsPaid 0 due 0
 unfolding IsPaid

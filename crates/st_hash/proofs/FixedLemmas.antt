@@ -55,12 +55,6 @@ other_answer None None true n bytes more other =
     so_many-none n bytes (λ same. omega (arith, longer, same))
 other_answer None None false n bytes more other = so_many-none n bytes (λ same. other (fits n (length bytes) same))
 
-ok_same : (answer : Result ℕ DecodeSliceError) (m n : ℕ) → answer ≡ Ok m → answer ≡ Ok n → m ≡ n
-ok_same answer m n first second = cc
-
-ok_no_error : (answer : Result ℕ DecodeSliceError) (n : ℕ) (error : DecodeSliceError) → answer ≡ Ok n → answer ≡ Err error → ⊥
-ok_no_error answer n error first second = cc
-
 fixed_of_text-none : (n : ℕ) (text : List ℕ) → decode_slice_of url_safe_no_pad text n ≢ Ok n
     → fixed_of_text n text ≡ None
 fixed_of_text-none n text other =
@@ -78,15 +72,13 @@ fixed_of_text-none n text other =
     (nat_lt (n / 3) groups) n (decoded_bytes dec pad text) more other
 
 -- a text whose decoding into such a slice answers something else
-pub fixed_of_text-count : (n room : ℕ) (text : List ℕ) (count : ℕ) (answer : Result ℕ DecodeSliceError) → room ≡ n
-    → answer ≡ decode_slice_of url_safe_no_pad text room → answer ≡ Ok count → count ≢ n → fixed_of_text n text ≡ None
-fixed_of_text-count n room text count answer long decoded counted other =
-    fixed_of_text-none n text (λ same. other (ok_same answer count n counted (decoded ∙ ap (decode_slice_of url_safe_no_pad text) long ∙ same)))
+pub fixed_of_text-count : (n : ℕ) (text : List ℕ) (count : ℕ) (answer : Result ℕ DecodeSliceError)
+    → answer ≡ decode_slice_of url_safe_no_pad text n → answer ≡ Ok count → count ≢ n → fixed_of_text n text ≡ None
+fixed_of_text-count n text count answer decoded counted other = fixed_of_text-none n text (λ same. let is : count ≡ n = cc in other is)
 
-pub fixed_of_text-error : (n room : ℕ) (text : List ℕ) (error : DecodeSliceError) (answer : Result ℕ DecodeSliceError) → room ≡ n
-    → answer ≡ decode_slice_of url_safe_no_pad text room → answer ≡ Err error → fixed_of_text n text ≡ None
-fixed_of_text-error n room text error answer long decoded refused =
-    fixed_of_text-none n text (λ same. ok_no_error answer n error (decoded ∙ ap (decode_slice_of url_safe_no_pad text) long ∙ same) refused)
+pub fixed_of_text-error : (n : ℕ) (text : List ℕ) (error : DecodeSliceError) (answer : Result ℕ DecodeSliceError)
+    → answer ≡ decode_slice_of url_safe_no_pad text n → answer ≡ Err error → fixed_of_text n text ≡ None
+fixed_of_text-error n text error answer decoded refused = fixed_of_text-none n text (λ same. cc)
 
 -- a text that is read as n bytes is their base64url
 pub fixed_spelled : (n : ℕ) (text bytes : List ℕ) → IsBytes text → fixed_of_text n text ≡ Some bytes → text ≡ base64url bytes

@@ -7,7 +7,7 @@
 use Rattle.std.proofs.Common.{◌≡◌, ◌∙◌, ℕ, zero, suc, ◌+◌, ◌*◌, ◌-◌, ◌<◌, ◌==◌, ◌&&◌, ◌||◌, inl, inr, Bool, true, false, not, if◌then◌else◌, nat_le, nat_lt, List, [], ◌∷◌, length, drop, slice_index, Option, Some, None, option_and_then, refl, ap, subst, arith}
 use Rattle.std.specs.List.{AllByRecursion}
 use Rattle.std.specs.Option.{option_or}
-use Rattle.std.specs.Result.{result_ok}
+use Rattle.std.specs.Result.{is_ok, result_ok}
 use Rattle.std.specs.declared.result.Result.TheVariants.{Ok, Err}
 use Rattle.std.proofs.lemmas.Bool.{cases_eq, cases_lt}
 use Rattle.std.proofs.lemmas.Bool.Decides.{nat_tests}
@@ -98,15 +98,22 @@ groups_symbols s (suc q) i none within =
       ]
     ]
 
+-- a scan that succeeds went on from no error
+scanned_ok : (at i : ℕ) (so_far : _) (bytes : List ℕ) (last : _) → scan_steps table 61 at so_far i bytes ≡ Ok last
+    → is_ok (scan_steps table 61 0 so_far 0 []) ≡ true
+unfolding scan_steps
+scanned_ok at i (Ok st) bytes last scanned = refl
+scanned_ok at i (Err e) bytes last scanned = cc scanned
+
 -- a character of the last group that is no symbol is refused
-by_push : (pad after bad : Bool) (one : _) (e f : DecodeError) (next : _) (at i : ℕ) (more : List ℕ) (last : _)
-    → scan_steps table 61 at (if pad then one else if after then Err e else if bad then Err f else Ok next) i more ≡ Ok last
+by_push : (pad after bad : Bool) (one : _) (e f : DecodeError) (next : _)
+    → is_ok (scan_steps table 61 0 (if pad then one else if after then Err e else if bad then Err f else Ok next) 0 []) ≡ true
     → (pad || not bad) ≡ true
 unfolding scan_steps
-by_push true after bad one e f next at i more last scanned = refl
-by_push false true bad one e f next at i more last scanned = cc scanned
-by_push false false true one e f next at i more last scanned = cc scanned
-by_push false false false one e f next at i more last scanned = refl
+by_push true after bad one e f next ok = refl
+by_push false true bad one e f next ok = cc ok
+by_push false false true one e f next ok = cc ok
+by_push false false false one e f next ok = refl
 
 -- so all are symbols if the scan succeeds
 scanned_symbols : (at i : ℕ) (so_far : _) (bytes : List ℕ) (last : _)
@@ -115,7 +122,8 @@ unfolding scan_steps
 scanned_symbols at i (Err e) bytes last scanned k within = cc scanned
 scanned_symbols at i (Ok st) [] last scanned k within = absurd (omega (arith, within))
 scanned_symbols at i (Ok st) (byte ∷ more) last scanned zero within =
-    by_push (byte == 61) (nat_lt 0 st.padding_count) (slice_index table byte == 255) _ _ _ _ at (i + 1) more last scanned
+    by_push (byte == 61) (nat_lt 0 st.padding_count) (slice_index table byte == 255) _ _ _ _
+    (scanned_ok at (i + 1) (push_leftover table 61 at st i byte) more last scanned)
 scanned_symbols at i (Ok st) (byte ∷ more) last scanned (suc k) within =
     scanned_symbols at (i + 1) (push_leftover table 61 at st i byte) more last scanned k (omega (arith, within))
 

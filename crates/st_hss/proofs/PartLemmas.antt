@@ -12,8 +12,12 @@ use Rattle.st_hss.specs.Parts.{PartsHold}
 use Rattle.st_hss.specs.Signed.{IsHssSignature}
 use Rattle.st_hss.specs.declared.public.HssPublic.{HssPublic}
 
--- bytes split into four parts, the second of n bytes
-pub record IsCut (n : ℕ) (signature a b c d : List ℕ) : Type 0 where
+-- a signature split into its four parts, the second of n bytes
+pub record Cut (n : ℕ) (signature : List ℕ) : Type 0 where
+  pub a : List ℕ
+  pub b : List ℕ
+  pub c : List ℕ
+  pub d : List ℕ
   pub whole : signature ≡ a ++ b ++ c ++ d
   pub a_long : length a ≡ 4
   pub b_long : length b ≡ n
@@ -23,21 +27,15 @@ length-parts : (a b c d : List ℕ) → length (a ++ b ++ c ++ d) ≡ length a +
 length-parts a b c d = omega (arith, length-append (a ++ b ++ c) d, length-append (a ++ b) c, length-append a b)
 
 -- two splits are the same
-record IsSame (a b c d a' b' c' d' : List ℕ) : Type 0 where
-  a_is : a ≡ a'
-  b_is : b ≡ b'
-  c_is : c ≡ c'
-  d_is : d ≡ d'
-
-same_parts : (n : ℕ) (signature a b c d a' b' c' d' : List ℕ) → IsCut n signature a b c d → IsCut n signature a' b' c' d'
-    → IsSame a b c d a' b' c' d'
-same_parts n signature a b c d a' b' c' d' one other =
-    let whole : a ++ b ++ c ++ d ≡ a' ++ b' ++ c' ++ d' = sym one.whole ∙ other.whole in
-    let last : length d ≡ length d' = omega (
+same_parts : {n : ℕ} {signature : List ℕ} (one other : Cut n signature)
+    → (one.a ≡ other.a) × (one.b ≡ other.b) × (one.c ≡ other.c) × (one.d ≡ other.d)
+same_parts one other =
+    let whole : one.a ++ one.b ++ one.c ++ one.d ≡ other.a ++ other.b ++ other.c ++ other.d = sym one.whole ∙ other.whole in
+    let last : length one.d ≡ length other.d = omega (
       arith,
       ap length whole,
-      length-parts a b c d,
-      length-parts a' b' c' d',
+      length-parts one.a one.b one.c one.d,
+      length-parts other.a other.b other.c other.d,
       one.a_long,
       one.b_long,
       one.c_long,
@@ -45,19 +43,22 @@ same_parts n signature a b c d a' b' c' d' one other =
       other.b_long,
       other.c_long,
     ) in
-    let four = same_cut (a ++ b ++ c) d (a' ++ b' ++ c') d' whole last in
-    let three = same_cut (a ++ b) c (a' ++ b') c' four.front_is (one.c_long ∙ sym other.c_long) in
-    let two = same_cut a b a' b' three.front_is (one.b_long ∙ sym other.b_long) in
-    record { a_is = two.front_is; b_is = two.back_is; c_is = three.back_is; d_is = four.back_is }
+    let four = same_cut (one.a ++ one.b ++ one.c) one.d (other.a ++ other.b ++ other.c) other.d whole last in
+    let three = same_cut (one.a ++ one.b) one.c (other.a ++ other.b) other.c four.front_is (one.c_long ∙ sym other.c_long) in
+    let two = same_cut one.a one.b other.a other.b three.front_is (one.b_long ∙ sym other.b_long) in
+    (two.front_is, two.back_is, three.back_is, four.back_is)
 
 -- the size of a signature under a key
 abbrev pub signature_len : PublicKey → ℕ
 signature_len key = 44 + 32 * chains key.ots + 32 * height key.tree
 
 -- a signature has this split
-pub cut_of : (public : HssPublic) (message signature : List ℕ) → (is : IsHssSignature public message signature)
-    → IsCut (signature_len public.top) signature (u32str 1) is.key_signature is.key_text is.message_signature
+abbrev cut_of : (public : HssPublic) (message signature : List ℕ) → IsHssSignature public message signature → Cut (signature_len public.top) signature
 cut_of public message signature is = record {
+  a = u32str 1;
+  b = is.key_signature;
+  c = is.key_text;
+  d = is.message_signature;
   whole = is.whole;
   a_long = length-u32str 1;
   b_long = length-signature public.top is.key_text is.key_signature is.signs_key;
@@ -69,32 +70,31 @@ pub least : (public : HssPublic) (message signature : List ℕ) → IsHssSignatu
     → 60 + signature_len public.top ≤ length signature
 least public message signature is =
     let cut = cut_of public message signature is in
-    omega (arith, ap length cut.whole, length-parts (u32str 1) is.key_signature is.key_text is.message_signature, cut.a_long, cut.b_long, cut.c_long)
+    omega (arith, ap length cut.whole, length-parts cut.a cut.b cut.c cut.d, cut.a_long, cut.b_long, cut.c_long)
 
-pub parts_hold_of : (public : HssPublic) (message signature a b c d : List ℕ) → IsCut (signature_len public.top) signature a b c d
-    → IsHssSignature public message signature
-    → PartsHold public message a b c d
-parts_hold_of public message signature a b c d cut is =
-    let own = cut_of public message signature is in
-    let same = same_parts (signature_len public.top) signature a b c d (u32str 1) is.key_signature is.key_text is.message_signature cut own in
+-- a signature makes the parts of a split hold
+pub parts_hold_of : (public : HssPublic) (message signature : List ℕ) (cut : Cut (signature_len public.top) signature)
+    → IsHssSignature public message signature → PartsHold public message cut.a cut.b cut.c cut.d
+parts_hold_of public message signature cut is =
+    let same : (cut.a ≡ u32str 1) × (cut.b ≡ is.key_signature) × (cut.c ≡ is.key_text) × (cut.d ≡ is.message_signature)
+    = same_parts cut (cut_of public message signature is) in
     record {
       lower = is.lower;
-      one = same.a_is;
-      lower_is = rw same.c_is is.lower_is;
-      signs_key = rw (same.b_is, same.c_is) is.signs_key;
-      signs_message = rw same.d_is is.signs_message;
+      one = same.0;
+      lower_is = rw same.2 is.lower_is;
+      signs_key = rw (same.1, same.2) is.signs_key;
+      signs_message = rw same.3 is.signs_message;
     }
 
 -- parts that hold make a signature
-pub signature_of_parts : (public : HssPublic) (message signature a b c d : List ℕ) → signature ≡ a ++ b ++ c ++ d
-    → PartsHold public message a b c d
-    → IsHssSignature public message signature
-signature_of_parts public message signature a b c d whole hold = record {
-  key_signature = b;
-  key_text = c;
-  message_signature = d;
+pub signature_of_parts : (public : HssPublic) (message signature : List ℕ) (cut : Cut (signature_len public.top) signature)
+    → PartsHold public message cut.a cut.b cut.c cut.d → IsHssSignature public message signature
+signature_of_parts public message signature cut hold = record {
+  key_signature = cut.b;
+  key_text = cut.c;
+  message_signature = cut.d;
   lower = hold.lower;
-  whole = whole ∙ ap (λ one. one ++ b ++ c ++ d) hold.one;
+  whole = cut.whole ∙ ap (λ one. one ++ cut.b ++ cut.c ++ cut.d) hold.one;
   lower_is = hold.lower_is;
   signs_key = hold.signs_key;
   signs_message = hold.signs_message;

@@ -155,9 +155,9 @@ module _ (limits : Limits) (count : ℕ) (index : CoreIndex) (sound : IsCoreSoun
   core_again small =
       let different : has_twice same_hash (suffixes_of (core_index_of limits.version (json index))) ≡ false =
       ap (λ said. has_twice same_hash (suffixes_of said)) says ∙ sound.different in (
-        written_passes C1 C2 (core_json_rules limits count) limits.max_index (core_json index) (core_readable index) small (
-          not_from_true _ (form_passes index),
-          (not_from_true _ members_pass, (not_from_true _ entries_pass, (count_passes, (different, (proved_passes, tt))))),
+        written_passes C1 C2 (core_json_rules limits count) limits.max_index (core_json index) (core_readable index) (
+          le-ltb _ _ small,
+          (not_from_true _ (form_passes index), (not_from_true _ members_pass, (not_from_true _ entries_pass, (count_passes, (different, (proved_passes, tt)))))),
         ),
         ap (core_index_of limits.version) (json_again (core_json index) (core_readable index)) ∙ says,
       )

@@ -25,29 +25,19 @@ use Rattle.st_indexfiles.specs.declared.target.Target.{Target}
 
 -- ---- pieces written one after another
 
-pub in_three : (old one two new a b c whole : List ℕ) → one ≡ old ++ a → two ≡ one ++ b → new ≡ two ++ c → whole ≡ a ++ (b ++ c) → new ≡ old ++ whole
-in_three old one two new a b c whole first second third is = third ∙ rw (second, first, is) (simp append_assoc)
-
-pub in_five : (old one two three four new a b c d e whole : List ℕ) → one ≡ old ++ a → two ≡ one ++ b → three ≡ two ++ c → four ≡ three ++ d
-    → new ≡ four ++ e → whole ≡ a ++ (b ++ (c ++ (d ++ e))) → new ≡ old ++ whole
-in_five old one two three four new a b c d e whole first second third fourth fifth is =
-    fifth ∙ rw (fourth, third, second, first, is) (simp append_assoc)
-
-pub in_six : (old one two three four five new a b c d e f whole : List ℕ) → one ≡ old ++ a → two ≡ one ++ b → three ≡ two ++ c → four ≡ three ++ d
-    → five ≡ four ++ e → new ≡ five ++ f → whole ≡ a ++ (b ++ (c ++ (d ++ (e ++ f)))) → new ≡ old ++ whole
-in_six old one two three four five new a b c d e f whole first second third fourth fifth sixth is =
-    sixth ∙ rw (fifth, fourth, third, second, first, is) (simp append_assoc)
+pub joined : {mid new : List ℕ} (old first second : List ℕ) → mid ≡ old ++ first → new ≡ mid ++ second → new ≡ old ++ (first ++ second)
+joined old first second begun all = all ∙ ap (λ text. text ++ second) begun ∙ append_assoc old first second
 
 -- ---- entries
 
 pub create_text : (create : SuffixData) → canonical (create_json create)
-    ≡ codes "{\"suffixData\":{\"deltaHash\":" ++ (canonical (hash_json create.delta_hash)
-    ++ (codes ",\"recoveryCommitment\":" ++ (canonical (hash_json create.recovery_commitment) ++ codes "}}")))
+    ≡ codes "{\"suffixData\":{\"deltaHash\":" ++ canonical (hash_json create.delta_hash)
+    ++ codes ",\"recoveryCommitment\":" ++ canonical (hash_json create.recovery_commitment) ++ codes "}}"
 unfolding names_on_literals escape
 create_text create = simp append_assoc
 
 pub target_text : (target : Target) → canonical (target_json target)
-    ≡ codes "{\"didSuffix\":" ++ (canonical (hash_json target.suffix) ++ (codes ",\"revealValue\":" ++ (canonical (hash_json target.reveal) ++ codes "}")))
+    ≡ codes "{\"didSuffix\":" ++ canonical (hash_json target.suffix) ++ codes ",\"revealValue\":" ++ canonical (hash_json target.reveal) ++ codes "}"
 unfolding names_on_literals escape
 target_text target = simp append_assoc
 
@@ -65,11 +55,9 @@ now_due false there value some = sym (ap is_some some)
 pub nothing_there : (out name : List ℕ) (due : Bool) (there : Option Plain) → there ≡ None → out ≡ out ++ member_text due name there
 nothing_there out name due there none = sym (append-nil out) ∙ ap (λ value. out ++ member_text due name value) (sym none)
 
-pub something_there : (old named new name : List ℕ) (due : Bool) (there : Option Plain) (value : Plain) → there ≡ Some value
-    → named ≡ old ++ (comma due ++ name_text name) → new ≡ named ++ canonical value → new ≡ old ++ member_text due name there
-something_there old named new name due there value some begun all =
-    all ∙ ap (λ text. text ++ canonical value) begun ∙ append_assoc old (comma due ++ name_text name) (canonical value)
-    ∙ ap (λ text. old ++ text) (append_assoc (comma due) (name_text name) (canonical value))
+pub something_there : (old new name : List ℕ) (due : Bool) (there : Option Plain) (value : Plain) → there ≡ Some value
+    → new ≡ old ++ (comma due ++ name_text name ++ canonical value) → new ≡ old ++ member_text due name there
+something_there old new name due there value some all = all ∙ ap (λ text. old ++ text) (append_assoc (comma due) (name_text name) (canonical value))
     ∙ ap (λ other. old ++ member_text due name other) (sym some)
 
 -- ---- lists and objects that are left out if they are empty
@@ -150,10 +138,10 @@ updates_there (Some there) = refl
 
 module _ (index : CoreIndex) where
   pub core_text : canonical (core_json index)
-      ≡ codes "{" ++ (member_text false (codes "coreProofFileUri") (option_map hash_json index.core_proof)
-      ++ (member_text (false || is_some (option_map hash_json index.core_proof)) (codes "operations") (some_object (core_operations index))
-      ++ (member_text ((false || is_some (option_map hash_json index.core_proof)) || is_some (some_object (core_operations index)))
-      (codes "provisionalIndexFileUri") (option_map hash_json index.provisional) ++ codes "}")))
+      ≡ codes "{" ++ member_text false (codes "coreProofFileUri") (option_map hash_json index.core_proof)
+      ++ member_text (false || is_some (option_map hash_json index.core_proof)) (codes "operations") (some_object (core_operations index))
+      ++ member_text ((false || is_some (option_map hash_json index.core_proof)) || is_some (some_object (core_operations index)))
+      (codes "provisionalIndexFileUri") (option_map hash_json index.provisional) ++ codes "}"
   unfolding chars
   core_text =
       canonical-sorted (core_members index) ((codes "coreProofFileUri", option_map hash_json index.core_proof)
@@ -161,10 +149,10 @@ module _ (index : CoreIndex) where
       ∙ simp append_assoc
 
   pub core_operations_text : canonical (object (core_operations index))
-      ≡ codes "{" ++ (member_text false (codes "create") (some_list (map create_json index.creates))
-      ++ (member_text (false || is_some (some_list (map create_json index.creates))) (codes "deactivate") (some_list (map target_json index.deactivates))
-      ++ (member_text ((false || is_some (some_list (map create_json index.creates))) || is_some (some_list (map target_json index.deactivates)))
-      (codes "recover") (some_list (map target_json index.recovers)) ++ codes "}")))
+      ≡ codes "{" ++ member_text false (codes "create") (some_list (map create_json index.creates))
+      ++ member_text (false || is_some (some_list (map create_json index.creates))) (codes "deactivate") (some_list (map target_json index.deactivates))
+      ++ member_text ((false || is_some (some_list (map create_json index.creates))) || is_some (some_list (map target_json index.deactivates)))
+      (codes "recover") (some_list (map target_json index.recovers)) ++ codes "}"
   unfolding chars
   core_operations_text =
       canonical-sorted (core_lists index) ((codes "create", some_list (map create_json index.creates))
@@ -173,9 +161,9 @@ module _ (index : CoreIndex) where
 
 module _ (index : ProvisionalIndex) where
   pub provisional_text : canonical (provisional_json index)
-      ≡ codes "{\"chunks\":[{\"chunkFileUri\":" ++ (canonical (hash_json index.chunk)
-      ++ (codes "}]" ++ (member_text true (codes "operations") (some_object (provisional_operations index))
-      ++ (member_text true (codes "provisionalProofFileUri") (option_map hash_json index.proof) ++ codes "}"))))
+      ≡ codes "{\"chunks\":[{\"chunkFileUri\":" ++ canonical (hash_json index.chunk)
+      ++ codes "}]" ++ member_text true (codes "operations") (some_object (provisional_operations index))
+      ++ member_text true (codes "provisionalProofFileUri") (option_map hash_json index.proof) ++ codes "}"
   unfolding chars escape some_list
   provisional_text =
       canonical-sorted (provisional_members index) ((codes "chunks", some_list (chunk_json index.chunk ∷ []))
@@ -183,7 +171,7 @@ module _ (index : ProvisionalIndex) where
       ∙ simp append_assoc
 
   pub provisional_operations_text : canonical (object (provisional_operations index))
-      ≡ codes "{" ++ (member_text false (codes "update") (some_list (map target_json index.updates)) ++ codes "}")
+      ≡ codes "{" ++ member_text false (codes "update") (some_list (map target_json index.updates)) ++ codes "}"
   unfolding chars
   provisional_operations_text =
       canonical-sorted (provisional_lists index) ((codes "update", some_list (map target_json index.updates)) ∷ []) refl refl ∙ simp append_assoc

@@ -1,8 +1,8 @@
 -- Written files that fail no rule: lemmas shared by several tables.
-use Rattle.std.proofs.Common.{◌≡◌, ◌∙◌, ℕ, ◌≤◌, true, false, nat_lt, List, [], ◌∷◌, length, Option, Some, None, refl, ap}
+use Rattle.std.proofs.Common.{◌≡◌, ◌∙◌, ℕ, true, false, nat_lt, List, [], ◌∷◌, length, Option, Some, None, refl, ap}
 use Rattle.std.specs.Prelude.{is_none}
 use Rattle.std.specs.List.{AllByRecursion, list_all}
-use Rattle.std.proofs.lemmas.Bool.{and_from, le-ltb}
+use Rattle.std.proofs.lemmas.Bool.{and_from}
 use Rattle.st_base.specs.Rules.{Table, first_failing}
 use Rattle.st_plain.specs.Canonical.{canonical}
 use Rattle.st_plain.specs.Find.{has_only, member_at}
@@ -18,13 +18,14 @@ none_failing [] all = refl
 none_failing (row ∷ rows) all = rw all.0 (none_failing rows all.1)
 
 -- the text of a readable value fails no rule if it is short enough and the value fails none
-pub written_passes : {Rule : Type 0} (long not_json : Rule) (rules : Option Plain → Table Rule) (most : ℕ) (value : Plain) → IsReadable 127 value
-    → length (canonical value) ≤ most → AllByRecursion (λ row. row.1 ≡ false) (rules (Some value))
+pub written_passes : {Rule : Type 0} (long not_json : Rule) (rules : Option Plain → Table Rule) (most : ℕ) (value : Plain)
+    → IsReadable 127 value
+    → AllByRecursion (λ row. row.1 ≡ false) ((long, nat_lt most (length (canonical value))) ∷ rules (Some value))
     → first_failing ((long, nat_lt most (length (canonical value))) ∷ (not_json, is_none (json_in (canonical value))) ∷ rules (json_in (canonical value))) ≡ None
-written_passes long not_json rules most value readable small pass =
+written_passes long not_json rules most value readable pass =
     ap (λ read. first_failing ((long, nat_lt most (length (canonical value))) ∷ (not_json, is_none read) ∷ rules read)) (json_again value readable)
     ∙ none_failing ((long, nat_lt most (length (canonical value))) ∷ (not_json, false) ∷ rules (Some value))
-    (le-ltb most (length (canonical value)) small, (refl, pass))
+    (pass.0, (refl, pass.1))
 
 -- ---- objects of lists
 

@@ -137,9 +137,9 @@ module _ (limits : Limits) (count : ℕ) (core : CoreIndex) (index : Provisional
       let different : repeats_suffix (suffixes_in (updates_in limits.version (json index))) core ≡ false =
       ap (λ said. repeats_suffix (suffixes_in said) core) updates_are ∙ sound.different in
       let named : is_none (chunk_in (json index)) ≡ false = ap is_none (chunk_at index ∙ sound.parts.chunk) in (
-        written_passes P1 P2 (provisional_json_rules limits count core) limits.max_index (provisional_json index) (provisional_readable index) small (
-          not_from_true _ (form_passes index),
-          (named, (not_from_true _ entries_pass, (different, (count_passes, (proved_passes, (some_passes, tt)))))),
+        written_passes P1 P2 (provisional_json_rules limits count core) limits.max_index (provisional_json index) (provisional_readable index) (
+          le-ltb _ _ small,
+          (not_from_true _ (form_passes index), (named, (not_from_true _ entries_pass, (different, (count_passes, (proved_passes, (some_passes, tt))))))),
         ),
         ap (provisional_index_of limits.version) (json_again (provisional_json index) (provisional_readable index)) ∙ provisional_says index limits.version sound.parts,
       )

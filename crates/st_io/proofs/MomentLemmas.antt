@@ -15,11 +15,11 @@ still_as_it_was {a = a} {b = b} {c = c} first second =
     record { reads = second.reads ∙ first.reads; images = no_image_on a b c first.images second.images }
 
 -- a write over the only image
-pub over : (P : List ℕ → Type 0) (step : List ℕ → List ℕ → Type 0) (a b : Past) (old : List ℕ) → Only a old → GoesOn a b → Follow step a b
-    → ((x : List ℕ) → step old x → P x) → Leaves P a b
-over P step a b old only goes follow to = record {
+pub over : (step : List ℕ → List ℕ → Type 0) (a b : Past) (old : List ℕ) → Only a old → GoesOn a b
+    → Follow step a b → Leaves (step old) a b
+over step a b old only goes follow = record {
   goes = goes;
-  each = λ x left. let from = follow x left in to x (subst (λ d. step d x) (only from.0 from.1) from.2);
+  each = λ x left. let from = follow x left in subst (λ d. step d x) (only from.0 from.1) from.2;
 }
 
 -- a run that adds no image to the only one
@@ -46,17 +46,17 @@ turns_same old new R same to = record {
 }
 
 -- over one run and the next
-pub turns_on : (a b c : Option (List ℕ)) (R S T : List ℕ → List ℕ → Type 0) → ((x y z : List ℕ) → a ≡ Some x → R x y → S y z → T x z)
-    → Turns a b R → Turns b c S → Turns a c T
-turns_on a b c R S T to first second = record {
+pub turns_on : (a b c : Option (List ℕ)) (R S : List ℕ → List ℕ → Type 0) → Turns a b R
+    → Turns b c S → Turns a c (λ x z. (y : List ℕ) × R x y × S y z)
+turns_on a b c R S first second = record {
   forward = λ x told.
       let at = first.forward x told in
       let end = second.forward at.0 at.1 in
-      (end.0, end.1, to x at.0 end.0 told at.2 end.2);
+      (end.0, end.1, (at.0, at.2, end.2));
   back = λ z told.
       let at = second.back z told in
       let start = first.back at.0 at.1 in
-      (start.0, start.1, to start.0 at.0 z start.1 start.2 at.2);
+      (start.0, start.1, (at.0, start.2, at.2));
 }
 
 -- the contents of a disk, by a weaker relation

@@ -1,6 +1,6 @@
 -- How a disk continues over a run of calls. For crates with clauses about stops inside a call.
 use Rattle.std.proofs.Common.{◌⊎◌, inl, inr, ⊎_elim, ℕ, zero, suc, ◌<◌, ◌≤◌, List, arith}
-use Rattle.st_io.specs.Past.{Past, GoesOn, AddsNone, LeftSinceSync, Leaves, SplitsSinceSync}
+use Rattle.st_io.specs.Past.{Past, GoesOn, AddsNone, HasSynced, LeftSinceSync, Leaves, SplitsSinceSync}
 use Rattle.st_io.specs.Spent.{KeepsSpent}
 
 -- no call
@@ -57,17 +57,17 @@ splits_since_sync b c goes t x left =
     (le_or_lt left.0 b.now)
 
 -- and both parts are among them, if there was a successful sync by then
-pub keeps_since_sync : (b c : Past) → GoesOn b c → (t s : ℕ) → t < s → s ≤ b.now → b.synced s → (x : List ℕ) → LeftSinceSync b t x ⊎ c.left_since b.now x → LeftSinceSync c t x
-keeps_since_sync b c goes t s lt le synced x = ⊎_elim
-    (λ was. ⊎_elim
-    (λ w_le. (was.0, was.1, (goes.syncs was.0 w_le).1 was.2, goes.keeps was.0 x w_le was.3))
-    (λ w_lt. (s, lt, (goes.syncs s le).1 synced, c.earlier s b.now x le (goes.keeps b.now x (omega arith) (b.earlier b.now was.0 x (omega (arith, w_lt)) was.3))))
-    (le_or_lt was.0 b.now))
-    (λ new. (s, lt, (goes.syncs s le).1 synced, c.earlier s b.now x le new))
+pub keeps_since_sync : (b c : Past) → GoesOn b c → (t : ℕ) → HasSynced b t → (x : List ℕ)
+    → LeftSinceSync b t x ⊎ c.left_since b.now x → LeftSinceSync c t x
+keeps_since_sync b c goes t come x =
+    let since : c.left_since b.now x → LeftSinceSync c t x =
+    λ new. (come.0, come.1, (goes.syncs come.0 come.2).1 come.3, c.earlier come.0 b.now x come.2 new) in
+    ⊎_elim (λ was. ⊎_elim (λ le. (was.0, was.1, (goes.syncs was.0 le).1 was.2, goes.keeps was.0 x le was.3))
+    (λ lt. since (goes.keeps b.now x (omega arith) (b.earlier b.now was.0 x (omega (arith, lt)) was.3))) (le_or_lt was.0 b.now)) since
 
 -- so they split
 pub split_since_sync : (b c : Past) → GoesOn b c → (t : ℕ) → SplitsSinceSync b c t
 split_since_sync b c goes t = record {
   splits = λ x left. splits_since_sync b c goes t x left;
-  keeps = λ come x left. keeps_since_sync b c goes t come.0 come.1 come.2 come.3 x left;
+  keeps = keeps_since_sync b c goes t;
 }

@@ -1,8 +1,8 @@
 -- The effects of opening on a disk, and its state afterwards.
-use Rattle.std.proofs.Common.{◌≡◌, ⊎_elim, ◌∙◌, ℕ, ◌+◌, ◌^◌, ◌<◌, ◌≤◌, nat_lt, List, [], ◌∷◌, length, drop, Option, Some, None, ap, sym, arith}
+use Rattle.std.proofs.Common.{◌≡◌, ⊎_elim, ◌∙◌, ℕ, ◌+◌, ◌<◌, ◌≤◌, nat_lt, List, [], ◌∷◌, length, drop, Option, Some, None, ap, sym, arith}
 use Rattle.std.proofs.lemmas.Bool.{cond-false, cond-true, le-ltb, lt-ltb}
 use Rattle.std.proofs.lemmas.List.{drop_all}
-use Rattle.st_io.proofs.MomentLemmas.{only_after, over, stays_only}
+use Rattle.st_io.proofs.MomentLemmas.{only_after, over, stays_only, weaker}
 use Rattle.st_io.proofs.PastLemmas.{more, splits_since_sync}
 use Rattle.st_io.specs.Past.{Past, AddsNoImage, GoesOn, Follow, Leaves, LeftSinceSync, Only}
 use Rattle.st_io.specs.Tears.{Holds, IfTold, Torn, Turns}
@@ -40,25 +40,10 @@ closed_at old new holds = ap record_at holds ∙ record_closed 0 (drop 1 old) (�
 
 pub begin_moments : (old : List ℕ) (a b : Past) → length old < 2 → Only a old → GoesOn a b → Follow (Torn 0 1) a b → Leaves (λ image. records image ≡ records old) a b
 begin_moments old a b short only goes follow =
-    over (λ image. records image ≡ records old) (Torn 0 1) a b old only goes follow
+    weaker (Torn 0 1 old) (λ image. records image ≡ records old) a b (over (Torn 0 1) a b old only goes follow)
     (λ x torn. records-short x (omega (arith, short, torn.no_longer)) ∙ sym (records-short old short))
 
 -- ---- reading
-
--- a disk of which only the length is known
-pub begin_reading : (window : Window) (len : ℕ) (told : Option (List ℕ)) (past : Past) → 2 ≤ len → len ≤ 2 ^ 40 → IsSound window
-    → ((image : List ℕ) → Shows window image) → IfTold told (λ image. length image ≡ len) → IfTold told (Only past)
-    → IsReading (record { window = window; place = 0; len = len }) told past
-begin_reading window len told past some small sound shows long only = record {
-  small = small;
-  below = omega arith;
-  sound = λ more. sound;
-  shows = λ image is. shows image;
-  long = λ image is more. long image is;
-  closed = λ image is none. absurd (omega (arith, some, none));
-  gate = λ image is. closed_begun image;
-  only = only;
-}
 
 -- a disk to which a closed gate was written
 pub begin_closed_gate : (window : Window) (told : Option (List ℕ)) (past : Past) → ((image : List ℕ) → Shows window image)

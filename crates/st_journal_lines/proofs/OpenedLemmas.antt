@@ -2,7 +2,6 @@
 use Rattle.std.proofs.Common.{◌≡◌, ◌≢◌, ◌∙◌, ◌⊎◌, ◌<◌, inl, inr, ⊎_elim, ℕ, Bool, true, false, List, [], Option, Some, None, Result, Ok, Err, refl, ap, sym, subst, length, nat_le, ◌^◌}
 use Rattle.std.specs.Prelude.{IfErr, IfSome, IsErrOf, IsTrue, OnOk}
 use Rattle.st_io.specs.Past.{Past, StaysAsItWas}
-use Rattle.st_io.proofs.MomentLemmas.{still_as_it_was}
 use Rattle.std.specs.Option.{ok_or}
 use Rattle.st_base.specs.Answers.{◌>>◌, holds_or}
 use Rattle.st_drive.specs.OnDisk.{EffectLaws}
@@ -103,12 +102,11 @@ pub on_ok : {T E P : Type 0} (r : Result T E) → P → OnOk r P
 on_ok (Ok x) p = p
 on_ok (Err e) p = tt
 
--- a journal that is refused while its records are read had some left, and then the disk was unchanged
-pub stays_refused : {T : Type 0} (result : Result T JournalRefused) {left : ℕ} {told mid now : Option (List ℕ)} {a b c : Past}
-    → IfErr result (λ refused. 0 < left) → (0 < left → StaysAsItWas told mid a b) → StaysAsItWas mid now b c
-    → IsErrOf result Damaged ⊎ IsErrOf result TooLong → StaysAsItWas told now a c
-stays_refused (Ok x) some stays more is = absurd (⊎_elim (λ no. cc) (λ no. cc) is)
-stays_refused (Err e) some stays more is = still_as_it_was (stays some) more
+-- a journal that is refused while its records are read had some left
+pub some_left : {T : Type 0} (result : Result T JournalRefused) {left : ℕ} → IfErr result (λ refused. 0 < left)
+    → IsErrOf result Damaged ⊎ IsErrOf result TooLong → 0 < left
+some_left (Ok x) some is = absurd (⊎_elim (λ no. cc) (λ no. cc) is)
+some_left (Err e) some is = some
 
 -- the error is the same, whatever the result would be without it
 pub same_error : {T U : Type 0} {error other : JournalRefused} → IsErrOf {T = T} (Err error) other → IsErrOf {T = U} (Err error) other

@@ -1,7 +1,6 @@
 -- A machine that replays the records of a journal as they are read.
 use Rattle.std.proofs.Common.{◌≡◌, ◌∙◌, ◌⊎◌, inl, inr, ⊎_elim, ◌++◌, ◌+◌, append-nil, drop, length, ℕ, List, [], ◌∷◌, Option, Some, None, Ok, Err, refl, ap, sym, subst}
 use Rattle.std.specs.Prelude.{◌<◌, IfErr, IfSome, OnErr, Result}
-use Rattle.st_io.specs.Tears.{IfTold}
 use Rattle.std.specs.Option.{ok_or}
 use Rattle.std.proofs.lemmas.Option.{same_Some}
 use Rattle.st_drive.specs.Runs.{Begins}
@@ -11,7 +10,7 @@ use Rattle.st_journal.specs.Coming.{Comes, StandFrom, put_before, record_at}
 use Rattle.st_journal.specs.Opening.{refusal_of}
 use Rattle.st_journal.specs.declared.refused.JournalRefused.{JournalRefused}
 use Rattle.st_journal.specs.declared.refused.JournalRefused.TheVariants.{TooLong, Damaged, DiskFault, WantOfMemory}
-use Rattle.st_journal_lines.specs.Answering.{Answering, AnsweringLaws, StayedOrWent, WentOverFirst, WentOverFrom, behind, behind_opened}
+use Rattle.st_journal_lines.specs.Answering.{Answering, AnsweringLaws, StayedOrWent, behind, behind_opened}
 
 -- Of the remaining records, some were read, and the rest remains: the machine n at d has executed those, from m at c,
 -- or has done nothing yet.
@@ -24,14 +23,16 @@ pub record Replayed {M C : Type 0} (answering : Answering M C) (m : M) (c : C) (
   pub context : answering.effect.ran m c done n d
   pub stayed : (d ≡ c) ⊎ answering.effect.gave_up m c done d
 
-stand_more : (image : List ℕ) (from : ℕ) (done : List (List ℕ)) (to : ℕ) (line : List ℕ) (end : ℕ) → StandFrom from done to image
-    → record_at (drop to image) ≡ Some (Some line) → end ≡ to + (5 + length line) → StandFrom from (done ++ line ∷ []) end image
-stand_more image from [] to line end stand here behind = (
-  ap (λ n. record_at (drop n image)) (sym stand) ∙ here,
-  behind ∙ ap (λ n. n + (5 + length line)) stand,
-)
-stand_more image from (body ∷ done) to line end stand here behind =
-    (stand.0, stand_more image (from + (5 + length body)) done to line end stand.1 here behind)
+stand_more : (image : List ℕ) (from : ℕ) (done : List (List ℕ)) (to : ℕ) (lines : List (List ℕ)) (end : ℕ) → StandFrom from done to image
+    → StandFrom to lines end image → StandFrom from (done ++ lines) end image
+stand_more image from [] to lines end stand more = subst (λ place. StandFrom place lines end image) stand more
+stand_more image from (body ∷ done) to lines end stand more =
+    (stand.0, stand_more image (from + (5 + length body)) done to lines end stand.1 more)
+
+-- the next of the remaining records, up to this place
+pub record Next (image : List ℕ) (to end : ℕ) (rest more : Option (List (List ℕ))) (line : List ℕ) : Type 0 where
+  pub split : rest ≡ put_before (line ∷ []) more
+  pub stand : StandFrom to (line ∷ []) end image
 
 begins_so_far : (first : List (List ℕ)) (all rest : Option (List (List ℕ))) (r : List (List ℕ)) → all ≡ put_before first rest → all ≡ Some r → Begins first r
 begins_so_far first all rest r split is = let more = map_some (λ x. first ++ x) rest r (sym split ∙ is) in (more.0, more.2)
@@ -47,13 +48,12 @@ module _ {M C : Type 0} {answering : Answering M C} {cap : ℕ} (laws : Answerin
   module _ {m n : M} {c d : C} {from to : ℕ} {image : List ℕ} {all rest : Option (List (List ℕ))}
       (so_far : Replayed answering m c from to image all rest n d) where
     -- one more record
-    pub replayed_more : {o : M} {e : C} {line : List ℕ} {more : Option (List (List ℕ))} {end : ℕ} → rest ≡ put_before (line ∷ []) more
-        → record_at (drop to image) ≡ Some (Some line) → end ≡ to + (5 + length line)
+    pub replayed_more : {o : M} {e : C} {line : List ℕ} {more : Option (List (List ℕ))} {end : ℕ} → Next image to end rest more line
         → o ≡ answering.next n line → answering.effect.ran n d (line ∷ []) o e → Replayed answering m c from end image all more o e
-    replayed_more {o} {e} {line} {more} {end} next here behind stepped ran = record {
+    replayed_more {o} {e} {line} {more} {end} next stepped ran = record {
       done = so_far.done ++ line ∷ [];
-      stand = stand_more image from so_far.done to line end so_far.stand here behind;
-      split = given_more so_far.done so_far.split line more next;
+      stand = stand_more image from so_far.done to (line ∷ []) end so_far.stand next.stand;
+      split = given_more so_far.done so_far.split line more next.split;
       machine = stepped ∙ ap (λ x. answering.next x line) so_far.machine ∙ sym (behind_more m so_far.done line);
       context = laws.effect.ran_more m n o c d e so_far.done (line ∷ []) so_far.context ran;
       stayed = inr (laws.effect.gave_up_more m n c d e so_far.done (line ∷ []) so_far.context (laws.gave_up_behind n o d e line ran));
@@ -91,7 +91,7 @@ module _ {M C : Type 0} {answering : Answering M C} {cap : ℕ} (laws : Answerin
     first_gave {e} {line} here gave = (
       so_far.done ++ line ∷ [],
       to + (5 + length line),
-      stand_more image from so_far.done to line (to + (5 + length line)) so_far.stand here refl,
+      stand_more image from so_far.done to (line ∷ []) (to + (5 + length line)) so_far.stand (here, refl),
       inr (
         so_far.done ++ line ∷ [],
         ([], append-nil (so_far.done ++ line ∷ [])),
@@ -114,13 +114,11 @@ module _ {M C : Type 0} {answering : Answering M C} {cap : ℕ} (laws : Answerin
       laws.effect.gave_up_more m n c d e so_far.done (line ∷ []) so_far.context gave,
     )
 
--- a journal that was refused after its start was unchanged, so the replayed records are in the old image
-pub first_opened : {M C T : Type 0} (answering : Answering M C) (m : M) (c d : C) (result : Result T JournalRefused) (place left : ℕ) (told now : Option (List ℕ))
-    (image : List ℕ) → told ≡ Some image → place ≡ 0 → IfErr result (λ refused. 0 < left) → (0 < left → now ≡ told)
-    → IfTold now (λ x. OnErr result (WentOverFrom answering m place x c d)) → OnErr result (WentOverFirst answering m image c d)
-first_opened answering m c d (Ok x) place left told now image here is refuses stays within = tt
-first_opened answering m c d (Err e) place left told now image here is refuses stays within =
-    subst (λ n. WentOverFrom answering m n image c d) is (within image (stays refuses ∙ here))
+-- a journal that is refused while its records are read has this property, if it has it where some were left
+pub if_left : {T : Type 0} (P : Type 0) (result : Result T JournalRefused) {left : ℕ} → IfErr result (λ refused. 0 < left)
+    → (0 < left → OnErr result P) → OnErr result P
+if_left P (Ok x) some all = tt
+if_left P (Err e) some all = all some
 
 -- the contents are not too long
 pub not_long : (found : Option (List (List ℕ))) → ok_or found Damaged ≡ Err TooLong → ⊥

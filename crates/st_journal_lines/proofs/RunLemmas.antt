@@ -2,13 +2,12 @@
 --     replies_are     the end of the journal makes no difference to replies
 --     opened_run      the properties if the journal was opened
 --     refused_run     and if it wasn't
-use Rattle.std.proofs.Common.{◌≡◌, ◌∙◌, inl, inr, ⊎_elim, ◌++◌, ◌≤◌, ℕ, Bool, true, false, List, [], ◌∷◌, Option, Some, Ok, Err, is_some, refl, ap, sym, subst, arith, length, append-nil, ◌⊎◌, IsTrue, ◌||◌}
+use Rattle.std.proofs.Common.{◌≡◌, ◌∙◌, inl, inr, ⊎_elim, ◌++◌, ◌≤◌, ℕ, Bool, true, false, List, [], ◌∷◌, Some, Ok, Err, is_some, refl, ap, sym, subst, arith, length, append-nil, ◌⊎◌, IsTrue, ◌||◌}
 use Rattle.std.specs.Prelude.{IsErrOf}
 use Rattle.std.proofs.lemmas.Bool.{false≢true}
 use Rattle.st_io.specs.Causes.{Rose}
 use Rattle.st_io.specs.Past.{Past}
 use Rattle.st_io.specs.Storage.{Storage, storage}
-use Rattle.st_io.specs.Tears.{Turns}
 use Rattle.st_drive.specs.Lines.{all_lines}
 use Rattle.st_drive.specs.OnDisk.{AllHold, EffectLaws, HasReleased, IsTold, LeavesOnDisk, Opens, RunLeaves, Store, disk_meaning, replies}
 use Rattle.st_drive.specs.Recording.{EndsReplied, HasPrefix, HasRepliedPrefix, KeepsPrefixes, KeepsRecords, changing, recorded, recording}
@@ -18,10 +17,8 @@ use Rattle.st_drive.specs.Tables.{AnsweredFirst, AnswersLines, is_end}
 use Rattle.st_drive.proofs.InputLemmas.{answered_input, answered_source, nothing_written}
 use Rattle.st_drive.proofs.OnDiskLemmas.{leaves_on_disk, run_leaves, run_opens}
 use Rattle.st_drive.proofs.RecordingLemmas.{ends_replied, keeps_prefixes, keeps_records}
-use Rattle.st_drive.proofs.RunLemmas.{begins_behind}
 use Rattle.st_drive.proofs.TableLemmas.{IsUnread, ends_unread, ends_weaker, lines_by, not_begun, rose_before, took_none}
 use Rattle.st_journal.specs.Image.{records}
-use Rattle.st_journal.specs.Moments.{IsReady}
 use Rattle.st_journal.specs.Opening.{opened}
 use Rattle.st_journal.specs.Values.{JournalValue}
 use Rattle.st_journal.specs.declared.refused.JournalRefused.{JournalRefused}
@@ -104,29 +101,9 @@ module _ {M C : Type 0} (answering : Answering M C) where
           synced = λ x left. opens.synced image told x left ∙ is;
         }
 
-  -- all images then have the records
-  all_have : (image : List ℕ) (r : List (List ℕ)) (told now : Option (List ℕ)) (past : Past) (journal : JournalValue) → told ≡ Some image
-      → records image ≡ Some r → Turns told now (λ old new. records new ≡ records old) → IsReady journal now past
-      → AllHold (recording (recorder_of answering)) r past
-  all_have image r told now past journal here is turns ready x left =
-      let to = turns.forward image here in
-      (ready.images to.0 to.1 x left).1 ∙ to.2 ∙ is
-
   -- the context is the one after the records, and the machine the one that they restore
   within_none : (m : M) (r : List (List ℕ)) {c d : C} → WentWithin answering m c d r → WentWithin answering m c d (r ++ [])
   within_none m r within = (within.0, subst (Begins within.0) (sym (append-nil r)) within.1, within.2)
-
-  within_more : {cap : ℕ} (m : M) (r : List (List ℕ)) {c d e : C} {n : M} → EffectLaws answering.effect cap → answering.effect.ran m c r n d
-      → (lines : List (List ℕ)) → ((o : M) × answering.effect.ran n d lines o e) ⊎ answering.effect.gave_up n d lines e
-      → WentWithin answering m c e (r ++ lines)
-  within_more m r {c} {d} {e} {n} laws ran lines went = (
-    r ++ lines,
-    begins_behind r lines lines ([], append-nil lines),
-    ⊎_elim
-        (λ some. inl (some.0, laws.ran_more m n some.0 c d e r lines ran some.1))
-        (λ gave. inr (laws.gave_up_more m n c d e r lines ran gave))
-        went,
-  )
 
   -- ---- the journal was opened, and lines were answered
 
@@ -138,8 +115,9 @@ module _ {M C : Type 0} (answering : Answering M C) where
         → AnsweredFirst (course (disk_meaning (recording (recorder_of answering)) store) lines (mid, b) (e, d)) written over
         → LeavesOnDisk (recording (recorder_of answering)) lines r over written (store.past b) (store.past d)
     left_on_disk {image} told {r} is over written first =
-        let still : IsTold store b = ap is_some (opens.same.forward image told).1 in
-        let all = all_have image r (store.reads a) (store.reads b) (store.past b) lines.1 told is opens.same opens.ready in
+        let to = opens.same.forward image told in
+        let still : IsTold store b = ap is_some to.1 in
+        let all : AllHold (recording (recorder_of answering)) r (store.past b) = λ x left. (opens.ready.images to.0 to.1 x left).1 ∙ to.2 ∙ is in
         leaves_on_disk (recording (recorder_of answering)) store still first r all
 
     left_some : {image : List ℕ} → store.reads a ≡ Some image → {r : List (List ℕ)} → records image ≡ Some r → (over : List (List ℕ)) (written : List ℕ)
@@ -148,6 +126,18 @@ module _ {M C : Type 0} (answering : Answering M C) where
     left_some {image} told {r} is over written first =
         run_leaves (recording (recorder_of answering)) lines r over written (store.past a) (store.past b) (store.past d)
         (opens_rules opens told is) (left_on_disk told is over written first)
+
+    -- the context is the one after the records and the lines
+    within_more : (r : List (List ℕ)) → answering.effect.ran m c r lines.0 mid → (over : List (List ℕ))
+        → ((o : M) × answering.effect.ran lines.0 mid over o e) ⊎ answering.effect.gave_up lines.0 mid over e → WentWithin answering m c e (r ++ over)
+    within_more r ran over went = (
+      r ++ over,
+      ([], append-nil (r ++ over)),
+      ⊎_elim
+          (λ some. inl (some.0, effects.ran_more m lines.0 some.0 c mid e r over ran some.1))
+          (λ gave. inr (effects.gave_up_more m lines.0 c mid e r over ran gave))
+          went,
+    )
 
     from_opened : {image : List ℕ} → store.reads a ≡ Some image → (r : List (List ℕ)) → opened image ≡ Ok r
         → RunFromRecords answering m limit
@@ -161,8 +151,8 @@ module _ {M C : Type 0} (answering : Answering M C) where
             told = λ t. ap is_some (opens.same.forward image told).1;
             prompt = λ never. absurd never;
             answers = λ t ls. replies_are lines.0 lines.1 ls ∙ ap (λ n. replies (recording (plain_recorder answering)) n ls) same;
-            ran_over = λ ls went. within_more m r effects ran ls (inl (went.0.0, went.1.effect));
-            gave_up_over = λ ls gave. within_more m r effects ran ls (inr gave.effect);
+            ran_over = λ ls went. within_more r ran ls (inl (went.0.0, went.1.effect));
+            gave_up_over = λ ls gave. within_more r ran ls (inr gave.effect);
           }) (rose_before (faults a) (faults b) (faults d) later) answered;
           moments = λ input had. subst (λ n. KeepsFirstLines answering n r (all_lines input) (store.past a) (store.past d)) same
               (plain_prefixes lines.0 lines.1 r (all_lines input) (store.past a) (store.past d)
@@ -249,29 +239,37 @@ module _ {M C : Type 0} (answering : Answering M C) where
       unmoved = opens.unmoved;
     }
 
+  -- a run whose journal is refused reads and writes nothing
+  pub record IsRefused (m : M) (run : Outcome C) (refused : JournalRefused) : Type 0 where
+    pub opens : OpensJournal answering m run.disk run.context run.context_now (Err refused)
+    pub unread : Unread run.io
+    pub kept : run.io.source_kept × run.io.sink_kept
+    pub status : run.status ≡ refusal_status refused
+
   pub refused_run : {cap : ℕ} → EffectLaws answering.effect cap → {m : M} {limit : ℕ} {run : Outcome C} (refused : JournalRefused)
-      → OpensJournal answering m run.disk run.context run.context_now (Err refused) → Unread run.io → run.io.source_kept × run.io.sink_kept
-      → run.status ≡ refusal_status refused → RecordedRun answering m limit run
-  refused_run effects {m} {limit} {run} DiskFault opens unread kept is =
-      let failed = opens.fault refl in
+      → IsRefused m run refused → RecordedRun answering m limit run
+  refused_run effects {m} {limit} {run} DiskFault is =
+      let failed = is.opens.fault refl in
       let late : IsUnread run.disk.failed run.status = search arith in
-      refused_with opens unread kept late
-      (λ image told r has. from_refused opens unread kept effects late (subst (λ s. IsTrue (is_end s)) (sym is) refl) told r has)
+      refused_with is.opens is.unread is.kept late
+      (λ image told r has. from_refused is.opens is.unread is.kept effects late (subst (λ s. IsTrue (is_end s)) (sym is.status) refl) told r has)
       (λ image told. search arith) (λ e. absurd (search arith)) (λ working. absurd (working failed))
-      (subst (λ s. IsTrue (is_journal_end s)) (sym is) refl)
-  refused_run effects {m} {limit} {run} WantOfMemory opens unread kept is =
+      (subst (λ s. IsTrue (is_journal_end s)) (sym is.status) refl)
+  refused_run effects {m} {limit} {run} WantOfMemory is =
       let late : IsUnread run.disk.failed run.status = search arith in
-      refused_with opens unread kept late
-      (λ image told r has. from_refused opens unread kept effects late (subst (λ s. IsTrue (is_end s)) (sym is) refl) told r has)
-      (λ image told. search arith) (λ e. absurd (search arith)) (λ working. inl is)
-      (subst (λ s. IsTrue (is_journal_end s)) (sym is) refl)
-  refused_run effects {m} {limit} {run} Damaged opens unread kept is =
-      let damaged = λ (image : List ℕ) (told : run.disk.reads ≡ Some image). damaged_is answering m image Damaged (opens.gives image told) refl in
-      refused_with opens unread kept (search arith) (λ image told r has. absurd (let other = sym (damaged image told) ∙ has in cc))
-      (λ image told. ((λ e. damaged image told, λ e. inl is), (λ e. absurd (omega (arith, is, e)), λ e. absurd (let other = sym (damaged image told) ∙ e in cc))))
-      (λ e. inl refl) (λ working. inr (inl is)) (subst (λ s. IsTrue (is_journal_end s)) (sym is) refl)
-  refused_run effects {m} {limit} {run} TooLong opens unread kept is =
-      let too_long = λ (image : List ℕ) (told : run.disk.reads ≡ Some image). too_long_is answering m image TooLong (opens.gives image told) refl in
-      refused_with opens unread kept (search arith) (λ image told r has. absurd (let other = sym (too_long image told) ∙ has in cc))
-      (λ image told. ((λ e. absurd (omega (arith, is, e)), λ e. absurd (let other = sym (too_long image told) ∙ e in cc)), (λ e. too_long image told, λ e. inl is)))
-      (λ e. inr refl) (λ working. inr (inr is)) (subst (λ s. IsTrue (is_journal_end s)) (sym is) refl)
+      refused_with is.opens is.unread is.kept late
+      (λ image told r has. from_refused is.opens is.unread is.kept effects late (subst (λ s. IsTrue (is_end s)) (sym is.status) refl) told r has)
+      (λ image told. search arith) (λ e. absurd (search arith)) (λ working. inl is.status)
+      (subst (λ s. IsTrue (is_journal_end s)) (sym is.status) refl)
+  refused_run effects {m} {limit} {run} Damaged is =
+      let damaged = λ (image : List ℕ) (told : run.disk.reads ≡ Some image). damaged_is answering m image Damaged (is.opens.gives image told) refl in
+      refused_with is.opens is.unread is.kept (search arith) (λ image told r has. absurd (let other = sym (damaged image told) ∙ has in cc))
+      (λ image told. ((λ e. damaged image told, λ e. inl is.status),
+      (λ e. absurd (omega (arith, is.status, e)), λ e. absurd (let other = sym (damaged image told) ∙ e in cc))))
+      (λ e. inl refl) (λ working. inr (inl is.status)) (subst (λ s. IsTrue (is_journal_end s)) (sym is.status) refl)
+  refused_run effects {m} {limit} {run} TooLong is =
+      let too_long = λ (image : List ℕ) (told : run.disk.reads ≡ Some image). too_long_is answering m image TooLong (is.opens.gives image told) refl in
+      refused_with is.opens is.unread is.kept (search arith) (λ image told r has. absurd (let other = sym (too_long image told) ∙ has in cc))
+      (λ image told. ((λ e. absurd (omega (arith, is.status, e)), λ e. absurd (let other = sym (too_long image told) ∙ e in cc)),
+      (λ e. too_long image told, λ e. inl is.status)))
+      (λ e. inr refl) (λ working. inr (inr is.status)) (subst (λ s. IsTrue (is_journal_end s)) (sym is.status) refl)

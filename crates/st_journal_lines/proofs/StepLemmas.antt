@@ -1,26 +1,17 @@
 -- One line of a machine with its journal.
 use Rattle.std.proofs.Common.{◌≡◌, ◌∙◌, ◌⊎◌, inl, inr, ⊎_elim, ◌++◌, ◌+◌, ℕ, true, List, [], ◌∷◌, Option, Some, None, refl, ap, sym, subst, length}
+use Rattle.std.proofs.Math.Path.{subst₂}
 use Rattle.std.proofs.lemmas.Bool.{false≢true}
 use Rattle.std.specs.Prelude.{IsSome}
 use Rattle.st_io.specs.Past.{Past, Images, Leaves}
 use Rattle.st_io.specs.Tears.{IfTold}
-use Rattle.st_drive.specs.OnDisk.{AllHold, GaveUpOnDisk, IsTold, RanOnDisk, Rules, Store}
+use Rattle.st_drive.specs.OnDisk.{AllHold, GaveUpOnDisk, IsTold, RanOnDisk, Store}
 use Rattle.st_drive.specs.Recording.{recording}
 use Rattle.st_drive.proofs.RecordingLemmas.{gave_up_recording, has_recorded}
 use Rattle.st_journal.specs.Image.{records}
 use Rattle.st_journal.specs.Moments.{IsBeforeOrAfter, with_record}
 use Rattle.st_journal.specs.Values.{JournalValue, at_end}
 use Rattle.st_journal_lines.specs.Answering.{Answering, grown, recorder_of}
-
--- the same for a machine with an equal view, and an equal next one
-pub ran_as : {M C K D : Type 0} {rules : Rules M C K} {store : Store D} {m n self after : M} {c d : C × D} {lines : List (List ℕ)}
-    → m ≡ self → after ≡ n → RanOnDisk rules store m c lines n d → RanOnDisk rules store self c lines after d
-ran_as {rules = rules} {store = store} {m = m} {self = self} {after = after} {c = c} {d = d} {lines = lines} is came ran =
-    subst (λ x. RanOnDisk rules store x c lines after d) is (subst (λ x. RanOnDisk rules store m c lines x d) (sym came) ran)
-
-pub gave_as : {M C K D : Type 0} {rules : Rules M C K} {store : Store D} {m self : M} {c d : C × D} {lines : List (List ℕ)}
-    → m ≡ self → GaveUpOnDisk rules store m c lines d → GaveUpOnDisk rules store self c lines d
-gave_as {rules = rules} {store = store} {c = c} {d = d} {lines = lines} is gave = subst (λ x. GaveUpOnDisk rules store x c lines d) is gave
 
 module _ {M C : Type 0} (answering : Answering M C) where
   -- if the contents are revealed, all images have the records of the contents
@@ -49,27 +40,33 @@ module _ {M C : Type 0} (answering : Answering M C) where
 
   module _ {D : Type 0} (store : Store D) (m : M) (journal : JournalValue) (line : List ℕ) (c d : C) (a b : D)
       (is : answering.changes m line ≡ true) (image : IfTold (store.reads a) (Images (store.past a)))
-      (moments : IfTold (store.reads a) (λ old. Leaves (IsBeforeOrAfter (records old) line) (store.past a) (store.past b))) where
+      (moments : IfTold (store.reads a) (λ old. Leaves (IsBeforeOrAfter (records old) line) (store.past a) (store.past b)))
+      {self : M × JournalValue} (viewed : (m, journal) ≡ self) where
     moments_told : IsTold store a → (r : List (List ℕ)) → AllHold (recording (recorder_of answering)) r (store.past a)
         → Leaves (λ x. (records x ≡ Some r) ⊎ (records x ≡ Some (r ++ line ∷ []))) (store.past a) (store.past b)
     moments_told t r all =
         moments_of (store.reads a) (store.past a) (store.past b) line r t (there (store.reads a) (store.past a) r image all) moments
 
     -- the line was recorded
-    pub ran_recorded : (n : M) (longer : JournalValue) → answering.effect.ran m c (line ∷ []) n d → (IsTold store a → IsTold store b)
-        → n ≡ answering.next m line → longer ≡ at_end (journal.end + 5 + length line)
+    pub ran_recorded : (n : M) (longer : JournalValue) {after : M × JournalValue} → after ≡ (n, longer)
+        → answering.effect.ran m c (line ∷ []) n d → (IsTold store a → IsTold store b)
+        → ◌≡◌ {A = M × JournalValue} (n, longer) (answering.next m line, at_end (journal.end + 5 + length line))
         → IfTold (store.reads a) (λ old. (x : List ℕ) → Images (store.past b) x → records x ≡ with_record line (records old))
-        → RanOnDisk (recording (recorder_of answering)) store (m, journal) (c, a) (line ∷ []) (n, longer) (d, b)
-    ran_recorded n longer ran told next end lasting = has_recorded (recorder_of answering) (record {
-      changes = is;
-      effect = ran;
-      told = told;
-      came = λ t. ap (λ x. (x, longer)) next ∙ ap (λ j. (answering.next m line, j)) (end ∙ sym (ap (λ t. grown t journal line) is));
-      moments = moments_told;
-      now = λ t r all. lasting_of (store.reads a) (store.past b) line r t (there (store.reads a) (store.past a) r image all) lasting;
-    })
+        → RanOnDisk (recording (recorder_of answering)) store self (c, a) (line ∷ []) after (d, b)
+    ran_recorded n longer same ran told came lasting =
+        subst₂ (λ x y. RanOnDisk (recording (recorder_of answering)) store x (c, a) (line ∷ []) y (d, b)) viewed (sym same)
+        (has_recorded (recorder_of answering) (record {
+          changes = is;
+          effect = ran;
+          told = told;
+          came = λ t. came ∙ ap (λ j. (answering.next m line, j)) (sym (ap (λ t. grown t journal line) is));
+          moments = moments_told;
+          now = λ t r all. lasting_of (store.reads a) (store.past b) line r t (there (store.reads a) (store.past a) r image all) lasting;
+        }))
 
     -- the machine gave up at it
     pub gave_recorded : answering.effect.gave_up m c (line ∷ []) d
-        → GaveUpOnDisk (recording (recorder_of answering)) store (m, journal) (c, a) (line ∷ []) (d, b)
-    gave_recorded gave = gave_up_recording (recorder_of answering) (record { changes = is; effect = gave; moments = moments_told })
+        → GaveUpOnDisk (recording (recorder_of answering)) store self (c, a) (line ∷ []) (d, b)
+    gave_recorded gave =
+        subst (λ x. GaveUpOnDisk (recording (recorder_of answering)) store x (c, a) (line ∷ []) (d, b)) viewed
+        (gave_up_recording (recorder_of answering) (record { changes = is; effect = gave; moments = moments_told }))

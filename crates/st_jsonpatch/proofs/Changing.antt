@@ -2,17 +2,17 @@
 use Rattle.std.proofs.Common.{◌≡◌, Option, Some, None, option_map, Result, Ok, Err, ap, sym, subst, ◌∙◌}
 use Rattle.std.specs.Option.{OnSome}
 use Rattle.st_plain.specs.Plain.{Plain}
+use Rattle.st_canon.specs.declared.value.Json.{Json}
 use Rattle.st_jsonpatch.specs.Changed.{Changes}
-use Rattle.st_jsonpatch.specs.Edited.{put_back}
 use Rattle.st_jsonpatch.specs.declared.refused.ChangeRefused.{ChangeRefused}
 use Rattle.st_jsonpatch.specs.declared.refused.ChangeRefused.TheVariants.{Fails, WantOfMemory}
 
 -- the change that a call made to the entry, it made to the whole
-pub put_back_changes : {P T : Type 0} (back : Plain → P) (change : Plain → Option Plain) (there : Option Plain) (old new : Plain) (whole : P) (r : Result T ChangeRefused)
-    → there ≡ Some old → whole ≡ back new → Changes (change old) new r → Changes (put_back back change there) whole r
-put_back_changes back change there old new whole (Ok x) at is made = ap (put_back back change) at ∙ ap (option_map back) made ∙ ap Some (sym is)
-put_back_changes back change there old new whole (Err Fails) at is made = ap (put_back back change) at ∙ ap (option_map back) made
-put_back_changes back change there old new whole (Err WantOfMemory) at is made = tt
+pub whole_changes : {P : Type 0} (back : Plain → P) (change : Option Plain) (new : Plain) (whole : P) (r : Result (Option Json) ChangeRefused)
+    → whole ≡ back new → Changes change new r → Changes (option_map back change) whole r
+whole_changes back change new whole (Ok x) is made = ap (option_map back) made ∙ ap Some (sym is)
+whole_changes back change new whole (Err Fails) is made = ap (option_map back) made
+whole_changes back change new whole (Err WantOfMemory) is made = tt
 
 pub on_some : {A P : Type 0} (r : Option A) → P → OnSome r P
 on_some None p = tt

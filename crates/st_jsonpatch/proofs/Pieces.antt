@@ -44,21 +44,20 @@ pub record IsCutAtEscape (whole written rest front back : List ℕ) : Type 0 whe
   pub cut : rest ≡ front ++ 126 ∷ back
   pub lacks : Lacks 126 front
 
-up_to_escape : {whole written rest front back : List ℕ} → IsCutAtEscape whole written rest front back
-    → token_of whole ≡ after (written ++ front) (token_from true back)
-up_to_escape {whole} {written} {rest} {front} {back} here =
-    here.so_far ∙ ap (λ l. after written (token_of l)) here.cut ∙ ap (after written) (token-cut front back here.lacks) ∙ after-after written front (token_from true back)
+module _ {whole written rest front back : List ℕ} (here : IsCutAtEscape whole written rest front back) where
+  up_to_escape : token_of whole ≡ after (written ++ front) (token_from true back)
+  up_to_escape =
+      here.so_far ∙ ap (λ l. after written (token_of l)) here.cut ∙ ap (after written) (token-cut front back here.lacks)
+      ∙ after-after written front (token_from true back)
 
--- one more escape of a token
-pub more_of_token : {whole written rest front back : List ℕ} → IsCutAtEscape whole written rest front back
-    → (meant : ℕ) (more : List ℕ) → token_from true back ≡ after (meant ∷ []) (token_of more)
-    → token_of whole ≡ after ((written ++ front) ++ meant ∷ []) (token_of more)
-more_of_token {whole} {written} {rest} {front} {back} here meant more escape =
-    up_to_escape here ∙ ap (after (written ++ front)) escape ∙ after-after (written ++ front) (meant ∷ []) (token_of more)
+  -- one more escape of a token
+  pub more_of_token : (meant : ℕ) (more : List ℕ) → token_from true back ≡ after (meant ∷ []) (token_of more)
+      → token_of whole ≡ after ((written ++ front) ++ meant ∷ []) (token_of more)
+  more_of_token meant more escape =
+      up_to_escape ∙ ap (after (written ++ front)) escape ∙ after-after (written ++ front) (meant ∷ []) (token_of more)
 
-pub no_token : {whole written rest front back : List ℕ} → IsCutAtEscape whole written rest front back
-    → token_from true back ≡ Err BadPointer → token_of whole ≡ Err BadPointer
-no_token {whole} {written} {rest} {front} {back} here none = up_to_escape here ∙ ap (after (written ++ front)) none
+  pub no_token : token_from true back ≡ Err BadPointer → token_of whole ≡ Err BadPointer
+  no_token none = up_to_escape ∙ ap (after (written ++ front)) none
 
 pub all_of_token : (whole written rest : List ℕ) → token_of whole ≡ after written (token_of rest) → Lacks 126 rest
     → token_of whole ≡ Ok (written ++ rest)
@@ -115,10 +114,10 @@ no_last whole read rest so_far lacks refused none =
     so_far ∙ ap (λ pieces. after read (tokens_of pieces)) (pieces-one rest lacks) ∙ rw none refl
 
 -- a refusal of a part is a refusal of the whole
-pub refused_inside : {A B : Type 0} {part : Result A PointerRefused} {whole : Result B PointerRefused} (refused : PointerRefused)
-    (result : Result B PointerRefused) → result ≡ Err refused → Gives refusal_of part (Err refused)
+pub refused_inside : {part : Result (List ℕ) PointerRefused} {whole : Result (List (List ℕ)) PointerRefused} (refused : PointerRefused)
+    (result : Result (List (List ℕ)) PointerRefused) → result ≡ Err refused → Gives refusal_of part (Err refused)
     → ((r : PointerRefused) → part ≡ Err r → whole ≡ Err r) → Gives refusal_of whole result
-refused_inside {A} {B} {part} {whole} refused result is given inside =
+refused_inside {part} {whole} refused result is given inside =
     subst (Gives refusal_of whole) (sym is) (elim refused as (λ r. Gives refusal_of part (Err r) → Gives refusal_of whole (Err r)) [
       | BadPointer ↦ λ given. inside BadPointer given
       | WantOfMemory ↦ λ given. tt

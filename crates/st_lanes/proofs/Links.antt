@@ -1,5 +1,5 @@
 -- The block of a step, word by word.
-use Rattle.std.proofs.Common.{◌≡◌, ℕ, zero, suc, ◌+◌, ◌-◌, ◌*◌, ◌/◌, ◌%◌, ◌^◌, ◌<◌, ◌≤◌, List, [], ◌∷◌, ◌++◌, length, slice_index, length-append, mod-lt, pow_pos, arith, refl, sym, ap, ◌∙◌}
+use Rattle.std.proofs.Common.{◌≡◌, ℕ, zero, suc, ◌+◌, ◌-◌, ◌*◌, ◌/◌, ◌%◌, ◌^◌, ◌<◌, List, [], ◌∷◌, ◌++◌, length, slice_index, length-append, mod-lt, pow_pos, arith, refl, sym, ap, ◌∙◌}
 use Rattle.std.proofs.lemmas.List.{append_assoc, get_or_append_left, get_or-append_right}
 use Rattle.std.specs.Int.{from_be_bytes, to_be_bytes, w32}
 use Rattle.sha2.specs.Sha256.{add32, add_state, digest_bytes, first_words, padded_message, word_at}
@@ -18,9 +18,10 @@ last_is : (x : ℕ) → x < 2 ^ 32
     → from_be_bytes w32 (byte_of 1 x ∷ byte_of 2 x ∷ byte_of 3 x ∷ 0x80 ∷ []) ≡ add32 (x * 2 ^ 8 % 2 ^ 32) 0x80
 last_is x fx = omega arith
 
-sixth : (a b j x h : ℕ) → h ≡ a * 2 ^ 24 + b * 2 ^ 16 → h + 2 ^ 16 ≤ 2 ^ 32 → j < 256 → x < 2 ^ 32
-    → from_be_bytes w32 (a ∷ b ∷ j ∷ byte_of 0 x ∷ []) ≡ add32 (add32 h (j * 2 ^ 8 % 2 ^ 32)) (x / 2 ^ 24)
-sixth a b j x h is small fj fx = omega arith
+sixth : (p h : List ℕ) (j x : ℕ) → IsHead h p → j < 256 → x < 2 ^ 32
+    → from_be_bytes w32 (slice_index p 20 ∷ slice_index p 21 ∷ j ∷ byte_of 0 x ∷ [])
+    ≡ add32 (add32 (slice_index h 5) (j * 2 ^ 8 % 2 ^ 32)) (x / 2 ^ 24)
+sixth p h j x head fj fx = omega (arith, head.last, head.small)
 
 pub link_block : (p h v : List ℕ) (j : ℕ) → IsHead h p → AreWords v → j < 256
     → link_words h v j ≡ first_words (padded_message (p ++ j ∷ digest_bytes v 8)) 16
@@ -41,7 +42,7 @@ link_block p h v j head fits byte =
     let w2 : word_at (p ++ q) 8 ≡ slice_index h 2 = rw (low 8 (omega arith), low 9 (omega arith), low 10 (omega arith), low 11 (omega arith)) (sym (head.words 2 (omega arith))) in
     let w3 : word_at (p ++ q) 12 ≡ slice_index h 3 = rw (low 12 (omega arith), low 13 (omega arith), low 14 (omega arith), low 15 (omega arith)) (sym (head.words 3 (omega arith))) in
     let w4 : word_at (p ++ q) 16 ≡ slice_index h 4 = rw (low 16 (omega arith), low 17 (omega arith), low 18 (omega arith), low 19 (omega arith)) (sym (head.words 4 (omega arith))) in
-    let w5 : word_at (p ++ q) 20 ≡ add32 (add32 (slice_index h 5) (j * 2 ^ 8 % 2 ^ 32)) (slice_index v 0 / 2 ^ 24) = rw (low 20 (omega arith), low 21 (omega arith), high 0, high 1) (sixth (slice_index p 20) (slice_index p 21) j (slice_index v 0) (slice_index h 5) head.last head.small byte (fits 0)) in
+    let w5 : word_at (p ++ q) 20 ≡ add32 (add32 (slice_index h 5) (j * 2 ^ 8 % 2 ^ 32)) (slice_index v 0 / 2 ^ 24) = rw (low 20 (omega arith), low 21 (omega arith), high 0, high 1) (sixth p h j (slice_index v 0) head byte (fits 0)) in
     let w6 : word_at (p ++ q) 24 ≡ joined (slice_index v 0) (slice_index v 1) = rw (high 2, high 3, high 4, high 5) (joined_is (slice_index v 0) (slice_index v 1) (fits 0) (fits 1)) in
     let w7 : word_at (p ++ q) 28 ≡ joined (slice_index v 1) (slice_index v 2) = rw (high 6, high 7, high 8, high 9) (joined_is (slice_index v 1) (slice_index v 2) (fits 1) (fits 2)) in
     let w8 : word_at (p ++ q) 32 ≡ joined (slice_index v 2) (slice_index v 3) = rw (high 10, high 11, high 12, high 13) (joined_is (slice_index v 2) (slice_index v 3) (fits 2) (fits 3)) in

@@ -40,20 +40,16 @@ filled_more f size xs n x filled fits is = record {
 abbrev pub AreBytes : List ℕ → Type 0
 AreBytes m = (i : ℕ) → slice_index m i < 256
 
-pub word_fits : (m : List ℕ) (i : ℕ) → AreBytes m → word_at m i < 2 ^ 32
+word_fits : (m : List ℕ) (i : ℕ) → AreBytes m → word_at m i < 2 ^ 32
 word_fits m i bytes = omega (arith, bytes i, bytes (i + 1), bytes (i + 2), bytes (i + 3))
 
-pub eight_words : (a b c d e f g h : ℕ) → a < 2 ^ 32 → b < 2 ^ 32 → c < 2 ^ 32 → d < 2 ^ 32 → e < 2 ^ 32 → f < 2 ^ 32 → g < 2 ^ 32 → h < 2 ^ 32
-    → AreWords (a ∷ b ∷ c ∷ d ∷ e ∷ f ∷ g ∷ h ∷ [])
-eight_words a b c d e f g h ha hb hc hd he hf hg hh zero = ha
-eight_words a b c d e f g h ha hb hc hd he hf hg hh (suc zero) = hb
-eight_words a b c d e f g h ha hb hc hd he hf hg hh (suc (suc zero)) = hc
-eight_words a b c d e f g h ha hb hc hd he hf hg hh (suc (suc (suc zero))) = hd
-eight_words a b c d e f g h ha hb hc hd he hf hg hh (suc (suc (suc (suc zero)))) = he
-eight_words a b c d e f g h ha hb hc hd he hf hg hh (suc (suc (suc (suc (suc zero))))) = hf
-eight_words a b c d e f g h ha hb hc hd he hf hg hh (suc (suc (suc (suc (suc (suc zero)))))) = hg
-eight_words a b c d e f g h ha hb hc hd he hf hg hh (suc (suc (suc (suc (suc (suc (suc zero))))))) = hh
-eight_words a b c d e f g h ha hb hc hd he hf hg hh (suc (suc (suc (suc (suc (suc (suc (suc i)))))))) = omega arith
+-- eight words of value i are words
+pub words_fit : (row : List ℕ) (i : ℕ) (h : List ℕ) → AreBytes row → length h ≡ 8
+    → ((t : ℕ) → t < 8 → slice_index h t ≡ word_at row (32 * i + 4 * t)) → AreWords h
+words_fit row i h bytes long at t = elim (cases_lt t 8) [
+  | inl below ↦ rw (at t below) (word_fits row (32 * i + 4 * t) bytes)
+  | inr past ↦ let none : slice_index h t ≡ 0 = get_or_past h t 0 (omega (arith, long)) in omega (arith, none)
+]
 
 four_bytes : (a b c d : ℕ) → a < 256 → b < 256 → c < 256 → d < 256 → AreBytes (a ∷ b ∷ c ∷ d ∷ [])
 four_bytes a b c d ha hb hc hd zero = ha
@@ -164,22 +160,20 @@ head_is head i long small =
 
 -- ---- a value written into a row
 
-pub put_value : (row v : List ℕ) (i k : ℕ) → k ≡ 32 → 32 * i + 32 ≤ length row → length v ≡ 32 → value_at (put_mid (32 * i) k row v) i ≡ v
+pub put_value : (row v : List ℕ) (i k : ℕ) → k ≡ 32 → 32 * i + 32 ≤ length row → length v ≡ 32
+    → (value_at (put_mid (32 * i) k row v) i ≡ v) × ((m : ℕ) → m ≢ i → value_at (put_mid (32 * i) k row v) m ≡ value_at row m)
 unfolding value_at
 put_value row v i k is fits long =
-    let rest = drop k (drop (32 * i) row) in
-    ap (take 32) (drop_at (take (32 * i) row) (v ++ rest) (32 * i) (length-take-le (32 * i) row (omega arith))) ∙ take_at v rest 32 long
-
-pub put_others : (row v : List ℕ) (i k m : ℕ) → k ≡ 32 → 32 * i + 32 ≤ length row → length v ≡ 32 → m ≢ i
-    → value_at (put_mid (32 * i) k row v) m ≡ value_at row m
-unfolding value_at
-put_others row v i k m is fits long other = elim (cases_lt m i) [
-  | inl below ↦
-      sym (drop-take (32 * m) 32 (put_mid (32 * i) k row v))
-      ∙ ap (drop (32 * m)) (take-put_mid_below (32 * i) k row v (32 * m + 32) (omega arith) (omega arith))
-      ∙ drop-take (32 * m) 32 row
-  | inr past ↦ elim (cases_lt i m) [
-    | inl after ↦ ap (take 32) (drop-put_mid (32 * i) k row v (32 * m) (omega arith) (omega arith) (omega arith))
-    | inr before ↦ absurd (other (omega arith))
-  ]
-]
+    let rest = drop k (drop (32 * i) row) in (
+      ap (take 32) (drop_at (take (32 * i) row) (v ++ rest) (32 * i) (length-take-le (32 * i) row (omega arith))) ∙ take_at v rest 32 long,
+      λ m other. elim (cases_lt m i) [
+        | inl below ↦
+            sym (drop-take (32 * m) 32 (put_mid (32 * i) k row v))
+            ∙ ap (drop (32 * m)) (take-put_mid_below (32 * i) k row v (32 * m + 32) (omega arith) (omega arith))
+            ∙ drop-take (32 * m) 32 row
+        | inr past ↦ elim (cases_lt i m) [
+          | inl after ↦ ap (take 32) (drop-put_mid (32 * i) k row v (32 * m) (omega arith) (omega arith) (omega arith))
+          | inr before ↦ absurd (other (omega arith))
+        ]
+      ],
+    )

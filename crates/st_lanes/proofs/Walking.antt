@@ -10,14 +10,11 @@ pub at_start : (w p : List ℕ) (k : ℕ) (v : List ℕ) → AreWords w → dige
 unfolding steps
 at_start w p k v words is = record { words = words; value = is }
 
--- the words x after one more step
-pub at_next : (p v w x : List ℕ) (k n byte : ℕ) → IsAt w p k v n → byte ≡ (k + n + 255) % 256 → AreWords x
-    → digest_bytes x 8 ≡ sha256 (p ++ byte ∷ digest_bytes w 8) → IsAt x p k v (n + 1)
+-- the words after one more step
+pub at_next : (p v w : List ℕ) (k n : ℕ) → AreWords w
+    → digest_bytes w 8 ≡ sha256 (p ++ ((k + n + 255) % 256) ∷ steps p k n v) → IsAt w p k v (n + 1)
 unfolding steps
-at_next p v w x k n byte now is words hashed = record {
-  words = words;
-  value = rw add-one (hashed ∙ rw (is, now.value));
-}
+at_next p v w k n words hashed = record { words = words; value = rw add-one hashed }
 
 -- all steps are done
 pub at_end : (w p v : List ℕ) (k n count : ℕ) → IsAt w p k v n → count ≡ n → digest_bytes w 8 ≡ steps p k count v

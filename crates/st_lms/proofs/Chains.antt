@@ -1,8 +1,8 @@
 -- Chains in two parts, and the steps of a walk.
-use Rattle.std.proofs.Common.{◌≡◌, ℕ, zero, suc, ◌+◌, ◌-◌, ◌*◌, ◌%◌, ◌<◌, ◌≤◌, List, ◌++◌, length, take, drop, slice_index, add-one, ap, arith, refl, sym, ◌∙◌}
+use Rattle.std.proofs.Common.{◌≡◌, ℕ, zero, suc, ◌+◌, ◌-◌, ◌*◌, ◌%◌, ◌<◌, ◌≤◌, List, ◌++◌, length, take, drop, ap, arith, refl, sym, ◌∙◌}
 use Rattle.std.proofs.lemmas.List.{drop-take, take-append-drop, take-take}
 use Rattle.std.specs.Int.{to_be_bytes, w16}
-use Rattle.st_lanes.specs.Chains.{end_of, steps}
+use Rattle.st_lanes.specs.Chains.{steps}
 use Rattle.st_lms.specs.OneTime.{chain, chain_step, secret_element}
 use Rattle.st_lms.specs.Strings.{joined, u16str, u32str, value_at}
 use Rattle.st_lms.proofs.Hashing.{value_at-joined}
@@ -18,7 +18,7 @@ chain-add id q i from m (suc n) value =
     rw (e, at, chain-add id q i from m n value)
 
 -- the steps of a walk are those of a chain
-pub steps_chain : (id : List ℕ) (q i j n : ℕ) (value : List ℕ) → j + n ≤ 256
+steps_chain : (id : List ℕ) (q i j n : ℕ) (value : List ℕ) → j + n ≤ 256
     → steps (id ++ u32str q ++ to_be_bytes w16 i) (j + 1) n value ≡ chain id q i j n value
 unfolding steps chain chain_step u16str
 steps_chain id q i j zero value fits = refl
@@ -35,25 +35,19 @@ steps_of_seed id q i (suc n) seed fits =
     let byte : (0 + suc n + 255) % 256 ≡ 0 + n = omega arith in
     rw (byte, steps_of_seed id q i n seed (omega arith)) refl
 
-pub steps_secret : (id : List ℕ) (q i n : ℕ) (seed : List ℕ) → n < 256
-    → steps (id ++ u32str q ++ to_be_bytes w16 i) 0 (n + 1) seed ≡ chain id q i 0 n (secret_element id q i seed)
-steps_secret id q i n seed fits = rw add-one (steps_of_seed id q i n seed fits)
-
 -- the end of a walk that starts at a seed
-pub walk_of_seed : (id : List ℕ) (q i n : ℕ) (seed : List ℕ) (head from to starts : List ℕ) {value : List ℕ} → value ≡ end_of head from to starts i
-    → head ≡ id ++ u32str q → slice_index from i ≡ 0 → slice_index to i ≡ n + 1 → value_at starts i ≡ seed → n < 256
-    → value ≡ chain id q i 0 n (secret_element id q i seed)
-walk_of_seed id q i n seed head from to starts walked is first last start fits =
-    let count : n + 1 - 0 ≡ n + 1 = omega arith in
-    walked ∙ rw (is, first, last, start, count) (steps_secret id q i n seed fits)
+pub walk_of_seed : (id : List ℕ) (q i n : ℕ) (seed : List ℕ) → n < 256
+    → steps (id ++ u32str q ++ to_be_bytes w16 i) 0 (n + 1 - 0) seed ≡ chain id q i 0 n (secret_element id q i seed)
+walk_of_seed id q i n seed fits =
+    let count : n + 1 - 0 ≡ suc n = omega arith in
+    rw count (steps_of_seed id q i n seed fits)
 
 -- and of one that starts at the value of a digit
-pub walk_of_value : (id : List ℕ) (q i digit end : ℕ) (head from to starts : List ℕ) {value : List ℕ} → value ≡ end_of head from to starts i
-    → head ≡ id ++ u32str q → slice_index from i ≡ digit + 1 → slice_index to i ≡ end + 1 → digit ≤ end → end < 256
-    → value ≡ chain id q i digit (end - digit) (value_at starts i)
-walk_of_value id q i digit end head from to starts walked is first last ascends fits =
+pub walk_of_value : (id : List ℕ) (q i digit end : ℕ) (value : List ℕ) → digit ≤ end → end < 256
+    → steps (id ++ u32str q ++ to_be_bytes w16 i) (digit + 1) (end + 1 - (digit + 1)) value ≡ chain id q i digit (end - digit) value
+walk_of_value id q i digit end value ascends fits =
     let count : end + 1 - (digit + 1) ≡ end - digit = omega arith in
-    walked ∙ rw (is, first, last, count) (steps_chain id q i digit (end - digit) (value_at starts i) (omega arith))
+    rw count (steps_chain id q i digit (end - digit) value (omega arith))
 
 -- ---- rows of values
 

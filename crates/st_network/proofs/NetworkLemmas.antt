@@ -40,12 +40,10 @@ less-none room size rest past =
     let other : nat_le (size + rest) room ≡ false = grind (arith, nat_tests) in
     rw other refl
 
--- if one message doesn't fit, all don't
-pub less_stuck : (letters : List Letter) (i : ℕ) (letter : Letter) (left room : ℕ) → i < length letters → letter ≡ get_or letters i letter
-    → left < size_of letter → less left (sum_by size_of (drop i letters)) ≡ less room (sum_by size_of letters)
-    → less room (sum_by size_of letters) ≡ None
-less_stuck letters i letter left room inside is past all =
-    let step = next_item letters i letter inside is in
-    sym all ∙ ap (λ (rest : List Letter). less left (sum_by size_of rest)) step
+-- if one message doesn't fit, it and the later ones don't
+pub less_stuck : (letters : List Letter) (i : ℕ) (letter : Letter) (left : ℕ) → i < length letters → letter ≡ get_or letters i letter
+    → left < size_of letter → less left (sum_by size_of (drop i letters)) ≡ None
+less_stuck letters i letter left inside is past =
+    ap (λ (rest : List Letter). less left (sum_by size_of rest)) (next_item letters i letter inside is)
     ∙ ap (less left) (sum_by-cons size_of letter (drop (i + 1) letters))
     ∙ less-none left (size_of letter) (sum_by size_of (drop (i + 1) letters)) past

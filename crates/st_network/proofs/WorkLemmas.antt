@@ -3,7 +3,7 @@
 --     none_over             lines, if nothing is counted
 --     exchange_counts       lines from the start
 --     counts_more           and then more
-use Rattle.std.proofs.Common.{◌≡◌, ◌≤◌, ◌+◌, ℕ, List, [], ◌∷◌, ◌++◌, slice_get, slice_set, Some, Ok, option_map, unwrap_or, sym, subst, arith}
+use Rattle.std.proofs.Common.{◌≡◌, ◌+◌, ℕ, List, [], ◌∷◌, ◌++◌, slice_get, slice_set, Some, Ok, option_map, unwrap_or, sym, subst, arith}
 use Rattle.std.proofs.lemmas.List.Sums.{sum_by-set}
 use Rattle.std.proofs.lemmas.Option.{get_or_from_slice_get, slice_get_within}
 use Rattle.std.specs.List.{sum_by}
@@ -25,11 +25,12 @@ sum_with f nodes i node next there =
 
 module _ {M : Type 0} (peer : Peer M) where
   -- so its bound is one of all nodes
-  one_due : (nodes : List M) (i : ℕ) (node next : M) (anchors said texts : ℕ) (old new : Counts) → slice_get nodes i ≡ Some node → anchors ≤ said
-      → StaysDue peer (node ∷ []) (next ∷ []) anchors texts old new → StaysDue peer nodes (slice_set nodes i next) said texts old new
-  one_due nodes i node next anchors said texts old new there few due = record {
-    files = omega (arith, few, due.files, sum_with peer.due nodes i node next there);
-    proofs = omega (arith, due.proofs, sum_with peer.proofs_due nodes i node next there);
+  one_due : (nodes : List M) (i : ℕ) (next : M) (anchors texts : ℕ) (old new : Counts)
+      → ((node : M) × (slice_get nodes i ≡ Some node) × StaysDue peer (node ∷ []) (next ∷ []) anchors texts old new)
+      → StaysDue peer nodes (slice_set nodes i next) anchors texts old new
+  one_due nodes i next anchors texts old new found = record {
+    files = omega (arith, found.2.files, sum_with peer.due nodes i found.0 next found.1);
+    proofs = omega (arith, found.2.proofs, sum_with peer.proofs_due nodes i found.0 next found.1);
   }
 
   module _ {nodes : List M} {letters : List Letter} {network : Network M} (is : record { nodes = nodes; letters = letters } ≡ network) where
@@ -42,14 +43,14 @@ module _ {M : Type 0} (peer : Peer M) where
     line_due i line old new found =
         let there : slice_get network.nodes i ≡ Some found.0 = subst (λ (network : Network M). slice_get network.nodes i ≡ Some found.0) is found.1 in
         subst (λ node. Bounds (line_done peer network i line node) (unwrap_or (option_map (λ node. peer.proofs_added node line) node) 0) old new)
-        (sym there) (one_due network.nodes i found.0 (peer.next found.0 line) _ _ _ old new there (omega arith) found.2)
+        (sym there) (one_due network.nodes i (peer.next found.0 line) _ _ old new (found.0, there, found.2))
 
     pub file_due : (i : ℕ) (bytes : List ℕ) (old new : Counts)
         → ((node : M) × (slice_get nodes i ≡ Some node) × FileDue peer node bytes old new) → StepDue peer network (Ok (Store i bytes)) old new
     file_due i bytes old new found =
         let there : slice_get network.nodes i ≡ Some found.0 = subst (λ (network : Network M). slice_get network.nodes i ≡ Some found.0) is found.1 in
         subst (λ node. Bounds (store_done peer network i bytes node) 0 old new)
-        (sym there) (one_due network.nodes i found.0 (peer.stored found.0 bytes) 0 _ 0 old new there (omega arith) found.2)
+        (sym there) (one_due network.nodes i (peer.stored found.0 bytes) 0 0 old new (found.0, there, found.2))
 
 pub none_over : {M : Type 0} (peer : Peer M) (network : Network M) (lines : List (List ℕ)) (work : Counts) → DueOver peer network lines network work work
 none_over peer network lines work = record { files = omega arith; proofs = omega arith }

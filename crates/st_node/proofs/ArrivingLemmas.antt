@@ -4,7 +4,7 @@
 --     arrivals_files       the roles that the files decide are no longer due
 --     arrivals_proofs      nor are the signed texts that are opened then
 --     arrivals_schedule    the schedule stays
-use Rattle.std.proofs.Common.{◌≡◌, ℕ, ◌+◌, ◌-◌, ◌≤◌, List, [], ◌∷◌, refl, sym, subst, arith}
+use Rattle.std.proofs.Common.{◌≡◌, ℕ, ◌+◌, ◌-◌, ◌≤◌, List, [], ◌∷◌, refl, arith}
 use Rattle.std.proofs.lemmas.List.Sums.{sum_by-le-sum_by}
 use Rattle.st_anchor.specs.States.{decided_roles, opened_proofs}
 use Rattle.st_base.specs.Work.{Counts}
@@ -94,20 +94,12 @@ arrivals_schedule (file ∷ files) observed = arrivals_schedule files (arrived f
 pub arrivals_none : (observed : Observed) (files : List BatchFile) (work : Counts) → ArrivalsCounts observed files work work
 arrivals_none observed files work = record { least = fell-none work; read = omega arith; opened = omega arith; applied = omega arith }
 
-arrivals_more : (observed : Observed) (file : BatchFile) (files : List BatchFile) {old mid new : Counts}
+pub arrivals_next : (observed : Observed) (file : BatchFile) (files : List BatchFile) {old mid new : Counts}
     → ArrivalCounts observed file.bytes old mid → ArrivalsCounts (arrived file.bytes observed) files mid new
     → ArrivalsCounts observed (file ∷ files) old new
-arrivals_more observed file files first others = record {
+arrivals_next observed file files first others = record {
   least = fell-both first.least others.least;
   read = omega (arith, first.read, others.read, decided-rises observed file.bytes, all-decided-rise files (arrived file.bytes observed));
   opened = omega (arith, first.opened, others.opened, opened-rises observed file.bytes, all-opened-rise files (arrived file.bytes observed));
   applied = omega (arith, first.applied, others.applied);
 }
-
--- the same for the remaining files, the first of which was received
-pub arrivals_next : (observed : Observed) (file : BatchFile) (rest : List BatchFile) {next : Observed} {left : List BatchFile} {old mid new : Counts}
-    → left ≡ file ∷ rest → next ≡ arrived file.bytes observed → ArrivalCounts observed file.bytes old mid
-    → ArrivalsCounts next rest mid new → ArrivalsCounts observed left old new
-arrivals_next observed file rest {old = old} {mid = mid} {new = new} is came first others =
-    subst (λ left. ArrivalsCounts observed left old new) (sym is)
-    (arrivals_more observed file rest first (subst (λ next. ArrivalsCounts next rest mid new) came others))

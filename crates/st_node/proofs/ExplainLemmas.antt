@@ -34,15 +34,14 @@ module _ (items : List CertItem) (verdicts : List Verdict) where
       ap (λ (left : List CertItem). text ++ item_lines (anchored_items left) (drop at verdicts)) (drop_all at items over) ∙ append-nil text
 
 -- one more item is made from an operation
-pub one_made : (made new : List CertItem) (held : Held) (left rest : List Held) (item : CertItem) → left ≡ held ∷ rest → new ≡ made ++ item ∷ []
+pub one_made : (made new : List CertItem) (held : Held) (rest : List Held) (item : CertItem) → new ≡ made ++ item ∷ []
     → anchored_item item ≡ plain_held held
-    → anchored_items new ++ map plain_held rest ≡ anchored_items made ++ map plain_held left
-one_made made new held left rest item split pushed same =
+    → anchored_items new ++ map plain_held rest ≡ anchored_items made ++ map plain_held (held ∷ rest)
+one_made made new held rest item pushed same =
     ap (λ (items : List CertItem). anchored_items items ++ map plain_held rest) pushed
     ∙ ap (λ all. all ++ map plain_held rest) (map-append anchored_item made (item ∷ []))
     ∙ append_assoc (anchored_items made) (anchored_item item ∷ []) (map plain_held rest)
     ∙ ap (λ first. anchored_items made ++ first ∷ map plain_held rest) same
-    ∙ sym (ap (λ (held : List Held). anchored_items made ++ map plain_held held) split)
 
 -- each item has one verdict
 pub each_judged : (schedule : Option ℕ) (items : List CertItem) (certificate : Certificate) → IsCertificate schedule (anchored_items items) certificate

@@ -57,20 +57,20 @@ content_by machine bytes (Some file) e = record {
       (same_files bytes machine.observed.files (file_at (uri_of bytes) machine.observed.files) (ap is_some e));
 }
 
-fits_more : (height last count : ℕ) (falls full : Bool) → nat_eq count most_entries ≡ full
-    → (result : Result Unit LedgerRefused) → (if falls then Err (HeightFalls last) else if full then Err LedgerFull else Ok tt) ≡ result
-    → count ≤ most_entries → (is : Unit) → result ≡ Ok is → count + 1 ≤ most_entries
-fits_more height last count true full is result e few tt ok = absurd (let no = e ∙ ok in cc)
-fits_more height last count false true is result e few tt ok = absurd (let no = e ∙ ok in cc)
-fits_more height last count false false is result e few tt ok = grind (arith, nat_tests)
+fits_more : (last count : ℕ) (falls full : Bool) (is : Unit {0}) → nat_eq count most_entries ≡ full
+    → (if falls then Err (HeightFalls last) else if full then Err LedgerFull else Ok tt) ≡ Ok is
+    → count ≤ most_entries → count + 1 ≤ most_entries
+fits_more last count true full is e fits few = cc
+fits_more last count false true is e fits few = cc
+fits_more last count false false is e fits few = grind (arith, nat_tests)
 
 admitted_keeps : (machine : Machine) (entry : Entry) (result : Result Unit LedgerRefused) → admitted machine.observed.ledger entry.height ≡ result
     → Keeps machine (answered_admitted machine entry result)
 admitted_keeps machine entry (Ok is) e = record {
   few = λ few.
       let ledger = machine.observed.ledger in
-      let more = fits_more entry.height (last_height ledger) (length ledger) (nat_lt entry.height (last_height ledger)) (nat_eq (length ledger) most_entries) refl
-      (Ok is) e few is refl in
+      let more = fits_more (last_height ledger) (length ledger) (nat_lt entry.height (last_height ledger)) (nat_eq (length ledger) most_entries) is
+      refl e few in
       omega (arith, more, length-append ledger (entry ∷ []));
   idle = λ few none. told (reply (codes "anchored ") (decimal (length machine.observed.ledger))) refl none;
 }

@@ -1,8 +1,7 @@
 -- The counts of a node, as a peer's:
 --     line_within    the reads of a line are paid by the anchor that it adds, if its reply says that it was accepted
---     line_paid      the same by the next node
 --     file_within    a file that is kept counts only what was due
-use Rattle.std.proofs.Common.{◌≡◌, ℕ, ◌+◌, ◌*◌, ◌≤◌, List, length, Result, Ok, Err, arith}
+use Rattle.std.proofs.Common.{ℕ, ◌≤◌, List, length, Result, Ok, Err, arith}
 use Rattle.st_base.specs.Work.{Counts}
 use Rattle.st_exchange.specs.Peer.{FileDue, LineDue, anchors_told}
 use Rattle.st_ledger.specs.Ledger.{admitted}
@@ -12,7 +11,7 @@ use Rattle.st_node.proofs.DueLemmas.{arrived_due}
 use Rattle.st_node.specs.Command.{command_of}
 use Rattle.st_node.specs.Machine.{Machine, answered, answered_admitted, answered_command, answered_read}
 use Rattle.st_node.specs.Peer.{node_peer}
-use Rattle.st_node.specs.Work.{ArrivalCounts, StaysDue, entry_admitted, entry_of_command, entry_of_line, entry_of_read, files_due, submitted_by_line}
+use Rattle.st_node.specs.Work.{ArrivalCounts, StaysDue, entry_admitted, entry_of_command, entry_of_line, entry_of_read, submitted_by_line}
 use Rattle.st_node.specs.declared.command.Command.{Command}
 use Rattle.st_node.specs.declared.command.Command.TheVariants.{Content, Anchor, Rollback, Resolve, Explain, Wanted, Report, Submit, Flush}
 use Rattle.st_node.specs.declared.command.LineCause.{LineCause}
@@ -51,22 +50,11 @@ module _ (machine : Machine) where
 
 -- ---- so it pays for the reads
 
-paid_by : (entries said now later read due : ℕ) → now + later ≤ read + due + 5 * entries → entries ≤ said → now + later ≤ read + due + 5 * said
-paid_by entries said now later read due counts few = omega arith
-
-module _ (machine : Machine) (line : List ℕ) (old new : Counts)
-    (due : StaysDue machine.observed (answered machine line).next.observed (entry_of_line machine line) (submitted_by_line line) old new) where
-  line_pays : new.files + files_due (answered machine line).next.observed ≤ old.files + files_due machine.observed + 5 * anchors_told (answered machine line).reply
-  line_pays =
-      paid_by (length (entry_of_line machine line)) (anchors_told (answered machine line).reply) new.files
-      (files_due (answered machine line).next.observed) old.files (files_due machine.observed) due.files (anchor_told machine line)
-
-  pub line_within : LineDue node_peer machine line old new
-  line_within = record { files = omega (arith, line_pays); proofs = omega (arith, due.proofs) }
-
-  pub line_paid : (next : Machine) → next ≡ (answered machine line).next
-      → new.files + files_due next.observed ≤ old.files + files_due machine.observed + 5 * anchors_told (answered machine line).reply
-  line_paid next is = rw is line_pays
+pub line_within : (machine : Machine) (line : List ℕ) (old new : Counts)
+    → StaysDue machine.observed (answered machine line).next.observed (entry_of_line machine line) (submitted_by_line line) old new
+    → LineDue node_peer machine line old new
+line_within machine line old new due =
+    record { files = omega (arith, due.files, anchor_told machine line); proofs = omega (arith, due.proofs) }
 
 -- ---- a file that is kept
 

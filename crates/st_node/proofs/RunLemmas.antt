@@ -21,7 +21,7 @@ use Rattle.st_node.specs.Work.{DueOver, RunCounts, StaysDue, declared_count, ent
 use Rattle.st_node.specs.declared.command.Command.{Command}
 use Rattle.st_node.specs.declared.command.Command.TheVariants.{Content, Anchor, Rollback, Resolve, Explain, Wanted, Report, Submit, Flush}
 use Rattle.st_node.specs.declared.command.LineCause.{LineCause}
-use Rattle.st_observer.specs.Observed.{Observed, report}
+use Rattle.st_observer.specs.Observed.{report}
 use Rattle.st_ops.specs.Operation.{PlainOperation}
 
 -- ---- the schedule stays
@@ -85,47 +85,37 @@ entries-append machine (line ∷ lines) more =
     ap (λ (entries : List Entry). entry_of_line machine line ++ entries) (entries-append (answered machine line).next lines more)
     ∙ sym (append_assoc (entry_of_line machine line) (entries_of (answered machine line).next lines) (entries_of (after machine (line ∷ lines)) more))
 
--- lines that were paid for, and then more
-stays_then : {before between last : Observed} {entries more : List Entry} {some others : ℕ} {old mid new : Counts}
-    → between.schedule ≡ before.schedule → StaysDue before between entries some old mid → StaysDue between last more others mid new
-    → StaysDue before last (entries ++ more) (some + others) old new
-stays_then {before = before} {between = between} {entries = entries} {more = more} same first second =
-    let counts : sum_by (declared_count between.schedule) more
-    ≡ sum_by (declared_count before.schedule) more = ap (λ schedule. sum_by (declared_count schedule) more) same in
-    record {
-      files = omega (arith, first.files, second.files, length-append entries more);
-      proofs = omega (arith, first.proofs, second.proofs, sum_by-append (declared_count before.schedule) entries more, counts);
-    }
-
--- the same for equally many submissions
-stays_as : {before last : Observed} {entries : List Entry} {some others : ℕ} {old new : Counts}
-    → some ≡ others → StaysDue before last entries some old new → StaysDue before last entries others old new
-stays_as {before = before} {last = last} {entries = entries} {old = old} {new = new} same due =
-    subst (λ submissions. StaysDue before last entries submissions old new) same due
-
 pub due_none : (machine : Machine) (work : Counts) → DueOver machine [] work work
 due_none machine work = record { files = omega arith; proofs = omega arith }
 
 pub due_more : (machine : Machine) (lines more : List (List ℕ)) (old mid new : Counts)
     → DueOver machine lines old mid → DueOver (after machine lines) more mid new → DueOver machine (lines ++ more) old new
 due_more machine lines more old mid new first second =
-    let last = after (after machine lines) more in
-    let all : StaysDue machine.observed last.observed (entries_of machine lines ++ entries_of (after machine lines) more)
-    (submitted_in (lines ++ more)) old new = stays_as (sym (sum_by-append submitted_by_line lines more))
-    (stays_then (schedule-after machine lines) first second) in
-    subst (λ (last : Machine). StaysDue machine.observed last.observed (entries_of machine (lines ++ more))
-    (submitted_in (lines ++ more)) old new) (sym (after-append machine lines more))
-    (subst (λ (entries : List Entry). StaysDue machine.observed last.observed entries (submitted_in (lines ++ more)) old new)
-    (sym (entries-append machine lines more)) all)
+    let later = entries_of (after machine lines) more in
+    let counts : sum_by (declared_count (after machine lines).observed.schedule) later ≡ sum_by (declared_count machine.observed.schedule) later =
+    ap (λ schedule. sum_by (declared_count schedule) later) (schedule-after machine lines) in
+    rw (after-append machine lines more, entries-append machine lines more) record {
+      files = omega (arith, first.files, second.files, length-append (entries_of machine lines) later);
+      proofs = omega (
+        arith,
+        first.proofs,
+        second.proofs,
+        counts,
+        sum_by-append submitted_by_line lines more,
+        sum_by-append (declared_count machine.observed.schedule) (entries_of machine lines) later,
+      );
+    }
 
 pub cut_due : (machine : Machine) (line : List ℕ) (old new : Counts)
     → DueOver machine (take (longest_line + 1) line ∷ []) old new → DueOver machine (line ∷ []) old new
 cut_due machine line old new due =
+    let cut = take (longest_line + 1) line ∷ [] in
     subst (λ (last : Machine). StaysDue machine.observed last.observed (entries_of machine (line ∷ [])) (submitted_in (line ∷ [])) old new)
     (cut_after machine line [])
-    (subst (λ (entries : List Entry). StaysDue machine.observed (after machine (take (longest_line + 1) line ∷ [])).observed entries
-    (submitted_in (line ∷ [])) old new)
-    (cut_entries machine line []) (stays_as (cut_submitted machine line []) due))
+    (subst (λ (entries : List Entry). StaysDue machine.observed (after machine cut).observed entries (submitted_in (line ∷ [])) old new)
+    (cut_entries machine line [])
+    (subst (λ submissions. StaysDue machine.observed (after machine cut).observed (entries_of machine cut) submissions old new)
+    (cut_submitted machine line []) due))
 
 -- before anything was received nothing is due
 pub run_counts : (schedule : Option ℕ) (lines : List (List ℕ)) (old new : Counts) → DueOver (new_machine schedule) lines old new

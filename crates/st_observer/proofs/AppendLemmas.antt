@@ -23,7 +23,7 @@ use Rattle.st_observer.proofs.CostLemmas.{entry-cost, kept-cost}
 use Rattle.st_observer.proofs.GoingLemmas.{kept-length}
 use Rattle.st_observer.proofs.KeptLemmas.{kept-pushed, settled-known}
 use Rattle.st_observer.proofs.StatesLemmas.{covers-itself, covers-put, each-of}
-use Rattle.st_observer.proofs.WorkLemmas.{grew-more, grew-only, grew-worked}
+use Rattle.st_observer.proofs.WorkLemmas.{grew-only, grew-worked}
 
 -- the bound on what is counted then
 abbrev pub AppendFew : Entry → Counts → Counts → Observed → Type 0
@@ -48,7 +48,13 @@ module _ (observed : Observed) (entry : Entry) (text : List ℕ) (limits : Limit
   pub appended-wanting : (old new : Counts) → WorkedAtMost (newly_decided observed.files anchored) (newly_opened observed.files anchored) old new
       → AppendFew entry old new observed
   appended-wanting old new few =
-      grew-more few-read few-opened (omega arith) (grew-only {applies = entry_cost (length observed.ledger) entry (appended entry observed)} few)
+      let grew = grew-only {applies = 0} few in
+      record {
+        least = grew.least;
+        read = omega (arith, grew.read, few-read);
+        opened = omega (arith, grew.opened, few-opened);
+        applied = omega (arith, grew.applied);
+      }
 
   module _ (n : ℕ) (bound : Known) (kept before later : Kept) (settles : bound ≡ known_from observed.files anchored) (held : IsObserved observed kept)
       (out : before ≡ kept) (number : n ≡ length observed.ledger) (step : Pushes n entry.height bound before later) where
@@ -71,8 +77,15 @@ module _ (observed : Observed) (entry : Entry) (text : List ℕ) (limits : Limit
         let none : AllByRecursion (Covers hash_cmp names) before.index.changes =
         subst (λ (k : Kept). AllByRecursion (Covers hash_cmp names) k.index.changes) (sym out) (rw held.none tt) in
         let covers : AllByRecursion (Covers hash_cmp names) later.index.changes =
-        covers-put step.states names none (each-of (Covers hash_cmp names) (λ suffix. (suffix, n)) suffixes (covers-itself names)) in
+        subst (AllByRecursion (Covers hash_cmp names)) (sym step.states.changes)
+        (covers-put n names before.index.changes suffixes none (each-of (Covers hash_cmp names) (λ suffix. (suffix, n)) suffixes (covers-itself names))) in
         let same : named_cost after names ≡ entry_cost n entry after =
         ap (λ b. named_cost after (at_place n (suffixes_given (given b)))) (settles ∙ appended-known) ∙ entry-cost n entry after in
         let at : entry_cost n entry after ≡ entry_cost (length observed.ledger) entry after = ap (λ k. entry_cost k entry after) number in
-        grew-more few-read few-opened (omega (arith, kept-cost after later appended-kept names, same, at)) (grew-worked few (applied names covers))
+        let grew = grew-worked few (applied names covers) in
+        record {
+          least = grew.least;
+          read = omega (arith, grew.read, few-read);
+          opened = omega (arith, grew.opened, few-opened);
+          applied = omega (arith, grew.applied, kept-cost after later appended-kept names, same, at);
+        }

@@ -20,7 +20,6 @@ use Rattle.st_observer.proofs.AskedLemmas.{waits-asked}
 use Rattle.st_observer.proofs.GoingLemmas.{going-start}
 use Rattle.st_observer.proofs.LookingLemmas.{entry-at, entry-inside}
 use Rattle.st_observer.proofs.NamesLemmas.{names-late}
-use Rattle.st_observer.proofs.WorkLemmas.{grew-more}
 
 -- the code passes on the file, the schedule and the files with it
 module _ (file : List ℕ) (observed : Observed) (before : Kept) (uri : HashValue) (later : Files) (is : IsKept observed before)
@@ -67,10 +66,13 @@ module _ (file : List ℕ) (observed : Observed) (before : Kept) (uri : HashValu
       → GrewAtMost (decided_in (arrived file observed) - decided_in observed) (opened_in (arrived file observed) - opened_in observed)
       (arrival_cost file observed) old new
   arrived-few old new bound =
-      grew-more
-      (omega (arith, sum-arrived decided_roles, sum-known decided_roles observed before is))
-      (omega (arith, sum-arrived opened_proofs, sum-known opened_proofs observed before is))
-      (omega (arith, ap (λ (o : Observed). named_cost o (late file observed)) same-over)) (bound (late file observed) late-where)
+      let grew = bound (late file observed) late-where in
+      record {
+        least = grew.least;
+        read = omega (arith, grew.read, sum-arrived decided_roles, sum-known decided_roles observed before is);
+        opened = omega (arith, grew.opened, sum-arrived opened_proofs, sum-known opened_proofs observed before is);
+        applied = omega (arith, grew.applied, ap (λ (o : Observed). named_cost o (late file observed)) same-over);
+      }
 
   pub arrived-exact : (after : Kept) (old new : Counts) → IsObserved (over before.index.folder.schedule observed.ledger later) after
       → ReadOver before.bounds.items after.bounds.items old new

@@ -1,15 +1,14 @@
 -- Bounds on folding, by the entries received.
---     kept-cost, folded-few     by names
---     pushed-cost     for an appended entry
+--     kept-cost, going-cost     by names
+--     entry-cost      for an appended entry
 --     cut-few         for identifiers that lose an operation
-use Rattle.std.proofs.Common.{◌≡◌, ◌∙◌, ℕ, ◌+◌, ◌*◌, ◌≤◌, Bool, false, leb, ltb, List, [], ◌∷◌, length, ap, arith, refl, subst, sym}
+use Rattle.std.proofs.Common.{◌≡◌, ℕ, ◌+◌, ◌*◌, ◌≤◌, Bool, false, leb, ltb, List, [], ◌∷◌, length, ap, arith, refl, subst}
 use Rattle.std.specs.List.{AllByRecursion}
 use Rattle.std.proofs.lemmas.Bool.{lt-leb, ltb-true}
 use Rattle.std.proofs.lemmas.List.Folds.{fold-map}
 use Rattle.std.proofs.lemmas.List.Sums.{sum_by-cons, sum_by-le-sum_by}
 use Rattle.st_apply.specs.Anchored.{Anchored}
-use Rattle.st_base.specs.Work.{AppliesAtMost, Counts}
-use Rattle.st_base.proofs.Counted.{applies-few}
+use Rattle.st_base.specs.Work.{Counts}
 use Rattle.st_base.proofs.Quantifiers.{each-passes, each-weaker, filter_none}
 use Rattle.st_content.specs.Files.{Files}
 use Rattle.st_hash.specs.Hash.{HashValue, hash_cmp}
@@ -26,7 +25,6 @@ use Rattle.st_observer.proofs.GoingLemmas.{going-end}
 use Rattle.st_observer.proofs.NamesLemmas.{covers-here, losing-has}
 use Rattle.st_observer.proofs.OperationsLemmas.{kept-operations}
 use Rattle.st_observer.proofs.StatesLemmas.{from-length, loses}
-use Rattle.st_observer.proofs.WorkLemmas.{grew-then}
 
 -- the cost of names from the stored data is that from the entries received
 pub kept-cost : (observed : Observed) (kept : Kept) → IsKept observed kept → (names : List (HashValue × ℕ))
@@ -39,24 +37,16 @@ kept-cost observed kept is names =
       ap (λ operations. length (from_place name.1 operations)) (kept-operations name.0 observed kept is),
     ))
 
--- entries were checked, and then the pending changes folded
-pub folded-few : (observed : Observed) (start later : Kept) (names : List (HashValue × ℕ)) (old mid new : Counts) → IsGoing observed (λ n. false) later
-    → GrewOver observed.files start.bounds.items 0 old mid → AppliesAtMost (cover_cost hash_cmp later.index.items names) mid new
-    → GrewOver observed.files start.bounds.items (named_cost observed names) old new
-folded-few observed start later names old mid new going grew applied =
-    grew-then grew applied (kept-cost observed later (going-end observed (λ n. false) later (λ n. refl) going) names)
+-- after all entries were checked
+pub going-cost : {observed : Observed} {later : Kept} → IsGoing observed (λ n. false) later
+    → (names : List (HashValue × ℕ))
+    → cover_cost hash_cmp later.index.items names ≤ named_cost observed names
+going-cost {observed} {later} going names = kept-cost observed later (going-end going (λ n. refl)) names
 
--- the same after the stored data is taken out of its box
-pub taken-few : (ledger : List Entry) (files : Files) (waits among : ℕ → Bool) (kept taken : Kept) (names : List (HashValue × ℕ)) (old new : Counts)
-    → taken ≡ kept → ((n : ℕ) → among n ≡ waits n)
-    → (CoversWhere among (over taken.index.folder.schedule ledger files) names
-    → GrewOver files taken.bounds.items (named_cost (over taken.index.folder.schedule ledger files) names) old new)
-    → CoversWhere waits (over kept.index.folder.schedule ledger files) names
+-- names that cover the operations of these entries bound what was counted
+abbrev pub IsBoundWhere : List Entry → Files → (ℕ → Bool) → Kept → Counts → Counts → Type 0
+IsBoundWhere ledger files waits kept old new = (names : List (HashValue × ℕ)) → CoversWhere waits (over kept.index.folder.schedule ledger files) names
     → GrewOver files kept.bounds.items (named_cost (over kept.index.folder.schedule ledger files) names) old new
-taken-few ledger files waits among kept taken names old new is same grew covers =
-    subst (λ (k : Kept). GrewOver files k.bounds.items (named_cost (over k.index.folder.schedule ledger files) names) old new) is
-    (grew (subst (λ (k : Kept). CoversWhere among (over k.index.folder.schedule ledger files) names) (sym is)
-    (λ n entry found one. covers n entry found (sym (same n) ∙ one))))
 
 -- the cost of an entry is that of its identifiers, at its place
 pub entry-cost : (n : ℕ) (entry : Entry) (observed : Observed) → named_cost observed (at_place n (suffixes_of observed entry)) ≡ entry_cost n entry observed
@@ -83,16 +73,16 @@ module _ (n : ℕ) (before after : Operations)
       )
 
 -- entries are cut: the suffixes that lose an operation cover the changes
-pub cut-few : (n : ℕ) (observed seen : Observed) (kept before later : Kept) → IsObserved observed kept → observed ≡ seen → before ≡ kept
-    → Cuts n before later → {old new : Counts}
-    → ((names : List (HashValue × ℕ)) → AllByRecursion (Covers hash_cmp names) later.index.changes
-    → AppliesAtMost (cover_cost hash_cmp later.index.items names) old new)
-    → AppliesAtMost (7 * length (losing n seen)) old new
-cut-few n observed seen kept before later held same out step applied =
-    let names : List (HashValue × ℕ) = at_place n (losing n seen) in
-    let start : IsObserved observed before = subst (λ (k : Kept). IsObserved observed k) (sym out) held in
-    applies-few _ _ (cut-cost n before.index later.index step.operations (losing n seen))
-    (applied names (step.changes names (rw start.none tt) (λ suffix any.
-    covers-here n suffix n (losing n seen) (omega arith) (losing-has n seen suffix
-    (subst (λ (xs : List Anchored). 1 ≤ length (from_place n xs)) (kept-operations suffix observed before start.is ∙ ap (operations suffix) same)
-    (loses n suffix before.index.items any))))))
+pub cut-few : (n : ℕ) (observed : Observed) {before later : Kept} → IsObserved observed before
+    → Cuts n before later
+    → (names : List (HashValue × ℕ)) × AllByRecursion (Covers hash_cmp names) later.index.changes
+    × (cover_cost hash_cmp later.index.items names ≤ 7 * length (losing n observed))
+cut-few n observed {before} {later} held step =
+    let names : List (HashValue × ℕ) = at_place n (losing n observed) in (
+      names,
+      step.changes names (rw held.none tt) (λ suffix any.
+          covers-here n suffix n (losing n observed) (omega arith) (losing-has n observed suffix
+          (subst (λ (xs : List Anchored). 1 ≤ length (from_place n xs)) (kept-operations suffix observed before held.is)
+          (loses n suffix before.index.items any)))),
+      cut-cost n before.index later.index step.operations (losing n observed),
+    )

@@ -4,12 +4,13 @@
 use Rattle.std.proofs.Common.{◌≡◌, ◌∙◌, ℕ, ◌-◌, ◌<◌, List, length, take, ap, subst, sym, arith}
 use Rattle.std.proofs.lemmas.List.{length-take-le, take-take}
 use Rattle.st_anchor.specs.Known.{Known}
+use Rattle.st_anchor.specs.States.{role_states}
 use Rattle.st_anchor.specs.declared.role_state.RoleState.{RoleState}
 use Rattle.st_hash.specs.Hash.{HashValue}
-use Rattle.st_observer.specs.Kept.{WaitsAgree, no_needs, roles_at}
+use Rattle.st_observer.specs.Kept.{WaitsAgree, no_needs, roles_at, unknown}
 use Rattle.st_observer.specs.Waiting.{TurnsTo, Waits, is_waiting}
 use Rattle.st_observer.specs.Wanted.{one_misses}
-use Rattle.st_observer.proofs.BoundsLemmas.{becomes-taken, needs_none}
+use Rattle.st_observer.proofs.BoundsLemmas.{Becomes, becomes-taken, needs_none}
 use Rattle.st_observer.proofs.WaitsLemmas.{waits-turned}
 
 module _ (start bounds after : List Known) (left fewer : ℕ) (first : bounds ≡ take left start) (many : left ≡ length bounds) (some : 0 < left)
@@ -33,6 +34,7 @@ module _ (start bounds after : List Known) (left fewer : ℕ) (first : bounds �
   pub taken-waits : (states : List RoleState) (old new : Waits) → states ≡ no_needs → TurnsTo fewer states old new → WaitsAgree bounds old
       → WaitsAgree after new
   taken-waits states old new none turns agree =
+      let becomes : Becomes fewer unknown bounds (take fewer bounds) = becomes-taken bounds fewer (omega (arith, many, one, some)) in
       subst (λ (xs : List Known). WaitsAgree xs new) (sym rest-is)
-      (waits-turned (becomes-taken bounds fewer (omega (arith, many, one, some)))
-      (subst (λ (xs : List RoleState). TurnsTo fewer xs old new) (none ∙ sym needs_none) turns) agree)
+      (waits-turned becomes.others
+      (subst (λ (xs : List RoleState). TurnsTo fewer xs old new) (none ∙ sym needs_none ∙ ap role_states (sym becomes.own)) turns) agree)

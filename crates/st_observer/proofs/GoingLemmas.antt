@@ -24,7 +24,7 @@ use Rattle.st_base.proofs.Lists.{next_item}
 use Rattle.st_observer.specs.Kept.{IsKept, StatesAgree, WaitsAgree, bound_at, unknown}
 use Rattle.st_observer.specs.Observed.{Observed, arrived, known_of}
 use Rattle.st_observer.specs.Steps.{IsGoing, IsSettled, Settles, is_among}
-use Rattle.st_observer.specs.Waiting.{is_waiting}
+use Rattle.st_observer.specs.Waiting.{TurnsTo, is_waiting}
 use Rattle.st_observer.specs.Wanted.{misses, one_misses}
 use Rattle.st_observer.specs.declared.kept.Kept.{Kept}
 use Rattle.st_observer.proofs.BoundsLemmas.{Becomes, adds-nothing, becomes-set}
@@ -35,11 +35,6 @@ use Rattle.st_observer.proofs.WaitsLemmas.{waits-turned}
 
 pub kept-length : (observed : Observed) (kept : Kept) → IsKept observed kept → length kept.bounds.items ≡ length observed.ledger
 kept-length observed kept is = ap length is.same ∙ length-map observed.ledger (known_of observed.schedule observed.files)
-
-pub going-length : (observed : Observed) (still : ℕ → Bool) (kept : Kept) → IsGoing observed still kept → length kept.bounds.items ≡ length observed.ledger
-going-length observed still kept going =
-    sym (length-map kept.bounds.items (known_from observed.files)) ∙ ap length going.same
-    ∙ length-map observed.ledger (known_of observed.schedule observed.files)
 
 -- ---- roles that miss a file
 
@@ -171,43 +166,6 @@ settled-next files bounds n m still inside settled left =
           ap (known_from files) other ∙ settled (⊎_elim (λ done. done) (λ here. absurd (apart here)) left) ∙ sym other
     ]
 
-pub going-settled : (observed : Observed) (still next : ℕ → Bool) (n : ℕ) (entry : Entry) (before after : Kept)
-    → IsGoing observed still before → Settles observed.files n entry.height before after
-    → n < length before.bounds.items → get_or observed.ledger n entry ≡ entry
-    → ((m : ℕ) → next m ≡ false → (still m ≡ false) ⊎ (m ≡ n))
-    → IsGoing observed next after
-going-settled observed still next n entry before after going step inside is left =
-    let bounds : List Known = before.bounds.items in
-    let more : Known = known_from observed.files (bound_at n bounds) in
-    record {
-      same = ap (map (known_from observed.files)) step.bounds ∙ map-settled observed.files bounds n ∙ going.same;
-      settled = λ m done.
-          subst (λ xs. IsSettled observed.files xs m) (sym step.bounds)
-          (settled-next observed.files bounds n m (still m) inside (going.settled m) (left m done));
-      waits = subst (λ xs. WaitsAgree xs after.waiting) (sym step.bounds)
-          (waits-turned (becomes-set bounds more n inside) step.waits going.waits);
-      schedule = step.states.schedule ∙ going.schedule;
-      states =
-          subst (λ xs. StatesAgree observed.ledger xs after.index) (sym step.bounds)
-          (agree-settled observed.ledger bounds entry observed.files n before.index after.index
-          (going-length observed still before going) inside is going.states step.states);
-    }
-
--- there is no entry with this number
-pub going-skipped : (observed : Observed) (still next : ℕ → Bool) (n : ℕ) (kept : Kept) → IsGoing observed still kept → length kept.bounds.items ≤ n
-    → ((m : ℕ) → next m ≡ false → (still m ≡ false) ⊎ (m ≡ n))
-    → IsGoing observed next kept
-going-skipped observed still next n kept going past left = record {
-  same = going.same;
-  settled = λ m done.
-      ⊎_elim (λ (before : still m ≡ false). going.settled m before) (λ (here : m ≡ n).
-      let none : bound_at m kept.bounds.items ≡ unknown = get_or_past kept.bounds.items m unknown (omega (arith, here, past)) in
-      ap (known_from observed.files) none ∙ adds-nothing observed.files ∙ sym none) (left m done);
-  waits = going.waits;
-  schedule = going.schedule;
-  states = going.states;
-}
-
 -- the number that was next is no longer among the remaining ones
 among-next : (n m : ℕ) (rest : List ℕ) (here : Bool) → (n == m) ≡ here → is_among rest m ≡ false → (is_among (n ∷ rest) m ≡ false) ⊎ (m ≡ n)
 among-next n m rest true here none = inr (sym (eqb-true n m here))
@@ -219,15 +177,60 @@ among-left entries at n inside is m none =
     subst (λ xs. (is_among xs m ≡ false) ⊎ (m ≡ n)) (sym (next_item entries at n inside is))
     (among-next n m (drop (at + 1) entries) (n == m) refl none)
 
--- ---- after the last
+module _ {observed : Observed} {still : ℕ → Bool} {kept : Kept} (going : IsGoing observed still kept) where
+  pub going-length : length kept.bounds.items ≡ length observed.ledger
+  going-length =
+      sym (length-map kept.bounds.items (known_from observed.files)) ∙ ap length going.same
+      ∙ length-map observed.ledger (known_of observed.schedule observed.files)
 
-pub going-end : (observed : Observed) (still : ℕ → Bool) (kept : Kept) → ((n : ℕ) → still n ≡ false) → IsGoing observed still kept → IsKept observed kept
-going-end observed still kept none going = record {
-  same =
-      ext_get_or unknown kept.bounds.items (map (known_from observed.files) kept.bounds.items) (sym (length-map kept.bounds.items (known_from observed.files)))
-      (λ n inside. sym (going.settled n (none n)) ∙ sym (get_or-map (known_from observed.files) kept.bounds.items n unknown unknown inside))
-      ∙ going.same;
-  waits = going.waits;
-  schedule = going.schedule;
-  states = going.states;
-}
+  pub going-settled : {next : ℕ → Bool} (n : ℕ) (entry : Entry) {after : Kept}
+      → Settles observed.files n entry.height kept after
+      → n < length kept.bounds.items → get_or observed.ledger n entry ≡ entry
+      → ((m : ℕ) → next m ≡ false → (still m ≡ false) ⊎ (m ≡ n))
+      → IsGoing observed next after
+  going-settled n entry {after} step inside is left =
+      let bounds : List Known = kept.bounds.items in
+      let more : Known = known_from observed.files (bound_at n bounds) in
+      let becomes : Becomes n more bounds (set bounds n more) = becomes-set bounds more n inside in
+      record {
+        same = ap (map (known_from observed.files)) step.bounds ∙ map-settled observed.files bounds n ∙ going.same;
+        settled = λ m done.
+            subst (λ xs. IsSettled observed.files xs m) (sym step.bounds)
+            (settled-next observed.files bounds n m (still m) inside (going.settled m) (left m done));
+        waits =
+            subst (λ xs. WaitsAgree xs after.waiting) (sym step.bounds)
+            (waits-turned becomes.others
+            (subst (λ (b : Known). TurnsTo n (role_states b) kept.waiting after.waiting) (sym becomes.own) step.waits) going.waits);
+        schedule = step.states.schedule ∙ going.schedule;
+        states =
+            subst (λ xs. StatesAgree observed.ledger xs after.index) (sym step.bounds)
+            (agree-settled entry n more kept.index after.index step.states observed.ledger bounds observed.files refl going-length inside is going.states);
+      }
+
+  -- there is no entry with this number
+  pub going-skipped : {next : ℕ → Bool} (n : ℕ) → length kept.bounds.items ≤ n
+      → ((m : ℕ) → next m ≡ false → (still m ≡ false) ⊎ (m ≡ n))
+      → IsGoing observed next kept
+  going-skipped n past left = record {
+    same = going.same;
+    settled = λ m done.
+        ⊎_elim (λ (before : still m ≡ false). going.settled m before) (λ (here : m ≡ n).
+        let none : bound_at m kept.bounds.items ≡ unknown = get_or_past kept.bounds.items m unknown (omega (arith, here, past)) in
+        ap (known_from observed.files) none ∙ adds-nothing observed.files ∙ sym none) (left m done);
+    waits = going.waits;
+    schedule = going.schedule;
+    states = going.states;
+  }
+
+  -- after the last
+  pub going-end : ((n : ℕ) → still n ≡ false) → IsKept observed kept
+  going-end none = record {
+    same =
+        ext_get_or unknown kept.bounds.items (map (known_from observed.files) kept.bounds.items)
+        (sym (length-map kept.bounds.items (known_from observed.files)))
+        (λ n inside. sym (going.settled n (none n)) ∙ sym (get_or-map (known_from observed.files) kept.bounds.items n unknown unknown inside))
+        ∙ going.same;
+    waits = going.waits;
+    schedule = going.schedule;
+    states = going.states;
+  }

@@ -6,6 +6,7 @@
 use Rattle.std.proofs.Common.{◌≡◌, ◌∙◌, ℕ, ◌≤◌, List, [], ◌∷◌, ◌++◌, length, take, Option, Some, None, option_map, unwrap_or, sym, ap, subst}
 use Rattle.std.proofs.lemmas.List.{map_push, take-map}
 use Rattle.st_anchor.specs.Known.{Known, known, known_from, known_of_text}
+use Rattle.st_anchor.specs.States.{role_states}
 use Rattle.st_apply.specs.Anchored.{Anchored, place_of, resolved}
 use Rattle.st_apply.specs.Laws.{PlacesAscend}
 use Rattle.st_apply.specs.Seen.{absent}
@@ -21,9 +22,9 @@ use Rattle.st_observer.specs.Kept.{IsKept, IsObserved, StatesAgree, WaitsAgree}
 use Rattle.st_observer.specs.Observed.{Observed, anchored_by, anchored_for, appended, cut_to, given_for, gives_of, known_of, operations, state_of}
 use Rattle.st_observer.specs.States.{operations_in, stepped}
 use Rattle.st_observer.specs.Steps.{Cuts, Folds, Pushes}
-use Rattle.st_observer.specs.Waiting.{Waits}
+use Rattle.st_observer.specs.Waiting.{TurnsTo, Waits}
 use Rattle.st_observer.specs.declared.kept.Kept.{Kept}
-use Rattle.st_observer.proofs.BoundsLemmas.{becomes-pushed}
+use Rattle.st_observer.proofs.BoundsLemmas.{Becomes, becomes-pushed}
 use Rattle.st_observer.proofs.GoingLemmas.{kept-length}
 use Rattle.st_observer.proofs.OperationsLemmas.{agree-cut, agree-pushed, kept-operations}
 use Rattle.st_observer.proofs.StatesLemmas.{state_resolved}
@@ -79,11 +80,14 @@ pub kept-pushed : (observed : Observed) (entry : Entry) (n : ℕ) (before after 
 kept-pushed observed entry n before after is number step =
     let bounds : List Known = before.bounds.items in
     let bound : Known = known_of observed.schedule observed.files entry in
+    let becomes : Becomes n bound bounds (bounds ++ bound ∷ []) = becomes-pushed bounds bound n number in
     record {
       same =
           step.bounds ∙ ap (λ xs. xs ++ bound ∷ []) is.same
           ∙ sym (map_push (known_of observed.schedule observed.files) observed.ledger entry);
-      waits = subst (λ xs. WaitsAgree xs after.waiting) (sym step.bounds) (waits-turned (becomes-pushed bounds bound n number) step.waits is.waits);
+      waits =
+          subst (λ xs. WaitsAgree xs after.waiting) (sym step.bounds)
+          (waits-turned becomes.others (subst (λ (b : Known). TurnsTo n (role_states b) before.waiting after.waiting) (sym becomes.own) step.waits) is.waits);
       schedule = step.states.schedule ∙ is.schedule;
       states =
           subst (λ xs. StatesAgree (observed.ledger ++ entry ∷ []) xs after.index) (sym step.bounds)

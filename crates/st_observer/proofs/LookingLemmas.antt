@@ -78,63 +78,52 @@ module _ (entries : List ℕ) (at n : ℕ) (inside : at < length entries) (is : 
   all-among : is_among entries n ≡ true
   all-among = among-taken entries (at + 1) n (more-among n ∙ or_right (is_among (take at entries) n) (n == n) (eq-eqb n n refl))
 
-  pub looking-inside : (observed : Observed) (start now : Kept) (entry : Entry) (old mid : Counts) → Looking observed entries at start now old mid
-      → n < length observed.ledger → n < length now.bounds.items
-  looking-inside observed start now entry old mid looking within =
-      omega (arith, within, going-length observed (is_among (drop at entries)) now looking.going)
+  module _ {observed : Observed} {start now : Kept} {old mid : Counts} (looking : Looking observed entries at start now old mid) where
+    pub looking-inside : n < length observed.ledger → n < length now.bounds.items
+    looking-inside within = omega (arith, within, going-length looking.going)
 
-  -- the entry with this number is checked again
-  pub looking-next : (observed : Observed) (start now after : Kept) (entry : Entry) (old mid new : Counts) → Looking observed entries at start now old mid
-      → Some entry ≡ slice_get observed.ledger n
-      → Settles observed.files n entry.height now after
-      → ReadExactly (newly_decided observed.files (bound_at n now.bounds.items)) (newly_opened observed.files (bound_at n now.bounds.items)) mid new
-      → GrewAtMost (newly_decided observed.files (bound_at n now.bounds.items)) (newly_opened observed.files (bound_at n now.bounds.items)) 0 mid new
-      → Looking observed entries (at + 1) start after old new
-  looking-next observed start now after entry old mid new looking found step exactly grew =
-      let within : n < length observed.ledger = entry-inside observed.ledger n entry found in
-      let there : get_or observed.ledger n entry ≡ entry = entry-at observed.ledger n entry found in
-      let room : n < length now.bounds.items = looking-inside observed start now entry old mid looking within in
-      let going : IsGoing observed (is_among (drop (at + 1) entries)) after =
-      going-settled observed (is_among (drop at entries)) (is_among (drop (at + 1) entries)) n entry now after looking.going step room there
-      (among-left entries at n inside is) in
-      record {
-        going = going;
-        same = going.same ∙ sym looking.going.same ∙ looking.same;
-        reading =
-            reading-settled observed.files start.bounds.items now.bounds.items after.bounds.items n old mid new
-            room step.bounds looking.reading exactly (omega (arith, grew.least.applies, grew.applied));
-        covers = λ names where_given.
-            covers-put step.states names (looking.covers names where_given)
-            (subst (λ (b : Known). AllByRecursion (λ suffix. Covers hash_cmp names (suffix, n)) (suffixes_given (given b)))
-            (sym (more-known observed now.bounds.items entry n looking.going.same room there))
-            (where_given n entry found all-among));
-      }
+    -- the entry with this number is checked again
+    pub looking-next : (entry : Entry) {after : Kept} {new : Counts} → Some entry ≡ slice_get observed.ledger n
+        → Settles observed.files n entry.height now after
+        → ReadExactly (newly_decided observed.files (bound_at n now.bounds.items)) (newly_opened observed.files (bound_at n now.bounds.items)) mid new
+        → GrewAtMost (newly_decided observed.files (bound_at n now.bounds.items)) (newly_opened observed.files (bound_at n now.bounds.items)) 0 mid new
+        → Looking observed entries (at + 1) start after old new
+    looking-next entry {after} {new} found step exactly grew =
+        let there : get_or observed.ledger n entry ≡ entry = entry-at observed.ledger n entry found in
+        let room : n < length now.bounds.items = looking-inside (entry-inside observed.ledger n entry found) in
+        let going : IsGoing observed (is_among (drop (at + 1) entries)) after =
+        going-settled looking.going n entry step room there (among-left entries at n inside is) in
+        record {
+          going = going;
+          same = going.same ∙ sym looking.going.same ∙ looking.same;
+          reading =
+              subst (λ bounds. Reading start.bounds.items bounds old new) (sym step.bounds)
+              (reading-settled observed.files looking.reading n room exactly (omega (arith, grew.least.applies, grew.applied)));
+          covers = λ names where_given.
+              subst (AllByRecursion (Covers hash_cmp names)) (sym step.states.changes)
+              (covers-put n names now.index.changes _ (looking.covers names where_given)
+              (subst (λ (b : Known). AllByRecursion (λ suffix. Covers hash_cmp names (suffix, n)) (suffixes_given (given b)))
+              (sym (more-known observed now.bounds.items entry n looking.going.same room there))
+              (where_given n entry found all-among)));
+        }
 
-  pub looking-skipped : (observed : Observed) (start now : Kept) (old new : Counts) → Looking observed entries at start now old new
-      → length observed.ledger ≤ n
-      → Looking observed entries (at + 1) start now old new
-  looking-skipped observed start now old new looking past = record {
-    going =
-        going-skipped observed (is_among (drop at entries)) (is_among (drop (at + 1) entries)) n now looking.going
-        (omega (arith, past, going-length observed (is_among (drop at entries)) now looking.going)) (among-left entries at n inside is);
-    same = looking.same;
-    reading = looking.reading;
-    covers = looking.covers;
-  }
+    pub looking-skipped : length observed.ledger ≤ n → Looking observed entries (at + 1) start now old mid
+    looking-skipped past = record {
+      going = going-skipped looking.going n (omega (arith, past, going-length looking.going)) (among-left entries at n inside is);
+      same = looking.same;
+      reading = looking.reading;
+      covers = looking.covers;
+    }
 
-  -- memory ran out at this entry
-  pub looking-wanting : (observed : Observed) (start now : Kept) (entry : Entry) (old mid new : Counts) → Looking observed entries at start now old mid
-      → Some entry ≡ slice_get observed.ledger n
-      → GrewAtMost (newly_decided observed.files (bound_at n now.bounds.items)) (newly_opened observed.files (bound_at n now.bounds.items)) 0 mid new
-      → GrewOver observed.files start.bounds.items 0 old new
-  looking-wanting observed start now entry old mid new looking found grew =
-      let room : n < length now.bounds.items = looking-inside observed start now entry old mid looking (entry-inside observed.ledger n entry found) in
-      reading-wanting observed.files start.bounds.items now.bounds.items n old mid new room looking.same looking.reading grew
+    -- memory ran out at this entry
+    pub looking-wanting : (entry : Entry) {new : Counts} → Some entry ≡ slice_get observed.ledger n
+        → GrewAtMost (newly_decided observed.files (bound_at n now.bounds.items)) (newly_opened observed.files (bound_at n now.bounds.items)) 0 mid new
+        → GrewOver observed.files start.bounds.items 0 old new
+    looking-wanting entry found grew =
+        reading-wanting observed.files looking.reading n (looking-inside (entry-inside observed.ledger n entry found)) looking.same grew
 
 -- ---- at the end
 
-module _ (observed : Observed) (entries : List ℕ) (at : ℕ) (start now : Kept) (old new : Counts) where
-  pub looking-few : Looking observed entries at start now old new
-      → GrewOver observed.files start.bounds.items 0 old new
-  looking-few looking =
-      reading-few observed.files start.bounds.items now.bounds.items old new looking.same looking.reading
+pub looking-few : {observed : Observed} {entries : List ℕ} {at : ℕ} {start now : Kept} {old new : Counts}
+    → Looking observed entries at start now old new → GrewOver observed.files start.bounds.items 0 old new
+looking-few {observed} looking = reading-few observed.files looking.reading looking.same

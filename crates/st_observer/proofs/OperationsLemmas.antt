@@ -26,7 +26,8 @@ use Rattle.st_observer.proofs.BoundsLemmas.{Becomes, becomes-pushed, becomes-set
 
 module _ (test : Anchored → Bool) (number : ℕ) (entry : Entry) where
   one-passes : (found : Option PlainOperation) (rest : List Anchored) → ((item : Anchored) → item.place ≡ number → test item ≡ true)
-      → filter test (cons_option (option_map (anchored_by number entry) found) rest) ≡ cons_option (option_map (anchored_by number entry) found) (filter test rest)
+      → filter test (cons_option (option_map (anchored_by number entry) found) rest)
+      ≡ cons_option (option_map (anchored_by number entry) found) (filter test rest)
   one-passes None rest passes = refl
   one-passes (Some operation) rest passes = rw (passes (anchored_by number entry operation) refl) refl
 
@@ -154,6 +155,12 @@ kept-operations suffix observed kept is =
     ap (one_known suffix place entry)
     (ap (λ m. bound_at m (map knows observed.ledger)) number ∙ get_or-map knows observed.ledger at entry unknown inside ∙ ap knows same))
 
+-- if no operation is found later, none was found before
+none_or : {X : Type 0} (found later : Option X) → (is_some found ≡ true → is_some later ≡ true) → later ≡ None
+    → found ≡ None
+none_or None later grows none = refl
+none_or (Some x) later grows none = absurd (false≢true (sym (ap is_some none) ∙ grows refl))
+
 module _ (entry : Entry) (n : ℕ) (bound : Known) (old new : Operations) (puts : PutsGiven n entry.height (given bound) old new) where
   agree-put : {before after : List Known} (entries : List Entry) → Becomes n bound before after → n < length entries → get_or entries n entry ≡ entry
       → ((suffix : HashValue) → given_for suffix (given bound) ≡ None → given_for suffix (given (bound_at n before)) ≡ None)
@@ -178,24 +185,19 @@ module _ (entry : Entry) (n : ℕ) (bound : Known) (old new : Operations) (puts 
             ∙ nothing-more suffix bounds 0 n entries entry (omega (arith, number, many)) (ap (option_map (anchored_by n entry)) (none suffix));
       })
 
--- if no operation is found later, none was found before
-none_or : {X : Type 0} (found later : Option X) → (is_some found ≡ true → is_some later ≡ true) → later ≡ None → found ≡ None
-none_or None later grows none = refl
-none_or (Some x) later grows none = absurd (false≢true (sym (ap is_some none) ∙ grows refl))
-
--- more is known about the entry with this number over more files
-pub agree-settled : (entries : List Entry) (bounds : List Known) (entry : Entry) (files : Files) (n : ℕ) (old new : Operations)
-    → length bounds ≡ length entries → n < length bounds → get_or entries n entry ≡ entry → StatesAgree entries bounds old
-    → PutsGiven n entry.height (given (known_from files (bound_at n bounds))) old new
-    → StatesAgree entries (set bounds n (known_from files (bound_at n bounds))) new
-agree-settled entries bounds entry files n old new many inside is agree puts =
-    let bound : Known = bound_at n bounds in
-    let more : Known = known_from files bound in
-    agree-put entry n more old new puts entries (becomes-set bounds more n inside) (omega (arith, inside, many)) is
-    (λ suffix none. none_or (given_for suffix (given bound)) (given_for suffix (given more))
-    (λ some. is_some-lookup (same_hash suffix) (given more)
-    ∙ given-kept files bound suffix (sym (is_some-lookup (same_hash suffix) (given bound)) ∙ some)) none)
-    agree
+  -- more is known about the entry over more files
+  pub agree-settled : (entries : List Entry) (bounds : List Known) (files : Files)
+      → bound ≡ known_from files (bound_at n bounds)
+      → length bounds ≡ length entries → n < length bounds → get_or entries n entry ≡ entry
+      → StatesAgree entries bounds old
+      → StatesAgree entries (set bounds n bound) new
+  agree-settled entries bounds files more many inside is agree =
+      agree-put entries (becomes-set bounds bound n inside) (omega (arith, inside, many)) is
+      (λ suffix none. none_or (given_for suffix (given (bound_at n bounds))) (given_for suffix (given (known_from files (bound_at n bounds))))
+      (λ some. is_some-lookup (same_hash suffix) (given (known_from files (bound_at n bounds)))
+      ∙ given-kept files (bound_at n bounds) suffix (sym (is_some-lookup (same_hash suffix) (given (bound_at n bounds))) ∙ some))
+      (ap (λ b. given_for suffix (given b)) (sym more) ∙ none))
+      agree
 
 -- only the first entries
 pub agree-cut : (entries : List Entry) (bounds : List Known) (n : ℕ) (old new : Operations) → n ≤ length entries → StatesAgree entries bounds old

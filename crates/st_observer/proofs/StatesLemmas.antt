@@ -1,7 +1,7 @@
 -- Operations at their places, stored by suffix.
 --     put_operations, cut_operations          the operations of each identifier after a put and a cut of the index
 --     state_resolved                          the state that the index folds is the one the operations resolve to
---     puts-next, popped                       given operations, put from the last to the first
+--     given-first, popped                     given operations, put from the last to the first
 --     covers-itself, covers-before, covers-put     names that cover changes
 --     from-length, loses                      the operations folded from a place on, and those that a cut drops
 use Rattle.std.proofs.Common.{◌≡◌, ◌∙◌, ℕ, ◌≤◌, Bool, true, false, cond, ltb, leb, nat_lt, List, [], ◌∷◌, ◌++◌, length, filter, drop, reverse, sym, ap, subst, refl, arith, append-nil, append_assoc, inl, inr}
@@ -12,7 +12,6 @@ use Rattle.std.proofs.lemmas.Bool.{le-leb, le-ltb, ltb-true, cases_Bool, false�
 use Rattle.std.proofs.lemmas.List.{drop_at, length-map, map-append, reverse-append}
 use Rattle.std.proofs.lemmas.List.Elements.{filter-append}
 use Rattle.std.proofs.lemmas.List.Folds.{fold-map, list_any-append}
-use Rattle.st_anchor.specs.Gives.{suffixes_given}
 use Rattle.st_apply.specs.Anchored.{Anchored, place_of, resolved}
 use Rattle.st_apply.specs.Laws.{PlacesAscend}
 use Rattle.st_apply.specs.Applied.{applied}
@@ -23,8 +22,7 @@ use Rattle.st_hash.specs.Hash.{HashValue, hash_cmp, same_hash}
 use Rattle.st_hash.specs.Order.{same_hash-equivalence, same_hash-ties}
 use Rattle.st_hash.proofs.SameHash.{same_hash-itself}
 use Rattle.st_observer.specs.Observed.{given_for}
-use Rattle.st_observer.specs.States.{BySuffix, Operations, after_place, anchored_item, at_place, before_place, operations_at, operations_in, stepped, with_given}
-use Rattle.st_observer.specs.Steps.{PutsGiven}
+use Rattle.st_observer.specs.States.{BySuffix, after_place, anchored_item, at_place, before_place, operations_at, stepped, with_given}
 use Rattle.st_observer.specs.Work.{from_place}
 use Rattle.st_opindex.specs.ByKey.{ChangesAt, Covers, items_at}
 use Rattle.st_opindex.specs.Items.{Held, before, from, after, with_item, folded, reaches}
@@ -140,13 +138,15 @@ module _ (n : ℕ) (operations : List Anchored) where
   none-before =
       filter_none (λ item. nat_lt item.place n) (after_place n operations)
       (each-weaker (λ item. nat_lt n item.place ≡ true) (λ item. nat_lt item.place n ≡ false)
-      (λ item is. le-ltb item.place n (omega (arith, ltb-true n item.place is))) (after_place n operations) (each-passes (λ item. nat_lt n item.place) operations))
+      (λ item is. le-ltb item.place n (omega (arith, ltb-true n item.place is))) (after_place n operations)
+      (each-passes (λ item. nat_lt n item.place) operations))
 
   none-after : after_place n (before_place n operations) ≡ []
   none-after =
       filter_none (λ item. nat_lt n item.place) (before_place n operations)
       (each-weaker (λ item. nat_lt item.place n ≡ true) (λ item. nat_lt n item.place ≡ false)
-      (λ item is. le-ltb n item.place (omega (arith, ltb-true item.place n is))) (before_place n operations) (each-passes (λ item. nat_lt item.place n) operations))
+      (λ item is. le-ltb n item.place (omega (arith, ltb-true item.place n is))) (before_place n operations)
+      (each-passes (λ item. nat_lt item.place n) operations))
 
   -- one at a place replaces the one there
   given-again : (height : ℕ) (found : Option PlainOperation) (new : PlainOperation)
@@ -158,7 +158,8 @@ module _ (n : ℕ) (operations : List Anchored) where
       let early : List Anchored = before_place n operations in
       let late : List Anchored = after_place n operations in
       let front : before_place n (item ∷ late) ≡ [] = rw same none-before in
-      let back : after_place n (item ∷ late) ≡ late = rw same (filter_all (λ item. nat_lt n item.place) late (each-passes (λ item. nat_lt n item.place) operations)) in
+      let back : after_place n (item ∷ late) ≡ late =
+      rw same (filter_all (λ item. nat_lt n item.place) late (each-passes (λ item. nat_lt n item.place) operations)) in
       let first : before_place n (early ++ item ∷ late) ≡ early =
       filter-append (λ item. nat_lt item.place n) early (item ∷ late)
       ∙ (λ i. filter_all (λ item. nat_lt item.place n) early (each-passes (λ item. nat_lt item.place n) operations) i ++ front i) ∙ append-nil early in
@@ -167,29 +168,13 @@ module _ (n : ℕ) (operations : List Anchored) where
       λ i. first i ++ record { place = n; height = height; operation = new } ∷ last i
 
   -- so the first of them stays
-  given-first : (height : ℕ) (suffix : HashValue) (first : HashValue × PlainOperation) (rest : Givens)
+  pub given-first : (height : ℕ) (suffix : HashValue) (first : HashValue × PlainOperation) (rest : Givens)
       → with_given n height (given_for suffix (first ∷ [])) (with_given n height (given_for suffix rest) operations)
       ≡ with_given n height (given_for suffix (first ∷ rest)) operations
   given-first height suffix first rest = elim (cases_Bool (same_hash suffix first.0)) [
     | inl is ↦ rw is (given-again height (given_for suffix rest) first.1)
     | inr not ↦ rw not refl
   ]
-
--- The last of the remaining ones is put.
-pub puts-next : {n height : ℕ} {rest : Givens} {first now next : Operations} (last : HashValue × PlainOperation) → PutsGiven n height rest first now
-    → next.folder.schedule ≡ now.folder.schedule → next.changes ≡ now.changes ++ (last.0, n) ∷ []
-    → ((suffix : HashValue) → operations_at suffix next.items ≡ with_given n height (given_for suffix (last ∷ [])) (operations_at suffix now.items))
-    → PutsGiven n height (last ∷ rest) first next
-puts-next {n} {height} {rest} {first} last puts schedule changes given = record {
-  schedule = schedule ∙ puts.schedule;
-  operations = λ suffix.
-      given suffix ∙ ap (with_given n height (given_for suffix (last ∷ []))) (puts.operations suffix)
-      ∙ given-first n (operations_in suffix first) height suffix last rest;
-  changes =
-      changes ∙ ap (λ before. before ++ (last.0, n) ∷ []) puts.changes
-      ∙ append_assoc first.changes (reverse (at_place n (suffixes_given rest))) ((last.0, n) ∷ [])
-      ∙ ap (λ more. first.changes ++ more) (sym (reverse-append ((last.0, n) ∷ []) (at_place n (suffixes_given rest))));
-}
 
 -- the items before the last one, and those from it on
 pub popped : {X : Type 0} (all left front : List X) (last : X) → all ≡ left ++ drop (length left) all → left ≡ front ++ last ∷ []
@@ -238,10 +223,11 @@ covers-before front back changes covers =
     (list_any (λ name. is_at (hash_cmp change.0) name.0 && leb name.1 change.1) back) is)
     changes covers
 
--- names that cover the changes, and the suffixes given at a place, cover the changes after these are put
-pub covers-put : {place height : ℕ} {given : Givens} {old new : Operations} → PutsGiven place height given old new → (names : List (HashValue × ℕ))
-    → AllByRecursion (Covers hash_cmp names) old.changes → AllByRecursion (λ suffix. Covers hash_cmp names (suffix, place)) (suffixes_given given)
-    → AllByRecursion (Covers hash_cmp names) new.changes
-covers-put {place} {given = given} {old} puts names covers there =
-    rw puts.changes (each-append (Covers hash_cmp names) old.changes (reverse (at_place place (suffixes_given given))) covers
-    (each-reverse (Covers hash_cmp names) (at_place place (suffixes_given given)) (each-map (Covers hash_cmp names) (λ suffix. (suffix, place)) (suffixes_given given) there)))
+-- names that cover the changes, and these suffixes at a place, cover the changes after operations for them are put
+pub covers-put : (place : ℕ) (names changes : List (HashValue × ℕ)) (suffixes : List HashValue)
+    → AllByRecursion (Covers hash_cmp names) changes
+    → AllByRecursion (λ suffix. Covers hash_cmp names (suffix, place)) suffixes
+    → AllByRecursion (Covers hash_cmp names) (changes ++ reverse (at_place place suffixes))
+covers-put place names changes suffixes covers there =
+    each-append (Covers hash_cmp names) changes (reverse (at_place place suffixes)) covers
+    (each-reverse (Covers hash_cmp names) (at_place place suffixes) (each-map (Covers hash_cmp names) (λ suffix. (suffix, place)) suffixes there))

@@ -79,20 +79,6 @@ abbrev IsUpdated : HashValue → Option (BTreeSet ℕ) → Rows → Rows → Typ
 IsUpdated uri row old new =
     (other : HashValue) → lookup (is_at (text_cmp other)) new ≡ cond (is_at (text_cmp uri) other) row (lookup (is_at (text_cmp other)) old)
 
--- and as a change under the URI
-row_updated : (uri : HashValue) (row : Option (BTreeSet ℕ)) (old new : Rows) → IsRead uri → AreRows old → AreRows new
-    → IsUpdated uri row old new
-    → (other : HashValue) → lookup (same_hash other) new ≡ cond (same_hash uri other) row (lookup (same_hash other) old)
-row_updated uri row old new read before after updates other =
-    ⊎_elim
-    (λ is.
-    sym (found_by_text other new is after) ∙ updates other
-    ∙ (λ i. cond (at-same uri other read is i) row (found_by_text other old is before i)))
-    (λ not.
-    let apart : same_hash uri other ≡ false = same_hash-equivalence.symm uri other ∙ unread-apart other uri not read in
-    none_unread other new not after ∙ sym (λ i. cond (apart i) row (none_unread other old not before i)))
-    (read_or_not other)
-
 -- a row that is taken out and put back
 cond-twice : (b : Bool) (row first found : Option (BTreeSet ℕ)) → cond b row (cond b first found) ≡ cond b row found
 cond-twice true row first found = refl
@@ -106,19 +92,17 @@ updated-twice uri row first old mid new one two other =
 
 -- ---- the rows stay right
 
-insert_by : (order : Ordering) (uri : HashValue) (entries : BTreeSet ℕ) (row : HashValue × BTreeSet ℕ) (rows after : Rows)
-    → IsRow (uri, entries) → AreRows (row ∷ rows) → AreRows after
-    → AreRows (match_ordering order ((uri, entries) ∷ row ∷ rows) ((row.0, entries) ∷ rows) (row ∷ after))
-insert_by Less uri entries row rows after is are later = (is, are)
-insert_by Equal uri entries row rows after is are later = (record { read = are.0.read; some = is.some }, are.1)
-insert_by Greater uri entries row rows after is are later = (are.0, later)
-
 pub rows-insert : (uri : HashValue) (entries : BTreeSet ℕ) (rows : Rows) → IsRow (uri, entries) → AreRows rows
     → AreRows (insert_entry text_cmp rows uri entries)
 rows-insert uri entries [] is are = (is, tt)
 rows-insert uri entries (row ∷ rows) is are =
-    insert_by (text_cmp uri row.0) uri entries row rows (insert_entry text_cmp rows uri entries) is are
-    (rows-insert uri entries rows is are.1)
+    are_by (text_cmp uri row.0) (insert_entry text_cmp rows uri entries) (rows-insert uri entries rows is are.1)
+  where
+    are_by : (order : Ordering) (after : Rows) → AreRows after
+        → AreRows (match_ordering order ((uri, entries) ∷ row ∷ rows) ((row.0, entries) ∷ rows) (row ∷ after))
+    are_by Less after later = (is, are)
+    are_by Equal after later = (record { read = are.0.read; some = is.some }, are.1)
+    are_by Greater after later = (are.0, later)
 
 remove_by : (here : Bool) (row : HashValue × BTreeSet ℕ) (rows after : Rows) → AreRows (row ∷ rows) → AreRows after
     → AreRows (cond here rows (row ∷ after))
@@ -211,26 +195,40 @@ pub numbers-taken : (found : Option (BTreeSet ℕ)) (none : BTreeSet ℕ) → no
 numbers-taken None none empty = empty
 numbers-taken (Some entries) none empty = refl
 
-module _ {uri : HashValue} {old mid : Rows} {entries : BTreeSet ℕ} (taken : IsTaken uri old mid entries) (n : ℕ) (waits : Bool) (changed : BTreeSet ℕ)
-    (changes : IsChanged n waits entries changed) where
-  sets_number : SetsNumber n waits (numbers_in (lookup (same_hash uri) old)) changed.keys
-  sets_number m =
-      sym (among m changed.keys) ∙ changes m ∙ (λ i. cond (tied n m i) waits (among m entries.keys i))
-      ∙ ap (λ numbers. cond (eqb m n) waits (list_any (λ k. eqb k m) numbers))
-      (taken.numbers ∙ ap numbers_in (found_by_text uri old taken.read taken.before))
+module _ {uri : HashValue} {old mid : Rows} {entries : BTreeSet ℕ} (taken : IsTaken uri old mid entries) where
+  -- the change of its row, as a change under the URI
+  row_updated : (row : Option (BTreeSet ℕ)) (new : Rows) → AreRows new → IsUpdated uri row old new
+      → (other : HashValue)
+      → lookup (same_hash other) new ≡ cond (same_hash uri other) row (lookup (same_hash other) old)
+  row_updated row new after updates other =
+      ⊎_elim
+      (λ is.
+      sym (found_by_text other new is after) ∙ updates other
+      ∙ (λ i. cond (at-same uri other taken.read is i) row (found_by_text other old is taken.before i)))
+      (λ not.
+      let apart : same_hash uri other ≡ false = same_hash-equivalence.symm uri other ∙ unread-apart other uri not taken.read in
+      none_unread other new not after ∙ sym (λ i. cond (apart i) row (none_unread other old not taken.before i)))
+      (read_or_not other)
 
-  -- if no number remains
-  pub sets-gone : changed.keys ≡ [] → SetsMissed (Missing uri ∷ []) n waits (seen old) (seen mid)
-  sets-gone none =
-      sets-row uri n waits None old mid (row_updated uri None old mid taken.read taken.before taken.after taken.updates)
-      (subst (λ numbers. SetsNumber n waits (numbers_in (lookup (same_hash uri) old)) numbers) none sets_number)
+  module _ (n : ℕ) (waits : Bool) (changed : BTreeSet ℕ) (changes : IsChanged n waits entries changed) where
+    sets_number : SetsNumber n waits (numbers_in (lookup (same_hash uri) old)) changed.keys
+    sets_number m =
+        sym (among m changed.keys) ∙ changes m ∙ (λ i. cond (tied n m i) waits (among m entries.keys i))
+        ∙ ap (λ numbers. cond (eqb m n) waits (list_any (λ k. eqb k m) numbers))
+        (taken.numbers ∙ ap numbers_in (found_by_text uri old taken.read taken.before))
 
-  -- and if the remaining ones are put back
-  pub sets-back : (new : Rows) → AreRows new → IsUpdated uri (Some changed) mid new → SetsMissed (Missing uri ∷ []) n waits (seen old) (seen new)
-  sets-back new are puts =
-      sets-row uri n waits (Some changed) old new
-      (row_updated uri (Some changed) old new taken.read taken.before are (updated-twice uri (Some changed) None old mid new taken.updates puts))
-      sets_number
+    -- if no number remains
+    pub sets-gone : changed.keys ≡ [] → SetsMissed (Missing uri ∷ []) n waits (seen old) (seen mid)
+    sets-gone none =
+        sets-row uri n waits None old mid (row_updated None mid taken.after taken.updates)
+        (subst (λ numbers. SetsNumber n waits (numbers_in (lookup (same_hash uri) old)) numbers) none sets_number)
+
+    -- and if the remaining ones are put back
+    pub sets-back : (new : Rows) → AreRows new → IsUpdated uri (Some changed) mid new
+        → SetsMissed (Missing uri ∷ []) n waits (seen old) (seen new)
+    sets-back new are puts =
+        sets-row uri n waits (Some changed) old new
+        (row_updated (Some changed) new are (updated-twice uri (Some changed) None old mid new taken.updates puts)) sets_number
 
 -- a set that isn't empty has a number
 pub some_left : (numbers : List ℕ) (empty : Bool) → empty ≡ false → (length numbers ≡ 0 → empty ≡ true) → 1 ≤ length numbers

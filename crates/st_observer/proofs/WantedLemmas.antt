@@ -20,16 +20,15 @@ use Rattle.st_observer.proofs.WaitingLemmas.{ascends-none}
 -- ---- keys that are inserted one by one
 
 module _ {K : Type 0} (cmp : K → K → Ordering) where
-  each_by : (P : K → Type 0) (order : Ordering) (key first : K) (keys after : List K) → AllByRecursion P (first ∷ keys) → P key
-      → AllByRecursion P after → AllByRecursion P (match_ordering order (key ∷ first ∷ keys) (first ∷ keys) (first ∷ after))
-  each_by P Less key first keys after all one later = (one, all)
-  each_by P Equal key first keys after all one later = all
-  each_by P Greater key first keys after all one later = (all.0, later)
-
   each-put : (P : K → Type 0) (keys : List K) (key : K) → AllByRecursion P keys → P key → AllByRecursion P (insert_key cmp keys key)
   each-put P [] key all one = (one, tt)
-  each-put P (first ∷ keys) key all one =
-      each_by P (cmp key first) key first keys (insert_key cmp keys key) all one (each-put P keys key all.1 one)
+  each-put P (first ∷ keys) key all one = each_by (cmp key first) (insert_key cmp keys key) (each-put P keys key all.1 one)
+    where
+      each_by : (order : Ordering) (after : List K) → AllByRecursion P after
+          → AllByRecursion P (match_ordering order (key ∷ first ∷ keys) (first ∷ keys) (first ∷ after))
+      each_by Less after later = (one, all)
+      each_by Equal after later = all
+      each_by Greater after later = (all.0, later)
 
   -- a property of each key that is there and of each that is inserted is one of all
   each-once : (P : K → Type 0) (keys more : List K) → AllByRecursion P keys → AllByRecursion P more
@@ -76,26 +75,26 @@ module _ {K : Type 0} {cmp : K → K → Ordering} (order : IsTotalOrder cmp) wh
 
   -- they ascend
   sorted_by : (key first : K) (keys after : List K) (rank : Ordering) → cmp key first ≡ rank
-      → IsStrictlySortedBy cmp (first ∷ keys) → AllByRecursion (λ later. cmp first later ≡ Less) keys
+      → IsStrictlySortedBy cmp (first ∷ keys)
       → (cmp first key ≡ Less → IsStrictlySortedBy cmp (first ∷ after))
       → IsStrictlySortedBy cmp (match_ordering rank (key ∷ first ∷ keys) (first ∷ keys) (first ∷ after))
   unfolding IsStrictlySortedBy
-  sorted_by key first keys after Less is sorted above later = (
+  sorted_by key first keys after Less is sorted later = (
     (
       is,
       each-weaker (λ later. cmp first later ≡ Less) (λ later. cmp key later ≡ Less)
-          (λ later less. order.trans key first later is less) keys above,
+          (λ later less. order.trans key first later is less) keys sorted.0,
     ),
     sorted,
   )
-  sorted_by key first keys after Equal is sorted above later = sorted
-  sorted_by key first keys after Greater is sorted above later = later (order.antisymm first key ∙ ap ordering_reverse is)
+  sorted_by key first keys after Equal is sorted later = sorted
+  sorted_by key first keys after Greater is sorted later = later (order.antisymm first key ∙ ap ordering_reverse is)
 
   sorted-put : (keys : List K) (key : K) → IsStrictlySortedBy cmp keys → IsStrictlySortedBy cmp (insert_key cmp keys key)
   unfolding IsStrictlySortedBy
   sorted-put [] key sorted = (tt, tt)
   sorted-put (first ∷ keys) key sorted =
-      sorted_by key first keys (insert_key cmp keys key) (cmp key first) refl sorted sorted.0
+      sorted_by key first keys (insert_key cmp keys key) (cmp key first) refl sorted
       (λ less. (each-put cmp (λ later. cmp first later ≡ Less) keys key sorted.0 less, sorted-put keys key sorted.1))
 
   sorted-once : (keys more : List K) → IsStrictlySortedBy cmp keys → IsStrictlySortedBy cmp (fold (insert_key cmp) keys more)

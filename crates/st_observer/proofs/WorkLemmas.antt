@@ -66,23 +66,15 @@ grew-only {old = old} few = record {
   applied = omega (arith, ap (λ (w : Counts). w.applies) few.counts);
 }
 
-pub grew-more : {files proofs applies more_files more_proofs more : ℕ} {old new : Counts} → files ≤ more_files → proofs ≤ more_proofs → applies ≤ more
-    → GrewAtMost files proofs applies old new → GrewAtMost more_files more_proofs more old new
-grew-more fits_files fits_proofs fits grew = record {
-  least = grew.least;
-  read = omega (arith, grew.read, fits_files);
-  opened = omega (arith, grew.opened, fits_proofs);
-  applied = omega (arith, grew.applied, fits);
-}
-
 -- and operations that were applied after all was read
-pub grew-then : {files proofs applies most : ℕ} {old mid new : Counts} → GrewAtMost files proofs 0 old mid → AppliesAtMost applies mid new → applies ≤ most
-    → GrewAtMost files proofs most old new
-grew-then grew applied fits = record {
+pub grew-then : {files proofs applies : ℕ} {old mid new : Counts} → GrewAtMost files proofs 0 old mid
+    → AppliesAtMost applies mid new
+    → GrewAtMost files proofs applies old new
+grew-then grew applied = record {
   least = fell-both grew.least (applied-least applied);
   read = omega (arith, applied.files, grew.read);
   opened = omega (arith, applied.proofs, grew.opened);
-  applied = omega (arith, applied.applies, grew.applied, fits);
+  applied = omega (arith, applied.applies, grew.applied);
 }
 
 -- ---- several entries
@@ -125,74 +117,64 @@ reading-least {start} {bounds} {old} {new} reading = record {
 }
 
 -- first this many, and then more
-then-more : (start now after before later old mid new : ℕ) → start ≤ now → before ≤ later → after + before ≡ now + later
-    → mid ≡ counted_more (now - start) old → new ≡ counted_more (later - before) mid → new ≡ counted_more (after - start) old
-then-more start now after before later old mid new up more sum first second =
-    second ∙ ap (counted_more (later - before)) first ∙ counted_more-both (now - start) (later - before) old
-    ∙ ap (λ n. counted_more n old) (let e : later - before + (now - start) ≡ after - start = omega (arith, up, more, sum) in e)
+then-more : (start now more old : ℕ) → start ≤ now
+    → counted_more more (counted_more (now - start) old) ≡ counted_more (now + more - start) old
+then-more start now more old up =
+    counted_more-both (now - start) more old ∙ ap (λ n. counted_more n old) (let e : more + (now - start) ≡ now + more - start = omega (arith, up) in e)
 
-pub reading-settled : (files : Files) (start bounds after : List Known) (n : ℕ) (old mid new : Counts) → n < length bounds
-    → after ≡ set bounds n (known_from files (bound_at n bounds)) → Reading start bounds old mid
-    → ReadExactly (newly_decided files (bound_at n bounds)) (newly_opened files (bound_at n bounds)) mid new
-    → new.applies ≡ mid.applies → Reading start after old new
-reading-settled files start bounds after n old mid new inside is reading exactly same =
-    let bound : Known = bound_at n bounds in
-    let decided : decided_of after + decided_roles bound ≡ decided_of bounds + decided_roles (known_from files bound) =
-    ap (λ xs. decided_of xs + decided_roles bound) is ∙ sum-settled decided_roles files (decided_roles-up files) bounds n inside in
-    let opened : opened_of after + opened_proofs bound ≡ opened_of bounds + opened_proofs (known_from files bound) =
-    ap (λ xs. opened_of xs + opened_proofs bound) is ∙ sum-settled opened_proofs files (opened_proofs-up files) bounds n inside in
-    record {
-      decides = omega (arith, reading.decides, decided, decided_roles-up files bound);
-      opens = omega (arith, reading.opens, opened, opened_proofs-up files bound);
-      files =
-          then-more (decided_of start) (decided_of bounds) (decided_of after) (decided_roles bound)
-          (decided_roles (known_from files bound)) old.files mid.files new.files
-          reading.decides (decided_roles-up files bound) decided reading.files exactly.read;
-      proofs =
-          then-more (opened_of start) (opened_of bounds) (opened_of after) (opened_proofs bound)
-          (opened_proofs (known_from files bound)) old.proofs mid.proofs new.proofs
-          reading.opens (opened_proofs-up files bound) opened reading.proofs exactly.opened;
-      applies = same ∙ reading.applies;
-    }
+module _ (files : Files) {start bounds : List Known} {old mid : Counts} (reading : Reading start bounds old mid) where
+  pub reading-settled : (n : ℕ) {new : Counts} → n < length bounds
+      → ReadExactly (newly_decided files (bound_at n bounds)) (newly_opened files (bound_at n bounds)) mid new
+      → new.applies ≡ mid.applies → Reading start (set bounds n (known_from files (bound_at n bounds))) old new
+  reading-settled n inside exactly same =
+      let bound : Known = bound_at n bounds in
+      let after : List Known = set bounds n (known_from files bound) in
+      let decided : decided_of bounds + newly_decided files bound ≡ decided_of after =
+      omega (arith, sum-settled decided_roles files (decided_roles-up files) bounds n inside, decided_roles-up files bound) in
+      let opened : opened_of bounds + newly_opened files bound ≡ opened_of after =
+      omega (arith, sum-settled opened_proofs files (opened_proofs-up files) bounds n inside, opened_proofs-up files bound) in
+      record {
+        decides = omega (arith, reading.decides, decided);
+        opens = omega (arith, reading.opens, opened);
+        files =
+            exactly.read ∙ ap (counted_more (newly_decided files bound)) reading.files
+            ∙ then-more (decided_of start) (decided_of bounds) (newly_decided files bound) old.files reading.decides
+            ∙ ap (λ n. counted_more (n - decided_of start) old.files) decided;
+        proofs =
+            exactly.opened ∙ ap (counted_more (newly_opened files bound)) reading.proofs
+            ∙ then-more (opened_of start) (opened_of bounds) (newly_opened files bound) old.proofs reading.opens
+            ∙ ap (λ n. counted_more (n - opened_of start) old.proofs) opened;
+        applies = same ∙ reading.applies;
+      }
 
-few-counted : (start now all old new : ℕ) → start ≤ now → now ≤ all → new ≡ counted_more (now - start) old → new ≤ old + (all - start)
-few-counted start now all old new up most counts = omega (arith, up, most, counts, counted_more-few (now - start) old)
+  read-few : mid.files ≤ old.files + (decided_of bounds - decided_of start)
+  read-few = omega (arith, reading.files, counted_more-few (decided_of bounds - decided_of start) old.files)
 
-pub reading-few : (files : Files) (start bounds : List Known) (old new : Counts) → map (known_from files) bounds ≡ map (known_from files) start
-    → Reading start bounds old new
-    → GrewOver files start 0 old new
-reading-few files start bounds old new same reading =
-    let decided : decided_of bounds ≤ decided_of (map (known_from files) start) =
-    subst (λ all. decided_of bounds ≤ decided_of all) same (sum-later decided_roles files (decided_roles-up files) bounds) in
-    let opened : opened_of bounds ≤ opened_of (map (known_from files) start) =
-    subst (λ all. opened_of bounds ≤ opened_of all) same (sum-later opened_proofs files (opened_proofs-up files) bounds) in
-    record {
-      least = reading-least reading;
-      read = few-counted (decided_of start) (decided_of bounds) (decided_of (map (known_from files) start)) old.files new.files reading.decides decided
-          reading.files;
-      opened = few-counted (opened_of start) (opened_of bounds) (opened_of (map (known_from files) start)) old.proofs new.proofs reading.opens opened
-          reading.proofs;
-      applied = omega (arith, reading.applies);
-    }
+  opened-few : mid.proofs ≤ old.proofs + (opened_of bounds - opened_of start)
+  opened-few = omega (arith, reading.proofs, counted_more-few (opened_of bounds - opened_of start) old.proofs)
 
-few-wanting : (start now all more old mid new : ℕ) → start ≤ now → now + more ≤ all → mid ≡ counted_more (now - start) old → new ≤ mid + more
-    → new ≤ old + (all - start)
-few-wanting start now all more old mid new up most counts few = omega (arith, up, most, counts, few, counted_more-few (now - start) old)
+  pub reading-few : map (known_from files) bounds ≡ map (known_from files) start
+      → GrewOver files start 0 old mid
+  reading-few same =
+      let decided : decided_of bounds ≤ decided_of (map (known_from files) start) =
+      subst (λ all. decided_of bounds ≤ decided_of all) same (sum-later decided_roles files (decided_roles-up files) bounds) in
+      let opened : opened_of bounds ≤ opened_of (map (known_from files) start) =
+      subst (λ all. opened_of bounds ≤ opened_of all) same (sum-later opened_proofs files (opened_proofs-up files) bounds) in
+      record {
+        least = reading-least reading;
+        read = omega (arith, read-few, reading.decides, decided);
+        opened = omega (arith, opened-few, reading.opens, opened);
+        applied = omega (arith, reading.applies);
+      }
 
--- memory ran out at one entry
-pub reading-wanting : (files : Files) (start bounds : List Known) (n : ℕ) (old mid new : Counts) → n < length bounds
-    → map (known_from files) bounds ≡ map (known_from files) start → Reading start bounds old mid
-    → GrewAtMost (newly_decided files (bound_at n bounds)) (newly_opened files (bound_at n bounds)) 0 mid new
-    → GrewOver files start 0 old new
-reading-wanting files start bounds n old mid new inside same reading grew = record {
-  least = fell-both (reading-least reading) grew.least;
-  read =
-      few-wanting (decided_of start) (decided_of bounds) (decided_of (map (known_from files) start))
-      (newly_decided files (bound_at n bounds)) old.files mid.files new.files
-      reading.decides (sum-wanting decided_roles files (decided_roles-up files) start bounds n inside same) reading.files grew.read;
-  opened =
-      few-wanting (opened_of start) (opened_of bounds) (opened_of (map (known_from files) start))
-      (newly_opened files (bound_at n bounds)) old.proofs mid.proofs new.proofs
-      reading.opens (sum-wanting opened_proofs files (opened_proofs-up files) start bounds n inside same) reading.proofs grew.opened;
-  applied = omega (arith, reading.applies, grew.applied);
-}
+  -- memory ran out at one entry
+  pub reading-wanting : (n : ℕ) {new : Counts} → n < length bounds
+      → map (known_from files) bounds ≡ map (known_from files) start
+      → GrewAtMost (newly_decided files (bound_at n bounds)) (newly_opened files (bound_at n bounds)) 0 mid new
+      → GrewOver files start 0 old new
+  reading-wanting n inside same grew = record {
+    least = fell-both (reading-least reading) grew.least;
+    read = omega (arith, read-few, reading.decides, sum-wanting decided_roles files (decided_roles-up files) start bounds n inside same, grew.read);
+    opened = omega (arith, opened-few, reading.opens, sum-wanting opened_proofs files (opened_proofs-up files) start bounds n inside same, grew.opened);
+    applied = omega (arith, reading.applies, grew.applied);
+  }

@@ -28,15 +28,6 @@ module _ {K State Item : Type 0} {cmp : K → K → Ordering} {entries : List (K
 
 -- ---- sums
 
--- if no term grows, and some term falls by this much, so does the sum
-sum_by-lt : {X : Type 0} (f g : X → ℕ) → ((x : X) → g x ≤ f x) → (some : X → Bool) (fall : ℕ) → ((x : X) → some x ≡ true → g x + fall ≤ f x)
-    → (xs : List X) → list_any some xs ≡ true → sum_by g xs + fall ≤ sum_by f xs
-sum_by-lt f g fewer some fall apart [] any = absurd (false≢true any)
-sum_by-lt f g fewer some fall apart (x ∷ xs) any = elim (or_cases (some x) (list_any some xs) any) [
-  | inl here ↦ omega (arith, sum_by-cons f x xs, sum_by-cons g x xs, apart x here, sum_by-le-sum_by g f xs fewer)
-  | inr later ↦ omega (arith, sum_by-cons f x xs, sum_by-cons g x xs, fewer x, sum_by-lt f g fewer some fall apart xs later)
-]
-
 -- a property of each item is one of some item that passes a test
 some_item : {X : Type 0} (P : X → Type 0) (test : X → Bool) (xs : List X) → AllByRecursion P xs → list_any test xs ≡ true → (x : X) × P x × (test x ≡ true)
 some_item P test [] all any = absurd (false≢true any)
@@ -111,8 +102,7 @@ module _ {K State Item : Type 0} {cmp : K → K → Ordering} (order : IsTotalOr
           let change = some_item _ (λ change. is_at (cmp change.0) key && (change.1 == account.place)) all named account.changed in
           let parts = and_parts (is_at (cmp change.0.0) key) (change.0.1 == account.place) change.2 in
           let place = eqb-true change.0.1 account.place parts.1 in
-          sum_by-lt (λ name. min (left_at cmp name.0 now) (name_cost cmp (seen_items old) name)) rest fewer
-          (λ name. is_at (cmp change.0.0) name.0 && leb name.1 change.0.1) (left_at cmp key now)
+          falls (λ name. is_at (cmp change.0.0) name.0 && leb name.1 change.0.1)
           (λ name is.
           let halves = and_parts (is_at (cmp change.0.0) name.0) (leb name.1 change.0.1) is in
           let same : is_at (cmp key) name.0 ≡ true = sym ((eq_by_cmp_equiv order).congr change.0.0 key name.0 parts.0) ∙ halves.0 in
@@ -128,6 +118,18 @@ module _ {K State Item : Type 0} {cmp : K → K → Ordering} (order : IsTotalOr
           ))
           names change.1
     ]
+      where
+        paid : K × ℕ → ℕ
+        paid name = min (left_at cmp name.0 now) (name_cost cmp (seen_items old) name)
+
+        -- no term grows: if some term falls by this much, so does the sum
+        falls : (some : K × ℕ → Bool) → ((name : K × ℕ) → some name ≡ true → rest name + left_at cmp key now ≤ paid name)
+            → (all : List (K × ℕ)) → list_any some all ≡ true → sum_by rest all + left_at cmp key now ≤ sum_by paid all
+        falls some apart [] any = absurd (false≢true any)
+        falls some apart (name ∷ all) any = elim (or_cases (some name) (list_any some all) any) [
+          | inl here ↦ omega (arith, sum_by-cons paid name all, sum_by-cons rest name all, apart name here, sum_by-le-sum_by rest paid all fewer)
+          | inr later ↦ omega (arith, sum_by-cons paid name all, sum_by-cons rest name all, fewer name, falls some apart all later)
+        ]
 
     module _ {first work after : Counts} (paid : HasPaid cmp names old now first work) (step : AppliesAtMost (left_at cmp key now) work after) where
       -- if memory runs out on the way

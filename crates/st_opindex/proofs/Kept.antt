@@ -39,30 +39,27 @@ module _ {State Item : Type 0} {next : State → Item → State} {start : State}
 
   -- the last of these states is that of the items up to it
   pub reached_before : {items : List (Held Item)} {at : ℕ} {kept : List State} → IsKeptBefore next start items at kept
-      → (states : ℕ) (last : State) → states ≤ at / 8
-      → (length (take states kept) ≡ 0 → last ≡ start)
-      → (0 < length (take states kept) → last ≡ get_or (take states kept) (length (take states kept) - 1) last)
-      → Reached next start items (states * 8) (take states kept) last
-  reached_before {items} {at} {kept} is states last within none some = record {
+      → (last : State) → (length (take (at / 8) kept) ≡ 0 → last ≡ start)
+      → (0 < length (take (at / 8) kept) → last ≡ get_or (take (at / 8) kept) (length (take (at / 8) kept) - 1) last)
+      → Reached next start items (at / 8 * 8) (take (at / 8) kept) last
+  reached_before {items} {at} {kept} is last none some = record {
     count = omega (arith, count);
     each = each;
-    now = ⊎_elim at_kept (λ zero. at_start (omega (arith, zero))) (cases_lt 0 states);
+    now = ⊎_elim at_kept (λ zero. at_start (omega (arith, zero))) (cases_lt 0 (at / 8));
   }
     where
-      count : length (take states kept) ≡ states
-      count = omega (arith, length-take states kept, is.enough)
+      count : length (take (at / 8) kept) ≡ at / 8
+      count = omega (arith, length-take (at / 8) kept, is.enough)
 
-      each : (i : ℕ) (d : State) → i < length (take states kept) → get_or (take states kept) i d ≡ folded next start (take (8 * (i + 1)) items)
-      each i d below =
-          let inside : i < states = omega (arith, count, below) in
-          get_or-take states kept i d inside ∙ is.each i d (omega (arith, inside, within))
+      each : (i : ℕ) (d : State) → i < length (take (at / 8) kept) → get_or (take (at / 8) kept) i d ≡ folded next start (take (8 * (i + 1)) items)
+      each i d below = get_or-take (at / 8) kept i d (omega (arith, count, below)) ∙ is.each i d (omega (arith, count, below))
 
-      at_start : states ≡ 0 → last ≡ folded next start (take (states * 8) items)
+      at_start : at / 8 ≡ 0 → last ≡ folded next start (take (at / 8 * 8) items)
       at_start zero = none (omega (arith, count, zero)) ∙ rw zero refl
 
-      at_kept : 0 < states → last ≡ folded next start (take (states * 8) items)
+      at_kept : 0 < at / 8 → last ≡ folded next start (take (at / 8 * 8) items)
       at_kept more =
-          let eight : 8 * (length (take states kept) - 1 + 1) ≡ states * 8 = omega (arith, count, more) in
+          let eight : 8 * (length (take (at / 8) kept) - 1 + 1) ≡ at / 8 * 8 = omega (arith, count, more) in
           some (omega (arith, count, more))
-          ∙ each (length (take states kept) - 1) last (omega (arith, count, more))
+          ∙ each (length (take (at / 8) kept) - 1) last (omega (arith, count, more))
           ∙ ap (λ n. folded next start (take n items)) eight

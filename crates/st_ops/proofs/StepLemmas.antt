@@ -4,6 +4,8 @@ use Rattle.std.specs.Option.{ok_or}
 use Rattle.std.specs.Result.{result_map_both}
 use Rattle.std.specs.Prelude.{IfOk}
 use Rattle.st_base.specs.Answers.{◌>>=◌, ◌>>◌, holds_or, GivesAs}
+use Rattle.st_ops.specs.Request.{refusal_of}
+use Rattle.st_ops.specs.declared.refused.RequestRefused.{RequestRefused}
 
 -- the first step gave the input of the second
 pub went_on : {A B E : Type 0} (first : Result A E) (next : A → Result B E) (value : B) → (first >>= next) ≡ Ok value
@@ -36,8 +38,8 @@ taken true first second value e = inl (refl, e)
 taken false first second value e = inr (refl, e)
 
 -- a property of each value that the definition allows is one of the answer
-pub of_given : {Found Value Error Refusal : Type 0} (P : Value → Type 0) (view : Found → Value) (refusal_of : Error → Option Refusal)
-    (says : Result Value Refusal) (answer : Result Found Error) → GivesAs view refusal_of says answer
+pub of_given : {Found Value : Type 0} (P : Value → Type 0) (view : Found → Value)
+    (says : Result Value RequestRefused) (answer : Result Found RequestRefused) → GivesAs view refusal_of says answer
     → ((value : Value) → says ≡ Ok value → P value) → IfOk answer (λ found. P (view found))
-of_given P view refusal_of says (Ok found) gives all = all (view found) gives
-of_given P view refusal_of says (Err error) gives all = tt
+of_given P view says (Ok found) gives all = all (view found) gives
+of_given P view says (Err error) gives all = tt

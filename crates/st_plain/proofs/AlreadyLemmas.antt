@@ -1,6 +1,6 @@
 -- A text that is already canonical, scanned from the front.
 use Rattle.std.proofs.Common.{◌≡◌, ◌∙◌, ℕ, ◌-◌, ◌<◌, ◌≤◌, Bool, true, List, [], ◌∷◌, ◌++◌, Option, Some, None, option_map, is_some, Ok, IfSome, refl, sym, ap, arith}
-use Rattle.std.proofs.Common.{append_assoc}
+use Rattle.std.proofs.Common.{append_assoc, subst}
 use Rattle.std.specs.List.{flat_map}
 use Rattle.std.specs.Prelude.{ℤ, false, nat_lt}
 use Rattle.std.specs.Str.{IsUtf8}
@@ -139,22 +139,23 @@ ItemsGoOn depth bytes due rest =
     (ps : Items) (behind : List ℕ) → ItemsAreProper ps → items_nest ps ≤ depth → rest ≡ canonical_items due ps ++ 93 ∷ behind
     → ItemsAreInFront depth bytes behind
 
-pub items_begin : (depth : ℕ) (bytes : List ℕ) → ItemsGoOn depth bytes false bytes
-items_begin depth bytes = λ ps behind proper shallow spelled. record { are = ps; proper = proper; shallow = shallow; spelled = spelled }
+module _ (depth : ℕ) (bytes : List ℕ) where
+  pub items_begin : ItemsGoOn depth bytes false bytes
+  items_begin = λ ps behind proper shallow spelled. record { are = ps; proper = proper; shallow = shallow; spelled = spelled }
 
-pub one_item_more : (depth : ℕ) (bytes rest value next : List ℕ) (due : Bool) → ItemsGoOn depth bytes due rest → rest ≡ comma due ++ value
-    → IsInFront depth value next → ItemsGoOn depth bytes true next
-one_item_more depth bytes rest value next due go parted first = λ ps behind proper shallow spelled.
-    let here = canonical first.is in
-    let others = canonical_items true ps in
-    let deep = first.shallow in
-    go (item first.is ps) behind (first.proper, proper) (omega (arith, deep, shallow))
-    (parted ∙ ap (λ more. comma due ++ more) (first.spelled ∙ ap (λ more. here ++ more) spelled ∙ sym (append_assoc here others (93 ∷ behind)))
-    ∙ sym (append_assoc (comma due) (here ++ others) (93 ∷ behind)))
+  pub one_item_more : (rest value next : List ℕ) (due : Bool) → ItemsGoOn depth bytes due rest
+      → rest ≡ comma due ++ value → IsInFront depth value next → ItemsGoOn depth bytes true next
+  one_item_more rest value next due go parted first = λ ps behind proper shallow spelled.
+      let here = canonical first.is in
+      let others = canonical_items true ps in
+      let deep = first.shallow in
+      go (item first.is ps) behind (first.proper, proper) (omega (arith, deep, shallow))
+      (parted ∙ ap (λ more. comma due ++ more) (first.spelled ∙ ap (λ more. here ++ more) spelled ∙ sym (append_assoc here others (93 ∷ behind)))
+      ∙ sym (append_assoc (comma due) (here ++ others) (93 ∷ behind)))
 
-pub items_end : (depth : ℕ) (bytes rest behind : List ℕ) (due : Bool) → ItemsGoOn depth bytes due rest → rest ≡ 93 ∷ behind
-    → ItemsAreInFront depth bytes behind
-items_end depth bytes rest behind due go closes = go no_items behind tt (omega arith) closes
+  pub items_end : (rest behind : List ℕ) (due : Bool) → ItemsGoOn depth bytes due rest
+      → rest ≡ 93 ∷ behind → ItemsAreInFront depth bytes behind
+  items_end rest behind due go closes = go no_items behind tt (omega arith) closes
 
 -- ---- members
 
@@ -187,17 +188,20 @@ still_there f None = refl
 still_there f (Some a) = refl
 
 module _ (depth : ℕ) (bytes rest : List ℕ) (last : Option (List ℕ)) (go : MembersGoOn depth bytes last rest) where
-  pub one_member_more : (named name behind value next : List ℕ) → rest ≡ comma (is_some last) ++ named → named ≡ quoted name ++ behind
-      → behind ≡ 58 ∷ value → IsUtf8 name → IfSome last (λ low. name_cmp low name ≡ Less) → IsInFront depth value next
-      → MembersGoOn depth bytes (Some name) next
-  one_member_more named name behind value next parted begins colon utf8 less first = λ ms end proper above shallow spelled.
+  pub one_member_more : (start value next : List ℕ) → rest ≡ comma (is_some last) ++ start → IsTextInFront start (58 ∷ value)
+      → IfSome last (λ low. name_cmp low (name_of start) ≡ Less) → IsInFront depth value next → MembersGoOn depth bytes (Some (name_of start)) next
+  one_member_more start value next parted front less first = λ ms end proper above shallow spelled.
+      let name = name_of start in
+      let is = named start (58 ∷ value) front in
+      let utf8 = subst IsUtf8 (sym is) front.utf8 in
+      let begins : start ≡ quoted name ++ 58 ∷ value = front.spelled ∙ ap (λ word. quoted word ++ 58 ∷ value) (sym is) in
       let here = canonical first.is in
       let others = canonical_members true ms in
       let deep = first.shallow in
       go (member name first.is ms) end (utf8, above, first.proper, proper) (above_last last name ms less above) (omega (arith, deep, shallow))
       (parted ∙ ap (λ more. comma (is_some last) ++ more)
-      (begins ∙ ap (λ more. quoted name ++ more)
-      (colon ∙ ap (λ more. 58 ∷ more) (first.spelled ∙ ap (λ more. here ++ more) spelled ∙ sym (append_assoc here others (125 ∷ end))))
+      (begins ∙ ap (λ more. quoted name ++ 58 ∷ more)
+      (first.spelled ∙ ap (λ more. here ++ more) spelled ∙ sym (append_assoc here others (125 ∷ end)))
       ∙ sym (append_assoc (quoted name) (58 ∷ (here ++ others)) (125 ∷ end)))
       ∙ sym (append_assoc (comma (is_some last)) (quoted name ++ (58 ∷ (here ++ others))) (125 ∷ end)))
 

@@ -24,7 +24,7 @@ use Rattle.st_plain.specs.Proper.{AllAbove, IsProper, MembersAreProper}
 use Rattle.st_plain.specs.Reading.{whole_value, whole_members}
 use Rattle.st_plain.specs.Respelled.{IsWritten, Spells}
 use Rattle.st_plain.proofs.HeldLemmas.{all_stay, entries_stay, entry_held, has_no_left, has_no_right}
-use Rattle.st_plain.proofs.Order.{by_order, name_total, greater_from_less, less_from_greater, same_from_tied}
+use Rattle.st_plain.proofs.Order.{above_both, around, at_first, at_second, below_both, between, by_order, greater_from_less, less_from_greater, name_total, same_from_tied}
 use Rattle.st_plain.proofs.RewritingLemmas.{IsLast, after, after_more, after_true, next_last, placed_last}
 use Rattle.st_plain.proofs.Sorting.{all_placed, ascend_placed}
 
@@ -34,35 +34,25 @@ module _ {X : Type 0} where
   abbrev with_name : List ℕ → X → List (List ℕ × X) → List (List ℕ × X)
   with_name k x es = placed (k, x) es
 
-  again_at : (k : List ℕ) (x y : X) (e : List ℕ × X) (es : List (List ℕ × X)) (o : Ordering) → name_cmp k e.0 ≡ o → name_cmp k k ≡ Equal
-      → with_name k y (with_name k x es) ≡ with_name k y es
-      → with_name k y (with_name k x (e ∷ es)) ≡ with_name k y (e ∷ es)
-  again_at k x y e es Less is own ih = simp (is, own) refl
-  again_at k x y e es Equal is own ih = simp (is, own) refl
-  again_at k x y e es Greater is own ih = simp is (ap (λ l. e ∷ l) ih)
-
   -- the later value stays
   again : (k : List ℕ) (x y : X) (es : List (List ℕ × X)) → with_name k y (with_name k x es) ≡ with_name k y es
   again k x y [] = rw (tied_itself name_total k) refl
-  again k x y (e ∷ es) = again_at k x y e es (name_cmp k e.0) refl (tied_itself name_total k) (again k x y es)
-
-  swap_at : (k l : List ℕ) (x y : X) (e : List ℕ × X) (es : List (List ℕ × X)) (a b : Ordering) → name_cmp k l ≡ Less → name_cmp l k ≡ Greater
-      → name_cmp k e.0 ≡ a → name_cmp l e.0 ≡ b → with_name k x (with_name l y es) ≡ with_name l y (with_name k x es)
-      → with_name k x (with_name l y (e ∷ es)) ≡ with_name l y (with_name k x (e ∷ es))
-  swap_at k l x y e es Less Less lt gt a b ih = simp (a, b, lt, gt) refl
-  swap_at k l x y e es Less Equal lt gt a b ih = simp (a, b, lt, gt) refl
-  swap_at k l x y e es Less Greater lt gt a b ih = simp (a, b, gt) refl
-  swap_at k l x y e es Equal Less lt gt a b ih = let c = name_total.congr k e.0 l a in let d = name_total.antisymm e.0 l ∙ ap ordering_reverse b in cc
-  swap_at k l x y e es Equal Equal lt gt a b ih = let c = name_total.congr k e.0 l a in let d = name_total.antisymm e.0 l ∙ ap ordering_reverse b in cc
-  swap_at k l x y e es Equal Greater lt gt a b ih = simp (a, b, gt) refl
-  swap_at k l x y e es Greater Less lt gt a b ih = let c = name_total.trans k l e.0 lt b in cc
-  swap_at k l x y e es Greater Equal lt gt a b ih = let c = name_total.congr l e.0 k b in let d = name_total.antisymm e.0 k ∙ ap ordering_reverse a in cc
-  swap_at k l x y e es Greater Greater lt gt a b ih = simp (a, b) (ap (λ rest. e ∷ rest) ih)
+  again k x y (e ∷ es) =
+      let own = tied_itself name_total k in
+      by_order (λ o. with_name k y (with_name k x (e ∷ es)) ≡ with_name k y (e ∷ es)) (name_cmp k e.0)
+      (λ is. simp (is, own) refl) (λ is. simp (is, own) refl) (λ is. simp is (ap (λ l. e ∷ l) (again k x y es)))
 
   lower_first : (k l : List ℕ) (x y : X) (es : List (List ℕ × X)) → name_cmp k l ≡ Less → with_name k x (with_name l y es) ≡ with_name l y (with_name k x es)
   lower_first k l x y [] lt = let gt = greater_from_less k l lt in simp (lt, gt) refl
   lower_first k l x y (e ∷ es) lt =
-      swap_at k l x y e es _ _ lt (greater_from_less k l lt) refl refl (lower_first k l x y es lt)
+      let gt = greater_from_less k l lt in
+      let ih = lower_first k l x y es lt in elim (around k l e.0 lt) [
+        | above_both a b ↦ simp (a, b, lt, gt) refl
+        | at_second a b ↦ simp (a, b, lt, gt) refl
+        | between a b ↦ simp (a, b, gt) refl
+        | at_first a b ↦ simp (a, b, gt) refl
+        | below_both a b ↦ simp (a, b) (ap (λ rest. e ∷ rest) ih)
+      ]
 
   swapped_by : (k l : List ℕ) (x y : X) (es : List (List ℕ × X)) (o : Ordering) → name_cmp k l ≡ o → (o ≡ Equal → ⊥)
       → with_name k x (with_name l y es) ≡ with_name l y (with_name k x es)
@@ -115,13 +105,13 @@ module _ (k : List ℕ) (d : data'.Data) where
   utf8_put : (ds : data'.Members) → IsUtf8 k → AreUtf8 ds → AreUtf8 (data'.put k d ds)
   utf8_put data'.no_members u h = (u, tt)
   utf8_put (data'.member l e ds) u h =
-      by_order AreUtf8 (slice_cmp nat_cmp k l) (data'.member k d (data'.member l e ds)) (data'.member l d ds) (data'.member l e (data'.put k d ds))
+      by_order (λ o. AreUtf8 (match_ordering o (data'.member k d (data'.member l e ds)) (data'.member l d ds) (data'.member l e (data'.put k d ds)))) (slice_cmp nat_cmp k l)
       (λ is. (u, h)) (λ is. h) (λ is. (h.0, utf8_put ds u h.1))
 
   above_put : (m : List ℕ) (ds : data'.Members) → slice_cmp nat_cmp m k ≡ Less → AreAbove m ds → AreAbove m (data'.put k d ds)
   above_put m data'.no_members lt h = (lt, tt)
   above_put m (data'.member l e ds) lt h =
-      by_order (AreAbove m) (slice_cmp nat_cmp k l) (data'.member k d (data'.member l e ds)) (data'.member l d ds) (data'.member l e (data'.put k d ds))
+      by_order (λ o. AreAbove m (match_ordering o (data'.member k d (data'.member l e ds)) (data'.member l d ds) (data'.member l e (data'.put k d ds)))) (slice_cmp nat_cmp k l)
       (λ is. (lt, h)) (λ is. h) (λ is. (h.0, above_put m ds lt h.1))
 
   further : (l : List ℕ) (ds : data'.Members) → slice_cmp nat_cmp k l ≡ Less → AreAbove l ds → AreAbove k ds
@@ -131,7 +121,7 @@ module _ (k : List ℕ) (d : data'.Data) where
   ascend_put : (ds : data'.Members) → BytesAscend ds → BytesAscend (data'.put k d ds)
   ascend_put data'.no_members h = (tt, tt)
   ascend_put (data'.member l e ds) h =
-      by_order BytesAscend (slice_cmp nat_cmp k l) (data'.member k d (data'.member l e ds)) (data'.member l d ds) (data'.member l e (data'.put k d ds))
+      by_order (λ o. BytesAscend (match_ordering o (data'.member k d (data'.member l e ds)) (data'.member l d ds) (data'.member l e (data'.put k d ds)))) (slice_cmp nat_cmp k l)
       (λ is. ((is, further l ds is h.0), h))
       (λ is. h)
       (λ is. (above_put l ds (nat_list_cmp_total.antisymm l k ∙ ap ordering_reverse is) h.0, ascend_put ds h.1))
@@ -152,9 +142,8 @@ outcomes_put k d data'.no_members u h = refl
 outcomes_put k d (data'.member l e ds) u h =
     let x = whole_value d in
     let y = whole_value e in
-    by_order (λ more. outcomes more ≡ with_name k x (with_name l y (outcomes ds))) (slice_cmp nat_cmp k l)
-    (data'.member k d (data'.member l e ds)) (data'.member l d ds) (data'.member l e (data'.put k d ds))
-    (λ is. refl)
+    by_order (λ o. outcomes (match_ordering o (data'.member k d (data'.member l e ds)) (data'.member l d ds) (data'.member l e (data'.put k d ds))) ≡ with_name k x (with_name l y (outcomes ds)))
+    (slice_cmp nat_cmp k l) (λ is. refl)
     (λ is. sym (again l y x (outcomes ds)) ∙ ap (λ m. with_name m x (with_name l y (outcomes ds))) (sym (same_bytes k l is)))
     (λ is.
     let apart = never_tied k l Greater u h.0 is greater_apart in
@@ -196,10 +185,8 @@ all_whole_with : (k : List ℕ) (there : Option Plain) (es : Outcomes) → AllBy
     → all_whole (with_name k there es) ≡ option_and_then (λ p. option_map (put k p) (all_whole es)) there
 all_whole_with k there [] apart = one_whole k there
 all_whole_with k there (e ∷ es) apart =
-    by_order (λ fs. all_whole fs ≡ option_and_then (λ p. option_map (put k p) (all_whole (e ∷ es))) there) (name_cmp k e.0)
-    ((k, there) ∷ e ∷ es) ((k, there) ∷ es) (e ∷ with_name k there es)
-    (λ is. all_first k there e es is)
-    (λ is. absurd (apart.0 is))
+    by_order (λ o. all_whole (match_ordering o ((k, there) ∷ e ∷ es) ((k, there) ∷ es) (e ∷ with_name k there es)) ≡ option_and_then (λ p. option_map (put k p) (all_whole (e ∷ es))) there)
+    (name_cmp k e.0) (λ is. all_first k there e es is) (λ is. absurd (apart.0 is))
     (λ is.
     ap (λ rest. option_and_then (λ q. option_map (member e.0 q) rest) e.1) (all_whole_with k there es apart.1)
     ∙ later_whole k e.0 there e.1 (all_whole es) is)
@@ -356,7 +343,7 @@ after_texts (e ∷ come) = refl
 all_placed_too : {X : Type 0} (P : List ℕ × X → Type 0) (e : List ℕ × X) (es : List (List ℕ × X)) → P e → AllByRecursion P es → AllByRecursion P (placed e es)
 all_placed_too P e [] p h = (p, tt)
 all_placed_too P e (f ∷ es) p h =
-    by_order (AllByRecursion P) (name_cmp e.0 f.0) (e ∷ f ∷ es) (e ∷ es) (f ∷ placed e es)
+    by_order (λ o. AllByRecursion P (match_ordering o (e ∷ f ∷ es) (e ∷ es) (f ∷ placed e es))) (name_cmp e.0 f.0)
     (λ is. (p, h)) (λ is. (p, h.1)) (λ is. (h.0, all_placed_too P e es p h.1))
 
 both_up : (s t : Bool) → (s && t) ≡ true → (s ≡ true) × (t ≡ true)

@@ -4,7 +4,7 @@ use Rattle.std.specs.Prelude.{◌&&◌}
 use Rattle.std.specs.List.{filter, AllByRecursion}
 use Rattle.std.specs.List.Sorted.{IsStrictlySortedBy, IsStableBy, ties}
 use Rattle.std.specs.Map.{keys_of}
-use Rattle.std.specs.Ordering.{is_lt, ordering_reverse}
+use Rattle.std.specs.Ordering.{is_lt, match_ordering, ordering_reverse}
 use Rattle.st_plain.specs.InOrder.{firsts, in_order, placed}
 use Rattle.st_plain.specs.Names.{name_cmp, NamesAscend}
 use Rattle.st_plain.proofs.Order.{by_order, greater_from_less, less_from_greater, name_total}
@@ -25,7 +25,7 @@ module _ {X : Type 0} where
   first_placed e (f ∷ fs) none up =
       let rest = firsts (Some f.0) fs in
       ap (placed e) (first_placed f fs up.0 up.1)
-      ∙ by_order (λ es. es ≡ e ∷ firsts (Some e.0) (f ∷ fs)) (name_cmp e.0 f.0) (e ∷ f ∷ rest) (e ∷ rest) (f ∷ placed e rest)
+      ∙ by_order (λ o. match_ordering o (e ∷ f ∷ rest) (e ∷ rest) (f ∷ placed e rest) ≡ e ∷ firsts (Some e.0) (f ∷ fs)) (name_cmp e.0 f.0)
       (λ is. rw is refl)
       (λ is. rw is (ap (λ l. e ∷ l) (sym (firsts_tied e.0 f.0 is fs))))
       (λ is. let low = ap is_lt (less_from_greater e.0 f.0 is) in let up = none.0 in cc)
@@ -73,8 +73,7 @@ module _ {X : Type 0} where
   ties_placed x e [] ascend = refl
   ties_placed x e (f ∷ fs) ascend =
       let old = filter (tie x) fs in
-      by_order (λ es. filter (tie x) es ≡ cond (tie x e) (e ∷ []) (filter (tie x) (f ∷ fs))) (name_cmp e.0 f.0)
-      (e ∷ f ∷ fs) (e ∷ fs) (f ∷ placed e fs)
+      by_order (λ o. filter (tie x) (match_ordering o (e ∷ f ∷ fs) (e ∷ fs) (f ∷ placed e fs)) ≡ cond (tie x e) (e ∷ []) (filter (tie x) (f ∷ fs))) (name_cmp e.0 f.0)
       (λ is.
       let above = all_above e.0 f.0 is (keys_of fs) ascend.0 in
       in_front (tie x e) e (filter (tie x) (f ∷ fs)) (no_other x e (f ∷ fs) (is, above)))
@@ -181,11 +180,11 @@ module _ {A X : Type 0} (name : A → List ℕ) (value : A → X) where
   pairs_never_fall (x ∷ xs) up = (pairs_not_below x xs up.0, pairs_never_fall xs up.1)
 
   pub firsts_from_sort : (Held : A → Type 0) (lt : A → A → Bool) → ((x y : A) → Held x → Held y → lt x y ≡ below name x y)
-      → (xs ys : List A) → AllByRecursion Held xs → AllByRecursion Held ys → NeverFall lt ys → IsStableBy lt xs ys
+      → (xs ys : List A) → AllByRecursion Held xs × AllByRecursion Held ys → NeverFall lt ys → IsStableBy lt xs ys
       → firsts None (map pair_of ys) ≡ in_order (map pair_of xs)
-  firsts_from_sort Held lt is xs ys first second up stable =
-      let names = names_stable name Held lt is xs ys first second stable in
+  firsts_from_sort Held lt is xs ys held up stable =
+      let names = names_stable name Held lt is xs ys held.0 held.1 stable in
       let same : (e : List ℕ × X) → filter (tie e) (map pair_of ys) ≡ filter (tie e) (map pair_of xs) = λ e.
-      filter_pairs e ys ∙ ap (map pair_of) (same_ties name Held ys xs names e.0 second first) ∙ sym (filter_pairs e xs) in
-      firsts_are (map pair_of ys) (pairs_never_fall ys (names_never_fall name Held lt is ys second up))
+      filter_pairs e ys ∙ ap (map pair_of) (same_ties name Held ys xs names e.0 held.1 held.0) ∙ sym (filter_pairs e xs) in
+      firsts_are (map pair_of ys) (pairs_never_fall ys (names_never_fall name Held lt is ys held.1 up))
       ∙ same_in_order (map pair_of ys) (map pair_of xs) same

@@ -3,6 +3,7 @@ use Rattle.std.proofs.Common.{◌≡◌, ℕ, true, false, not, cond, List, Some
 use Rattle.std.proofs.lemmas.Bool.{not-true}
 use Rattle.std.specs.Prelude.{◌&&◌}
 use Rattle.std.specs.Cmp.{first_so, second_so}
+use Rattle.std.specs.Ordering.{match_ordering}
 use Rattle.std.specs.Str.{IsUtf8}
 use Rattle.json.proofs.Printed.Utf8.{are_ascii, IsUtf8-are_ascii}
 use Rattle.st_plain.specs.Find.{OthersStay, member_at, put, without}
@@ -14,7 +15,7 @@ use Rattle.st_plain.proofs.Order.{by_order, same_from_tied, same_from_is_name, i
 pub member_at-put_same : (name : List ℕ) (p : Plain) (ms : Members) → member_at name (put name p ms) ≡ Some p
 member_at-put_same name p no_members = rw (is_name_from_same name name refl) refl
 member_at-put_same name p (member n q ms) =
-    by_order (λ found. member_at name found ≡ Some p) (name_cmp name n) (member name p (member n q ms)) (member name p ms) (member n q (put name p ms))
+    by_order (λ o. member_at name (match_ordering o (member name p (member n q ms)) (member name p ms) (member n q (put name p ms))) ≡ Some p) (name_cmp name n)
     (λ is. rw (is_name_from_same name name refl) refl)
     (λ is. rw (is_name_from_same name name refl) refl)
     (λ is. rw (not_name_from_greater name n is) (member_at-put_same name p ms))
@@ -32,8 +33,8 @@ pub member_at-put_other : (other name : List ℕ) (p : Plain) (ms : Members) →
     → is_name other name ≡ false → member_at other (put name p ms) ≡ member_at other ms
 member_at-put_other other name p no_members u v differ = rw differ refl
 member_at-put_other other name p (member n q ms) u v differ =
-    by_order (λ found. member_at other found ≡ member_at other (member n q ms)) (name_cmp name n)
-    (member name p (member n q ms)) (member name p ms) (member n q (put name p ms))
+    by_order (λ o. member_at other (match_ordering o (member name p (member n q ms)) (member name p ms) (member n q (put name p ms))) ≡ member_at other (member n q ms))
+    (name_cmp name n)
     (λ is. rw differ refl)
     (λ is. rw (differ, other_name other name n u v differ is) refl)
     (λ is. ap (cond (is_name other n) (Some q)) (member_at-put_other other name p ms u v differ))

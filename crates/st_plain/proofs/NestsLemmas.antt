@@ -3,6 +3,7 @@
 use Rattle.std.proofs.Common.{◌≡◌, ℕ, ◌≤◌, max, List, Option, Some, None, option_map, option_and_then, Ok, IfSome, refl, sym, ap, ◌∙◌, subst, arith}
 use Rattle.std.proofs.Common.{if◌then◌else◌}
 use Rattle.std.specs.Prelude.{suc, pos, negsuc, Bool, true, false}
+use Rattle.std.specs.Ordering.{match_ordering}
 use Rattle.std.specs.Str.{is_utf8}
 use Rattle.json.specs.Tree as tree
 use Rattle.serde_json.specs.Data as data'
@@ -59,7 +60,7 @@ any_mapped Q f (Some a) all = all a
 put_within : (k : List ℕ) (p : Plain) (ms : Members) (n : ℕ) → nests p ≤ n → members_nest ms ≤ n → members_nest (put k p ms) ≤ n
 put_within k p no_members n one all = omega (arith, one, all)
 put_within k p (member l q ms) n one all =
-    by_order (λ qs. members_nest qs ≤ n) (name_cmp k l) (member k p (member l q ms)) (member k p ms) (member l q (put k p ms))
+    by_order (λ o. members_nest (match_ordering o (member k p (member l q ms)) (member k p ms) (member l q (put k p ms))) ≤ n) (name_cmp k l)
     (λ is. omega (arith, one, all)) (λ is. omega (arith, one, all))
     (λ is. let rest = put_within k p ms n one (omega (arith, all)) in omega (arith, all, rest))
 

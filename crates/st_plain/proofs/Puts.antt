@@ -1,6 +1,6 @@
 -- Members put one after another, in any order.
 use Rattle.std.proofs.Common.{◌≡◌, ℕ, List, Option, Some, None, option_map, option_and_then, Ordering, Less, Equal, Greater, nat_cmp, is_eq, refl, sym, ap, ◌∙◌}
-use Rattle.std.specs.Ordering.{match_ordering, ordering_reverse}
+use Rattle.std.specs.Ordering.{match_ordering}
 use Rattle.std.specs.Cmp.Lexicographic.{slice_cmp}
 use Rattle.std.proofs.lemmas.Map.Text.{is_eq-slice_cmp}
 use Rattle.std.proofs.lemmas.Slice.Eq.{bytes_eq-Decides}
@@ -10,28 +10,22 @@ use Rattle.st_plain.specs.Names.{name_cmp}
 use Rattle.st_plain.specs.Plain.{Plain, Members, no_members, member}
 use Rattle.st_plain.specs.Proper.{AllAbove, MembersAreProper}
 use Rattle.st_plain.specs.Reading.{whole_value, whole_members}
-use Rattle.st_plain.proofs.Order.{by_order, name_total, greater_from_less, less_from_greater, tied_from_same}
+use Rattle.st_plain.proofs.Order.{above_both, around, at_first, at_second, below_both, between, by_order, greater_from_less, less_from_greater, tied_from_same}
 
 -- ---- two puts at different names commute
-
-swap_at : (k l m : List ℕ) (p q r : Plain) (f : Members) (a b : Ordering) → name_cmp k l ≡ Less
-    → name_cmp l k ≡ Greater → name_cmp k m ≡ a → name_cmp l m ≡ b
-    → put k p (put l q f) ≡ put l q (put k p f) → put k p (put l q (member m r f)) ≡ put l q (put k p (member m r f))
-swap_at k l m p q r f Less Less lt gt a b ih = simp (a, b, lt, gt) refl
-swap_at k l m p q r f Less Equal lt gt a b ih = simp (a, b, lt, gt) refl
-swap_at k l m p q r f Less Greater lt gt a b ih = simp (a, b, lt, gt) refl
-swap_at k l m p q r f Equal Less lt gt a b ih = let c = name_total.congr k m l a in let d = name_total.antisymm m l ∙ ap ordering_reverse b in cc
-swap_at k l m p q r f Equal Equal lt gt a b ih = let c = name_total.congr k m l a in let d = name_total.antisymm m l ∙ ap ordering_reverse b in cc
-swap_at k l m p q r f Equal Greater lt gt a b ih = simp (a, b, lt, gt) refl
-swap_at k l m p q r f Greater Less lt gt a b ih = let c = name_total.trans k l m lt b in cc
-swap_at k l m p q r f Greater Equal lt gt a b ih = let c = name_total.congr l m k b in let d = name_total.antisymm m k ∙ ap ordering_reverse a in cc
-swap_at k l m p q r f Greater Greater lt gt a b ih = simp (a, b) (ap (member m r) ih)
 
 lower_first : (k l : List ℕ) (p q : Plain) (f : Members) → name_cmp k l ≡ Less
     → put k p (put l q f) ≡ put l q (put k p f)
 lower_first k l p q no_members lt = let gt = greater_from_less k l lt in simp (lt, gt) refl
 lower_first k l p q (member m r f) lt =
-    swap_at k l m p q r f _ _ lt (greater_from_less k l lt) refl refl (lower_first k l p q f lt)
+    let gt = greater_from_less k l lt in
+    let ih = lower_first k l p q f lt in elim (around k l m lt) [
+      | above_both a b ↦ simp (a, b, lt, gt) refl
+      | at_second a b ↦ simp (a, b, lt, gt) refl
+      | between a b ↦ simp (a, b, gt) refl
+      | at_first a b ↦ simp (a, b, gt) refl
+      | below_both a b ↦ simp (a, b) (ap (member m r) ih)
+    ]
 
 swapped_by : (k l : List ℕ) (p q : Plain) (f : Members) (o : Ordering) → name_cmp k l ≡ o → (o ≡ Equal → ⊥)
     → put k p (put l q f) ≡ put l q (put k p f)
@@ -57,7 +51,7 @@ pub fresh_put : (k l : List ℕ) (d : data'.Data) (ds : data'.Members) → (name
     → IsFresh k (data'.put l d ds)
 fresh_put k l d data'.no_members apart h = (apart, tt)
 fresh_put k l d (data'.member m e ds) apart h =
-    by_order (IsFresh k) (slice_cmp nat_cmp l m) (data'.member l d (data'.member m e ds)) (data'.member m d ds) (data'.member m e (data'.put l d ds))
+    by_order (λ o. IsFresh k (match_ordering o (data'.member l d (data'.member m e ds)) (data'.member m d ds) (data'.member m e (data'.put l d ds)))) (slice_cmp nat_cmp l m)
     (λ is. (apart, h)) (λ is. h) (λ is. (h.0, fresh_put k l d ds apart h.1))
 
 put_inside : (k l : List ℕ) (p : Plain) (e : Option Plain) (o : Option Members) → (name_cmp k l ≡ Equal → ⊥)
@@ -67,20 +61,16 @@ put_inside k l p (Some q) None apart = refl
 put_inside k l p (Some q) (Some f) apart = ap Some (sym (swapped k l p q f apart))
 
 -- a member inserted among the data is inserted in the plain value too
-whole_put_at : (k l : List ℕ) (d e : data'.Data) (p : Plain) (ds : data'.Members) (o : Ordering)
-    → slice_cmp nat_cmp k l ≡ o → whole_value d ≡ Some p
-    → (name_cmp k l ≡ Equal → ⊥) → whole_members (data'.put k d ds) ≡ option_map (put k p) (whole_members ds)
-    → whole_members (match_ordering o (data'.member k d (data'.member l e ds)) (data'.member l d ds) (data'.member l e (data'.put k d ds)))
-    ≡ option_map (put k p) (whole_members (data'.member l e ds))
-whole_put_at k l d e p ds Less is w apart ih = rw w refl
-whole_put_at k l d e p ds Equal is w apart ih = absurd (apart (tied_from_bytes k l is))
-whole_put_at k l d e p ds Greater is w apart ih =
-    ap (λ o. option_and_then (λ q. option_map (put l q) o) (whole_value e)) ih ∙ put_inside k l p (whole_value e) (whole_members ds) apart
-
 pub whole_put : (k : List ℕ) (d : data'.Data) (p : Plain) (ds : data'.Members) → whole_value d ≡ Some p → IsFresh k ds
     → whole_members (data'.put k d ds) ≡ option_map (put k p) (whole_members ds)
 whole_put k d p data'.no_members w h = rw w refl
-whole_put k d p (data'.member l e ds) w h = whole_put_at k l d e p ds _ refl w h.0 (whole_put k d p ds w h.1)
+whole_put k d p (data'.member l e ds) w h =
+    by_order (λ o. whole_members (match_ordering o (data'.member k d (data'.member l e ds)) (data'.member l d ds) (data'.member l e (data'.put k d ds)))
+    ≡ option_map (put k p) (whole_members (data'.member l e ds))) (slice_cmp nat_cmp k l)
+    (λ is. rw w refl) (λ is. absurd (h.0 (tied_from_bytes k l is)))
+    (λ is.
+    ap (λ there. option_and_then (λ q. option_map (put l q) there) (whole_value e)) (whole_put k d p ds w h.1)
+    ∙ put_inside k l p (whole_value e) (whole_members ds) h.0)
 
 abbrev pub AllFresh : Members → data'.Members → Type 0
 AllFresh no_members ds = Unit {0}

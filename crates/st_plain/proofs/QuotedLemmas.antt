@@ -45,13 +45,13 @@ module _ (all : Type 0) (rest behind word : List ℕ) (b : ℕ) (words : List �
   )
 
 -- the bytes before the first escaped one are skipped at once
-pub first_run : (bytes inside run rest word others : List ℕ) → bytes ≡ 34 ∷ inside → inside ≡ run ++ rest
+pub first_run : (bytes run rest word others : List ℕ) → bytes ≡ 34 ∷ (run ++ rest)
     → flat_map escape word ≡ run ++ flat_map escape others → (bytes ≡ quoted word) ↔ IsRest rest others
-first_run bytes inside run rest word others opened parts escaped =
+first_run bytes run rest word others parts escaped =
     let whole : flat_map escape word ++ 34 ∷ [] ≡ run ++ (flat_map escape others ++ 34 ∷ []) =
     ap (λ front. front ++ 34 ∷ []) escaped ∙ append_assoc run (flat_map escape others) (34 ∷ []) in (
-      λ it. append_cancel_left run rest (flat_map escape others ++ 34 ∷ []) (sym parts ∙ ap (drop 1) (sym opened ∙ it) ∙ whole),
-      λ same. opened ∙ ap (λ front. 34 ∷ front) (parts ∙ ap (λ behind. run ++ behind) same ∙ sym whole),
+      λ it. append_cancel_left run rest (flat_map escape others ++ 34 ∷ []) (ap (drop 1) (sym parts ∙ it) ∙ whole),
+      λ same. parts ∙ ap (λ front. 34 ∷ front) (ap (λ behind. run ++ behind) same ∙ sym whole),
     )
 
 pub at_the_end : (all : Type 0) (rest words : List ℕ) (same : Bool) → words ≡ [] → IsTrue same ↔ (rest ≡ 34 ∷ []) → (all ↔ IsRest rest words)

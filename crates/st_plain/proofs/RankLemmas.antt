@@ -1,6 +1,6 @@
 -- The order of names by their UTF-16 code units is that of the ranks of their bytes in UTF-8.
 use Rattle.std.proofs.Common.{◌≡◌, ℕ, ◌+◌, ◌-◌, ◌/◌, ◌%◌, ◌<◌, ◌≤◌, ◌⊎◌, inl, inr, nat_lt, Bool, true, false, cond, List, [], ◌∷◌, ◌++◌, map}
-use Rattle.std.proofs.Common.{Ordering, Less, Equal, Greater, refl, sym, ap, ap₂, ◌∙◌, arith}
+use Rattle.std.proofs.Common.{Ordering, Less, Equal, Greater, refl, subst, sym, ap, ap₂, ◌∙◌, arith}
 use Rattle.std.specs.Char.Escape.{encode_utf16}
 use Rattle.std.specs.Cmp.{nat_cmp_is, ranked}
 use Rattle.std.specs.Cmp.Lexicographic.{slice_cmp, nat_list_cmp_total}
@@ -275,33 +275,6 @@ same_place c d (high a b) (three e f) is = absurd (omega (arith, is))
 same_place c d (high a b) (four e f) is = absurd (omega (arith, is))
 same_place c d (high a b) (high e f) is = omega (arith, is)
 
-module _ (c d : ℕ) (k : Kind c) (l : Kind d) (xs ys us vs : List ℕ) where
-  both_less : place c k < place d l
-      → slice_cmp nat_cmp (encode_utf16 c ++ xs) (encode_utf16 d ++ ys) ≡ slice_cmp nat_cmp (map rank (encode c) ++ us) (map rank (encode d) ++ vs)
-  both_less lt =
-      ap₂ (λ p q. slice_cmp nat_cmp (p ++ xs) (q ++ ys)) (units_are c k) (units_are d l) ∙ units_below c d xs ys k l lt
-      ∙ sym (ranks_below c d us vs k l lt) ∙ sym (ap₂ (λ p q. slice_cmp nat_cmp (p ++ us) (q ++ vs)) (ranks_are c k) (ranks_are d l))
-
-both_same : (c d : ℕ) (xs ys us vs : List ℕ) → c ≡ d → slice_cmp nat_cmp xs ys ≡ slice_cmp nat_cmp us vs
-    → slice_cmp nat_cmp (encode_utf16 c ++ xs) (encode_utf16 d ++ ys) ≡ slice_cmp nat_cmp (map rank (encode c) ++ us) (map rank (encode d) ++ vs)
-both_same c d xs ys us vs same rest =
-    ap (λ e. slice_cmp nat_cmp (encode_utf16 c ++ xs) (encode_utf16 e ++ ys)) (sym same) ∙ same_front (encode_utf16 c) xs ys ∙ rest
-    ∙ sym (same_front (map rank (encode c)) us vs) ∙ ap (λ e. slice_cmp nat_cmp (map rank (encode c) ++ us) (map rank (encode e) ++ vs)) same
-
-next_character : (c d : ℕ) (k : Kind c) (l : Kind d) (xs ys us vs : List ℕ) → slice_cmp nat_cmp xs ys ≡ slice_cmp nat_cmp us vs
-    → slice_cmp nat_cmp (encode_utf16 c ++ xs) (encode_utf16 d ++ ys) ≡ slice_cmp nat_cmp (map rank (encode c) ++ us) (map rank (encode d) ++ vs)
-next_character c d k l xs ys us vs rest = at (nat_cmp (place c k) (place d l)) (ranked _ _ (nat_cmp (place c k) (place d l)) refl)
-  where
-    at : (o : Ordering) → MatchOrdering o (place c k < place d l) (place c k ≡ place d l) (place d l < place c k)
-        → slice_cmp nat_cmp (encode_utf16 c ++ xs) (encode_utf16 d ++ ys) ≡ slice_cmp nat_cmp (map rank (encode c) ++ us) (map rank (encode d) ++ vs)
-    at Less lt = both_less c d k l xs ys us vs lt
-    at Equal is = both_same c d xs ys us vs (same_place c d k l is) rest
-    at Greater gt =
-        nat_list_cmp_total.antisymm (encode_utf16 c ++ xs) (encode_utf16 d ++ ys) ∙ ap ordering_reverse (both_less d c l k ys xs vs us gt)
-        ∙ sym (nat_list_cmp_total.antisymm (map rank (encode c) ++ us) (map rank (encode d) ++ vs))
-
--- ---- texts
-
 some_units : (c : ℕ) (k : Kind c) (rest : List ℕ) → slice_cmp nat_cmp [] (units_of c k ++ rest) ≡ Less
 some_units c (one a) rest = refl
 some_units c (two a b) rest = refl
@@ -316,31 +289,60 @@ some_ranks c (three a b) rest = refl
 some_ranks c (four a b) rest = refl
 some_ranks c (high a b) rest = refl
 
-none_first : (c : ℕ) (k : Kind c) (xs us : List ℕ)
-    → slice_cmp nat_cmp [] (encode_utf16 c ++ xs) ≡ slice_cmp nat_cmp [] (map rank (encode c) ++ us)
-none_first c k xs us =
-    ap (λ p. slice_cmp nat_cmp [] (p ++ xs)) (units_are c k) ∙ some_units c k xs
-    ∙ sym (ap (λ p. slice_cmp nat_cmp [] (p ++ us)) (ranks_are c k) ∙ some_ranks c k us)
+-- ---- texts
 
-texts_ranked : (cs ds : List ℕ) → scalars cs ≡ true → scalars ds ≡ true
-    → slice_cmp nat_cmp (flat_map encode_utf16 cs) (flat_map encode_utf16 ds) ≡ slice_cmp nat_cmp (map rank (encodes cs)) (map rank (encodes ds))
+-- two texts are ordered alike by their units and by their ranks
+abbrev AreRanked : List ℕ → List ℕ → Type 0
+AreRanked cs ds =
+    slice_cmp nat_cmp (flat_map encode_utf16 cs) (flat_map encode_utf16 ds) ≡ slice_cmp nat_cmp (map rank (encodes cs)) (map rank (encodes ds))
+
+ranked_in_turn : (cs ds : List ℕ) → AreRanked cs ds → AreRanked ds cs
+ranked_in_turn cs ds are =
+    nat_list_cmp_total.antisymm (flat_map encode_utf16 ds) (flat_map encode_utf16 cs) ∙ ap ordering_reverse are
+    ∙ sym (nat_list_cmp_total.antisymm (map rank (encodes ds)) (map rank (encodes cs)))
+
+module _ (c : ℕ) (k : Kind c) (cs : List ℕ) where
+  first_units : flat_map encode_utf16 (c ∷ cs) ≡ units_of c k ++ flat_map encode_utf16 cs
+  first_units = ap (λ p. p ++ flat_map encode_utf16 cs) (units_are c k)
+
+  first_ranks : map rank (encodes (c ∷ cs)) ≡ ranks_of c k ++ map rank (encodes cs)
+  first_ranks = map-append rank (encode c) (encodes cs) ∙ ap (λ p. p ++ map rank (encodes cs)) (ranks_are c k)
+
+  none_first : AreRanked [] (c ∷ cs)
+  none_first =
+      ap (slice_cmp nat_cmp []) first_units ∙ some_units c k (flat_map encode_utf16 cs)
+      ∙ sym (ap (slice_cmp nat_cmp []) first_ranks ∙ some_ranks c k (map rank (encodes cs)))
+
+both_less : (c d : ℕ) (k : Kind c) (l : Kind d) (cs ds : List ℕ) → place c k < place d l → AreRanked (c ∷ cs) (d ∷ ds)
+both_less c d k l cs ds lt =
+    ap₂ (slice_cmp nat_cmp) (first_units c k cs) (first_units d l ds)
+    ∙ units_below c d (flat_map encode_utf16 cs) (flat_map encode_utf16 ds) k l lt
+    ∙ sym (ranks_below c d (map rank (encodes cs)) (map rank (encodes ds)) k l lt)
+    ∙ sym (ap₂ (slice_cmp nat_cmp) (first_ranks c k cs) (first_ranks d l ds))
+
+both_same : (c : ℕ) (cs ds : List ℕ) → AreRanked cs ds → AreRanked (c ∷ cs) (c ∷ ds)
+both_same c cs ds rest =
+    same_front (encode_utf16 c) (flat_map encode_utf16 cs) (flat_map encode_utf16 ds) ∙ rest
+    ∙ sym (same_front (map rank (encode c)) (map rank (encodes cs)) (map rank (encodes ds)))
+    ∙ sym (ap₂ (slice_cmp nat_cmp) (map-append rank (encode c) (encodes cs)) (map-append rank (encode c) (encodes ds)))
+
+next_character : (c d : ℕ) (k : Kind c) (l : Kind d) (cs ds : List ℕ) → AreRanked cs ds → AreRanked (c ∷ cs) (d ∷ ds)
+next_character c d k l cs ds rest = at (nat_cmp (place c k) (place d l)) (ranked _ _ (nat_cmp (place c k) (place d l)) refl)
+  where
+    at : (o : Ordering) → MatchOrdering o (place c k < place d l) (place c k ≡ place d l) (place d l < place c k)
+        → AreRanked (c ∷ cs) (d ∷ ds)
+    at Less lt = both_less c d k l cs ds lt
+    at Equal is = subst (λ e. AreRanked (c ∷ cs) (e ∷ ds)) (same_place c d k l is) (both_same c cs ds rest)
+    at Greater gt = ranked_in_turn (d ∷ ds) (c ∷ cs) (both_less d c l k ds cs gt)
+
+texts_ranked : (cs ds : List ℕ) → scalars cs ≡ true → scalars ds ≡ true → AreRanked cs ds
 texts_ranked [] [] u v = refl
-texts_ranked [] (d ∷ ds) u v =
-    let parts = and_parts (scalar d) (scalars ds) v in
-    none_first d (kind_of d parts.0) (flat_map encode_utf16 ds) (map rank (encodes ds))
-    ∙ ap (slice_cmp nat_cmp []) (sym (map-append rank (encode d) (encodes ds)))
-texts_ranked (c ∷ cs) [] u v =
-    let parts = and_parts (scalar c) (scalars cs) u in
-    nat_list_cmp_total.antisymm (flat_map encode_utf16 (c ∷ cs)) []
-    ∙ ap ordering_reverse (none_first c (kind_of c parts.0) (flat_map encode_utf16 cs) (map rank (encodes cs))
-    ∙ ap (slice_cmp nat_cmp []) (sym (map-append rank (encode c) (encodes cs))))
-    ∙ sym (nat_list_cmp_total.antisymm (map rank (encodes (c ∷ cs))) [])
+texts_ranked [] (d ∷ ds) u v = none_first d (kind_of d (and_parts (scalar d) (scalars ds) v).0) ds
+texts_ranked (c ∷ cs) [] u v = ranked_in_turn [] (c ∷ cs) (none_first c (kind_of c (and_parts (scalar c) (scalars cs) u).0) cs)
 texts_ranked (c ∷ cs) (d ∷ ds) u v =
     let first = and_parts (scalar c) (scalars cs) u in
     let second = and_parts (scalar d) (scalars ds) v in
-    next_character c d (kind_of c first.0) (kind_of d second.0) (flat_map encode_utf16 cs) (flat_map encode_utf16 ds)
-    (map rank (encodes cs)) (map rank (encodes ds)) (texts_ranked cs ds first.1 second.1)
-    ∙ ap₂ (slice_cmp nat_cmp) (sym (map-append rank (encode c) (encodes cs))) (sym (map-append rank (encode d) (encodes ds)))
+    next_character c d (kind_of c first.0) (kind_of d second.0) cs ds (texts_ranked cs ds first.1 second.1)
 
 pub names_ranked : (a b : List ℕ) → IsUtf8 a → IsUtf8 b → name_cmp a b ≡ slice_cmp nat_cmp (map rank a) (map rank b)
 names_ranked a b u v =

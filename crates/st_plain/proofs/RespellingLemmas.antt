@@ -126,7 +126,7 @@ pub list_written : (there : Option Items) (before one two three : List ℕ) → 
     → IsWritten ItemsAreProper (canonical_items false) there one two → three ≡ two ++ 93 ∷ []
     → IsWritten IsProper canonical (option_map list there) before three
 list_written there before one two three first h third =
-    (91 ∷ (h.0 ++ 93 ∷ []), in_brackets before h.0 one two three 91 93 first h.1 third, list_spelled there h.0 h.2)
+    (91 ∷ (h.0 ++ 93 ∷ []), third ∙ in_brackets before h.0 one two 91 93 first h.1, list_spelled there h.0 h.2)
 
 object_spelled : (there : Option Members) (t : List ℕ) → Spells MembersAreProper (canonical_members false) there t
     → Spells IsProper canonical (option_map object there) (123 ∷ (t ++ 125 ∷ []))
@@ -137,7 +137,7 @@ pub object_written : (there : Option Members) (before one two three : List ℕ) 
     → IsWritten MembersAreProper (canonical_members false) there one two → three ≡ two ++ 125 ∷ []
     → IsWritten IsProper canonical (option_map object there) before three
 object_written there before one two three first h third =
-    (123 ∷ (h.0 ++ 125 ∷ []), in_brackets before h.0 one two three 123 125 first h.1 third, object_spelled there h.0 h.2)
+    (123 ∷ (h.0 ++ 125 ∷ []), third ∙ in_brackets before h.0 one two 123 125 first h.1, object_spelled there h.0 h.2)
 
 -- ---- items
 
@@ -308,25 +308,25 @@ no_member : (k : List ℕ) (old : data'.Members) (more : Parse json.Members) (o 
 no_member k old more None e = refl
 no_member k old more (Some q) e = without_member k q.0 old (none_converted q.1 (of_json q.0) e) (more q.1)
 
-module _ (old : data'.Members) (p : Parse json.Json) where
-  pub next_member_data : (n : ℕ) (ts s r : Tokens) (k : List ℕ) (d : Data) → 0 < n → read_key ts ≡ Some (Some k, s) → converted of_json (p s) ≡ Some (d, r)
+pub member_refused : (old : data'.Members) (p : Parse json.Json) (n : ℕ) (ts s : Tokens) (k : List ℕ) → read_key ts ≡ Some (Some k, s)
+    → converted of_json (p s) ≡ None → converted (λ ms. of_members ms old) (members p n ts) ≡ None
+unfolding members
+member_refused old p zero ts s k named e = refl
+member_refused old p (suc n) ts s k named e = rw named (no_member k old (members p n) (p s) e)
+
+module _ (old : data'.Members) (p : Parse json.Json) (n : ℕ) (ts : Tokens) where
+  pub next_member_data : (s r : Tokens) (k : List ℕ) (d : Data) → 0 < n → read_key ts ≡ Some (Some k, s) → converted of_json (p s) ≡ Some (d, r)
       → converted (λ ms. of_members ms old) (members p n ts) ≡ converted (λ ms. of_members ms (data'.put k d old)) (members p (n - 1) r)
-  next_member_data n ts s r k d some named e =
+  next_member_data s r k d some named e =
       let first = was_read of_json (p s) d r e in
       ap (converted (λ ms. of_members ms old)) (members_more p n k ts s r first.spelled some named first.is) ∙ with_member k first.spelled d old first.gives _
 
-  pub member_refused : (n : ℕ) (ts s : Tokens) (k : List ℕ) → read_key ts ≡ Some (Some k, s) → converted of_json (p s) ≡ None
-      → converted (λ ms. of_members ms old) (members p n ts) ≡ None
-  unfolding members
-  member_refused zero ts s k named e = refl
-  member_refused (suc n) ts s k named e = rw named (no_member k old (members p n) (p s) e)
+  pub key_refused : read_key ts ≡ None → converted (λ ms. of_members ms old) (members p n ts) ≡ None
+  key_refused e = ap (converted (λ ms. of_members ms old)) (members_no_key p n ts e)
 
-  pub key_refused : (n : ℕ) (ts : Tokens) → read_key ts ≡ None → converted (λ ms. of_members ms old) (members p n ts) ≡ None
-  key_refused n ts e = ap (converted (λ ms. of_members ms old)) (members_no_key p n ts e)
-
-  pub members_data_over : (n : ℕ) (ts r : Tokens) → length ts ≤ n → read_key ts ≡ Some (None, r)
+  pub members_data_over : (r : Tokens) → length ts ≤ n → read_key ts ≡ Some (None, r)
       → converted (λ ms. of_members ms old) (members p n ts) ≡ Some (old, r)
-  members_data_over n ts r enough e = ap (converted (λ ms. of_members ms old)) (members_end p n ts r enough e)
+  members_data_over r enough e = ap (converted (λ ms. of_members ms old)) (members_end p n ts r enough e)
 
 -- ---- a refusal that is passed on
 

@@ -25,10 +25,10 @@ mapped f P None holds = holds
 mapped f P (Some a) holds = holds
 
 -- a text between brackets
-pub in_brackets : (before inside one two three : List ℕ) (left right : ℕ) → one ≡ before ++ left ∷ [] → two ≡ one ++ inside
-    → three ≡ two ++ right ∷ [] → three ≡ before ++ (left ∷ (inside ++ right ∷ []))
-in_brackets before inside one two three left right first second third =
-    third ∙ ap (λ text. text ++ right ∷ []) (second ∙ ap (λ text. text ++ inside) first)
+pub in_brackets : (before inside one two : List ℕ) (left right : ℕ) → one ≡ before ++ left ∷ []
+    → two ≡ one ++ inside → two ++ right ∷ [] ≡ before ++ (left ∷ (inside ++ right ∷ []))
+in_brackets before inside one two left right first second =
+    ap (λ text. text ++ right ∷ []) (second ∙ ap (λ text. text ++ inside) first)
     ∙ append_assoc (before ++ left ∷ []) inside (right ∷ []) ∙ append_assoc before (left ∷ []) (inside ++ right ∷ [])
 
 -- ---- names that ascend

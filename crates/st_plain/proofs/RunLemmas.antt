@@ -1,7 +1,6 @@
 -- Bytes of a text that need no escape.
-use Rattle.std.proofs.Common.{◌≡◌, ℕ, inl, inr, ◌≤◌, List, ◌++◌, true, length, take, drop, sym, ap, ◌∙◌, arith, get_or-take}
+use Rattle.std.proofs.Common.{◌≡◌, ℕ, ◌≤◌, List, ◌++◌, true, length, take, drop, sym, ap, ◌∙◌, arith, get_or-take}
 use Rattle.std.specs.List.{flat_map}
-use Rattle.std.proofs.lemmas.Bool.{cases_lt}
 use Rattle.std.proofs.lemmas.List.{length-take-le, take-append-drop}
 use Rattle.std.proofs.lemmas.List.Concat.{flat_map-append}
 use Rattle.json.specs.Run.{is_plain}
@@ -25,11 +24,3 @@ run_first xs n within plain =
     ap (flat_map escape) (sym (take-append-drop n xs))
     ∙ flat_map-append escape (take n xs) (drop n xs)
     ∙ ap (λ front. front ++ flat_map escape (drop n xs)) (plain_front xs n within plain)
-
--- two runs that meet or overlap are one
-pub joined_runs : (xs : List ℕ) (first second after last : ℕ) → second ≤ first → last ≤ after → PlainBetween xs 0 first → PlainBetween xs second after
-    → PlainBetween xs 0 last
-joined_runs xs first second after last over ends front behind k low high = elim (cases_lt k first) [
-  | inl sooner ↦ front k low sooner
-  | inr later ↦ behind k (omega (arith, over, later)) (omega (arith, ends, high))
-]

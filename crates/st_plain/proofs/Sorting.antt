@@ -6,7 +6,7 @@ use Rattle.std.specs.Cmp.{IsStrictWeakOrder}
 use Rattle.std.specs.List.{filter, AllByRecursion}
 use Rattle.std.specs.List.Sorted.{IsStrictlySortedBy, IsSortedBy, IsStableBy, ties}
 use Rattle.std.specs.Map.{keys_of}
-use Rattle.std.specs.Ordering.{is_lt, ordering_reverse}
+use Rattle.std.specs.Ordering.{is_lt, match_ordering, ordering_reverse}
 use Rattle.std.proofs.lemmas.Cmp.{tied_itself}
 use Rattle.std.proofs.lemmas.List.MinMax.{ranks_by}
 use Rattle.std.proofs.lemmas.List.Sorted.{sorted_far}
@@ -89,7 +89,7 @@ module _ {X : Type 0} where
       → AllByRecursion P (keys_of (placed e es))
   all_placed P e [] p all = (p, tt)
   all_placed P e (f ∷ fs) p all =
-      by_order (λ es. AllByRecursion P (keys_of es)) (name_cmp e.0 f.0) (e ∷ f ∷ fs) (e ∷ fs) (f ∷ placed e fs)
+      by_order (λ o. AllByRecursion P (keys_of (match_ordering o (e ∷ f ∷ fs) (e ∷ fs) (f ∷ placed e fs)))) (name_cmp e.0 f.0)
       (λ is. (p, all)) (λ is. (p, all.1)) (λ is. (all.0, all_placed P e fs p all.1))
 
   pub ascend_placed : (e : List ℕ × X) (es : List (List ℕ × X)) → NamesAscend es → NamesAscend (placed e es)
@@ -98,7 +98,7 @@ module _ {X : Type 0} where
   ascend_placed e (f ∷ fs) ascend =
       let above = all_above e.0 f.0 in
       let tied = all_above_tied e.0 f.0 in
-      by_order NamesAscend (name_cmp e.0 f.0) (e ∷ f ∷ fs) (e ∷ fs) (f ∷ placed e fs)
+      by_order (λ o. NamesAscend (match_ordering o (e ∷ f ∷ fs) (e ∷ fs) (f ∷ placed e fs))) (name_cmp e.0 f.0)
       (λ is. ((is, above is (keys_of fs) ascend.0), ascend))
       (λ is. (tied is (keys_of fs) ascend.0, ascend.1))
       (λ is. (all_placed (λ n. name_cmp f.0 n ≡ Less) e fs (less_from_greater e.0 f.0 is) ascend.0, ascend_placed e fs ascend.1))
@@ -141,7 +141,7 @@ module _ {X : Type 0} where
   filter_placed x e (f ∷ fs) differ =
       let old = filter (tie x) fs in
       let new = filter (tie x) (placed e fs) in
-      by_order (λ es. filter (tie x) es ≡ filter (tie x) (e ∷ f ∷ fs)) (name_cmp e.0 f.0) (e ∷ f ∷ fs) (e ∷ fs) (f ∷ placed e fs)
+      by_order (λ o. filter (tie x) (match_ordering o (e ∷ f ∷ fs) (e ∷ fs) (f ∷ placed e fs)) ≡ filter (tie x) (e ∷ f ∷ fs)) (name_cmp e.0 f.0)
       (λ is. refl)
       (λ is. absurd (differ.0 is))
       (λ is. passed (tie x f) (tie x e) e f old new (λ a b. no_two x e f is b a) (filter_placed x e fs differ.1))

@@ -40,48 +40,47 @@ shorter : (n value behind left rest : List ℕ) → left ≡ quoted n ++ 58 ∷ 
 shorter n value behind left rest parts same =
     omega (arith, no_longer rest, ap length parts, ap length same, length-append (quoted n) (58 ∷ (value ++ behind)), length-append value behind)
 
-member_next : (left name after value rest n : List ℕ) (p : Plain) (ms : Members) → IsTextOf (123 ∷ left) (object (member n p ms))
-    → left ≡ member_text n p ms → Splits left name after → Splits (behind_first after) value rest
-    → IsNextMember left name value (behind_comma rest)
-member_next left name after value rest n p ms is parts splits again =
-    let cut = splits (text n) (58 ∷ (canonical p ++ members_behind ms)) is.proper.0 parts refl in
-    let behind = again p (members_behind ms) is.proper.2 (ap behind_first cut.1) (members_follow ms) in
-    let first : IsTextOf value p = record { proper = is.proper.2; shallow = omega (arith, is.shallow); spelled = sym behind.0 } in
-    let others : IsTextOf (123 ∷ behind_comma rest) (object ms) = record {
-      proper = is.proper.3;
-      shallow = omega (arith, is.shallow);
-      spelled = members_again ms ∙ ap (λ bytes. 123 ∷ behind_comma bytes) (sym behind.1);
-    } in
-    record {
-      word = n;
-      utf8 = is.proper.0;
-      named = cut.0;
-      first = is_text value p first;
-      others = is_text (123 ∷ behind_comma rest) (object ms) others;
-      listed = members_left-object left (member n p ms) is
-          ∙ same_member n p _ ms _ (sym (value_of-text value p first)) (sym (members_left-object (behind_comma rest) ms others));
-      shorter = shorter n (canonical p) (members_behind ms) left rest parts behind.1;
-    }
-
-member_of : (left name after value rest : List ℕ) (ms : Members) → IsTextOf (123 ∷ left) (object ms) → starts 125 left ≡ false
-    → Splits left name after → Splits (behind_first after) value rest → IsNextMember left name value (behind_comma rest)
-member_of left name after value rest no_members is some splits again =
-    let same : 125 ∷ [] ≡ left = let e = is.spelled in cc in
-    let closed = ap (starts 125) same in
-    cc
-member_of left name after value rest (member n p ms) is some splits again =
-    let same : (quoted n ++ 58 ∷ (canonical p ++ canonical_members true ms)) ++ 125 ∷ [] ≡ left = let e = is.spelled in cc in
-    let parts = sym same ∙ append_assoc (quoted n) (58 ∷ (canonical p ++ canonical_members true ms)) (125 ∷ [])
-    ∙ ap (λ bytes. quoted n ++ 58 ∷ bytes) (append_assoc (canonical p) (canonical_members true ms) (125 ∷ [])) in
-    member_next left name after value rest n p ms is parts splits again
-
 as_object : (left : List ℕ) → IsText (123 ∷ left) → (ms : Members) × IsTextOf (123 ∷ left) (object ms)
 as_object left is = let here = is_object_here (123 ∷ left) is refl in (here.0, subst (IsTextOf (123 ∷ left)) here.1 is)
 
-pub next_member : (left name after value rest : List ℕ) → IsText (123 ∷ left) → starts 125 left ≡ false
-    → Splits left name after → Splits (behind_first after) value rest → IsNextMember left name value (behind_comma rest)
-next_member left name after value rest is some splits again =
-    let here = as_object left is in member_of left name after value rest here.0 here.1 some splits again
+module _ (left name after value rest : List ℕ) (splits : Splits left name after) (again : Splits (behind_first after) value rest) where
+  member_next : (n : List ℕ) (p : Plain) (ms : Members) → IsTextOf (123 ∷ left) (object (member n p ms)) → left ≡ member_text n p ms
+      → IsNextMember left name value (behind_comma rest)
+  member_next n p ms is parts =
+      let cut = splits (text n) (58 ∷ (canonical p ++ members_behind ms)) is.proper.0 parts refl in
+      let behind = again p (members_behind ms) is.proper.2 (ap behind_first cut.1) (members_follow ms) in
+      let first : IsTextOf value p = record { proper = is.proper.2; shallow = omega (arith, is.shallow); spelled = sym behind.0 } in
+      let others : IsTextOf (123 ∷ behind_comma rest) (object ms) = record {
+        proper = is.proper.3;
+        shallow = omega (arith, is.shallow);
+        spelled = members_again ms ∙ ap (λ bytes. 123 ∷ behind_comma bytes) (sym behind.1);
+      } in
+      record {
+        word = n;
+        utf8 = is.proper.0;
+        named = cut.0;
+        first = is_text value p first;
+        others = is_text (123 ∷ behind_comma rest) (object ms) others;
+        listed = members_left-object left (member n p ms) is
+            ∙ same_member n p _ ms _ (sym (value_of-text value p first)) (sym (members_left-object (behind_comma rest) ms others));
+        shorter = shorter n (canonical p) (members_behind ms) left rest parts behind.1;
+      }
+
+  member_of : (ms : Members) → IsTextOf (123 ∷ left) (object ms) → starts 125 left ≡ false
+      → IsNextMember left name value (behind_comma rest)
+  member_of no_members is some =
+      let same : 125 ∷ [] ≡ left = let e = is.spelled in cc in
+      let closed = ap (starts 125) same in
+      cc
+  member_of (member n p ms) is some =
+      let same : (quoted n ++ 58 ∷ (canonical p ++ canonical_members true ms)) ++ 125 ∷ [] ≡ left = let e = is.spelled in cc in
+      let parts = sym same ∙ append_assoc (quoted n) (58 ∷ (canonical p ++ canonical_members true ms)) (125 ∷ [])
+      ∙ ap (λ bytes. quoted n ++ 58 ∷ bytes) (append_assoc (canonical p) (canonical_members true ms) (125 ∷ [])) in
+      member_next n p ms is parts
+
+  pub next_member : IsText (123 ∷ left) → starts 125 left ≡ false
+      → IsNextMember left name value (behind_comma rest)
+  next_member is some = let here = as_object left is in member_of here.0 here.1 some
 
 none_of : (left : List ℕ) (ms : Members) → IsTextOf (123 ∷ left) (object ms) → starts 125 left ≡ true → members_left left ≡ no_members
 none_of left no_members is none = members_left-object left no_members is

@@ -5,14 +5,14 @@ use Rattle.std.proofs.lemmas.Bool.{cases_eq}
 use Rattle.std.proofs.lemmas.List.{drop-drop, drop-replicate, drop_at, get_or-take, length-drop, length-replicate, length-take-le, replicate-append-replicate, take-replicate, take_at}
 use Rattle.st_base.specs.Answers.{holds_or}
 use Rattle.st_io.proofs.PastLemmas.{goes_on}
-use Rattle.st_io.specs.Past.{Past, AddsNoImage, Images, GoesOn, AddsNone, Follow, Only, Leaves}
+use Rattle.st_io.specs.Past.{Past, AddsNoImage, Images, GoesOn, Follow, Leaves}
 use Rattle.st_io.specs.Spent.{KeepsSpent}
 use Rattle.st_io.specs.Tears.{Torn, Holds}
 use Rattle.st_lms.specs.Keys.{SecretKey, IsSecretKey}
 use Rattle.st_vault.proofs.HeaderLemmas.{key_of_header-header_of, length-header_of}
 use Rattle.st_vault.proofs.ImageLemmas.{IsVault, Parts, kind-blank, unformatted-short, unformatted-shut}
 use Rattle.st_vault.proofs.MapLemmas.{nonzero-zeros}
-use Rattle.st_io.proofs.MomentLemmas.{only_after, over, stays_only, then_on, weaker}
+use Rattle.st_io.proofs.MomentLemmas.{over, then_on, weaker}
 use Rattle.st_vault.proofs.OpeningLemmas.{opened-parts}
 use Rattle.st_vault.proofs.SpentLemmas.{spent-whole, spent-none}
 use Rattle.st_vault.specs.Formatting.{IsFilled, IsFresh, IsNew, IsOldOrBlank, IsOldOrFresh, IsShut, behind_gate, formatted_image, unformatted, zeros}
@@ -132,10 +132,6 @@ opened_by key old image is holds =
     let long = ap length holds in
     opened_over key old image is (omega (arith, long, length-drop 1 old, is.long)) (ap (drop 1) holds) (ap (λ l. get_or l 0 0) holds)
 
--- then nothing else has changed
-pub opened_bytes : (old image : List ℕ) → Holds 0 (open_gate ∷ []) old image → image ≡ open_gate ∷ drop 1 old
-opened_bytes old image holds = holds
-
 -- ---- the whole
 
 -- the bytes after the gate, and then the gate
@@ -164,13 +160,14 @@ spent_on key old image q there = ⊎_elim
     (λ fresh. absurd (spent-none old q fresh.0 there))
 
 -- over the first sync and the steps
-pub formatting_keeps : (key : SecretKey) (old : List ℕ) (a b c : Past) → Images a old → GoesOn a b → AddsNone a b → Leaves (IsOldOrFresh key old) b c → KeepsSpent IsSpent a c
-formatting_keeps key old a b c image goes none leaves = record {
-  goes = goes_on a b c goes leaves.goes;
+pub formatting_keeps : (key : SecretKey) (old : List ℕ) (a b c : Past) → Images a old → AddsNoImage a b
+    → Leaves (IsOldOrFresh key old) b c → KeepsSpent IsSpent a c
+formatting_keeps key old a b c image adds leaves = record {
+  goes = goes_on a b c adds.goes leaves.goes;
   stays = λ q all x left. ⊎_elim
-      (λ before. all x (none x before))
+      (λ before. all x (adds.none x before))
       (λ since. spent_on key old x q (all old image) (leaves.each x since))
-      (leaves.goes.splits a.now x goes.later left);
+      (leaves.goes.splits a.now x adds.goes.later left);
 }
 
 -- ---- the gate, shut in steps
@@ -188,24 +185,25 @@ pub shut-ok : (image : List ℕ) → IsShut image → unformatted image ≡ Ok t
 shut-ok image is = unformatted-ok image (unformatted-shut image is.gate)
 
 -- reading a short disk, and the write over it
-pub shut_moments : (a b c : Past) (old : List ℕ) → Only a old → AddsNoImage a b → length old < 64 → GoesOn b c → Follow (Torn 0 1) b c
-    → Leaves (IsOldOrBlank old) a c
-shut_moments a b c old only looked short goes follow =
-    then_on (IsOldOrBlank old) a b c (stays_only (IsOldOrBlank old) a b old only looked (λ x same. inl same))
-    (over (IsOldOrBlank old) (Torn 0 1) b c old (only_after a b old only looked) goes follow (λ x torn. shutting old x short torn))
+pub shut_moments : (a b c : Past) (old : List ℕ) → Leaves (λ x. x ≡ old) a b → length old < 64
+    → GoesOn b c → Follow (Torn 0 1) b c → Leaves (IsOldOrBlank old) a c
+shut_moments a b c old looked short goes follow =
+    let only = λ (x : List ℕ) (left : Images b x). looked.each x (b.earlier a.now b.now x looked.goes.later left) in
+    then_on (IsOldOrBlank old) a b c (weaker (λ x. x ≡ old) (IsOldOrBlank old) a b looked (λ x same. inl same))
+    (weaker (Torn 0 1 old) (IsOldOrBlank old) b c (over (Torn 0 1) b c old only goes follow) (λ x torn. shutting old x short torn))
 
 -- ---- shut, filled and opened
 
-ok_blank : (image : List ℕ) (done : Unit {0}) → unformatted image ≡ Ok done → kind_of image ≡ Blank
+pub ok_blank : (image : List ℕ) (done : Unit {0}) → unformatted image ≡ Ok done → kind_of image ≡ Blank
 ok_blank image done is = kind-blank image (by_test (is_formatted image) refl is)
   where
     by_test : (test : Bool) → is_formatted image ≡ test → holds_or (not test) Formatted ≡ Ok done → is_formatted image ≡ false
     by_test true found same = absurd (cc)
     by_test false found same = found
 
-pub made_moments : (key : SecretKey) (old : List ℕ) (done : Unit {0}) (a b c : Past) → unformatted old ≡ Ok done
+pub made_moments : (key : SecretKey) (old : List ℕ) (a b c : Past) → kind_of old ≡ Blank
     → Leaves (IsOldOrBlank old) a b → Leaves (IsFresh key) b c → Leaves (IsOldOrFresh key old) a c
-made_moments key old done a b c is first second =
+made_moments key old a b c blank first second =
     then_on (IsOldOrFresh key old) a b c
     (weaker (IsOldOrBlank old) (IsOldOrFresh key old) a b first (blank_or_fresh key old))
-    (weaker (IsFresh key) (IsOldOrFresh key old) b c second (λ x fresh. inr (ok_blank old done is, fresh)))
+    (weaker (IsFresh key) (IsOldOrFresh key old) b c second (λ x fresh. inr (blank, fresh)))

@@ -100,11 +100,9 @@ module _ (vault : VaultValue) (old : List ℕ) (opens : opened old ≡ Ok vault)
       (cases_eq (get_or new (64 + vault.next) 0) 0)
 
 -- over the whole call
-pub torn_moments : (vault : VaultValue) (place : ℕ) (a b : Past) → place ≡ vault.next → vault.next < count_of vault.key → AllOpenAs (Ok vault) a
-    → GoesOn a b → Follow (Torn (64 + place) 1) a b → Leaves (IsBeforeOrAfter vault) a b
-torn_moments vault place a b here left all goes follow = record {
+pub torn_moments : (vault : VaultValue) (a b : Past) → vault.next < count_of vault.key → AllOpenAs (Ok vault) a
+    → GoesOn a b → Follow (Torn (64 + vault.next) 1) a b → Leaves (IsBeforeOrAfter vault) a b
+torn_moments vault a b left all goes follow = record {
   goes = goes;
-  each = λ x since.
-      let from = follow x since in
-      torn_opens vault from.0 (all from.0 from.1) left x (subst (λ n. Torn (64 + n) 1 from.0 x) here from.2);
+  each = λ x since. let from = follow x since in torn_opens vault from.0 (all from.0 from.1) left x from.2;
 }

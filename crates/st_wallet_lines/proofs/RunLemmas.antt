@@ -15,9 +15,9 @@ use Rattle.st_drive.specs.Spending.{EndsOpened, spending}
 use Rattle.st_drive.specs.Streams.{Streams, Tells, Unread}
 use Rattle.st_drive.specs.Tables.{AnsweredFirst, AnswersLines}
 use Rattle.st_drive.proofs.InputLemmas.{answered_input, answered_source, nothing_written}
-use Rattle.st_drive.proofs.OnDiskLemmas.{leaves_on_disk, run_opens}
+use Rattle.st_drive.proofs.OnDiskLemmas.{leaves_on_disk, run_on_disk, run_opens}
 use Rattle.st_drive.proofs.ReleasedLemmas.{none_in}
-use Rattle.st_drive.proofs.SpendingLemmas.{ends_opened, ends_standing, keeps_numbers, keeps_standing, kept_numbers, loses_one, spending_leaves, spending_opened, standing_leaves, stays_spent}
+use Rattle.st_drive.proofs.SpendingLemmas.{all_after, ends_opened, ends_standing, keeps_numbers, keeps_standing, kept_numbers, loses_one, spending_opened, spending_opens, stays_spent}
 use Rattle.st_drive.proofs.TableLemmas.{IsUnread, lines_by, not_begun, rose_before}
 use Rattle.st_vault.specs.Opening.{opened}
 use Rattle.st_wallet.proofs.CountersLemmas.{found_is, found_opens, spent_lie_below}
@@ -110,9 +110,10 @@ module _ {D : Type 0} (store : Store D) (faults : D → ℕ) {a b d : D} {found 
       subst (λ (f : Found). Opens (spending wallet_spender) (inr f) old (store.past b)) (sym is) (opens_standing image told opening) in
       record {
         numbers = λ k all. subst (λ f. RunLeaves (spending wallet_spender) f (inl k) lines written old (store.past d)) is
-            (spending_leaves wallet_spender store old still opening.stays first k all);
+            (run_on_disk (spending wallet_spender) store still first (inl k) old
+            (spending_opens wallet_spender k old (store.past b) opening.stays all) (all_after wallet_spender k old (store.past b) opening.stays all));
         wallet = subst (λ (f : Found). RunLeaves (spending wallet_spender) f (inr f) lines written old (store.past d)) is
-            (standing_leaves wallet_spender store old still stood (opening.all_found image same) first);
+            (run_on_disk (spending wallet_spender) store still first (inr found) old stood (opening.all_found image same));
       }
 
   ends_of_opened : {image : List ℕ} → store.reads a ≡ Some image → (input written : List ℕ) → Tells io input written

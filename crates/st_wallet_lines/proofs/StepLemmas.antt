@@ -1,24 +1,24 @@
 -- One line of the wallet.
-use Rattle.std.proofs.Common.{◌≡◌, ◌∙◌, inl, inr, ⊎_elim, ◌++◌, ℕ, List, [], ◌∷◌, Option, Some, None, Result, refl, subst, ap, sym}
+use Rattle.std.proofs.Common.{◌≡◌, ◌∙◌, inl, inr, ⊎_elim, ℕ, List, [], ◌∷◌, Option, Some, None, Result, refl, subst, sym}
 use Rattle.std.specs.Prelude.{IsSome}
+use Rattle.std.proofs.Math.Path.{subst₂}
 use Rattle.std.proofs.lemmas.Bool.{false≢true}
 use Rattle.st_io.specs.Past.{Past, Images, Leaves}
 use Rattle.st_io.specs.Spent.{KeepsSpent, SpentInAll}
 use Rattle.st_io.specs.Storage.{storage}
 use Rattle.st_io.specs.Tears.{IfTold}
-use Rattle.st_drive.specs.OnDisk.{GaveUpOnDisk, IsTold, RanOnDisk, Store, replies}
+use Rattle.st_drive.specs.OnDisk.{GaveUpOnDisk, IsTold, RanOnDisk, Store}
 use Rattle.st_drive.specs.Spending.{StandsForEither, spending}
-use Rattle.st_drive.proofs.OnDiskLemmas.{replied}
 use Rattle.st_drive.proofs.SpendingLemmas.{gave_up_spending, has_spent}
 use Rattle.st_vault.specs.Image.{IsSpent}
 use Rattle.st_wallet.specs.Found.{Found, IsFoundOn, opens}
-use Rattle.st_wallet.specs.Machine.{AnswersWith, answered}
+use Rattle.st_wallet.specs.Machine.{answered}
 use Rattle.st_wallet.specs.Steps.{AllFound, HasStepped, IsBeforeOrAfter, IsCounterSpent, StepsOn}
 use Rattle.st_wallet.specs.declared.refused.WalletRefused.{WalletRefused}
 use Rattle.st_wallet_lines.specs.Spender.{wallet_spender}
 
 -- a fact that does not depend on the contents
-told_of : (P : Type 0) (told : Option (List ℕ)) → IsSome told → IfTold told (λ image. P) → P
+pub told_of : (P : Type 0) (told : Option (List ℕ)) → IsSome told → IfTold told (λ image. P) → P
 told_of P None some fact = absurd (false≢true some)
 told_of P (Some image) some fact = fact image refl
 
@@ -34,7 +34,7 @@ same_found (Some image) past found before some is_image is all = sym (all image 
 
 module _ {D : Type 0} (store : Store D) (faults : D → ℕ) (found : Found) (line : List ℕ) (a b : D) (result : Result (Found × List ℕ) WalletRefused)
     (is_image : IfTold (store.reads a) (Images (store.past a))) (is : IsFoundOn (store.reads a) found)
-    (steps : StepsOn found (answered found line) (storage store.reads store.past faults a b) result) where
+    (steps : StepsOn found (answered found line) (storage store.reads store.past faults a b) result) {self : Found} (viewed : found ≡ self) where
   stays : IsTold store a → KeepsSpent IsSpent (store.past a) (store.past b)
   stays told = told_of (KeepsSpent IsSpent (store.past a) (store.past b)) (store.reads a) told steps.stays
 
@@ -51,44 +51,25 @@ module _ {D : Type 0} (store : Store D) (faults : D → ℕ) (found : Found) (li
       let same = same_found (store.reads a) (store.past a) found before told is_image is all in
       record { goes = left.goes; each = λ image since. ⊎_elim (λ was. inl (was ∙ sym same)) inr (left.each image since) }
 
-  pub ran_line : (next : Found) → HasStepped found (answered found line) (storage store.reads store.past faults a b) next
+  pub ran_line : (next : Found) {after : Found} → after ≡ next → HasStepped found (answered found line) (storage store.reads store.past faults a b) next
       → IfTold (store.reads a) (λ image. next ≡ (answered found line).next)
-      → RanOnDisk (spending wallet_spender) store found (tt, a) (line ∷ []) next (tt, b)
-  ran_line next has came = has_spent wallet_spender (record {
-    effect = tt;
-    told = λ t. told_of (IsSome (store.reads b)) (store.reads a) t has.told;
-    came = λ t. told_of (next ≡ (answered found line).next) (store.reads a) t came;
-    stays = stays;
-    given = λ t. spent_by (answered found line).counter (store.past b)
-        (told_of (IsCounterSpent (answered found line).counter (store.past b)) (store.reads a) t has.spent);
-    moments = moments;
-    now = λ t before all.
-        let then = told_of (AllFound found (store.past a) → AllFound next (store.past b)) (store.reads b)
-        (told_of (IsSome (store.reads b)) (store.reads a) t has.told) has.all_found (all_found t before all) in
-        subst (λ (f : Found). AllFound f (store.past b)) (told_of (next ≡ (answered found line).next) (store.reads a) t came) then;
-  })
+      → RanOnDisk (spending wallet_spender) store self (tt, a) (line ∷ []) after (tt, b)
+  ran_line next same has came =
+      subst₂ (λ (x y : Found). RanOnDisk (spending wallet_spender) store x (tt, a) (line ∷ []) y (tt, b)) viewed (sym same)
+      (has_spent wallet_spender (record {
+        effect = tt;
+        told = λ t. told_of (IsSome (store.reads b)) (store.reads a) t has.told;
+        came = λ t. told_of (next ≡ (answered found line).next) (store.reads a) t came;
+        stays = stays;
+        given = λ t. spent_by (answered found line).counter (store.past b)
+            (told_of (IsCounterSpent (answered found line).counter (store.past b)) (store.reads a) t has.spent);
+        moments = moments;
+        now = λ t before all.
+            let then = told_of (AllFound found (store.past a) → AllFound next (store.past b)) (store.reads b)
+            (told_of (IsSome (store.reads b)) (store.reads a) t has.told) has.all_found (all_found t before all) in
+            subst (λ (f : Found). AllFound f (store.past b)) (told_of (next ≡ (answered found line).next) (store.reads a) t came) then;
+      }))
 
-  pub gave_line : GaveUpOnDisk (spending wallet_spender) store found (tt, a) (line ∷ []) (tt, b)
-  gave_line = gave_up_spending wallet_spender (record { effect = tt; stays = stays; moments = moments })
-
--- the reply, and the later ones, of a wallet with an equal state that continues with an equal one
-pub replied_line : (told : Option (List ℕ)) (found self next after : Found) (line reply : List ℕ) → found ≡ self → after ≡ next
-    → IfTold told (λ image. AnswersWith (answered found line) (next, reply)) → IsSome told
-    → (more : List (List ℕ)) → replies (spending wallet_spender) self (line ∷ more) ≡ reply ++ replies (spending wallet_spender) after more
-replied_line told found self next after line reply is came answers some =
-    let both = told_of (AnswersWith (answered found line) (next, reply)) told some answers in
-    replied (spending wallet_spender) self after line reply
-    (both.1 ∙ ap (λ (f : Found). (answered f line).reply) is) (came ∙ both.0 ∙ ap (λ (f : Found). (answered f line).next) is)
-
--- the same if it gave up
-pub gave_as : {D : Type 0} {store : Store D} {found self : Found} {c d : Unit {0} × D} {lines : List (List ℕ)} → found ≡ self
-    → GaveUpOnDisk (spending wallet_spender) store found c lines d → GaveUpOnDisk (spending wallet_spender) store self c lines d
-gave_as {store = store} {c = c} {d = d} {lines = lines} is gave =
-    subst (λ (x : Found). GaveUpOnDisk (spending wallet_spender) store x c lines d) is gave
-
--- the same if it ran
-pub ran_as : {D : Type 0} {store : Store D} {found self next after : Found} {c d : Unit {0} × D} {lines : List (List ℕ)} → found ≡ self → after ≡ next
-    → RanOnDisk (spending wallet_spender) store found c lines next d → RanOnDisk (spending wallet_spender) store self c lines after d
-ran_as {store = store} {found = found} {after = after} {c = c} {d = d} {lines = lines} is came ran =
-    subst (λ (x : Found). RanOnDisk (spending wallet_spender) store x c lines after d) is
-    (subst (λ (x : Found). RanOnDisk (spending wallet_spender) store found c lines x d) (sym came) ran)
+  pub gave_line : GaveUpOnDisk (spending wallet_spender) store self (tt, a) (line ∷ []) (tt, b)
+  gave_line = subst (λ (x : Found). GaveUpOnDisk (spending wallet_spender) store x (tt, a) (line ∷ []) (tt, b)) viewed
+      (gave_up_spending wallet_spender (record { effect = tt; stays = stays; moments = moments }))

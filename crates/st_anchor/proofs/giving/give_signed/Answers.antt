@@ -1,8 +1,9 @@
-use Rattle.std.proofs.Common.{◌∙◌, ap, map, option_and_then, refl}
+use Rattle.std.proofs.Common.{◌≡◌, ◌∙◌, [], ◌∷◌, ◌++◌, ap, get_or, map, option_and_then, sym}
+use Rattle.std.proofs.lemmas.List.{map_push}
 use Rattle.std.specs.Prelude.{slice_get}
 use Rattle.st_anchor.specs.Gives.{beside, plain_given, with_suffix}
 use Rattle.st_anchor.specs.Kinds.{made}
-use Rattle.st_anchor.proofs.GivesLemmas.{entry-beside, given-all, given-more, inside-beside, past-beside}
+use Rattle.st_anchor.proofs.GivesLemmas.{at-beside, given-all, given-more, inside-beside, past-beside}
 use Rattle.st_anchor.proofs.giving.give_signed.Goals as goal
 
 pub targets-preserved : goal.targets-preserved
@@ -13,15 +14,17 @@ targets-preserved c =
     let proof = slice_get c.args.proofs.now c.targets.at in
     let delta = c.in_ok-delta.delta in
     let inside = inside-beside c.args.targets.now c.args.proofs.now c.targets.at c.targets-test.true in
-    ap (map plain_given) c.in_ok-push.ensures.ok
-    ∙ given-more plain_given with_suffix (λ entry. made c.args.kind entry.0.0 (option_and_then (λ proof. proof) entry.0.1) entry.1) (beside signed deltas) c.targets.at
-    ((target, proof), delta) c.signed_of.result c.targets.list (map plain_given c.args.list.now) (inside-beside signed deltas c.targets.at inside)
+    let first : (target, proof) ≡ get_or signed c.targets.at (target, proof) =
+    (λ i. (c.index-targets-at.is i, proof))
+    ∙ sym (at-beside c.args.targets.now c.args.proofs.now c.targets.at target (target, proof) c.targets-test.true) in
+    let is : ((target, proof), delta) ≡ get_or (beside signed deltas) c.targets.at ((target, proof), delta) =
+    (λ i. (first i, c.in_ok-delta.ensures i)) ∙ sym (at-beside signed deltas c.targets.at (target, proof) ((target, proof), delta) inside) in
+    ap (map plain_given) c.in_ok-push.ensures.ok ∙ map_push plain_given c.targets.list c.signed_of.result
+    ∙ ap (λ one. map plain_given c.targets.list ++ one ∷ [])
     (c.signed_of.ensures ∙ ap (λ opened. with_suffix (made c.args.kind target opened delta)) c.in_ok-proof.ensures
-    ∙ ap (λ entry. with_suffix (made c.args.kind entry.0.0 (option_and_then (λ proof. proof) entry.0.1) entry.1))
-    (entry-beside signed deltas c.targets.at (target, proof) delta ((target, proof), delta) inside
-    (entry-beside c.args.targets.now c.args.proofs.now c.targets.at target proof (target, proof) c.targets-test.true c.index-targets-at.is refl)
-    c.in_ok-delta.ensures))
-    c.targets.invariant
+    ∙ ap (λ entry. with_suffix (made c.args.kind entry.0.0 (option_and_then (λ proof. proof) entry.0.1) entry.1)) is)
+    ∙ given-more plain_given with_suffix (λ entry. made c.args.kind entry.0.0 (option_and_then (λ proof. proof) entry.0.1) entry.1) (beside signed deltas)
+    c.targets.at ((target, proof), delta) c.targets.list (map plain_given c.args.list.now) (inside-beside signed deltas c.targets.at inside) c.targets.invariant
 
 pub returns : goal.returns
 returns c =

@@ -4,12 +4,10 @@ use Rattle.st_anchor.proofs.CountLemmas.{decided_roles-small, decided_roles-with
 use Rattle.st_anchor.proofs.KnownLemmas.{known_from-rest, known_from-with}
 use Rattle.st_anchor.proofs.OnceLemmas.{gives-once, opened_proofs-few}
 use Rattle.st_anchor.specs.Known.{bound_with}
-use Rattle.st_hash.specs.Hash.{uri_of}
 use Rattle.st_anchor.proofs.laws.entry_laws.Goals as goal
 
 pub returns-clause-may_be_read : goal.returns-clause-may_be_read
-returns-clause-may_be_read c files bound role file come =
-    known_from-with role files bound (uri_of file) file come.missing come.there
+returns-clause-may_be_read c files bound role file come = known_from-with role files bound file come
 
 pub returns-clause-all_is_known : goal.returns-clause-all_is_known
 returns-clause-all_is_known c = known_from-rest

@@ -1,4 +1,4 @@
-use Rattle.std.proofs.Common.{◌∙◌, ap}
+use Rattle.std.proofs.Common.{◌∙◌, ap, option_map}
 use Rattle.st_anchor.specs.Known.{core_branch, core_in}
 use Rattle.st_anchor.specs.declared.part.Part.TheVariants.{Is}
 use Rattle.st_anchor.specs.declared.rule.Rule.TheVariants as fails
@@ -9,7 +9,7 @@ pub returns-in-Ok-clause-value : goal.returns-in-Ok-clause-value
 unfolding core_in
 returns-in-Ok-clause-value c =
     ap (λ branch. Is branch) c.new.ensures
-    ∙ judged-says fails.Core core_branch _ _ c.in-Ok.index c.in-Ok.ensures.answers.0 c.in-Ok.ensures.answers.1
+    ∙ judged-says fails.Core _ _ (core_branch c.in-Ok.index) c.in-Ok.ensures.answers.0 (ap (option_map core_branch) c.in-Ok.ensures.answers.1)
 
 pub returns-in-Err-Rejected-clause-value : goal.returns-in-Err-Rejected-clause-value
 unfolding core_in

@@ -1,4 +1,4 @@
-use Rattle.std.proofs.Common.{◌∙◌, sym, ap, subst, arith}
+use Rattle.std.proofs.Common.{◌∙◌, drop, sym, ap, subst, arith}
 use Rattle.st_params.specs.Limits.{limits_of}
 use Rattle.st_batch.specs.Kept.{IsKept}
 use Rattle.st_batch.proofs.FlushLemmas.{MayFlush, count_within, flushed, kept_left, some_taken}
@@ -25,7 +25,8 @@ returns-clause-flushed c =
       apart = c.len-length.ensures.unique;
       versioned = c.version-version.ensures.limits ∙ ap limits_of c.version-version.ensures.value;
     } in
-    flushed c.args.params.now c.args.queued.entries may c.in_ok-count.ensures.count c.in_ok-rest.ensures c.in_ok-count.ensures.batch
+    flushed c.args.params.now c.args.queued.entries may
+    (c.in_ok-rest.ensures ∙ ap (λ many. drop many c.args.queued.entries) c.in_ok-count.ensures.count) c.in_ok-count.ensures.batch
 
 pub returns-clause-kept : goal.returns-clause-kept
 returns-clause-kept c = subst IsKept (sym c.in_ok-rest.ensures) (kept_left c.in_ok-count.count c.args.queued.entries c.requires.kept)

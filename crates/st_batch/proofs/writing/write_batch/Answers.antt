@@ -31,7 +31,8 @@ returns-then-long-most c =
     let limits = c.args.params.now in
     let same = ap length (c.as_slice-long.ensures ∙ c.in_ok-core.ensures) in
     one_long limits c.args.count groups Core
-    (sym (filed_long limits Core (core_file groups) (lt-leb (length (core_file groups)) limits.max_index (omega (arith, c.if-long-most.true, same, c.max_index-most.ensures)))))
+    (sym (filed_long limits Core (core_file groups) (lt-leb (length (core_file groups)) limits.max_index
+    (omega (arith, c.if-long-most.true, same, c.max_index-most.ensures)))))
 
 pub returns : goal.returns
 unfolding files_of

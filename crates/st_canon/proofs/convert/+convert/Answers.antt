@@ -1,4 +1,4 @@
-use Rattle.std.proofs.Common.{◌≡◌, [], Some, sym, ap, ◌∙◌, subst}
+use Rattle.std.proofs.Common.{◌≡◌, [], ◌∷◌, ◌++◌, Some, sym, ap, ◌∙◌, subst}
 use Rattle.std.specs.Prelude.{ok_or}
 use Rattle.std.specs.List.Sorted.{IsStrictlySortedBy}
 use Rattle.std.specs.Map.{keys_of}
@@ -11,7 +11,7 @@ use Rattle.st_plain.specs.Reading.{whole_items, whole_members}
 use Rattle.st_plain.specs.declared.refused.ReadRefused.TheVariants.{NotWhole}
 use Rattle.st_plain.proofs.Outcomes.{whole_from}
 use Rattle.st_canon.specs.View.{plain_items, plain_members}
-use Rattle.st_canon.proofs.Converting.{ItemsSoFar, MembersSoFar, all_items, all_members, names_differ, one_more_item, one_more_member, one_more_name}
+use Rattle.st_canon.proofs.Converting.{ItemsSoFar, MembersSoFar, all_items, all_members, names_differ, names_in, one_more_item, one_more_member, one_more_name}
 use Rattle.st_canon.proofs.Kept.{members_proper, one_more_proper, one_more_proper_pair}
 use Rattle.st_canon.proofs.convert.+convert.Goals as goal
 
@@ -38,12 +38,13 @@ pub convert_members-loop-key-preserved : goal.convert_members-loop-key-preserved
 convert_members-loop-key-preserved t c =
     let all = c.into_iter-key-iterator.result in
     let so_far = subst (λ left. MembersSoFar all left c.loop-key.pairs.items) c.in-Some.ensures.steps c.loop-key.invariant.whole in
+    let named = subst (λ left. names_in all ≡ keys_of c.loop-key.pairs.items ++ names_in left) c.in-Some.ensures.steps c.loop-key.invariant.names in
     let name = c.text_of.ensures in
     rw c.in_ok-push.ensures.items record {
       whole = one_more_member all c.next.new.self c.loop-key.pairs.items c.in-Some.key c.in-Some.member so_far c.text_of.result c.in_ok-json.json name.value
           (whole_from _ _ c.in_ok-json.ensures.value);
-      names = one_more_name all c.loop-key.key-iterator c.next.new.self c.loop-key.pairs.items c.in-Some.key c.in-Some.member c.text_of.result c.in_ok-json.json
-          c.in-Some.ensures.steps name.value c.loop-key.invariant.names;
+      names = one_more_name (names_in all) (names_in c.next.new.self) c.loop-key.pairs.items c.text_of.result c.in_ok-json.json
+          (named ∙ ap (λ n. keys_of c.loop-key.pairs.items ++ n ∷ names_in c.next.new.self) (sym name.value));
       proper = one_more_proper_pair c.loop-key.pairs.items _ c.loop-key.invariant.proper name.utf8 c.in_ok-json.ensures.proper;
     }
 

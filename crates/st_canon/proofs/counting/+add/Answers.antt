@@ -20,8 +20,7 @@ pub add_members-loop-name-preserved : goal.add_members-loop-name-preserved
 add_members-loop-name-preserved t c =
     let pairs = c.pairs-name-items.result.now in
     let pair = c.loop-name-item.result in
-    let lt = c.loop-name-test.true in
-    let next = next_item pairs c.loop-name.name-index pair lt c.loop-name-item.is in
+    let next = next_item pairs c.loop-name.name-index pair c.loop-name-test.true c.loop-name-item.is in
     let rest = plain_members (drop (c.loop-name.name-index + 1) pairs) in
     let ascend : NamesAscend pairs = subst NamesAscend (sym c.pairs-name-items.ensures.all) c.pairs-name-items.ensures.ascend in
     let here = ap (λ l. length (canonical_members c.loop-name.comma (plain_members l))) next in
@@ -31,6 +30,6 @@ add_members-loop-name-preserved t c =
       size = omega (arith, here, long, name);
       fits = omega arith;
       proper = λ h. c.loop-name.invariant.proper
-          (one_more_member pairs c.loop-name.name-index pair ascend lt c.loop-name-item.is
+          (one_more_member pairs c.loop-name.name-index pair ascend next
           (subst IsUtf8 c.as_str.ensures c.add_text-named.ensures.utf8) c.add-size.ensures.proper h);
     }

@@ -1,9 +1,8 @@
-use Rattle.std.proofs.Common.{◌≡◌, ◌∙◌, ◌≤◌, ◌+◌, ◌-◌, ◌++◌, List, ℕ, [], vec_len, take, drop, length, sym, subst, ap, arith, take-append-drop, append-nil}
+use Rattle.std.proofs.Common.{◌≡◌, ◌∙◌, ◌≤◌, ◌+◌, ◌-◌, ◌++◌, List, ℕ, [], take, drop, length, refl, sym, subst, ap, arith, take-append-drop, append-nil}
 use Rattle.std.proofs.lemmas.List.{length-take-le, length-drop, take-take}
 use Rattle.std.specs.Io.KnownBytes.{Consumes}
 use Rattle.std.specs.declared.option.Option.{Option}
-use Rattle.st_drive.proofs.Ends.{Read, taken_start, taken_more, table_read_fault, table_cut, table_over, table_of_end}
-use Rattle.st_drive.proofs.FitsLemmas.{fed_piece}
+use Rattle.st_drive.proofs.Ends.{Read, taken_start, taken_more, table_read_fault, table_cut, table_over, table_of_end, cut_short}
 use Rattle.st_drive.proofs.driver.drive.Goals as goal
 
 pub pieces-init : goal.pieces-init
@@ -52,23 +51,22 @@ pieces-preserved g c =
     let count = c.in-Ok.count in
     let len : length (take count buffer) ≡ count = length-take-le count buffer (omega (arith, read.count)) in
     record {
-      fits = fed_piece g.met.M.Machine.fewer (vec_len c.pieces.progress.line) (length (take count buffer)) c.pieces.room (c.pieces.room - count)
-          (vec_len c.in-Ok-feed-2.next.line) fed.fits i.fits (omega arith);
+      fits = g.met.M.Machine.fewer _ _ _ _ (omega arith) (fed.fits (c.pieces.room - count + 1) (g.met.M.Machine.fewer _ _ _ _ (omega arith) i.fits));
       context_later = omega (arith, fed.orderly.context_later);
       source_later = omega (arith, read.cause.later);
       sink_later = omega (arith, fed.orderly.later);
       unfinished = λ done. i.unfinished (fed.orderly.unfinished done);
-      taken = taken_more g.met.M.Machine.laws (record {
+      taken = taken_more g.met.M.Machine.laws i.taken (record {
         machine = c.in-Ok-feed-2.next.machine;
         context =
             (c.feed-in-pieces.new.context, c.feed-in-pieces.new.device);
         left = g.S.Source.left c.read_some.new.source;
         holds = g.K.Sink.written c.feed-in-pieces.new.sink;
-      }) (take count buffer) i.taken read.bytes (omega arith) fed.writes.ok fed.line;
+      }) (take count buffer) read.bytes (omega arith) fed.writes.ok fed.line;
     }
 
 pub returns-in-Err-clause-table : goal.returns-in-Err-clause-table
-returns-in-Err-clause-table g c = table_read_fault g.met.M.Machine.laws c.requires.limit c.pieces.invariant.taken c.in-Err.ensures.err
+returns-in-Err-clause-table g c = table_read_fault g.met.M.Machine.laws c.requires.limit c.pieces.invariant.taken refl c.in-Err.ensures.err
 
 pub returns-then-count-eq0-clause-table : goal.returns-then-count-eq0-clause-table
 returns-then-count-eq0-clause-table g c =
@@ -77,7 +75,7 @@ returns-then-count-eq0-clause-table g c =
     let zero = c.if-count-eq0.true in
     let none = subst (λ n. Consumes (g.S.Source.left c.pieces.source) (g.S.Source.left c.read_some.new.source)
     (take n c.read_some.new.buffer)) zero read.bytes in
-    table_of_end g.met.M.Machine.laws _ _ c.end_run.result c.requires.limit c.pieces.invariant.taken (none, read.end zero) end.ok (end.err, end.orderly.cause)
+    table_of_end g.met.M.Machine.laws c.requires.limit c.pieces.invariant.taken _ _ c.end_run.result (none, read.end zero) end.ok (end.err, end.orderly.cause)
 
 pub returns-in-Ok-feed-clause-table : goal.returns-in-Ok-feed-clause-table
 returns-in-Ok-feed-clause-table g c =
@@ -97,13 +95,14 @@ returns-in-Err-feed-clause-table g c =
     let fed = c.in-Err-feed.ensures in
     let bound : c.in-Ok.count ≤ length c.read_some.new.buffer = omega (arith, read.count) in
     let over : c.in-Ok.count ≡ c.pieces.room + 1 = omega (arith, read.count) in
-    table_cut g.met.M.Machine.laws _ _ c.in-Err-feed.stop c.requires.limit c.pieces.invariant.taken
-    (read_over c.read_some.new.buffer c.pieces.room c.in-Ok.count _ _ bound over read.bytes) fed.writes.err fed.orderly.cause
+    table_cut g.met.M.Machine.laws c.requires.limit c.pieces.invariant.taken
+    (read_over c.read_some.new.buffer c.pieces.room c.in-Ok.count _ _ bound over read.bytes) fed.writes.err (cut_short _ _ c.in-Err-feed.stop fed.orderly.cause)
 
 pub returns-in-Err-feed-2-clause-table : goal.returns-in-Err-feed-2-clause-table
 returns-in-Err-feed-2-clause-table g c =
     let read = c.in-Ok.ensures in
     let fed = c.in-Err-feed-2.ensures in
     let bound : c.in-Ok.count ≤ length c.read_some.new.buffer = omega (arith, read.count) in
-    table_cut g.met.M.Machine.laws _ _ c.in-Err-feed-2.stop c.requires.limit c.pieces.invariant.taken
-    (read_within c.read_some.new.buffer c.pieces.room c.in-Ok.count _ _ bound (omega arith) read.bytes) fed.writes.err fed.orderly.cause
+    table_cut g.met.M.Machine.laws c.requires.limit c.pieces.invariant.taken
+    (read_within c.read_some.new.buffer c.pieces.room c.in-Ok.count _ _ bound (omega arith) read.bytes) fed.writes.err
+    (cut_short _ _ c.in-Err-feed-2.stop fed.orderly.cause)

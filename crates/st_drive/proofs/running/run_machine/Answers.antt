@@ -1,12 +1,15 @@
-use Rattle.std.proofs.Common.{arith, refl}
+use Rattle.std.proofs.Common.{IsTrue, arith, refl, subst, sym}
 use Rattle.st_drive.specs.Runs.{course}
-use Rattle.st_drive.proofs.TableLemmas.{answers_by, not_begun}
+use Rattle.st_drive.specs.Tables.{AnswersLines, is_end}
+use Rattle.st_drive.proofs.TableLemmas.{answers_of, ends_by, not_begun}
 use Rattle.st_drive.proofs.running.run_machine.Goals as goal
 
 pub returns-in-Ok : goal.returns-in-Ok
 returns-in-Ok g c =
     let driven = c.drive.ensures in
-    answers_by c.drive.result c.status.result c.status.ensures.value c.status.ensures.known driven.table driven.finished driven.unfinished driven.cause
+    let is = c.status.ensures.value in
+    subst (AnswersLines _ _ _ _) (sym is)
+    (answers_of driven.table (ends_by c.drive.result driven.finished driven.unfinished driven.cause) (subst (λ s. IsTrue (is_end s)) is c.status.ensures.known))
 
 pub returns-in-Err : goal.returns-in-Err
 returns-in-Err g c = not_begun (record {

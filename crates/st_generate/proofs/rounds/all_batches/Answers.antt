@@ -1,8 +1,14 @@
-use Rattle.std.proofs.Common.{arith}
+use Rattle.std.proofs.Common.{◌∙◌, map, ap, arith}
 use Rattle.st_generate.proofs.RoundLemmas.{batch_next}
+use Rattle.st_generate.specs.Rounds.{batched}
+use Rattle.st_generate.specs.Talk.{told}
+use Rattle.st_generate.specs.declared.rounds.Batches.{Batches}
+use Rattle.st_workload.specs.Identity.{line_of}
 use Rattle.st_generate.proofs.rounds.all_batches.Goals as goal
 
 pub rounds-preserved : goal.rounds-preserved
 rounds-preserved g c =
-    batch_next g.N.Peer.peer c.args.plan.seed c.args.plan.dids c.args.plan.rounds c.rounds.round c.args.identities.now c.rounds.batches c.in_ok-next.next
-    c.requires.identities (omega (arith, c.rounds-test.true)) c.rounds.invariant c.in_ok-next.ensures
+    let lines = map (line_of c.rounds.round) c.args.identities.now in
+    c.in_ok-next.ensures
+    ∙ ap (λ (before : Batches _). batched g.N.Peer.peer c.rounds.round (told g.N.Peer.peer lines before.talk) before) c.rounds.invariant
+    ∙ batch_next g.N.Peer.peer c.args.plan c.rounds.round c.args.identities.now c.requires.identities (omega (arith, c.rounds-test.true))

@@ -1,4 +1,4 @@
-use Rattle.std.proofs.Common.{◌∙◌, List, ℕ, ◌++◌, map, append-nil, ap, sym}
+use Rattle.std.proofs.Common.{◌∙◌, List, [], ◌∷◌, ℕ, ◌++◌, map, append-nil, ap, sym}
 use Rattle.st_generate.proofs.RoundLemmas.{file_next}
 use Rattle.st_generate.proofs.LineLemmas.{no_line}
 use Rattle.st_generate.specs.Rounds.{content_line}
@@ -6,8 +6,9 @@ use Rattle.st_generate.proofs.rounds.push_files.Goals as goal
 
 pub lines-preserved : goal.lines-preserved
 lines-preserved c =
-    file_next c.lines.files c.push.new.self c.lines.rest.now c.in-Some.line.now c.in-Some.more.now c.in_ok-file.file
-    c.in-Some.ensures.first c.in-Some.ensures.whole c.in_ok-file.ensures c.in_ok-push.ensures.ok
+    file_next c.lines.files c.push.new.self c.lines.rest.now c.in-Some.line.now c.in-Some.more.now
+    c.in-Some.ensures.first c.in-Some.ensures.whole
+    (c.in_ok-push.ensures.ok ∙ ap (λ (file : List ℕ). c.lines.files ++ file ∷ []) c.in_ok-file.ensures)
     ∙ c.lines.invariant
 
 pub returns : goal.returns

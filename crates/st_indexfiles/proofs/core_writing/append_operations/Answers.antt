@@ -1,7 +1,7 @@
-use Rattle.std.proofs.Common.{codes, sym}
+use Rattle.std.proofs.Common.{◌∙◌, ◌++◌, ap, codes, sym}
 use Rattle.st_plain.specs.Plain.{object}
 use Rattle.st_indexfiles.specs.CoreIndex.{core_operations}
-use Rattle.st_indexfiles.proofs.MemberLemmas.{an_object, core_operations_text, in_five, no_object, no_operations, nothing_there, now_due, something_there, still_due}
+use Rattle.st_indexfiles.proofs.MemberLemmas.{an_object, core_operations_text, joined, no_object, no_operations, nothing_there, now_due, something_there, still_due}
 use Rattle.st_indexfiles.proofs.core_writing.append_operations.Goals as goal
 
 -- ---- without operations
@@ -35,10 +35,12 @@ returns-clause-text c =
     let first = c.in_ok-behind.ensures in
     let second = c.in_ok-behind-2.ensures in
     let third = c.in_ok-append_list.ensures in
-    something_there c.args.text.now named c.push_all-2.new.self (codes "operations") c.args.due _ (object (core_operations index))
-    (an_object (core_operations index) (sym c.if-not-has_operations.ensures)) c.in_ok-append_name.ensures
-    (in_five named _ _ _ _ _ _ _ _ _ _ _ c.in_ok-push_all.ensures.ok (rw creates at first.text) (rw (first.later, creates, deactivates) at second.text)
-    (rw (second.later, first.later, creates, deactivates, recovers) at third.text) c.in_ok-push_all-2.ensures.ok (core_operations_text index))
+    something_there c.args.text.now c.push_all-2.new.self (codes "operations") c.args.due _ (object (core_operations index))
+    (an_object (core_operations index) (sym c.if-not-has_operations.ensures))
+    (joined c.args.text.now _ _ c.in_ok-append_name.ensures (joined named _ _ (joined named _ _ (joined named _ _
+    (joined named _ _ c.in_ok-push_all.ensures.ok (rw creates at first.text)) (rw (first.later, creates, deactivates) at second.text))
+    (rw (second.later, first.later, creates, deactivates, recovers) at third.text)) c.in_ok-push_all-2.ensures.ok
+    ∙ ap (λ text. named ++ text) (sym (core_operations_text index))))
 
 pub returns-clause-later : goal.returns-clause-later
 returns-clause-later c = now_due c.args.due _ _ (an_object (core_operations c.args.index.now) (sym c.if-not-has_operations.ensures))

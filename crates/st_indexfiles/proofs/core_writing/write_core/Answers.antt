@@ -7,7 +7,7 @@ use Rattle.st_indexfiles.specs.CoreIndex.{core_index_of, core_json}
 use Rattle.st_indexfiles.specs.CoreRules.{core_rules, has_core_entries, has_core_members}
 use Rattle.st_indexfiles.specs.Written.{IsCoreReadAgain}
 use Rattle.st_indexfiles.proofs.CoreLemmas.{core_parts, core_says}
-use Rattle.st_indexfiles.proofs.MemberLemmas.{core_text, in_five}
+use Rattle.st_indexfiles.proofs.MemberLemmas.{core_text, joined}
 use Rattle.st_indexfiles.proofs.ReadableLemmas.{core_readable}
 use Rattle.st_indexfiles.proofs.core_writing.write_core.Goals as goal
 
@@ -16,9 +16,10 @@ text_is c =
     let proof = c.in_ok-due.ensures in
     let operations = c.in_ok-due-2.ensures in
     let provisional = c.in_ok-append_uri.ensures in
-    in_five c.new-text.result _ _ _ _ _ _ _ _ _ _ _ c.in_ok-push_all.ensures.ok proof.text (rw proof.later at operations.text)
-    (rw (operations.later, proof.later) at provisional.text) c.in_ok-push_all-2.ensures.ok (core_text c.args.index.now)
-    ∙ ap (λ text. text ++ canonical (core_json c.args.index.now)) c.new-text.ensures
+    let none = c.new-text.result in
+    joined none _ _ (joined none _ _ (joined none _ _ (joined none _ _ c.in_ok-push_all.ensures.ok proof.text)
+    (rw proof.later at operations.text)) (rw (operations.later, proof.later) at provisional.text)) c.in_ok-push_all-2.ensures.ok
+    ∙ (λ i. c.new-text.ensures i ++ sym (core_text c.args.index.now) i)
 
 pub returns-clause-text : goal.returns-clause-text
 returns-clause-text c = text_is c

@@ -7,16 +7,17 @@ use Rattle.st_plain.proofs.ReadableLemmas.{json_again}
 use Rattle.st_indexfiles.specs.ProvisionalIndex.{chunk_in, provisional_index_of, provisional_json}
 use Rattle.st_indexfiles.specs.ProvisionalRules.{has_provisional_entries, provisional_rules}
 use Rattle.st_indexfiles.specs.Written.{IsProvisionalReadAgain}
-use Rattle.st_indexfiles.proofs.MemberLemmas.{in_six, provisional_text}
+use Rattle.st_indexfiles.proofs.MemberLemmas.{joined, provisional_text}
 use Rattle.st_indexfiles.proofs.ProvisionalLemmas.{provisional_parts, provisional_says}
 use Rattle.st_indexfiles.proofs.ReadableLemmas.{provisional_readable}
 use Rattle.st_indexfiles.proofs.provisional_writing.write_provisional.Goals as goal
 
 text_is : (c : goal.In_ok-push_all-3) → c.push_all-3.new.self ≡ canonical (provisional_json c.args.index.now)
 text_is c =
-    in_six c.new-text.result _ _ _ _ _ _ _ _ _ _ _ _ _ c.in_ok-push_all.ensures.ok c.in_ok-append_hash.ensures.text c.in_ok-push_all-2.ensures.ok
-    c.in_ok-append_operations.ensures.text c.in_ok-append_uri.ensures.text c.in_ok-push_all-3.ensures.ok (provisional_text c.args.index.now)
-    ∙ ap (λ text. text ++ canonical (provisional_json c.args.index.now)) c.new-text.ensures
+    let none = c.new-text.result in
+    joined none _ _ (joined none _ _ (joined none _ _ (joined none _ _ (joined none _ _ c.in_ok-push_all.ensures.ok c.in_ok-append_hash.ensures.text)
+    c.in_ok-push_all-2.ensures.ok) c.in_ok-append_operations.ensures.text) c.in_ok-append_uri.ensures.text) c.in_ok-push_all-3.ensures.ok
+    ∙ (λ i. c.new-text.ensures i ++ sym (provisional_text c.args.index.now) i)
 
 pub returns-clause-text : goal.returns-clause-text
 returns-clause-text c = text_is c

@@ -1,9 +1,9 @@
-use Rattle.std.proofs.Common.{◌≡◌, ◌+◌, ◌^◌, ◌<◌, ◌≤◌, [], ◌∷◌, length, option_map, ap, subst, arith}
+use Rattle.std.proofs.Common.{◌≡◌, ◌+◌, ◌≤◌, [], ◌∷◌, length, option_map, ap, subst, arith}
 use Rattle.std.proofs.lemmas.Result.{on_ok_weaker}
 use Rattle.st_io.proofs.TearLemmas.{length_overwritten}
-use Rattle.st_io.specs.Tears.{Holds}
+use Rattle.st_io.specs.Tears.{Holds, Torn}
 use Rattle.st_journal.proofs.AppendLemmas.{both, fits}
-use Rattle.st_io.proofs.MomentLemmas.{then_on, turns_on}
+use Rattle.st_io.proofs.MomentLemmas.{over, then_on, turns_on, turns_weaker, weaker}
 use Rattle.st_journal.proofs.WriteLemmas.{alike, first_moments, second_moments, written}
 use Rattle.st_journal.specs.Image.{found, open_gate, records}
 use Rattle.st_journal.specs.Moments.{IsBeforeOrAfter}
@@ -21,36 +21,37 @@ write_synced-requires-2 g c laid told =
 
 pub returns-in_err-write_synced-clause-moments : goal.returns-in_err-write_synced-clause-moments
 returns-in_err-write_synced-clause-moments g c old told =
-    first_moments c.args.end _ old c.args.body.now _ _ (alike c.args.end _ _ old c.requires.ready told) c.write_synced.ensures.time c.write_synced.ensures.images
+    first_moments c.args.end _ old c.args.body.now _ _ (alike c.args.end _ _ old c.requires.ready told)
+    (record { goes = c.write_synced.ensures.time; each = c.write_synced.ensures.images })
 
 pub returns-clause-moments : goal.returns-clause-moments
 returns-clause-moments g c old told =
     let is = alike c.args.end _ _ old c.requires.ready told in
     let laid = c.in_ok-write_synced.ensures.written.forward old told in
-    let small : length c.args.body.now < 2 ^ 32 = omega (arith, c.requires.body) in
     let holds = subst (λ row. Holds (c.args.end + 1) row old laid.0) c.requires.row laid.2 in
     then_on (IsBeforeOrAfter (records old) c.args.body.now) _ _ _
-    (first_moments c.args.end _ old c.args.body.now _ _ is c.write_synced.ensures.time c.write_synced.ensures.images)
-    (second_moments c.args.end old c.args.body.now laid.0 _ _ is.ends small holds (c.in_ok-write_synced.ensures.durable laid.0 laid.1) c.write_synced-2.ensures.time c.write_synced-2.ensures.images)
+    (first_moments c.args.end _ old c.args.body.now _ _ is (record { goes = c.write_synced.ensures.time; each = c.write_synced.ensures.images }))
+    (second_moments c.args.end old c.args.body.now _ _ is.ends (omega (arith, c.requires.body))
+    (weaker (Torn c.args.end 1 laid.0) _ _ _
+    (over (Torn c.args.end 1) _ _ laid.0 (c.in_ok-write_synced.ensures.durable laid.0 laid.1) c.write_synced-2.ensures.time c.write_synced-2.ensures.images)
+    (λ x torn. subst (λ l. Torn c.args.end 1 l x) holds torn)))
 
 pub returns-clause-stands : goal.returns-clause-stands
 returns-clause-stands g c =
     let end = c.args.end in
     on_ok_weaker c.write_synced-2.result
-    (λ second. turns_on _ _ _ (Holds (end + 1) c.args.row.now) (Holds end (open_gate ∷ [])) (Holds end (open_gate ∷ row_of c.args.body.now))
-    (λ old laid new told first last.
-    both end open_gate (row_of c.args.body.now) old laid new (fits end old (c.requires.ready.gate old told)) (subst (λ row. Holds (end + 1) row old laid) c.requires.row first) last)
-    c.in_ok-write_synced.ensures.written second)
+    (λ second. turns_weaker _ _ _ (Holds end (open_gate ∷ row_of c.args.body.now)) (λ old new told by.
+    both end (row_of c.args.body.now) old by.0 new (fits end old (c.requires.ready.gate old told)) (subst (λ row. Holds (end + 1) row old by.0) c.requires.row by.1) by.2)
+    (turns_on _ _ _ (Holds (end + 1) c.args.row.now) (Holds end (open_gate ∷ [])) c.in_ok-write_synced.ensures.written second))
     c.write_synced-2.ensures.written
 
 pub returns-clause-written : goal.returns-clause-written
 returns-clause-written g c =
     let body = c.args.body.now in
     let end = c.args.end in
-    let small : length body < 2 ^ 32 = omega (arith, c.requires.body) in
     on_ok_weaker c.write_synced-2.result
-    (λ second. turns_on _ _ _ (Holds (end + 1) c.args.row.now) (Holds end (open_gate ∷ [])) (λ old new. found new ≡ option_map (put_last body) (found old))
-    (λ old laid new told first last.
-    written end old body laid new (alike end _ _ old c.requires.ready told).ends small (subst (λ row. Holds (end + 1) row old laid) c.requires.row first) last)
-    c.in_ok-write_synced.ensures.written second)
+    (λ second. turns_weaker _ _ _ (λ old new. found new ≡ option_map (put_last body) (found old)) (λ old new told by.
+    written end old body new (alike end _ _ old c.requires.ready told).ends (omega (arith, c.requires.body))
+    (subst (λ l. Holds end (open_gate ∷ []) l new) (subst (λ row. Holds (end + 1) row old by.0) c.requires.row by.1) by.2))
+    (turns_on _ _ _ (Holds (end + 1) c.args.row.now) (Holds end (open_gate ∷ [])) c.in_ok-write_synced.ensures.written second))
     c.write_synced-2.ensures.written

@@ -1,8 +1,8 @@
 use Rattle.std.proofs.Common.{◌≡◌, ◌∙◌, refl, sym, arith}
 use Rattle.std.specs.Option.{ok_or}
 use Rattle.st_io.proofs.MomentLemmas.{only_after, then_on, turns_same}
-use Rattle.st_journal.proofs.ComingLemmas.{opened_long}
-use Rattle.st_journal.proofs.OpeningLemmas.{begin_reading, begun-long, read_moments}
+use Rattle.st_journal.proofs.ComingLemmas.{closed_begun, opened_long}
+use Rattle.st_journal.proofs.OpeningLemmas.{begun-long, read_moments}
 use Rattle.st_journal.specs.Coming.{records_from}
 use Rattle.st_journal.specs.Image.{records}
 use Rattle.st_journal.specs.Opening.{begun, opened}
@@ -17,10 +17,17 @@ returns-then-len-lt2-clause-moments g c old told =
 
 pub returns-clause-begins : goal.returns-clause-begins
 returns-clause-begins g c = record {
-  reading = begin_reading c.in_ok-window.window c.in_ok-len.len _ _ (omega (arith, c.if-len-lt2.false)) (omega (arith, c.if-len-gt-LONGEST.false))
-      c.in_ok-window.ensures.sound c.in_ok-window.ensures.shows
-      (λ image told. sym (c.in_ok-len.ensures.length image (sym c.length.ensures.reads ∙ told)))
-      (λ image told. only_after _ _ image (c.requires image (sym c.length.ensures.reads ∙ told)) (record { goes = c.length.ensures.time; none = c.length.ensures.images }));
+  reading = record {
+    small = omega (arith, c.if-len-gt-LONGEST.false);
+    below = omega arith;
+    sound = λ more. c.in_ok-window.ensures.sound;
+    shows = λ image told. c.in_ok-window.ensures.shows image;
+    long = λ image told more. sym (c.in_ok-len.ensures.length image (sym c.length.ensures.reads ∙ told));
+    closed = λ image told none. absurd (omega (arith, c.if-len-lt2.false, none));
+    gate = λ image told. closed_begun image;
+    only = λ image told. only_after _ _ image (c.requires image (sym c.length.ensures.reads ∙ told))
+        (record { goes = c.length.ensures.time; none = c.length.ensures.images });
+  };
   first = refl;
   comes = turns_same _ _ (λ old new. opened old ≡ ok_or (records_from 0 new) Damaged) c.length.ensures.reads
       (λ image told.

@@ -23,10 +23,14 @@ records-preserved g c = record {
       let came = subst (λ next. Comes (coming c.records.opening image) (coming c.next.new.self image) (Ok next)) c.in-Ok-Some.field-0-is
       (c.in-Ok-Some.ensures.comes image (c.records.invariant.as_it_was.reads ∙ told)) in
       replayed_more g.met.N.Replayable.laws (c.records.invariant.replayed image told)
-      (came ∙ ap (λ l. put_before (l ∷ []) (coming c.next.new.self image)) (sym c.as_slice.ensures))
-      (c.in-Ok-Some.ensures.gives image (c.records.invariant.as_it_was.reads ∙ told) ∙ ap Some c.in-Ok-Some.field-0-is ∙ ap (λ l. Some (Some l)) (sym c.as_slice.ensures))
-      (place ∙ ap (λ l. c.records.opening.place + (5 + length l)) (sym c.as_slice.ensures))
-      c.in-Ok.ensures.next c.in-Ok.ensures.ran;
+      (record {
+        split = came ∙ ap (λ l. put_before (l ∷ []) (coming c.next.new.self image)) (sym c.as_slice.ensures);
+        stand = (
+          c.in-Ok-Some.ensures.gives image (c.records.invariant.as_it_was.reads ∙ told) ∙ ap Some c.in-Ok-Some.field-0-is
+          ∙ ap (λ l. Some (Some l)) (sym c.as_slice.ensures),
+          place ∙ ap (λ l. c.records.opening.place + (5 + length l)) (sym c.as_slice.ensures),
+        );
+      }) c.in-Ok.ensures.next c.in-Ok.ensures.ran;
   left = λ left.
       let less = subst (λ next. IfSome next (λ body. left_of c.next.new.self < left_of c.records.opening)) c.in-Ok-Some.field-0-is c.in-Ok-Some.ensures.shorter in
       c.records.invariant.left (omega (arith, less));

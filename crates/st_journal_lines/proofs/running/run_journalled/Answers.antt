@@ -9,5 +9,9 @@ returns-in-Ok g c =
 
 pub returns-in-Err : goal.returns-in-Err
 returns-in-Err g c =
-    refused_run g.N.Replayable.answering g.met.N.Replayable.laws.effect c.in-Err.refused c.in-Err.ensures.opens
-    (record { left_is = refl; holds_is = refl; finished_is = refl }) (refl, refl) c.refusal_status.ensures
+    refused_run g.N.Replayable.answering g.met.N.Replayable.laws.effect c.in-Err.refused (record {
+      opens = c.in-Err.ensures.opens;
+      unread = record { left_is = refl; holds_is = refl; finished_is = refl };
+      kept = (refl, refl);
+      status = c.refusal_status.ensures;
+    })

@@ -8,7 +8,7 @@ use Rattle.st_canon.proofs.Places.{plain-lookup, plain_members-placed}
 use Rattle.st_jsonpatch.specs.At.{at, item_at, selected}
 use Rattle.st_jsonpatch.specs.Changed.{handed_out, plain_act, HandsOut}
 use Rattle.st_jsonpatch.specs.Edited.{edited, put_back, with_item}
-use Rattle.st_jsonpatch.proofs.Changing.{from_on_some, put_back_changes}
+use Rattle.st_jsonpatch.proofs.Changing.{from_on_some, whole_changes}
 use Rattle.st_jsonpatch.proofs.Paths.{last_token}
 use Rattle.st_jsonpatch.proofs.editing.+edit.Goals as goal
 
@@ -27,7 +27,7 @@ edit_item-returns-in-Some-clause-items t c =
     let old = plain_items c.args.items.now in
     let there : item_at token old ≡ Some (plain c.in-Some.item.now) = search rules in
     let written = from_on_some c.in-Some.is (c.item_mut.follows.holds c.edit.new.value) in
-    put_back_changes (λ new. with_item token new old) (edited (plain_act c.args.action) c.args.next.now c.args.path.now) _ (plain c.in-Some.item.now) (plain c.edit.new.value) _ c.edit.result there written c.edit.ensures.value
+    rw there (whole_changes (λ new. with_item token new old) _ (plain c.edit.new.value) _ c.edit.result written c.edit.ensures.value)
 
 pub edit_member-returns-in-Some-clause-members : goal.edit_member-returns-in-Some-clause-members
 edit_member-returns-in-Some-clause-members t c =
@@ -36,8 +36,8 @@ edit_member-returns-in-Some-clause-members t c =
     let found : lookup (is_name token) old ≡ Some c.in-Some.member.now = search rules in
     let there = sym (plain-lookup token old) ∙ ap (option_map plain) found in
     let written = from_on_some c.in-Some.is (c.get_mut.follows.holds c.edit.new.value) in
-    put_back_changes (λ new. put token new (plain_members old)) (edited (plain_act c.args.action) c.args.next.now c.args.path.now) _ (plain c.in-Some.member.now) (plain c.edit.new.value) _ c.edit.result there
-    (ap plain_members written ∙ plain_members-placed token c.edit.new.value old) c.edit.ensures.value
+    rw there (whole_changes (λ new. put token new (plain_members old)) _ (plain c.edit.new.value) _ c.edit.result
+    (ap plain_members written ∙ plain_members-placed token c.edit.new.value old) c.edit.ensures.value)
 
 pub edit_member-returns-in-Some-clause-out : goal.edit_member-returns-in-Some-clause-out
 edit_member-returns-in-Some-clause-out t c =

@@ -26,9 +26,8 @@ steps-preserved c =
     let p = c.args.head.now ++ to_be_bytes w16 i in
     let now = c.steps.invariant.0 k lt in
     let byte = c.bytes_after.ensures k lt in
-    at_next p (value_at c.args.starts.now i) (lane k c.steps.value) (lane k c.step-next.result) (slice_index c.args.from.now i) c.steps.done _ now
-    (byte ∙ rw (c.pick-first.ensures k lt) refl) (c.step-next.ensures.words k lt)
-    (c.step-next.ensures.digest k p lt (c.heads-heads.ensures k lt) now.words (omega (arith, byte))) in
+    at_next p (value_at c.args.starts.now i) (lane k c.step-next.result) (slice_index c.args.from.now i) c.steps.done (c.step-next.ensures.words k lt)
+    (c.step-next.ensures.digest k p lt (c.heads-heads.ensures k lt) now.words (omega (arith, byte)) ∙ rw (byte, c.pick-first.ensures k lt, now.value) refl) in
     let hold : HoldEnds end c.step-next.result c.args.numbers.now c.count_steps-counts.result (c.steps.done + 1) =
     λ k lt is. at_end _ _ _ _ _ _ (at k lt) (sym (c.count_steps-counts.ensures k lt ∙ rw (c.pick.ensures k lt, c.pick-first.ensures k lt) refl) ∙ is) in (
       at,

@@ -1,7 +1,7 @@
-use Rattle.std.proofs.Common.{◌<◌, arith}
+use Rattle.std.proofs.Common.{◌∙◌, ◌<◌, arith}
 use Rattle.st_lms.specs.OneTime.{candidate_key, end_of_value}
 use Rattle.st_lms.specs.Parameters.{greatest_digit, width}
-use Rattle.st_lms.specs.Strings.{coef}
+use Rattle.st_lms.specs.Strings.{coef, value_at}
 use Rattle.st_lms.specs.TypeNumbers.{one_time_number}
 use Rattle.st_lms.proofs.Chains.{walk_of_value}
 use Rattle.st_lms.proofs.DigitLemmas.{coef-greatest, sized}
@@ -22,6 +22,7 @@ returns c =
     let sizes = sized t c.parameters.ensures.known in
     c.key_of_ends.ensures (end_of_value t c.args.id.now c.args.q digits c.args.values.now) (λ i lt.
     let chain : i < c.parameters.result.chains = omega (arith, lt, c.parameters.ensures.chains) in
-    walk_of_value c.args.id.now c.args.q i (coef digits i (width t)) (greatest_digit t) c.head.result c.digit_places.result c.last_places.result c.args.values.now
-    (c.walk-ends.ensures.ends i chain) c.head.ensures (c.digit_places.ensures i lt) (c.last_places.ensures i (omega (arith, lt, sizes.chain_count)))
-    (coef-greatest digits i t) (omega (arith, sizes.greatest)))
+    let last = c.last_places.ensures i (omega (arith, lt, sizes.chain_count)) in
+    c.walk-ends.ensures.ends i chain ∙ rw (c.head.ensures, c.digit_places.ensures i lt, last) (
+      walk_of_value c.args.id.now c.args.q i (coef digits i (width t)) (greatest_digit t) (value_at c.args.values.now i) (coef-greatest digits i t)
+          (omega (arith, sizes.greatest))))

@@ -1,4 +1,4 @@
-use Rattle.std.proofs.Common.{◌<◌, arith, replicate}
+use Rattle.std.proofs.Common.{◌∙◌, ℕ, ◌<◌, arith}
 use Rattle.std.proofs.lemmas.List.{get_or-replicate}
 use Rattle.st_lms.specs.TypeNumbers.{one_time_number}
 use Rattle.st_lms.proofs.Chains.{walk_of_seed}
@@ -23,5 +23,5 @@ pub returns-clause-values : goal.returns-clause-values
 returns-clause-values c = λ i n lt small is.
     let few = (sized (one_time_number c.args.kind) c.parameters-count.ensures.known).chain_count in
     let chain : i < c.parameters-count.result.chains = omega (arith, lt, c.parameters-count.ensures.chains) in
-    walk_of_seed c.args.id.now c.args.q i n c.args.seed.now c.head.result (replicate 265 0) c.args.to.now c.repeated-starts.result
-    (c.walk.ensures.ends i chain) c.head.ensures (get_or-replicate 265 i 0 0 (omega (arith, lt, few))) is (c.repeated-starts.ensures.values i chain) small
+    let first = get_or-replicate {A = ℕ} 265 i 0 0 (omega (arith, lt, few)) in
+    c.walk.ensures.ends i chain ∙ rw (c.head.ensures, first, is, c.repeated-starts.ensures.values i chain) (walk_of_seed c.args.id.now c.args.q i n c.args.seed.now small)

@@ -13,8 +13,8 @@ loop-kept-init c =
 
 pub loop-kept-preserved : goal.loop-kept-preserved
 loop-kept-preserved c =
-    one_made c.loop-kept.items c.push.new.self c.in-Some.kept _ (into_iter_items c.next.new.self) _ c.in-Some.ensures.steps.0 c.in_ok-push.ensures.ok refl
-    ∙ c.loop-kept.invariant
+    one_made c.loop-kept.items c.push.new.self c.in-Some.kept (into_iter_items c.next.new.self) _ c.in_ok-push.ensures.ok refl
+    ∙ ap (λ left. anchored_items c.loop-kept.items ++ map plain_held left) (sym c.in-Some.ensures.steps.0) ∙ c.loop-kept.invariant
 
 pub returns : goal.returns
 returns c =

@@ -4,6 +4,7 @@ use Rattle.std.specs.Vec.Iter.{into_iter_items}
 use Rattle.st_batch.specs.ReadBack.{AreNamed}
 use Rattle.st_node.proofs.ArrivingLemmas.{arrivals_next, arrivals_none}
 use Rattle.st_node.specs.Machine.{all_arrived}
+use Rattle.st_node.specs.Work.{ArrivalsCounts}
 use Rattle.st_observer.specs.Observed.{Observed, arrived}
 use Rattle.st_node.proofs.flushing.take_files.Goals as goal
 
@@ -22,7 +23,9 @@ loop-file-preserved c =
           ap (λ (next : Observed). all_arrived rest next) c.in_ok-next.ensures.state
           ∙ sym (ap (λ left. all_arrived left c.loop-file.taken) split) ∙ c.loop-file.invariant.state;
       counts = λ new others. c.loop-file.invariant.counts new
-          (arrivals_next c.loop-file.taken c.in-Some.file rest split c.in_ok-next.ensures.state c.arrive_under.ensures.bound others);
+          (subst (λ left. ArrivalsCounts c.loop-file.taken left c.loop-file.work new) (sym split)
+          (arrivals_next c.loop-file.taken c.in-Some.file rest c.arrive_under.ensures.bound
+          (subst (λ next. ArrivalsCounts next rest c.arrive_under.new.work new) c.in_ok-next.ensures.state others)));
     }
 
 pub arrive_under-requires : goal.arrive_under-requires
@@ -33,7 +36,8 @@ returns-in_err-next-clause-counts c =
     let rest = into_iter_items c.next.new.self in
     let none = arrivals_none (arrived c.in-Some.file.bytes c.loop-file.taken) rest c.arrive_under.new.work in
     c.loop-file.invariant.counts c.arrive_under.new.work
-    (arrivals_next c.loop-file.taken c.in-Some.file rest c.in-Some.ensures.steps.0 refl c.arrive_under.ensures.bound none)
+    (subst (λ left. ArrivalsCounts c.loop-file.taken left c.loop-file.work c.arrive_under.new.work) (sym c.in-Some.ensures.steps.0)
+    (arrivals_next c.loop-file.taken c.in-Some.file rest c.arrive_under.ensures.bound none))
 
 pub returns-clause-state : goal.returns-clause-state
 returns-clause-state c =

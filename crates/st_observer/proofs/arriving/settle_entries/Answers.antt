@@ -1,5 +1,4 @@
 use Rattle.std.proofs.Common.{get_or}
-use Rattle.st_observer.specs.Steps.{over}
 use Rattle.st_observer.proofs.LookingLemmas.{entry-inside, entry-past, looking-few, looking-inside, looking-next, looking-skipped, looking-wanting, number-is}
 use Rattle.st_observer.proofs.arriving.settle_entries.Goals as goal
 
@@ -7,39 +6,32 @@ pub settle-requires-clause-inside : goal.settle-requires-clause-inside
 settle-requires-clause-inside c =
     let entries = c.args.entries.now in
     let n = get_or entries c.entries.n-index 0 in
-    looking-inside entries c.entries.n-index n c.entries-test.true (number-is entries c.entries.n-index c.entries-test.true)
-    (over c.args.start.index.folder.schedule c.args.ledger.now c.args.content.now) c.args.start c.entries.going c.in-Some.entry.now
-    c.args.work.now c.entries.work c.entries.invariant (entry-inside c.args.ledger.now n c.in-Some.entry.now c.in-Some.ensures)
+    looking-inside entries c.entries.n-index n c.entries-test.true (number-is entries c.entries.n-index c.entries-test.true) c.entries.invariant
+    (entry-inside c.args.ledger.now n c.in-Some.entry.now c.in-Some.ensures)
 
 pub entries-preserved-in_default : goal.entries-preserved-in_default
 entries-preserved-in_default c =
     let entries = c.args.entries.now in
     let n = get_or entries c.entries.n-index 0 in
-    looking-skipped entries c.entries.n-index n c.entries-test.true (number-is entries c.entries.n-index c.entries-test.true)
-    (over c.args.start.index.folder.schedule c.args.ledger.now c.args.content.now) c.args.start c.entries.going c.args.work.now
-    c.entries.work c.entries.invariant (entry-past c.args.ledger.now n c.in_default.ensures)
+    looking-skipped entries c.entries.n-index n c.entries-test.true (number-is entries c.entries.n-index c.entries-test.true) c.entries.invariant
+    (entry-past c.args.ledger.now n c.in_default.ensures)
 
 pub entries-preserved : goal.entries-preserved
 entries-preserved c =
     let entries = c.args.entries.now in
     let n = get_or entries c.entries.n-index 0 in
-    looking-next entries c.entries.n-index n c.entries-test.true (number-is entries c.entries.n-index c.entries-test.true)
-    (over c.args.start.index.folder.schedule c.args.ledger.now c.args.content.now) c.args.start c.entries.going c.in_ok-going.going
-    c.in-Some.entry.now c.args.work.now c.entries.work c.settle.new.work c.entries.invariant c.in-Some.ensures
-    c.in_ok-going.ensures.step c.in_ok-going.ensures.exact c.in_ok-going.ensures.bound
+    looking-next entries c.entries.n-index n c.entries-test.true (number-is entries c.entries.n-index c.entries-test.true) c.entries.invariant
+    c.in-Some.entry.now c.in-Some.ensures c.in_ok-going.ensures.step c.in_ok-going.ensures.exact c.in_ok-going.ensures.bound
 
 pub returns-in_err-going-clause-bound : goal.returns-in_err-going-clause-bound
 returns-in_err-going-clause-bound c =
     let entries = c.args.entries.now in
     let n = get_or entries c.entries.n-index 0 in
-    looking-wanting entries c.entries.n-index n c.entries-test.true (number-is entries c.entries.n-index c.entries-test.true)
-    (over c.args.start.index.folder.schedule c.args.ledger.now c.args.content.now) c.args.start c.entries.going c.in-Some.entry.now
-    c.args.work.now c.entries.work c.settle.new.work c.entries.invariant c.in-Some.ensures c.in_err-going.ensures.bound
+    looking-wanting entries c.entries.n-index n c.entries-test.true (number-is entries c.entries.n-index c.entries-test.true) c.entries.invariant
+    c.in-Some.entry.now c.in-Some.ensures c.in_err-going.ensures.bound
 
 pub returns-clause-bound : goal.returns-clause-bound
-returns-clause-bound c =
-    looking-few (over c.args.start.index.folder.schedule c.args.ledger.now c.args.content.now) c.args.entries.now c.entries.n-index
-    c.args.start c.entries.going c.args.work.now c.entries.work c.entries.invariant
+returns-clause-bound c = looking-few c.entries.invariant
 
 pub returns-clause-changes : goal.returns-clause-changes
 returns-clause-changes c = c.entries.invariant.covers

@@ -1,15 +1,17 @@
-use Rattle.std.proofs.Common.{◌∙◌, List, arith, false, refl, subst, sym}
+use Rattle.std.proofs.Common.{◌∙◌, List, arith, refl, subst, sym}
 use Rattle.st_anchor.specs.Known.{Known}
+use Rattle.st_base.proofs.Counted.{applies-few}
 use Rattle.st_observer.specs.Steps.{ReadOver, over}
-use Rattle.st_observer.proofs.CostLemmas.{folded-few}
+use Rattle.st_observer.proofs.CostLemmas.{going-cost}
 use Rattle.st_observer.proofs.GoingLemmas.{going-end}
 use Rattle.st_observer.proofs.KeptLemmas.{kept-folded}
+use Rattle.st_observer.proofs.WorkLemmas.{grew-then}
 use Rattle.st_observer.proofs.arriving.settle_those.Goals as goal
 
 pub returns-clause-state : goal.returns-clause-state
 returns-clause-state c =
     let observed = over c.args.kept.index.folder.schedule c.args.ledger.now c.args.content.now in
-    kept-folded observed c.in_ok-later.later c.in_ok-kept.kept (going-end observed (λ n. false) c.in_ok-later.later (λ n. refl) c.in_ok-later.ensures.state)
+    kept-folded observed c.in_ok-later.later c.in_ok-kept.kept (going-end c.in_ok-later.ensures.state (λ n. refl))
     c.in_ok-kept.ensures.step
 
 pub returns-clause-exact : goal.returns-clause-exact
@@ -21,15 +23,13 @@ returns-clause-exact c =
 
 pub returns-clause-bound : goal.returns-clause-bound
 returns-clause-bound c = λ names covers.
-    folded-few (over c.args.kept.index.folder.schedule c.args.ledger.now c.args.content.now) c.args.kept c.in_ok-later.later names
-    c.args.work.now c.settle_entries.new.work c.fold.new.work
-    c.in_ok-later.ensures.state c.in_ok-later.ensures.bound (c.fold.ensures.bound names (c.in_ok-later.ensures.changes names covers))
+    grew-then c.in_ok-later.ensures.bound
+    (applies-few _ _ (going-cost c.in_ok-later.ensures.state names) (c.fold.ensures.bound names (c.in_ok-later.ensures.changes names covers)))
 
 pub returns-in_err-kept-clause-bound : goal.returns-in_err-kept-clause-bound
 returns-in_err-kept-clause-bound c = λ names covers.
-    folded-few (over c.args.kept.index.folder.schedule c.args.ledger.now c.args.content.now) c.args.kept c.in_ok-later.later names
-    c.args.work.now c.settle_entries.new.work c.fold.new.work
-    c.in_ok-later.ensures.state c.in_ok-later.ensures.bound (c.fold.ensures.bound names (c.in_ok-later.ensures.changes names covers))
+    grew-then c.in_ok-later.ensures.bound
+    (applies-few _ _ (going-cost c.in_ok-later.ensures.state names) (c.fold.ensures.bound names (c.in_ok-later.ensures.changes names covers)))
 
 pub returns-in_err-later-clause-bound : goal.returns-in_err-later-clause-bound
 returns-in_err-later-clause-bound c = λ names covers.

@@ -17,5 +17,5 @@ returns-clause-row g c =
     record {
       ascends = c.requires.ascends;
       within = omega (arith, c.requires.within);
-      reached = rw c.truncate.ensures.items (reached_before (c.requires.kept (omega arith)) _ _ (omega arith) none some);
+      reached = rw c.truncate.ensures.items (reached_before (c.requires.kept (omega arith)) _ none some);
     }

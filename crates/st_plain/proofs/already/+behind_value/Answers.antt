@@ -1,9 +1,9 @@
 use Rattle.std.proofs.Common.{◌≡◌, ◌∙◌, ◌∷◌, ◌++◌, length, is_some, option_map, Less, ap, sym, subst, arith, rules, length-append}
 use Rattle.std.proofs.lemmas.Option.{IfSome_then}
 use Rattle.std.specs.Str.{IsUtf8}
-use Rattle.st_plain.specs.Canonical.{comma, quoted}
+use Rattle.st_plain.specs.Canonical.{comma}
 use Rattle.st_plain.specs.Held.{ranks_cmp}
-use Rattle.st_plain.specs.InFront.{name_of}
+use Rattle.st_plain.specs.InFront.{IsTextInFront, name_of}
 use Rattle.st_plain.proofs.AlreadyLemmas.{both_named, items_begin, items_end, list_in_front, members_begin, members_end, object_in_front, one_item_more}
 use Rattle.st_plain.proofs.AlreadyLemmas.{deeper, named, one_member_more, still_there, text_in_front}
 use Rattle.st_plain.proofs.RewritingLemmas.{mapped}
@@ -74,23 +74,21 @@ behind_members-members-preserved t c =
     let l = c.members in
     let next = c.in_ok-rest in
     let name = c.in_ok-name.name.now in
-    let front = c.in_ok-value.ensures.text in
+    let colon : c.in_ok-value.value.now ≡ 58 ∷ c.in_ok-behind_byte.field-0.now = c.in_ok-behind_byte.ensures in
+    let front = subst (IsTextInFront name) colon c.in_ok-value.ensures.text in
     let last = option_map (λ name. name_of name.now) l.last in
     let due : c.is_some.result ≡ is_some last = c.is_some.ensures ∙ still_there (λ name. name_of name.now) l.last in
     let parted : l.rest.now ≡ comma (is_some last) ++ name = c.in_ok-name.ensures ∙ ap (λ d. comma d ++ name) due in
     let first = c.in_ok-value.ensures.shorter in
     let less = next.ensures.shorter in
-    let colon : c.in_ok-value.value.now ≡ 58 ∷ c.in_ok-behind_byte.field-0.now = c.in_ok-behind_byte.ensures in
-    let is = named name c.in_ok-value.value.now front in
-    let utf8 : IsUtf8 (name_of name) = subst IsUtf8 (sym is) front.utf8 in
+    let utf8 : IsUtf8 (name_of name) = subst IsUtf8 (sym (named name _ front)) front.utf8 in
     let above = both_named (name_of name) utf8 (option_map (λ name. name_of name.now) l.last) l.invariant.named
     (mapped (λ name. name_of name.now) (λ low. ranks_cmp low (name_of name) ≡ Less) l.last (c.is_above.ensures (search rules))) in
     record {
       text = search rules;
       shorter = omega (arith, l.invariant.shorter, less, first, ap length colon, ap length parted, length-append (comma (is_some last)) name);
       named = utf8;
-      whole = one_member_more c.args.depth c.args.text.now l.rest.now last l.invariant.whole name (name_of name) c.in_ok-value.value.now _ next.rest.now parted
-          (front.spelled ∙ ap (λ word. quoted word ++ c.in_ok-value.value.now) (sym is)) colon utf8 above next.ensures.value;
+      whole = one_member_more c.args.depth c.args.text.now l.rest.now last l.invariant.whole name _ next.rest.now parted front above next.ensures.value;
     }
 
 pub behind_members-returns-in-Some-clause-members : goal.behind_members-returns-in-Some-clause-members

@@ -36,5 +36,5 @@ returns-clause-first c =
     let still = recursion_from_All (IsHeld text) new
     (All-permutation (IsHeld text) old new c.in_ok-sort_by.ensures.permutation (All-from_recursion (IsHeld text) old held)) in
     firsts_from_sort (λ place. name_at text place.0) (between text) (IsHeld text) lt
-    (λ first second a b. ap is_lt (held_order text first second a b)) old new held still (never_fall lt order new sorted) stable
+    (λ first second a b. ap is_lt (held_order text first second a b)) old new (held, still) (never_fall lt order new sorted) stable
     ∙ ap (λ ps. in_order (map (entry_at text) ps)) c.reverse.ensures.items

@@ -1,4 +1,4 @@
-use Rattle.std.proofs.Common.{drop, ◌≡◌, ◌+◌}
+use Rattle.std.proofs.Common.{◌≡◌, ◌∙◌, ◌+◌, ◌∷◌, drop, ap}
 use Rattle.std.proofs.lemmas.List.{drop_more, drop_all}
 use Rattle.st_plain.specs.Canonical.{quoted}
 use Rattle.st_plain.proofs.QuotedLemmas.{at_the_end, first_run, next_byte}
@@ -20,5 +20,5 @@ returns c =
 
 pub bytes-init : goal.bytes-init
 bytes-init c =
-    first_run c.args.text.now c.in-Some.inside.now c.split_run.result.0.now c.in-Some-strip.rest.now c.args.word.now c.split_run.result.1.now
-    c.in-Some.ensures.some c.in-Some-strip.ensures.some c.split_run.ensures.escaped
+    first_run c.args.text.now c.split_run.result.0.now c.in-Some-strip.rest.now c.args.word.now c.split_run.result.1.now
+    (c.in-Some.ensures.some ∙ ap (λ inside. 34 ∷ inside) c.in-Some-strip.ensures.some) c.split_run.ensures.escaped

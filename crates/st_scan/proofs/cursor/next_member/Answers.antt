@@ -12,4 +12,5 @@ returns-clause-some c =
     let value = c.split_value-2.result in
     let again = subst (λ text. Splits text value.0.now value.1.now) c.behind_first.ensures c.split_value-2.ensures in
     subst (IsNextMember c.args.left.now c.split_value.result.0.now value.0.now) (sym c.behind_comma.ensures)
-    (next_member c.args.left.now _ c.split_value.result.1.now _ value.1.now c.requires (sym c.starts.ensures ∙ c.if-starts.false) c.split_value.ensures again)
+    (next_member c.args.left.now _ c.split_value.result.1.now _ value.1.now c.split_value.ensures again c.requires
+    (sym c.starts.ensures ∙ c.if-starts.false))

@@ -2,7 +2,7 @@ use Rattle.std.proofs.Common.{◌≡◌, drop, take, subst}
 use Rattle.std.proofs.lemmas.Result.{on_ok_weaker}
 use Rattle.st_io.specs.Tears.{Holds, Torn}
 use Rattle.st_vault.proofs.FormatLemmas.{filled, filled_behind, filling}
-use Rattle.st_io.proofs.MomentLemmas.{over, turns_weaker}
+use Rattle.st_io.proofs.MomentLemmas.{over, turns_weaker, weaker}
 use Rattle.st_vault.specs.Formatting.{IsFilled, behind_gate}
 use Rattle.st_vault.specs.Image.{kind_of}
 use Rattle.st_vault.specs.Image.Kind.{Blank}
@@ -19,7 +19,8 @@ returns-clause-filled g c =
 pub returns-clause-moments : goal.returns-clause-moments
 returns-clause-moments g c old told =
     let start = c.requires old told in
-    over (λ image. kind_of image ≡ Blank) (Torn 1 _) _ _ old start.1 c.write_synced.ensures.time c.write_synced.ensures.images (λ x torn. filling _ old x start.0 torn)
+    weaker _ (λ image. kind_of image ≡ Blank) _ _ (over (Torn 1 _) _ _ old start.1 c.write_synced.ensures.time c.write_synced.ensures.images)
+    (λ x torn. filling _ old x start.0 torn)
 
 pub returns-clause-written : goal.returns-clause-written
 returns-clause-written g c =

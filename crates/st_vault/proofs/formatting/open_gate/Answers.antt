@@ -1,8 +1,8 @@
 use Rattle.std.proofs.Common.{◌≡◌, [], ◌∷◌, drop}
 use Rattle.std.proofs.lemmas.Result.{on_ok_weaker}
 use Rattle.st_io.specs.Tears.{Holds, Torn}
-use Rattle.st_vault.proofs.FormatLemmas.{opening, opened_by, opened_bytes}
-use Rattle.st_io.proofs.MomentLemmas.{over, turns_weaker}
+use Rattle.st_vault.proofs.FormatLemmas.{opening, opened_by}
+use Rattle.st_io.proofs.MomentLemmas.{over, turns_weaker, weaker}
 use Rattle.st_vault.specs.Formatting.{IsFresh, OpensTo}
 use Rattle.st_vault.specs.Image.{open_gate}
 use Rattle.st_vault.proofs.formatting.open_gate.Goals as goal
@@ -13,8 +13,9 @@ returns-clause-opens g c =
 
 pub returns-clause-moments : goal.returns-clause-moments
 returns-clause-moments g c old told key is =
-    over (IsFresh key) (Torn 0 1) _ _ old (c.requires old told) c.write_synced.ensures.time c.write_synced.ensures.images (λ x torn. opening key old x is torn)
+    weaker _ (IsFresh key) _ _ (over (Torn 0 1) _ _ old (c.requires old told) c.write_synced.ensures.time c.write_synced.ensures.images) (λ x torn. opening key old x is torn)
 
 pub returns-clause-written : goal.returns-clause-written
 returns-clause-written g c =
-    on_ok_weaker c.write_synced.result (turns_weaker _ _ (Holds 0 (open_gate ∷ [])) (λ old image. image ≡ open_gate ∷ drop 1 old) (λ x y told holds. opened_bytes x y holds)) c.write_synced.ensures.written
+    on_ok_weaker c.write_synced.result
+    (turns_weaker _ _ (Holds 0 (open_gate ∷ [])) (λ old image. image ≡ open_gate ∷ drop 1 old) (λ x y told holds. holds)) c.write_synced.ensures.written

@@ -1,19 +1,19 @@
-use Rattle.std.proofs.Common.{subst}
+use Rattle.std.proofs.Common.{◌≡◌, subst}
 use Rattle.st_vault.proofs.FormatLemmas.{short-ok, shut-ok, shut_moments, unformatted-not}
-use Rattle.st_io.proofs.MomentLemmas.{turns_same}
+use Rattle.st_io.proofs.MomentLemmas.{stays_only, turns_same}
 use Rattle.st_vault.specs.Formatting.{IsShut}
 use Rattle.st_vault.specs.Start.{Begins}
 use Rattle.st_vault.proofs.formatting.shut_gate.Goals as goal
 
 pub returns-in_err-write_synced-in-Short-clause-moments : goal.returns-in_err-write_synced-in-Short-clause-moments
 returns-in_err-write_synced-in-Short-clause-moments g c old told =
-    let short = subst (λ start. Begins start old) c.in-Short.is (c.in_ok-look.ensures.begins old told) in
-    shut_moments _ _ _ old (c.requires old told) c.look.ensures.as_it_was.images short c.write_synced.ensures.time c.write_synced.ensures.images
+    shut_moments _ _ _ old (stays_only (λ x. x ≡ old) _ _ old (c.requires old told) c.look.ensures.as_it_was.images (λ x same. same))
+    (subst (λ start. Begins start old) c.in-Short.is (c.in_ok-look.ensures.begins old told)) c.write_synced.ensures.time c.write_synced.ensures.images
 
 pub returns-in_ok-write_synced-in-Short-clause-moments : goal.returns-in_ok-write_synced-in-Short-clause-moments
 returns-in_ok-write_synced-in-Short-clause-moments g c old told =
-    let short = subst (λ start. Begins start old) c.in-Short.is (c.in_ok-look.ensures.begins old told) in
-    shut_moments _ _ _ old (c.requires old told) c.look.ensures.as_it_was.images short c.write_synced.ensures.time c.write_synced.ensures.images
+    shut_moments _ _ _ old (stays_only (λ x. x ≡ old) _ _ old (c.requires old told) c.look.ensures.as_it_was.images (λ x same. same))
+    (subst (λ start. Begins start old) c.in-Short.is (c.in_ok-look.ensures.begins old told)) c.write_synced.ensures.time c.write_synced.ensures.images
 
 pub returns-in-Formatted-clause-gives : goal.returns-in-Formatted-clause-gives
 returns-in-Formatted-clause-gives g c old told =

@@ -1,13 +1,15 @@
-use Rattle.std.proofs.Common.{◌≡◌, ◌∙◌, ℕ, ◌+◌, List, length, ap, arith}
-use Rattle.st_workload.proofs.OrderLemmas.{turn_next}
-use Rattle.st_workload.specs.Order.{all_left, events, turns}
+use Rattle.std.proofs.Common.{◌≡◌, ◌∙◌, ℕ, ◌+◌, List, length, ap, arith, sym}
+use Rattle.st_workload.proofs.OrderLemmas.{more_turns}
+use Rattle.st_workload.specs.Order.{all_left, events, turn, turns}
+use Rattle.st_workload.specs.Words.{word}
 use Rattle.st_workload.specs.declared.order.Feed.{Feed}
 use Rattle.st_workload.proofs.order.events.Goals as goal
 
 pub turns-preserved : goal.turns-preserved
 turns-preserved c =
-    turn_next c.args.seed c.args.stream c.args.anchors.now c.turns.n c.word-w.result _ c.turns.feed c.in_ok-next.next
-    c.word-w.ensures c.turns.invariant c.in_ok-next.ensures
+    c.in_ok-next.ensures ∙ ap (λ w. turn c.args.anchors.now w c.turns.feed) c.word-w.ensures
+    ∙ ap (turn c.args.anchors.now (word c.args.seed c.args.stream c.turns.n)) c.turns.invariant
+    ∙ sym (more_turns c.args.seed c.args.stream c.args.anchors.now c.turns.n _)
 
 pub returns : goal.returns
 unfolding events

@@ -3,7 +3,6 @@ use Rattle.st_base.specs.Words.{HasNo}
 use Rattle.st_drive.specs.Parts.{Gathered, outlet}
 use Rattle.st_drive.proofs.LineLemmas.{open_append}
 use Rattle.st_drive.proofs.Fed.{no_pieces, one_more, all_pieces, gathered_none, gathered_more, gathered_less, gathered_some, some_of_all}
-use Rattle.st_drive.proofs.FitsLemmas.{as_many, fed_line}
 use Rattle.st_drive.proofs.progress.Progress.answer_lines.Goals as goal
 
 pub lines-init : goal.lines-init
@@ -20,17 +19,20 @@ lines-init g c = record {
 pub end_line-requires-clause-fits : goal.end_line-requires-clause-fits
 end_line-requires-clause-fits g c =
     let whole = ap length c.in-Some.ensures.whole in
-    as_many g.met.M.Machine.fewer (vec_len c.lines.line + length c.lines.rest.now + 0) (vec_len c.lines.line + length c.in-Some.front.now + 1)
-    (omega (arith, length-append c.in-Some.front.now (10 ∷ c.in-Some.after.now))) (c.lines.invariant.fits 0 (as_many g.met.M.Machine.fewer _ _ (omega arith) c.requires.fits))
+    g.met.M.Machine.fewer _ _ (vec_len c.lines.line + length c.lines.rest.now + 0) (vec_len c.lines.line + length c.in-Some.front.now + 1)
+    (omega (arith, length-append c.in-Some.front.now (10 ∷ c.in-Some.after.now))) (c.lines.invariant.fits 0 (g.met.M.Machine.fewer _ _ _ _ (omega arith) c.requires.fits))
 
 pub lines-preserved : goal.lines-preserved
 lines-preserved g c =
     let i = c.lines.invariant in
     let cut = c.in-Some.ensures in
     let ended = c.in-Ok.ensures in
-    let pieces = one_more i.answered.1 (record { open_line = i.partial; open_front = cut.first; cut = cut.whole }) in
+    let pieces = one_more i.answered.1 (record { front = _; after = _; open_line = i.partial; open_front = cut.first; cut = cut.whole }) in
     record {
-      fits = λ more fits. fed_line g.met.M.Machine.fewer more (vec_len c.lines.line) (length c.in-Some.front.now) (length c.lines.rest.now) (length c.in-Some.after.now) (vec_len c.end_line.new.line) ended.fits (i.fits more fits) (let whole = ap length cut.whole in omega (arith, length-append c.in-Some.front.now (10 ∷ c.in-Some.after.now))) (let none = ap length ended.emptied in omega arith);
+      fits =
+          (let whole = ap length cut.whole in let none = ap length ended.emptied in λ more fits.
+          g.met.M.Machine.fewer _ _ _ _ (omega arith) (ended.fits (length c.in-Some.after.now + more)
+          (g.met.M.Machine.fewer _ _ _ _ (omega (arith, length-append c.in-Some.front.now (10 ∷ c.in-Some.after.now))) (i.fits more fits))));
       cap = (let n = ap length ended.emptied in omega arith);
       partial = subst (HasNo 10) (sym ended.emptied) tt;
       later = omega (arith, ended.orderly.later);
@@ -43,13 +45,13 @@ pub returns-in-Err-clause-gathers : goal.returns-in-Err-clause-gathers
 returns-in-Err-clause-gathers g c =
     let i = c.lines.invariant in
     let cut = c.in-Some.ensures in
-    let pieces = one_more i.answered.1 (record { open_line = i.partial; open_front = cut.first; cut = cut.whole }) in
-    record { ok = tt; err = some_of_all g.met.M.Machine.laws pieces (gathered_less g.met.M.Machine.laws i.answered.2 c.in-Err.ensures.gathers.err) }
+    let pieces = one_more i.answered.1 (record { front = _; after = _; open_line = i.partial; open_front = cut.first; cut = cut.whole }) in
+    record { ok = tt; err = some_of_all g.met.M.Machine.laws (gathered_less g.met.M.Machine.laws i.answered.2 c.in-Err.ensures.gathers.err) pieces }
 
 pub returns-then-is_err-clause-gathers : goal.returns-then-is_err-clause-gathers
 returns-then-is_err-clause-gathers g c =
     let i = c.lines.invariant in
-    record { ok = tt; err = some_of_all g.met.M.Machine.laws i.answered.1 (gathered_some g.met.M.Machine.laws i.answered.2) }
+    record { ok = tt; err = some_of_all g.met.M.Machine.laws (gathered_some g.met.M.Machine.laws i.answered.2) i.answered.1 }
 
 pub returns-clause-gathers : goal.returns-clause-gathers
 returns-clause-gathers g c =

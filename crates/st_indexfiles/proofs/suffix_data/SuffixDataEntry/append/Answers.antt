@@ -1,7 +1,8 @@
+use Rattle.std.proofs.Common.{◌∙◌, ◌++◌, ap, sym}
 use Rattle.st_plain.proofs.OnLiterals.{names_on_literals}
 use Rattle.st_hash.specs.Hash.{HashValue}
 use Rattle.st_indexfiles.specs.declared.suffix_data.SuffixData.{SuffixData}
-use Rattle.st_indexfiles.proofs.MemberLemmas.{create_text, in_five}
+use Rattle.st_indexfiles.proofs.MemberLemmas.{create_text, joined}
 use Rattle.st_indexfiles.proofs.WrittenLemmas.{both_again}
 use Rattle.st_indexfiles.proofs.suffix_data.SuffixDataEntry.append.Goals as goal
 
@@ -15,5 +16,7 @@ returns-clause-read c = λ version.
 
 pub returns-clause-text : goal.returns-clause-text
 returns-clause-text c =
-    in_five c.args.out.now _ _ _ _ _ _ _ _ _ _ _ c.in_ok-push_all.ensures.ok c.in_ok-append_hash.ensures.text c.in_ok-push_all-2.ensures.ok
-    c.in_ok-append_hash-2.ensures.text c.in_ok-push_all-3.ensures.ok (create_text c.args.self.now)
+    let old = c.args.out.now in
+    joined old _ _ (joined old _ _ (joined old _ _ (joined old _ _ c.in_ok-push_all.ensures.ok c.in_ok-append_hash.ensures.text)
+    c.in_ok-push_all-2.ensures.ok) c.in_ok-append_hash-2.ensures.text) c.in_ok-push_all-3.ensures.ok
+    ∙ ap (λ text. old ++ text) (sym (create_text c.args.self.now))

@@ -1,19 +1,21 @@
 use Rattle.std.proofs.Common.{◌≡◌, ◌∙◌, [], inl, IfOk, refl, sym, subst}
+use Rattle.std.proofs.Math.Path.{subst₂}
 use Rattle.std.specs.Option.{ok_or}
 use Rattle.std.specs.Prelude.{OnErr}
 use Rattle.st_base.specs.Answers.{GivesAs}
 use Rattle.st_drive.proofs.TableLemmas.{rose_before}
+use Rattle.st_io.proofs.MomentLemmas.{still_as_it_was}
 use Rattle.st_io.proofs.PastLemmas.{more}
-use Rattle.st_io.specs.Tears.{IfTold, Turns}
+use Rattle.st_io.specs.Tears.{Turns}
 use Rattle.st_journal.proofs.OpeningLemmas.{synced_on}
-use Rattle.st_journal.specs.Coming.{coming, left_of}
+use Rattle.st_journal.specs.Coming.{coming}
 use Rattle.st_journal.specs.Image.{records}
 use Rattle.st_journal.specs.Moments.{IsOldOrHas}
 use Rattle.st_journal.specs.Opening.{opened, refusal_of}
 use Rattle.st_journal.specs.declared.refused.JournalRefused.TheVariants.{Damaged}
 use Rattle.st_journal_lines.specs.Answering.{StayedOrWent, WentOverFrom, behind_opened}
-use Rattle.st_journal_lines.proofs.OpenedLemmas.{ok_some, on_ok, refused_by, same_error, stays_refused, stays_unopened}
-use Rattle.st_journal_lines.proofs.ReplayLemmas.{first_opened, not_long}
+use Rattle.st_journal_lines.proofs.OpenedLemmas.{ok_some, on_ok, refused_by, same_error, some_left, stays_unopened}
+use Rattle.st_journal_lines.proofs.ReplayLemmas.{if_left, not_long}
 use Rattle.st_journal_lines.proofs.lines.JournalLines.open.Goals as goal
 
 pub returns-in-Ok-start-clause-opens : goal.returns-in-Ok-start-clause-opens
@@ -42,16 +44,13 @@ returns-in-Ok-start-clause-opens g c = record {
       let to = c.in-Ok.ensures.begins.comes.forward old told in
       subst (λ n. OnErr c.replay.result (StayedOrWent g.N.Replayable.answering n r c.args.context.now c.replay.new.context)) c.in-Ok-start.ensures
       (c.replay.ensures.gave_up to.0 to.1 r (ok_some (coming c.in-Ok.opening to.0) Damaged r (sym to.2 ∙ is)));
-  within = λ image told.
-      first_opened g.N.Replayable.answering (g.N.Replayable.start c.args.seed.now) c.args.context.now c.replay.new.context c.replay.result c.in-Ok.opening.place
-      (left_of c.in-Ok.opening) (g.D.Disk.reads c.args.disk.now) (g.D.Disk.reads c.begin.new.disk) image told c.in-Ok.ensures.begins.first c.replay.ensures.refuses
-      (λ left. (c.in-Ok.ensures.unwritten left).reads)
-      (subst (λ n. IfTold (g.D.Disk.reads c.begin.new.disk) (λ x. OnErr c.replay.result
-      (WentOverFrom g.N.Replayable.answering n c.in-Ok.opening.place x c.args.context.now c.replay.new.context))) c.in-Ok-start.ensures c.replay.ensures.within);
+  within = λ image told. if_left _ c.replay.result c.replay.ensures.refuses (λ left.
+      subst₂ (λ n place. OnErr c.replay.result (WentOverFrom g.N.Replayable.answering n place image c.args.context.now c.replay.new.context))
+      c.in-Ok-start.ensures c.in-Ok.ensures.begins.first (c.replay.ensures.within image ((c.in-Ok.ensures.unwritten left).reads ∙ told)));
   unmoved = λ old told is.
       let to = c.in-Ok.ensures.begins.comes.forward old told in
       absurd (not_long (coming c.in-Ok.opening to.0) (sym to.2 ∙ is));
-  refused = stays_refused c.replay.result c.replay.ensures.refuses c.in-Ok.ensures.unwritten c.replay.ensures.as_it_was;
+  refused = λ is. still_as_it_was (c.in-Ok.ensures.unwritten (some_left c.replay.result c.replay.ensures.refuses is)) c.replay.ensures.as_it_was;
   fault = λ is. rose_before _ _ _ c.begin.ensures.cause.later (c.replay.ensures.cause.rose is);
 }
 

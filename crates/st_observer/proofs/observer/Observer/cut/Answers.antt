@@ -1,4 +1,5 @@
 use Rattle.std.proofs.Common.{◌≤◌, ap, arith, length, List, subst, sym}
+use Rattle.st_base.proofs.Counted.{applies-few}
 use Rattle.st_ledger.specs.declared.entry.Entry.{Entry}
 use Rattle.st_observer.specs.Kept.{IsObserved}
 use Rattle.st_observer.specs.Observed.{Observed, cut_to}
@@ -19,10 +20,14 @@ invariant_of-observer c =
 
 pub returns-clause-bound : goal.returns-clause-bound
 returns-clause-bound c =
-    cut-few c.args.n (over c.self.inside.schedule c.self.inside.ledger c.self.inside.content) c.args.self c.self.inside.kept c.take.result
-    c.in_ok-later.later c.self.invariant c.self.view_is c.take.ensures c.in_ok-later.ensures c.fold.ensures.bound
+    let held : IsObserved c.args.self c.take.result = subst (λ (k : Kept). IsObserved c.args.self k) (sym c.take.ensures)
+    (subst (λ (o : Observed). IsObserved o c.self.inside.kept) c.self.view_is c.self.invariant) in
+    let few = cut-few c.args.n c.args.self held c.in_ok-later.ensures in
+    applies-few _ _ few.2 (c.fold.ensures.bound few.0 few.1)
 
 pub returns-in_err-kept-clause-bound : goal.returns-in_err-kept-clause-bound
 returns-in_err-kept-clause-bound c =
-    cut-few c.args.n (over c.self.inside.schedule c.self.inside.ledger c.self.inside.content) c.args.self c.self.inside.kept c.take.result
-    c.in_ok-later.later c.self.invariant c.self.view_is c.take.ensures c.in_ok-later.ensures c.fold.ensures.bound
+    let held : IsObserved c.args.self c.take.result = subst (λ (k : Kept). IsObserved c.args.self k) (sym c.take.ensures)
+    (subst (λ (o : Observed). IsObserved o c.self.inside.kept) c.self.view_is c.self.invariant) in
+    let few = cut-few c.args.n c.args.self held c.in_ok-later.ensures in
+    applies-few _ _ few.2 (c.fold.ensures.bound few.0 few.1)

@@ -18,7 +18,8 @@ returns-in-Err-clause-may_spend g c =
     let here = c.from-place.ensures ∙ c.next.ensures in
     record {
       untouched = λ none. absurd (omega (arith, none, left));
-      moments = λ all. torn_moments c.args.self c.from-place.result (g.D.Disk.past c.args.disk.now) (g.D.Disk.past c.write_synced.new.disk) here left all c.write_synced.ensures.time c.write_synced.ensures.images;
+      moments = λ all. torn_moments c.args.self _ _ left all c.write_synced.ensures.time
+          (subst (λ n. Follow (Torn (64 + n) 1) (g.D.Disk.past c.args.disk.now) (g.D.Disk.past c.write_synced.new.disk)) here c.write_synced.ensures.images);
       stays = λ old told. after_write c.args.self old (c.requires old told) _ _ _ here (g.met.D.Disk.is_image c.args.disk.now old told) c.write_synced.ensures.time c.write_synced.ensures.images;
     }
 
@@ -28,7 +29,8 @@ returns-in-Ok-clause-may_spend g c =
     let here = c.from-place.ensures ∙ c.next.ensures in
     record {
       untouched = λ none. absurd (omega (arith, none, left));
-      moments = λ all. torn_moments c.args.self c.from-place.result (g.D.Disk.past c.args.disk.now) (g.D.Disk.past c.write_synced.new.disk) here left all c.write_synced.ensures.time c.write_synced.ensures.images;
+      moments = λ all. torn_moments c.args.self _ _ left all c.write_synced.ensures.time
+          (subst (λ n. Follow (Torn (64 + n) 1) (g.D.Disk.past c.args.disk.now) (g.D.Disk.past c.write_synced.new.disk)) here c.write_synced.ensures.images);
       stays = λ old told. after_write c.args.self old (c.requires old told) _ _ _ here (g.met.D.Disk.is_image c.args.disk.now old told) c.write_synced.ensures.time c.write_synced.ensures.images;
     }
 
