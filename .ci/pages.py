@@ -78,9 +78,9 @@ def link_faults(page, text):
 def page_faults(page):
     """What is wrong in a page, a line each."""
     text = read(page)
-    for crate, folder, module in sorted(set(re.findall(r"\b(st_\w+)\.(specs|proofs)\.(\w+)", text))):
-        if module != "declared" and not (CRATES / crate / folder / f"{module}.antt").is_file():
-            yield f"{page}: {crate}.{folder}.{module} is not there"
+    for crate, folder, inside, module in sorted(set(re.findall(r"\b(st_\w+)\.(specs|proofs)\.(inside\.)?(\w+)", text))):
+        if module != "declared" and not (CRATES / crate / folder / inside.strip(".") / f"{module}.antt").is_file():
+            yield f"{page}: {crate}.{folder}.{inside}{module} is not there"
     paths = [CRATES / path for path in re.findall(r"`(?:crates/)?(st_\w+/[\w./-]+)`", text) if path.split("/")[1] != "out"]
     paths += map(pathlib.Path, re.findall(r"`((?:\.ci|bench|docs|examples|launcher|service)/[\w./-]*)`", text))
     yield from (f"{page}: {path} is not there" for path in sorted(set(paths)) if path.name != "NAME" and not path.exists())

@@ -8,11 +8,12 @@ use Rattle.st_content.specs.Files.{Files, file_at, with_file}
 use Rattle.st_content.proofs.FileLemmas.{file_at-with_file, file_at-with_file-other}
 use Rattle.st_datafiles.specs.declared.role.Role.{Role}
 use Rattle.st_hash.specs.Hash.{HashValue, same_hash, uri_of}
-use Rattle.st_hash.proofs.SameHash.{same_hash-is, same_hash-itself}
-use Rattle.st_anchor.specs.Coming.{Extends, IsUnmissed}
-use Rattle.st_anchor.specs.Known.{Known, known_from}
+use Rattle.st_hash.proofs.HashLemmas.{same_hash-is, same_hash-itself}
+use Rattle.st_anchor.specs.Gives.{IsUnmissed}
+use Rattle.st_anchor.specs.inside.Coming.{Extends}
+use Rattle.st_anchor.specs.BoundValue.{BoundValue, known_from}
 use Rattle.st_anchor.specs.States.{role_state}
-use Rattle.st_anchor.specs.declared.role_state.RoleState.TheVariants.{Missing}
+use Rattle.st_anchor.specs.declared.part.RoleState.TheVariants.{Missing}
 use Rattle.st_anchor.proofs.KnownLemmas.{known_from-again, known_from-missing, known_from-rest}
 
 same_or : (first second : HashValue) (same : Bool) → same_hash first second ≡ same → (first ≡ second) ⊎ (first ≢ second)
@@ -46,13 +47,13 @@ pub with_file-others : (file : List ℕ) (files : Files) (uri : HashValue) → f
     → (uri ≡ uri_of file) ⊎ (file_at uri (with_file file files) ≡ None)
 with_file-others file files uri none = others_by file files uri (same_or_not uri (uri_of file)) none
 
-absent_by : (file : List ℕ) (files : Files) (bound : Known) (role : Role) (uri : HashValue) → IsUnmissed (uri_of file) bound
+absent_by : (file : List ℕ) (files : Files) (bound : BoundValue) (role : Role) (uri : HashValue) → IsUnmissed (uri_of file) bound
     → role_state role bound ≡ Missing uri → (uri ≡ uri_of file) ⊎ (file_at uri (with_file file files) ≡ None)
     → file_at uri (with_file file files) ≡ None
 absent_by file files bound role uri unmissed is (inl own) = absurd (unmissed role (is ∙ ap (λ at. Missing at) own))
 absent_by file files bound role uri unmissed is (inr none) = none
 
-pub known_from-unmissed : (file : List ℕ) (files : Files) (bound : Known) → IsUnmissed (uri_of file) (known_from files bound)
+pub known_from-unmissed : (file : List ℕ) (files : Files) (bound : BoundValue) → IsUnmissed (uri_of file) (known_from files bound)
     → known_from (with_file file files) bound ≡ known_from files bound
 known_from-unmissed file files bound unmissed =
     sym (known_from-again files (with_file file files) (with_file-extends file files) bound)

@@ -6,35 +6,35 @@
 --     opened_proofs-with    reading a missing file undoes no reading
 --     opened_proofs-up      nor does a lookup
 --     opened-core_in, opened-provisional_in    an index file has no signed texts
-use Rattle.std.proofs.Common.{◌≡◌, ◌∙◌, ◌+◌, ◌≤◌, ℕ, List, length, Option, Some, None, refl, sym, subst, arith}
+use Rattle.std.proofs.Common.{◌≡◌, ◌∙◌, ◌+◌, ◌≤◌, ℕ, List, length, Option, Some, None, refl, sym, subst, arith, zero, suc, ◌<◌, ap}
 use Rattle.std.proofs.lemmas.List.Sums.{sum_by-le-sum_by}
+use Rattle.st_base.specs.Work.{WorkValue, counted, one_file, one_proof}
 use Rattle.st_plain.specs.Plain.{Plain}
 use Rattle.st_plain.specs.Shapes.{json_in}
-use Rattle.st_content.specs.Files.{Files}
+use Rattle.st_hash.specs.Hash.{HashValue}
+use Rattle.st_indexfiles.specs.CoreIndex.{core_index_of, first_failing_core_rule}
+use Rattle.st_indexfiles.specs.ProvisionalIndex.{provisional_index_of, first_failing_provisional_rule}
+use Rattle.st_indexfiles.specs.declared.core_index.CoreIndex.{CoreIndex}
+use Rattle.st_indexfiles.specs.declared.core_index.CoreRule.{CoreRule}
+use Rattle.st_indexfiles.specs.declared.provisional_index.ProvisionalIndex.{ProvisionalIndex}
+use Rattle.st_indexfiles.specs.declared.provisional_index.ProvisionalRule.{ProvisionalRule}
 use Rattle.st_datafiles.specs.declared.role.Role.{Role}
 use Rattle.st_datafiles.specs.declared.role.Role.TheVariants.{Core, CoreProof, Provisional, ProvisionalProof, Chunk}
-use Rattle.st_hash.specs.Hash.{HashValue}
-use Rattle.st_indexfiles.specs.CoreIndex.{core_index_of}
-use Rattle.st_indexfiles.specs.CoreRules.{first_failing_core_rule}
-use Rattle.st_indexfiles.specs.ProvisionalIndex.{provisional_index_of}
-use Rattle.st_indexfiles.specs.ProvisionalRules.{first_failing_provisional_rule}
-use Rattle.st_indexfiles.specs.declared.core_index.CoreIndex.{CoreIndex}
-use Rattle.st_indexfiles.specs.declared.core_rule.CoreRule.{CoreRule}
-use Rattle.st_indexfiles.specs.declared.provisional_index.ProvisionalIndex.{ProvisionalIndex}
-use Rattle.st_indexfiles.specs.declared.provisional_rule.ProvisionalRule.{ProvisionalRule}
 use Rattle.st_ops.specs.Operation.{Proof}
-use Rattle.st_anchor.specs.Known.{Known, as_it_is, bound_with, chunk_in, core_branch, core_in, core_over, core_proof_in, core_with, filled, judged, known_from, looked_below, looked_up, named, provisional_in, provisional_judged, provisional_over, provisional_proof_in, provisional_with}
-use Rattle.st_anchor.specs.States.{core_proof_count, core_state, count_read, decided, decided_roles, opened_in_core, opened_in_provisional, opened_proofs, provisional_state, role_state, role_states, state, state_below}
+use Rattle.st_content.specs.Files.{Files}
+use Rattle.st_anchor.proofs.KnownLemmas.{WasRead, chunk_in-read, core_proof_in-read, provisional_proof_in-read}
+use Rattle.st_anchor.specs.BoundValue.{BoundValue, as_it_is, bound_with, chunk_in, core_branch, core_in, core_over, core_proof_in, core_with, filled, judged, known_from, looked_below, looked_up, named, provisional_in, provisional_judged, provisional_over, provisional_proof_in, provisional_with}
+use Rattle.st_anchor.specs.States.{core_proof_count, core_state, count_read, decided, decided_roles, opened_in_core, opened_in_provisional, opened_proofs, provisional_state, role_state, role_states, state, state_below, WorkedAtMost, counted_more, one_file_with, worked}
 use Rattle.st_anchor.specs.declared.branches.Context.{Context}
 use Rattle.st_anchor.specs.declared.branches.CoreBranch.{CoreBranch}
 use Rattle.st_anchor.specs.declared.branches.OpenedCore.{OpenedCore}
 use Rattle.st_anchor.specs.declared.branches.ProvisionalBranch.{ProvisionalBranch}
 use Rattle.st_anchor.specs.declared.part.Part.{Part}
 use Rattle.st_anchor.specs.declared.part.Part.TheVariants.{Unneeded, Missing, Rejected, Is}
-use Rattle.st_anchor.specs.declared.role_state.RoleState.{RoleState}
-use Rattle.st_anchor.specs.declared.role_state.RoleState.TheVariants as role_is
-use Rattle.st_anchor.specs.declared.rule.Rule.TheVariants as fails
-use Rattle.st_anchor.proofs.KnownLemmas.{WasRead, chunk_in-read, core_proof_in-read, provisional_proof_in-read}
+use Rattle.st_anchor.specs.declared.part.RoleState.{RoleState}
+use Rattle.st_anchor.specs.declared.part.RoleState.TheVariants as role_is
+use Rattle.st_anchor.specs.declared.part.Rule.TheVariants as fails
+use Rattle.st_anchor.specs.inside.Coming.{more_proofs}
 
 -- ---- what files count
 
@@ -53,7 +53,7 @@ module _ (one : ℕ) (core_proofs : OpenedCore → ℕ) (proofs : List (Option P
   abbrev core_weight : CoreBranch → ℕ
   core_weight branch = one + weigh one core_proofs branch.proofs + weigh one provisional_weight branch.provisional
 
-  abbrev weight : Known → ℕ
+  abbrev weight : BoundValue → ℕ
   weight bound = weigh one core_weight bound.core
 
   -- ---- an index file was read
@@ -109,25 +109,25 @@ module _ (one : ℕ) (core_proofs : OpenedCore → ℕ) (proofs : List (Option P
             (provisional-up context branch.says files),
       )
 
-  known-up : (files : Files) (bound : Known) → weight bound ≤ weight (known_from files bound)
+  known-up : (files : Files) (bound : BoundValue) → weight bound ≤ weight (known_from files bound)
   unfolding known_from
   known-up files bound = weigh-up core_weight (core_in bound.context) (core_over bound.context files) files bound.core (core-up bound.context files)
 
   -- ---- a missing file is read, which adds what it counts
 
-  module _ (Counts : ℕ → Type 0) (of_one : Counts one) (of_core : (opened : OpenedCore) → Counts (core_proofs opened))
-      (of_proofs : (opened : List (Option Proof)) → Counts (proofs opened)) where
+  module _ (WorkValue : ℕ → Type 0) (of_one : WorkValue one) (of_core : (opened : OpenedCore) → WorkValue (core_proofs opened))
+      (of_proofs : (opened : List (Option Proof)) → WorkValue (proofs opened)) where
     abbrev Gains : ℕ → ℕ → Type 0
-    Gains before after = (gain : ℕ) × Counts gain × (after ≡ before + gain)
+    Gains before after = (gain : ℕ) × WorkValue gain × (after ≡ before + gain)
 
-    counts-read : {Says : Type 0} (count : Says → ℕ) (part : Part Says) → WasRead part → ((says : Says) → Counts (count says)) → Counts (weigh one count part)
+    counts-read : {Says : Type 0} (count : Says → ℕ) (part : Part Says) → WasRead part → ((says : Says) → WorkValue (count says)) → WorkValue (weigh one count part)
     counts-read count Unneeded was of = absurd was
     counts-read count (Missing uri) was of = absurd was
     counts-read count (Rejected rule) was of = of_one
     counts-read count (Is says) was of = of says
 
     gains-filled : {Says : Type 0} (count : Says → ℕ) (read : List ℕ → Part Says) (part : Part Says) (uri : HashValue) (bytes : List ℕ)
-        → state part ≡ role_is.Missing uri → Counts (weigh one count (read bytes)) → Gains (weigh one count part) (weigh one count (filled read bytes part))
+        → state part ≡ role_is.Missing uri → WorkValue (weigh one count (read bytes)) → Gains (weigh one count part) (weigh one count (filled read bytes part))
     gains-filled count read Unneeded uri bytes is of = absurd cc
     gains-filled count read (Missing missed) uri bytes is of = (weigh one count (read bytes), of, omega arith)
     gains-filled count read (Rejected rule) uri bytes is of = absurd cc
@@ -165,7 +165,7 @@ module _ (one : ℕ) (core_proofs : OpenedCore → ℕ) (proofs : List (Option P
         (gains.0, gains.1, omega (arith, gains.2))
     core-gains Provisional context branch uri bytes is =
         let gains = gains-filled provisional_weight (provisional_in context branch.says) branch.provisional uri bytes is
-        (subst Counts (sym (provisional-in context branch.says bytes)) of_one) in
+        (subst WorkValue (sym (provisional-in context branch.says bytes)) of_one) in
         (gains.0, gains.1, omega (arith, gains.2))
     core-gains ProvisionalProof context branch uri bytes is =
         let gains = gains-below provisional_weight
@@ -178,18 +178,18 @@ module _ (one : ℕ) (core_proofs : OpenedCore → ℕ) (proofs : List (Option P
         (λ says. provisional-gains Chunk context branch.says says uri bytes) in
         (gains.0, gains.1, omega (arith, gains.2))
 
-    gains-below_core : (role : Role) (bound : Known) (uri : HashValue) (bytes : List ℕ)
+    gains-below_core : (role : Role) (bound : BoundValue) (uri : HashValue) (bytes : List ℕ)
         → state_below (core_state role) bound.core ≡ role_is.Missing uri
         → Gains (weight bound) (weigh one core_weight (looked_below (core_with role bound.context bytes) bound.core))
     gains-below_core role bound uri bytes is =
         gains-below core_weight (core_with role bound.context bytes) (core_state role) bound.core uri is
         (λ says. core-gains role bound.context says uri bytes)
 
-    known-gains : (role : Role) (bound : Known) (uri : HashValue) (bytes : List ℕ) → role_state role bound ≡ role_is.Missing uri
+    known-gains : (role : Role) (bound : BoundValue) (uri : HashValue) (bytes : List ℕ) → role_state role bound ≡ role_is.Missing uri
         → Gains (weight bound) (weight (bound_with role bytes bound))
     unfolding role_state bound_with
     known-gains Core bound uri bytes is =
-        gains-filled core_weight (core_in bound.context) bound.core uri bytes is (subst Counts (sym (core-in bound.context bytes)) of_one)
+        gains-filled core_weight (core_in bound.context) bound.core uri bytes is (subst WorkValue (sym (core-in bound.context bytes)) of_one)
     known-gains CoreProof bound uri bytes is = gains-below_core CoreProof bound uri bytes is
     known-gains Provisional bound uri bytes is = gains-below_core Provisional bound uri bytes is
     known-gains ProvisionalProof bound uri bytes is = gains-below_core ProvisionalProof bound uri bytes is
@@ -225,10 +225,10 @@ decided-part context (Is branch) =
     ≡ core_weight 1 each each branch = omega (arith, decided-weigh branch.proofs, decided-provisional branch.provisional) in
     sum
 
-decided-weight : (bound : Known) → decided_roles bound ≡ weight 1 each each bound
+decided-weight : (bound : BoundValue) → decided_roles bound ≡ weight 1 each each bound
 decided-weight bound = decided-part bound.context bound.core
 
-pub decided_roles-with : (role : Role) (bound : Known) (uri : HashValue) (bytes : List ℕ) → role_state role bound ≡ role_is.Missing uri
+pub decided_roles-with : (role : Role) (bound : BoundValue) (uri : HashValue) (bytes : List ℕ) → role_state role bound ≡ role_is.Missing uri
     → decided_roles (bound_with role bytes bound) ≡ decided_roles bound + 1
 decided_roles-with role bound uri bytes is =
     let gains = known-gains 1 each each (λ gain. gain ≡ 1) refl (λ opened. refl) (λ opened. refl) role bound uri bytes is in
@@ -241,11 +241,11 @@ decided-small (role_is.Missing uri) = omega arith
 decided-small (role_is.Rejected rule) = omega arith
 decided-small role_is.Read = omega arith
 
-pub decided_roles-small : (bound : Known) → decided_roles bound ≤ 5
+pub decided_roles-small : (bound : BoundValue) → decided_roles bound ≤ 5
 unfolding decided_roles
 decided_roles-small bound = sum_by-le-sum_by decided (λ at. 1) (role_states bound) decided-small
 
-pub decided_roles-up : (files : Files) (bound : Known) → decided_roles bound ≤ decided_roles (known_from files bound)
+pub decided_roles-up : (files : Files) (bound : BoundValue) → decided_roles bound ≤ decided_roles (known_from files bound)
 decided_roles-up files bound =
     omega (arith, known-up 1 each each files bound, decided-weight bound, decided-weight (known_from files bound))
 
@@ -275,7 +275,7 @@ opened-core branch =
       opened-weigh opened_in_provisional (provisional_weight 0 core_proof_count length) branch.provisional opened-provisional,
     )
 
-opened_proofs-weight : (bound : Known) → opened_proofs bound ≡ weight 0 core_proof_count length bound
+opened_proofs-weight : (bound : BoundValue) → opened_proofs bound ≡ weight 0 core_proof_count length bound
 unfolding opened_proofs
 opened_proofs-weight bound = opened-weigh opened_in_core (core_weight 0 core_proof_count length) bound.core opened-core
 
@@ -289,12 +289,91 @@ opened-core_in context bytes =
     opened-weigh opened_in_core (core_weight 0 core_proof_count length) (core_in context bytes) opened-core
     ∙ core-in 0 core_proof_count length context bytes
 
-pub opened_proofs-with : (role : Role) (bound : Known) (uri : HashValue) (bytes : List ℕ) → role_state role bound ≡ role_is.Missing uri
+pub opened_proofs-with : (role : Role) (bound : BoundValue) (uri : HashValue) (bytes : List ℕ) → role_state role bound ≡ role_is.Missing uri
     → opened_proofs bound ≤ opened_proofs (bound_with role bytes bound)
 opened_proofs-with role bound uri bytes is =
     let gains = known-gains 0 core_proof_count length (λ gain. Unit {0}) tt (λ opened. tt) (λ opened. tt) role bound uri bytes is in
     omega (arith, gains.2, opened_proofs-weight bound, opened_proofs-weight (bound_with role bytes bound))
 
-pub opened_proofs-up : (files : Files) (bound : Known) → opened_proofs bound ≤ opened_proofs (known_from files bound)
+pub opened_proofs-up : (files : Files) (bound : BoundValue) → opened_proofs bound ≤ opened_proofs (known_from files bound)
 opened_proofs-up files bound =
     omega (arith, known-up 0 core_proof_count length files bound, opened_proofs-weight bound, opened_proofs-weight (known_from files bound))
+
+-- ---- Sums of files read and of signed texts opened.
+
+pub counted_more-both : (first second count : ℕ) → counted_more second (counted_more first count) ≡ counted_more (second + first) count
+counted_more-both first zero count = ap (λ n. counted_more n count) (let e : first ≡ 0 + first = omega arith in e)
+counted_more-both first (suc second) count =
+    ap counted (counted_more-both first second count)
+    ∙ ap (λ n. counted_more n count) (let e : suc (second + first) ≡ suc second + first = omega arith in e)
+
+-- first this much, and then this much more
+pub worked-both : (files proofs more_files more : ℕ) (work : WorkValue)
+    → worked more_files more (worked files proofs work) ≡ worked (more_files + files) (more + proofs) work
+worked-both files proofs more_files more work = λ i. record {
+  files = counted_more-both files more_files work.files i;
+  proofs = counted_more-both proofs more work.proofs i;
+  applies = work.applies;
+}
+
+pub one_more-proof : (more : ℕ) (work : WorkValue) → one_proof (more_proofs more work) ≡ more_proofs (more + 1) work
+one_more-proof more work =
+    ap (λ n. more_proofs n work) (let e : suc more ≡ more + 1 = omega arith in e)
+
+-- an exact number is at most that number
+pub worked-few : (files proofs : ℕ) (old new : WorkValue) → new ≡ worked files proofs old → WorkedAtMost files proofs old new
+worked-few files proofs old new counts =
+    record { files_read = files; proofs_opened = proofs; few_files = omega arith; few_proofs = omega arith; counts = counts }
+
+-- first this much, and then at most this much more
+pub few-after : (files proofs more_files more : ℕ) (old new : WorkValue)
+    → WorkedAtMost more_files more (worked files proofs old) new → WorkedAtMost (more_files + files) (more + proofs) old new
+few-after files proofs more_files more old new few = record {
+  files_read = few.files_read + files;
+  proofs_opened = few.proofs_opened + proofs;
+  few_files = omega (arith, few.few_files);
+  few_proofs = omega (arith, few.few_proofs);
+  counts = few.counts ∙ worked-both files proofs few.files_read few.proofs_opened old;
+}
+
+-- one file without signed texts
+pub file-none : (proofs : ℕ) (old new : WorkValue) → proofs ≡ 0 → new ≡ one_file old → new ≡ one_file_with proofs old
+file-none proofs old new none counts = counts ∙ ap (λ n. one_file_with n old) (sym none)
+
+-- one file, and then its signed texts
+pub file-then : (proofs more : ℕ) (old mid new : WorkValue) → proofs ≡ more → mid ≡ one_file old → new ≡ more_proofs more mid
+    → new ≡ one_file_with proofs old
+file-then proofs more old mid new same first counts =
+    counts ∙ ap (more_proofs more) first ∙ ap (λ n. one_file_with n old) (sym same)
+
+pub file-then_few : (proofs more : ℕ) (old mid new : WorkValue) → proofs ≡ more → mid ≡ one_file old → WorkedAtMost 0 more mid new
+    → WorkedAtMost 1 proofs old new
+file-then_few proofs more old mid new same first few =
+    subst (λ n. WorkedAtMost 1 n old new) (let e : more + 0 ≡ proofs = omega (arith, same) in e)
+    (few-after 1 0 0 more old new (subst (λ mid. WorkedAtMost 0 more mid new) first few))
+
+pub file_with-few : (proofs : ℕ) (old new : WorkValue) → new ≡ one_file_with proofs old → WorkedAtMost 1 proofs old new
+file_with-few proofs old new counts = worked-few 1 proofs old new counts
+
+-- one signed text after some
+pub few-one : (done most : ℕ) (old mid new : WorkValue) → done < most → mid ≡ more_proofs done old → new ≡ one_proof mid → WorkedAtMost 0 most old new
+few-one done most old mid new inside before one = record {
+  files_read = 0;
+  proofs_opened = done + 1;
+  few_files = omega arith;
+  few_proofs = omega (arith, inside);
+  counts = one ∙ ap one_proof before ∙ one_more-proof done old;
+}
+
+-- signed texts of two lists
+pub more_proofs-both : (first second : ℕ) (old mid new : WorkValue) → mid ≡ more_proofs first old → new ≡ more_proofs second mid
+    → new ≡ more_proofs (first + second) old
+more_proofs-both first second old mid new before after =
+    after ∙ ap (more_proofs second) before ∙ worked-both 0 first 0 second old
+    ∙ ap (λ n. more_proofs n old) (let e : second + first ≡ first + second = omega arith in e)
+
+pub few-both : (first second : ℕ) (old mid new : WorkValue) → mid ≡ more_proofs first old → WorkedAtMost 0 second mid new
+    → WorkedAtMost 0 (first + second) old new
+few-both first second old mid new before few =
+    subst (λ n. WorkedAtMost 0 n old new) (let e : second + first ≡ first + second = omega arith in e)
+    (few-after 0 first 0 second old new (subst (λ mid. WorkedAtMost 0 second mid new) before few))

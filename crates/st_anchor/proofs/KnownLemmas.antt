@@ -7,28 +7,28 @@ use Rattle.std.proofs.Common.{◌≡◌, ◌∙◌, ℕ, List, length, Option, S
 use Rattle.st_plain.specs.Shapes.{json_in}
 use Rattle.st_content.specs.Files.{Files, file_at}
 use Rattle.st_datafiles.specs.Chunk.{first_failing_chunk_rule}
-use Rattle.st_datafiles.specs.ProofRules.{first_failing_core_proof_rule, first_failing_provisional_proof_rule}
+use Rattle.st_datafiles.specs.ProofFiles.{first_failing_core_proof_rule, first_failing_provisional_proof_rule}
 use Rattle.st_datafiles.specs.declared.role.Role.{Role}
 use Rattle.st_datafiles.specs.declared.role.Role.TheVariants.{Core, CoreProof, Provisional, ProvisionalProof, Chunk}
 use Rattle.st_hash.specs.Hash.{HashValue, uri_of}
-use Rattle.st_indexfiles.specs.CoreRules.{first_failing_core_rule}
-use Rattle.st_indexfiles.specs.ProvisionalIndex.{provisional_index_of}
-use Rattle.st_indexfiles.specs.ProvisionalRules.{first_failing_provisional_rule}
+use Rattle.st_indexfiles.specs.CoreIndex.{first_failing_core_rule}
+use Rattle.st_indexfiles.specs.ProvisionalIndex.{provisional_index_of, first_failing_provisional_rule}
 use Rattle.st_indexfiles.specs.declared.core_index.CoreIndex.{CoreIndex}
 use Rattle.st_indexfiles.specs.declared.provisional_index.ProvisionalIndex.{ProvisionalIndex}
-use Rattle.st_indexfiles.specs.declared.provisional_rule.ProvisionalRule.{ProvisionalRule}
-use Rattle.st_anchor.specs.Coming.{Extends, HasCome, NoneHasCome}
-use Rattle.st_anchor.specs.Known.{Known, as_it_is, bound_with, chunk_in, core_in, core_over, core_proof_in, core_with, delta_count, filled, judged, known_from, looked_at, looked_below, looked_up, provisional_in, provisional_judged, provisional_over, provisional_proof_in, provisional_with}
+use Rattle.st_indexfiles.specs.declared.provisional_index.ProvisionalRule.{ProvisionalRule}
+use Rattle.st_anchor.specs.Gives.{HasCome, NoneHasCome}
+use Rattle.st_anchor.specs.inside.Coming.{Extends}
+use Rattle.st_anchor.specs.BoundValue.{BoundValue, as_it_is, bound_with, chunk_in, core_in, core_over, core_proof_in, core_with, delta_count, filled, judged, known_from, looked_at, looked_below, looked_up, provisional_in, provisional_judged, provisional_over, provisional_proof_in, provisional_with}
 use Rattle.st_anchor.specs.States.{core_state, provisional_state, role_state, state, state_below}
 use Rattle.st_anchor.specs.declared.branches.Context.{Context}
 use Rattle.st_anchor.specs.declared.branches.CoreBranch.{CoreBranch}
 use Rattle.st_anchor.specs.declared.branches.ProvisionalBranch.{ProvisionalBranch}
 use Rattle.st_anchor.specs.declared.part.Part.{Part}
 use Rattle.st_anchor.specs.declared.part.Part.TheVariants.{Unneeded, Missing, Rejected, Is}
-use Rattle.st_anchor.specs.declared.role_state.RoleState.{RoleState}
-use Rattle.st_anchor.specs.declared.role_state.RoleState.TheVariants as role_is
-use Rattle.st_anchor.specs.declared.rule.Rule.{Rule}
-use Rattle.st_anchor.specs.declared.rule.Rule.TheVariants as fails
+use Rattle.st_anchor.specs.declared.part.RoleState.{RoleState}
+use Rattle.st_anchor.specs.declared.part.RoleState.TheVariants as role_is
+use Rattle.st_anchor.specs.declared.part.Rule.{Rule}
+use Rattle.st_anchor.specs.declared.part.Rule.TheVariants as fails
 
 -- a part made from a file's bytes
 abbrev pub WasRead : {Says : Type 0} → Part Says → Type 0
@@ -212,7 +212,7 @@ core_over-with Provisional context files branch bytes is there =
 core_over-with ProvisionalProof context files branch bytes is there = core_over-with_below ProvisionalProof context files branch bytes is there
 core_over-with Chunk context files branch bytes is there = core_over-with_below Chunk context files branch bytes is there
 
-known_from-with_below : (role : Role) (files : Files) (bound : Known) (bytes : List ℕ)
+known_from-with_below : (role : Role) (files : Files) (bound : BoundValue) (bytes : List ℕ)
     → state_below (core_state role) bound.core ≡ role_is.Missing (uri_of bytes) → file_at (uri_of bytes) files ≡ Some bytes
     → known_from files (record bound { core = looked_below (core_with role bound.context bytes) bound.core }) ≡ known_from files bound
 unfolding known_from
@@ -221,7 +221,7 @@ known_from-with_below role files bound bytes is there =
     (looked_up-below (core_in bound.context) (core_over bound.context files) (core_with role bound.context bytes) files bound.core
     (λ says says_is. core_over-with role bound.context files says bytes (rw says_is at is) there))
 
-pub known_from-with : (role : Role) (files : Files) (bound : Known) (file : List ℕ) → HasCome files bound role file
+pub known_from-with : (role : Role) (files : Files) (bound : BoundValue) (file : List ℕ) → HasCome files bound role file
     → known_from files (bound_with role file bound) ≡ known_from files bound
 unfolding known_from role_state bound_with
 known_from-with Core files bound file come =
@@ -253,7 +253,7 @@ core_over-again context files later more branch =
     (looked_up-again files (provisional_over context branch.says files) (provisional_in context branch.says) (provisional_in-read context branch.says)
     (provisional_over context branch.says later) later branch.provisional more (provisional_over-again context branch.says files later more))
 
-pub known_from-again : (files later : Files) → Extends files later → (bound : Known)
+pub known_from-again : (files later : Files) → Extends files later → (bound : BoundValue)
     → known_from later (known_from files bound) ≡ known_from later bound
 unfolding known_from
 known_from-again files later more bound =
@@ -289,7 +289,7 @@ core_over-rest context files branch core_proof provisional proof chunk =
     (looked_up-rest (core_proof_in context branch.says) as_it_is files branch.proofs core_proof (λ says is. refl))
     ∙ ap (λ part. record branch { provisional = part }) (provisional_rest context branch.says files branch.provisional provisional proof chunk)
 
-pub known_from-rest : (files : Files) (bound : Known) → NoneHasCome files bound → known_from files bound ≡ bound
+pub known_from-rest : (files : Files) (bound : BoundValue) → NoneHasCome files bound → known_from files bound ≡ bound
 unfolding known_from role_state
 known_from-rest files bound none =
     ap (λ part. record bound { core = part })
@@ -329,7 +329,7 @@ module _ (context : Context) (files : Files) where
       → Absent files (state_below (core_state role) (looked_up (core_in context) (core_over context files) files part))
   absent-below_core role part = absent-below files (core_over context files) (core_in context) (core_state role) (absent-core role) part
 
-pub known_from-missing : (role : Role) (files : Files) (bound : Known) → Absent files (role_state role (known_from files bound))
+pub known_from-missing : (role : Role) (files : Files) (bound : BoundValue) → Absent files (role_state role (known_from files bound))
 unfolding known_from role_state
 known_from-missing Core files bound = absent-up files (core_over bound.context files) (core_in bound.context) (core_in-read bound.context) bound.core
 known_from-missing CoreProof files bound = absent-below_core bound.context files CoreProof bound.core

@@ -8,42 +8,36 @@ use Rattle.std.specs.List.{AllByRecursion, cons_option, filter_map}
 use Rattle.std.proofs.lemmas.Bool.{and_parts, eqb-true, ltb-false}
 use Rattle.std.proofs.lemmas.List.{length-map}
 use Rattle.st_base.specs.Rules.{Table, first_failing}
-use Rattle.st_base.proofs.RuleLemmas.{none_fails, passes}
+use Rattle.st_base.proofs.ListLemmas.{none_fails, passes}
 use Rattle.st_plain.specs.Plain.{Plain}
 use Rattle.st_plain.specs.Shapes.{json_in}
 use Rattle.st_content.specs.Files.{Files, file_at}
-use Rattle.st_datafiles.specs.ProofFiles.{core_proofs_of, proofs_of, signed_in, signed_of}
-use Rattle.st_datafiles.specs.ProofRules.{core_proof_rules, first_failing_core_proof_rule, first_failing_provisional_proof_rule, has_proofs, proof_rule_name, provisional_proof_rules}
-use Rattle.st_datafiles.specs.declared.proof_rule.ProofRule.TheVariants.{Q4}
+use Rattle.st_datafiles.specs.ProofFiles.{core_proofs_of, proofs_of, signed_in, signed_of, core_proof_rules, first_failing_core_proof_rule, first_failing_provisional_proof_rule, has_proofs, proof_rule_name, provisional_proof_rules}
+use Rattle.st_datafiles.specs.declared.proof_files.ProofRule.TheVariants.{Q4}
 use Rattle.st_datafiles.specs.declared.role.Role.{Role}
 use Rattle.st_datafiles.specs.declared.role.Role.TheVariants.{Core, CoreProof, Provisional, ProvisionalProof, Chunk}
 use Rattle.st_hash.specs.Hash.{HashValue}
-use Rattle.st_indexfiles.specs.CoreIndex.{core_index_of, operations_of}
-use Rattle.st_indexfiles.specs.CoreRules.{core_rule_name, core_rules, first_failing_core_rule, operation_count}
-use Rattle.st_indexfiles.specs.ProvisionalIndex.{chunk_in, provisional_with as provisional_of, updates_in}
-use Rattle.st_indexfiles.specs.ProvisionalRules.{core_count, first_failing_provisional_rule, provisional_rule_name, provisional_rules, update_count}
-use Rattle.st_indexfiles.specs.SuffixData.{create_of}
-use Rattle.st_indexfiles.specs.Target.{target_of}
+use Rattle.st_indexfiles.specs.CoreIndex.{core_index_of, operations_of, core_rule_name, core_rules, first_failing_core_rule, operation_count, create_of, target_of}
+use Rattle.st_indexfiles.specs.ProvisionalIndex.{chunk_in, provisional_with as provisional_of, updates_in, core_count, first_failing_provisional_rule, provisional_rule_name, provisional_rules, update_count}
 use Rattle.st_indexfiles.specs.declared.core_index.CoreIndex.{CoreIndex}
-use Rattle.st_indexfiles.specs.declared.core_rule.CoreRule.TheVariants.{C6, C7}
+use Rattle.st_indexfiles.specs.declared.core_index.CoreRule.TheVariants.{C6, C7}
 use Rattle.st_indexfiles.specs.declared.provisional_index.ProvisionalIndex.{ProvisionalIndex}
-use Rattle.st_indexfiles.specs.declared.provisional_rule.ProvisionalRule.{ProvisionalRule}
-use Rattle.st_indexfiles.specs.declared.provisional_rule.ProvisionalRule.TheVariants.{P6, P7}
-use Rattle.st_ledger.specs.Anchor.{anchor_of, anchor_rules}
+use Rattle.st_indexfiles.specs.declared.provisional_index.ProvisionalRule.{ProvisionalRule}
+use Rattle.st_indexfiles.specs.declared.provisional_index.ProvisionalRule.TheVariants.{P6, P7}
+use Rattle.st_ledger.specs.Ledger.{anchor_of, anchor_rules}
 use Rattle.st_ledger.specs.declared.anchor.Anchor.{Anchor}
 use Rattle.st_ledger.specs.declared.anchor.AnchorRule.{AnchorRule}
-use Rattle.st_params.specs.Limits.{Limits}
-use Rattle.st_anchor.specs.Known.{Known, anchor_judged, as_it_is, core_branch, core_in, core_over, core_proof_in, core_with, filled, judged, known, known_from, known_of_text, looked_at, looked_below, looked_up, named, provisional_branch, provisional_in, provisional_judged, provisional_over, provisional_proof_in, provisional_with}
+use Rattle.st_params.specs.ParamsValue.{ParamsValue}
+use Rattle.st_anchor.specs.BoundValue.{BoundValue, anchor_judged, as_it_is, core_branch, core_in, core_over, core_proof_in, core_with, filled, judged, known, known_from, known_of_text, looked_at, looked_below, looked_up, named, provisional_branch, provisional_in, provisional_judged, provisional_over, provisional_proof_in, provisional_with}
 use Rattle.st_anchor.specs.SignedTexts.{opened_of, proof_of}
-use Rattle.st_anchor.specs.Sound.{AreCoreProofs, AreProofs, Holds, IsSound, IsSoundCore, IsSoundProvisional}
-use Rattle.st_anchor.specs.States.{core_proof_count}
+use Rattle.st_anchor.specs.States.{AreCoreProofs, AreProofs, Holds, IsSound, IsSoundCore, IsSoundProvisional, core_proof_count}
 use Rattle.st_anchor.specs.declared.branches.Context.{Context}
 use Rattle.st_anchor.specs.declared.branches.CoreBranch.{CoreBranch}
 use Rattle.st_anchor.specs.declared.branches.ProvisionalBranch.{ProvisionalBranch}
 use Rattle.st_anchor.specs.declared.part.Part.{Part}
 use Rattle.st_anchor.specs.declared.part.Part.TheVariants.{Unneeded, Missing, Rejected, Is}
-use Rattle.st_anchor.specs.declared.rule.Rule.{Rule}
-use Rattle.st_anchor.specs.declared.rule.Rule.TheVariants as fails
+use Rattle.st_anchor.specs.declared.part.Rule.{Rule}
+use Rattle.st_anchor.specs.declared.part.Rule.TheVariants as fails
 
 -- ---- a rule by its name
 
@@ -239,18 +233,18 @@ sound-core_over context files branch sound = record {
       branch.provisional (sound-provisional_in context branch.says) (sound-provisional_over context branch.says files) sound.provisional;
 }
 
-sound-from : (files : Files) (bound : Known) → IsSound bound → IsSound (known_from files bound)
+sound-from : (files : Files) (bound : BoundValue) → IsSound bound → IsSound (known_from files bound)
 unfolding known_from
 sound-from files bound sound =
     holds-up (IsSoundCore bound.context) (core_in bound.context) (core_over bound.context files) files bound.core
     (sound-core_in bound.context) (sound-core_over bound.context files) sound
 
-sound-judged : (limits : Limits) (failing : Option AnchorRule) (says : Option Anchor) → IsSound (anchor_judged limits failing says)
+sound-judged : (limits : ParamsValue) (failing : Option AnchorRule) (says : Option Anchor) → IsSound (anchor_judged limits failing says)
 sound-judged limits (Some failing) says = tt
 sound-judged limits None (Some anchor) = tt
 sound-judged limits None None = tt
 
-pub sound-known : (files : Files) (limits : Limits) (text : List ℕ) → IsSound (known files limits text)
+pub sound-known : (files : Files) (limits : ParamsValue) (text : List ℕ) → IsSound (known files limits text)
 unfolding known known_of_text
 sound-known files limits text =
     sound-from files (known_of_text limits text) (sound-judged limits (first_failing (anchor_rules limits text)) (anchor_of limits text))

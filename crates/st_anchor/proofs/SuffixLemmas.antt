@@ -5,14 +5,14 @@ use Rattle.std.proofs.lemmas.List.{map-append}
 use Rattle.st_plain.specs.Plain.{Plain}
 use Rattle.st_hash.specs.Hash.{HashValue}
 use Rattle.st_indexfiles.specs.ProvisionalIndex.{suffixes_in}
-use Rattle.st_indexfiles.specs.SuffixData.{suffix_of as suffix_of_data}
+use Rattle.st_indexfiles.specs.CoreIndex.{suffix_of as suffix_of_data}
 use Rattle.st_indexfiles.specs.declared.core_index.CoreIndex.{CoreIndex}
 use Rattle.st_indexfiles.specs.declared.provisional_index.ProvisionalIndex.{ProvisionalIndex}
 use Rattle.st_indexfiles.specs.declared.suffix_data.SuffixData.{SuffixData}
-use Rattle.st_indexfiles.specs.declared.target.Target.{Target}
+use Rattle.st_indexfiles.specs.declared.entries.Target.{Target}
 use Rattle.st_ops.specs.Operation.{PlainOperation, Proof, recovering, suffix_of, updating}
 use Rattle.st_anchor.specs.Gives.{creates_given, deactivates_given, deactivating_only, deltas_below, given, operations_below, operations_of, recovers_given, signed_given, suffixes_given, updates_below, updates_given, with_suffix}
-use Rattle.st_anchor.specs.Known.{Known}
+use Rattle.st_anchor.specs.BoundValue.{BoundValue}
 use Rattle.st_anchor.specs.declared.branches.CoreBranch.{CoreBranch}
 use Rattle.st_anchor.specs.declared.branches.OpenedCore.{OpenedCore}
 use Rattle.st_anchor.specs.declared.branches.ProvisionalBranch.{ProvisionalBranch}
@@ -115,6 +115,6 @@ own-suffixes : (operations : List PlainOperation) → suffixes_given (map with_s
 own-suffixes [] = refl
 own-suffixes (operation ∷ operations) = ap (λ rest. suffix_of operation ∷ rest) (own-suffixes operations)
 
-pub suffixes_given-given : (bound : Known) → suffixes_given (given bound) ≡ suffixes_known bound.core
+pub suffixes_given-given : (bound : BoundValue) → suffixes_given (given bound) ≡ suffixes_known bound.core
 unfolding given
 suffixes_given-given bound = own-suffixes (operations_of bound.core) ∙ suffixes-known bound.core

@@ -1,10 +1,6 @@
-pub mod Counting
-pub mod SignedTexts
-pub mod Known
 pub mod States
+pub mod SignedTexts
+pub mod BoundValue
 pub mod Gives
-pub mod Kinds
-pub mod Sound
-pub mod Coming
 pub mod RuleNames
-pub mod EntryLaws
+pub mod inside

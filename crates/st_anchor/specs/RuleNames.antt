@@ -1,12 +1,12 @@
 -- The names of rules. The names within one kind are next to its rules.
 use Rattle.std.specs.Prelude.{ℕ, List}
 use Rattle.st_datafiles.specs.Chunk.{chunk_rule_name}
-use Rattle.st_datafiles.specs.ProofRules.{proof_rule_name}
-use Rattle.st_indexfiles.specs.CoreRules.{core_rule_name}
-use Rattle.st_indexfiles.specs.ProvisionalRules.{provisional_rule_name}
-use Rattle.st_ledger.specs.Anchor.{anchor_rule_name}
-use Rattle.st_anchor.specs.declared.rule.Rule.{Rule}
-use Rattle.st_anchor.specs.declared.rule.Rule.TheVariants.{Anchor, Core, Provisional, Proofs, Chunk}
+use Rattle.st_datafiles.specs.ProofFiles.{proof_rule_name}
+use Rattle.st_indexfiles.specs.CoreIndex.{core_rule_name}
+use Rattle.st_indexfiles.specs.ProvisionalIndex.{provisional_rule_name}
+use Rattle.st_ledger.specs.Ledger.{anchor_rule_name}
+use Rattle.st_anchor.specs.declared.part.Rule.{Rule}
+use Rattle.st_anchor.specs.declared.part.Rule.TheVariants.{Anchor, Core, Provisional, Proofs, Chunk}
 
 -- the name of a rule: a letter for the kind of file, and its number among the rules of that kind
 unfoldable pub rule_name : Rule → List ℕ

@@ -1,7 +1,7 @@
 -- The proofs of signed texts of at most this many bytes.
 use Rattle.std.specs.Prelude.{ℕ, map}
-use Rattle.st_datafiles.specs.declared.core_proofs.CoreProofs.{CoreProofs}
-pub use Rattle.st_ops.specs.SignedPart.{proof_of}
+use Rattle.st_datafiles.specs.declared.proof_files.CoreProofs.{CoreProofs}
+pub use Rattle.st_ops.specs.Claim.{proof_of}
 use Rattle.st_anchor.specs.declared.branches.OpenedCore.{OpenedCore}
 
 -- the proofs of a core proof file

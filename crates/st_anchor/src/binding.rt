@@ -1,14 +1,11 @@
 ghost use Rattle.std.specs.Prelude.{◌≡◌, ◌-◌, IfOk, OnOk};
-ghost use Rattle.st_anchor.specs.Coming.{IsMissing};
-ghost use Rattle.st_anchor.specs.Counting.{WorkedAtMost, one_file_with};
-ghost use Rattle.st_anchor.specs.Known.{core_with, provisional_part_with, provisional_with};
-ghost use Rattle.st_anchor.specs.Sound.{Holds, IsSoundCore, IsSoundProvisional};
-ghost use Rattle.st_anchor.specs.States.{core_state, count_read, opened_in_core, opened_in_provisional, provisional_part_state, provisional_state};
+ghost use Rattle.st_anchor.specs.inside.Coming.{IsMissing};
+ghost use Rattle.st_anchor.specs.States.{WorkedAtMost, one_file_with, Holds, IsSoundCore, IsSoundProvisional, core_state, count_read, opened_in_core, opened_in_provisional, provisional_part_state, provisional_state};
+ghost use Rattle.st_anchor.specs.BoundValue.{core_with, provisional_part_with, provisional_with};
 
 use crate::branches::{Context, CoreBranch, ProvisionalBranch};
-use crate::part::Part;
-use crate::reading::{chunk_part, core_proof_part, provisional_part, provisional_proof_part};
-use crate::role_state::RoleState;
+use crate::files::{chunk_part, core_proof_part, provisional_part, provisional_proof_part};
+use crate::part::{Part, RoleState};
 use st_base::{Bytes, Shared, WantOfMemory, Work};
 use st_datafiles::Role;
 use st_indexfiles::CoreIndex;

@@ -1,20 +1,16 @@
-ghost use Rattle.std.specs.Prelude.{◌≡◌, IfOk, OnOk, false, map};
-ghost use Rattle.st_base.specs.Twice.{has_twice};
+ghost use Rattle.std.specs.Prelude.{◌≡◌, IfOk, OnOk, false, map, IfNone, IfSome};
+ghost use Rattle.st_base.specs.Lists.{has_twice};
 ghost use Rattle.st_hash.specs.Hash.{same_hash, uri_of};
-ghost use Rattle.st_anchor.specs.Coming.{opened_by};
-ghost use Rattle.st_anchor.specs.Counting.{WorkedAtMost, one_file_with};
-ghost use Rattle.st_anchor.specs.Gives.{given, plain_given, suffixes_given};
-ghost use Rattle.st_anchor.specs.Known.{bound_with, known_of_text};
-ghost use Rattle.st_anchor.specs.States.{role_state};
+ghost use Rattle.st_anchor.specs.BoundValue.{bound_with, known_of_text, known_from};
+ghost use Rattle.st_anchor.specs.Gives.{opened_by, HasCome, MissesNone, NoneHasCome, newly_decided, newly_opened, AllIsKnown, DecidesOne, GivesOnce, LeavesKnown, MayBeRead, OpensFew, given, plain_given, suffixes_given};
+ghost use Rattle.st_anchor.specs.States.{role_state, WorkedAtMost, one_file_with, worked};
 
 use crate::branches::{Context, CoreBranch};
-use crate::given::Given;
-use crate::giving::give_below;
-use crate::part::Part;
-use crate::reading::core_part;
-use crate::role_state::RoleState;
-use crate::rule::Rule;
+use crate::files::core_part;
+use crate::given::{Given, give_below};
+use crate::part::{Part, RoleState, Rule};
 use st_base::{Bytes, List, Shared, WantOfMemory, Work};
+use st_content::Content;
 use st_datafiles::Role;
 use st_ledger::read_anchor;
 use st_params::Params;
@@ -30,10 +26,10 @@ pub struct Bound {
 }
 
 impl Model for Bound {
-    ghost use Rattle.st_anchor.specs.Known.{Known, coded_known};
-    ghost use Rattle.st_anchor.specs.Sound.{IsSound};
+    ghost use Rattle.st_anchor.specs.BoundValue.{BoundValue, coded_known};
+    ghost use Rattle.st_anchor.specs.States.{IsSound};
 
-    ghost Value = { Known };
+    ghost Value = { BoundValue };
 
     ghost coded = { coded_known };
 
@@ -46,7 +42,7 @@ impl Model for Bound {
 impl Bound {
     /// The content of an entry's text at these limits, which are those at its height, before any
     /// file is looked up.
-    #[tactic(auto, unfolding(crate::specs::Known::known_of_text))]
+    #[tactic(auto, unfolding(crate::specs::BoundValue::known_of_text))]
     pub fn new(_alloc: Global, text: &[u8], params: &Params) -> Result<Bound, WantOfMemory>
         ensures { IfOk result (λ bound. bound ≡ known_of_text params.now text.now) }
     {
@@ -84,7 +80,7 @@ impl Bound {
 
     /// Reads the missing file of a role. It counts as one file; if it passes as a proof file, each
     /// of its signed texts counts as one proof.
-    #[tactic(auto, unfolding(crate::specs::States::role_state, crate::specs::Known::bound_with, crate::specs::States::opened_proofs))]
+    #[tactic(auto, unfolding(crate::specs::States::role_state, crate::specs::BoundValue::bound_with, crate::specs::States::opened_proofs))]
     pub fn bind(
         self,
         alloc: Global,
@@ -131,3 +127,70 @@ impl Bound {
         }
     }
 }
+
+// All roles, in their order.
+const ROLES: [Role; 5] = [
+    Role::Core,
+    Role::CoreProof,
+    Role::Provisional,
+    Role::ProvisionalProof,
+    Role::Chunk,
+];
+
+impl Bound {
+    /// Reads the missing files that the content has, role after role, until it has none of them.
+    /// Each newly decided role counts as one file, and each signed text of a newly read proof file
+    /// as one proof.
+    pub fn settle(
+        self,
+        alloc: Global,
+        content: &Content,
+        work: &mut Work,
+    ) -> Result<Bound, WantOfMemory>
+        ensures value { IfOk result (λ bound. bound ≡ known_from content.now self) }
+        ensures work { OnOk result (work.new ≡ worked (newly_decided content.now self)
+            (newly_opened content.now self) work.old) }
+        ensures few { WorkedAtMost (newly_decided content.now self) (newly_opened content.now self) work.old work.new }
+    {
+        let mut bound = self;
+        'binding: while let Some((role, file)) = next_there(&bound, content) {
+            bound = bound.bind(alloc, role, file, work)?;
+        }
+        Ok(bound)
+    }
+}
+
+// The first role whose missing file is in the content, and the file.
+fn next_there<'a>(bound: &Bound, content: &'a Content) -> Option<(Role, &'a Shared<Bytes>)>
+    ensures found { IfSome result (λ next. HasCome content.now bound.now next.0 next.1.now) }
+    ensures not_found { IfNone result (NoneHasCome content.now bound.now) }
+{
+    for role in ROLES {
+        if let Some(file) = file_for(bound, content, role) {
+            return Some((role, file));
+        }
+    }
+    None
+}
+
+fn file_for<'a>(bound: &Bound, content: &'a Content, role: Role) -> Option<&'a Shared<Bytes>>
+    ensures found { IfSome result (λ file. HasCome content.now bound.now role file.now) }
+    ensures not_found { IfNone result (MissesNone content.now bound.now role) }
+{
+    match bound.state(role) {
+        RoleState::Missing(uri) => content.get(&uri),
+        _ => None,
+    }
+}
+
+/// Laws of entries, for any files received in any order: a `Bound` made from an entry's text, with
+/// no missing file in the content, has the role states and the operations that the content gives the
+/// entry.
+pub fn entry_laws()
+    ensures may_be_read { MayBeRead }
+    ensures all_is_known { AllIsKnown }
+    ensures leaves_known { LeavesKnown }
+    ensures decides_one { DecidesOne }
+    ensures opens_few { OpensFew }
+    ensures gives_once { GivesOnce }
+{}

@@ -5,19 +5,10 @@
 mod binding;
 mod bound;
 mod branches;
-mod deltas;
+mod files;
 mod given;
-mod giving;
-mod laws;
-mod opened;
 mod part;
-mod reading;
-mod role_state;
-mod rule;
-mod settling;
 
-pub use bound::Bound;
+pub use bound::{Bound, entry_laws};
 pub use given::Given;
-pub use laws::entry_laws;
-pub use role_state::RoleState;
-pub use rule::Rule;
+pub use part::{RoleState, Rule};

@@ -1,95 +1,89 @@
--- The laws of resolution, from that of one more item.
-use Rattle.std.proofs.Common.{◌≡◌, ◌∙◌, sym, ap, subst, ℕ, ◌+◌, ◌<◌, ◌≤◌, refl, arith, List, [], ◌∷◌, ◌++◌, append_assoc, append-nil}
-use Rattle.std.specs.Prelude.{map, Option, Some, None}
-use Rattle.std.specs.List.{AllByRecursion, cons_option, fold}
-use Rattle.std.proofs.lemmas.List.Folds.{fold-map, fold_stays}
-use Rattle.st_base.proofs.Quantifiers.{each-weaker}
-use Rattle.st_apply.specs.Laws.{PlacesAscend, WalksLead}
-use Rattle.st_apply.specs.Numbered.{given_from}
-use Rattle.st_apply.specs.Resolution.{full_after, update_after, before_updates, resolve}
-use Rattle.st_apply.specs.Seen.{Rules, Seen, absent, deactivated}
-use Rattle.st_apply.specs.Step.{step, folded_steps}
-use Rattle.st_apply.proofs.OneMoreLemmas.{full_nearer, update_nearer, one_more}
-use Rattle.st_apply.proofs.PlaceLemmas.{behind, behind_within}
-use Rattle.st_apply.proofs.WalkLemmas.{walk_leads}
+-- The effect of a step, by the tests of the walks of resolution.
+use Rattle.std.proofs.Common.{◌≡◌, refl, arith, true, false, ℕ, ◌-◌, ◌<◌, ◌^◌, min, Bool, if◌then◌else◌, Result, Err, ap}
+use Rattle.std.proofs.lemmas.Bool.Decides.{nat_tests}
+use Rattle.std.specs.Option.{option_map_or}
+use Rattle.std.specs.Prelude.{Option, Some, None}
+use Rattle.std.specs.Result.{result_ok}
+use Rattle.st_plain.specs.Plain.{canonical, Plain}
+use Rattle.st_plain.specs.Measures.{size_of}
+use Rattle.st_hash.specs.Hash.{HashValue, hash_of_with, same_hash}
+use Rattle.st_params.specs.ParamsValue.{ParamsValue}
+use Rattle.st_doc.proofs.DeltaLemmas.{long_refused}
+use Rattle.st_doc.specs.Delta.{PlainDelta, delta_of}
+use Rattle.st_doc.specs.declared.delta.DeltaRefused.{DeltaRefused}
+use Rattle.st_doc.specs.declared.delta.DeltaRefused.TheVariants.{TooLong}
+use Rattle.st_apply.specs.Codes.{acts, is_create, is_full_for, is_update_for, Rules, Change, Seen, creates, recovers, deactivates, updates, unclaimed, State, absent, active, deactivated}
+use Rattle.st_apply.specs.Applied.{counted, changed, begun, step}
+use Rattle.st_apply.specs.Resolution.{beginning_of, change_of}
 
--- a property of each item of a list is one of an item in its middle
-each_at : {X : Type 0} (P : X → Type 0) (done : List X) (x : X) (more : List X) → AllByRecursion P (done ++ x ∷ more) → P x
-each_at P [] x more each = each.0
-each_at P (y ∷ done) x more each = each_at P done x more each.1
+module _ {Hash Document : Type 0} (rules : Rules Hash Document) where
+  -- an operation that does not act leaves the state
+  pub leaves_it : (state : State Hash Document) (operation : Seen Hash Document)
+      → acts rules state operation ≡ false → step rules state operation ≡ state
+  leaves_it state operation is = rw is refl
 
--- items before another in a list with ascending places have earlier places
-pub places_before : {X : Type 0} (place : X → ℕ) (done : List X) (item : X) (more : List X) → PlacesAscend place (done ++ item ∷ more)
-    → AllByRecursion (λ earlier. place earlier < place item) done
-places_before place [] item more ascend = tt
-places_before place (x ∷ done) item more ascend =
-    (each_at (λ later. place x < place later) done item more ascend.0, places_before place done item more ascend.1)
+  -- a create acts on an absent state
+  pub create_acts : (operation : Seen Hash Document) → is_create operation ≡ true
+      → option_map_or (begun rules) (beginning_of operation) deactivated ≡ step rules absent operation
+  create_acts (creates beginning) is = refl
+  create_acts (recovers reveal beginning) is = absurd (cc)
+  create_acts (deactivates reveal) is = absurd (cc)
+  create_acts (updates reveal change) is = absurd (cc)
+  create_acts unclaimed is = absurd (cc)
 
-module _ {Hash Document Item : Type 0} (rules : Rules Hash Document) (place : Item → ℕ) (seen : Item → Seen Hash Document) where
-  -- the steps continue from the resolution of the earlier items
-  pub goes_on : (done more : List Item) → PlacesAscend place (done ++ more)
-      → folded_steps rules seen (resolve rules place seen done) more ≡ resolve rules place seen (done ++ more)
-  goes_on done [] ascend = ap (resolve rules place seen) (sym (append-nil done))
-  goes_on done (item ∷ more) ascend =
-      let along : (done ++ item ∷ []) ++ more ≡ done ++ item ∷ more = append_assoc done (item ∷ []) more in
-      ap (λ state. folded_steps rules seen state more) (sym (one_more rules place seen done item (places_before place done item more ascend)))
-      ∙ goes_on (done ++ item ∷ []) more (subst (PlacesAscend place) (sym along) ascend)
-      ∙ ap (resolve rules place seen) along
+  -- an operation for the recovery commitment starts a new state, or is a deactivate
+  pub full_acts : (recovery : Hash) (update : Option Hash) (document : Document) (operation : Seen Hash Document)
+      → is_full_for rules recovery operation ≡ true
+      → option_map_or (begun rules) (beginning_of operation) deactivated ≡ step rules (active recovery update document) operation
+  full_acts recovery update document (creates beginning) is = absurd (cc)
+  full_acts recovery update document (recovers reveal beginning) is = rw is refl
+  full_acts recovery update document (deactivates reveal) is = rw is refl
+  full_acts recovery update document (updates reveal change) is = absurd (cc)
+  full_acts recovery update document unclaimed is = absurd (cc)
 
-  -- one step for each item is resolution
-  pub fold_is_walk : (items : List Item) → PlacesAscend place items
-      → folded_steps rules seen absent items ≡ resolve rules place seen items
-  fold_is_walk items ascend = goes_on [] items ascend
+  -- another leaves the state unchanged, if there is no update commitment,
+  pub none_acts : (recovery : Hash) (document : Document) (operation : Seen Hash Document)
+      → is_full_for rules recovery operation ≡ false
+      → active recovery None document ≡ step rules (active recovery None document) operation
+  none_acts recovery document (creates beginning) is = refl
+  none_acts recovery document (recovers reveal beginning) is = rw is refl
+  none_acts recovery document (deactivates reveal) is = rw is refl
+  none_acts recovery document (updates reveal change) is = refl
+  none_acts recovery document unclaimed is = refl
 
-  -- so it depends only on how they are seen
-  pub seen_resolve : (items : List Item) → PlacesAscend place items
-      → resolve rules place seen items ≡ fold (step rules) absent (map seen items)
-  seen_resolve items ascend = sym (fold_is_walk items ascend) ∙ sym (fold-map (step rules) seen absent items)
+  -- or if it is not an update for that commitment
+  pub other_leaves : (recovery commitment : Hash) (document : Document) (operation : Seen Hash Document)
+      → is_full_for rules recovery operation ≡ false → is_update_for rules commitment operation ≡ false
+      → active recovery (Some commitment) document ≡ step rules (active recovery (Some commitment) document) operation
+  other_leaves recovery commitment document operation is fails = rw (is, fails) refl
 
-  -- a deactivated state stays so
-  pub stays_deactivated : (done more : List Item) → PlacesAscend place (done ++ more)
-      → resolve rules place seen done ≡ deactivated → resolve rules place seen (done ++ more) ≡ deactivated
-  stays_deactivated done more ascend is =
-      sym (goes_on done more ascend)
-      ∙ ap (λ state. folded_steps rules seen state more) is
-      ∙ fold_stays (λ state item. step rules state (seen item)) deactivated (λ item. refl) more
+  -- an update for it has a delta that counts, and its result is that change
+  pub record Updates (recovery commitment : Hash) (document : Document) (operation : Seen Hash Document) : Type 0 where
+    pub change : Change Hash Document
+    pub is : change_of operation ≡ Some change
+    pub leaves : active recovery (Some change.update) (changed document change) ≡ step rules (active recovery (Some commitment) document) operation
 
-  -- the walks end because there is no next
-  pub walks_lead : (items : List Item) → WalksLead rules place seen items
-  walks_lead items = record {
-    full = λ create.
-        walk_leads (full_after rules place seen items) (λ here. behind place items (place here)) (full_nearer rules place seen items)
-        _ create (behind_within place items (place create));
-    update = λ from change.
-        walk_leads (update_after rules place seen items) (λ here. behind place items here.place) (update_nearer rules place seen items)
-        _ (before_updates rules from change) (behind_within place items from);
-  }
+  pub update_acts : (recovery commitment : Hash) (document : Document) (operation : Seen Hash Document)
+      → is_update_for rules commitment operation ≡ true → Updates recovery commitment document operation
+  update_acts recovery commitment document (creates beginning) is = absurd (cc)
+  update_acts recovery commitment document (recovers reveal beginning) is = absurd (cc)
+  update_acts recovery commitment document (deactivates reveal) is = absurd (cc)
+  update_acts recovery commitment document (updates reveal None) is = absurd (grind arith)
+  update_acts recovery commitment document (updates reveal (Some change)) is =
+      let meets : rules.meets reveal commitment ≡ true = grind arith in
+      record { change = change; is = refl; leaves = rw meets refl }
+  update_acts recovery commitment document unclaimed is = absurd (cc)
 
--- ---- items given by entries
+-- ---- A delta that is too long does not count.
 
-module _ {Entry Item : Type 0} (give : ℕ → Entry → Option Item) (place : Item → ℕ)
-    (at : (number : ℕ) (entry : Entry) (item : Item) → give number entry ≡ Some item → place item ≡ number) where
-  -- are at the numbers of the entries or later,
-  not_before : (number : ℕ) (entries : List Entry) → AllByRecursion (λ item. number ≤ place item) (given_from give number entries)
-  not_before number [] = tt
-  not_before number (entry ∷ entries) =
-      let rest = each-weaker (λ item. number + 1 ≤ place item) (λ item. number ≤ place item) (λ item late. omega arith)
-      (given_from give (number + 1) entries) (not_before (number + 1) entries) in
-      (elim (give number entry) as (λ o. give number entry ≡ o → AllByRecursion (λ item. number ≤ place item) (cons_option o (given_from give (number + 1) entries))) [
-        | None ↦ λ is. rest
-        | Some item ↦ λ is. ((let here = at number entry item is in omega arith), rest)
-      ]) refl
+-- a refusal gives nothing, with any other test
+refused : (same : Bool) (said : Result PlainDelta DeltaRefused) → said ≡ Err TooLong → (if same then result_ok said else None) ≡ None
+refused true said is = ap result_ok is
+refused false said is = refl
 
-  -- and in ascending places
-  pub given_ascend : (number : ℕ) (entries : List Entry) → PlacesAscend place (given_from give number entries)
-  given_ascend number [] = tt
-  given_ascend number (entry ∷ entries) =
-      (elim (give number entry) as (λ o. give number entry ≡ o → PlacesAscend place (cons_option o (given_from give (number + 1) entries))) [
-        | None ↦ λ is. given_ascend (number + 1) entries
-        | Some item ↦ λ is.
-            (let here = at number entry item is in (
-              each-weaker (λ later. number + 1 ≤ place later) (λ later. place item < place later) (λ later late. omega arith)
-                  (given_from give (number + 1) entries) (not_before (number + 1) entries),
-              given_ascend (number + 1) entries,
-            ))
-      ]) refl
+-- its size, as far as it is counted, is above the bound
+pub long_counts_not : (limits : ParamsValue) (delta_hash : HashValue) (delta : Plain) (size : ℕ)
+    → size ≡ min (size_of delta) (2 ^ 64 - 1) → limits.max_delta < size → counted limits delta_hash (Some delta) ≡ None
+long_counts_not limits delta_hash delta size is more =
+    let long : limits.max_delta < size_of delta = grind (arith, nat_tests) in
+    refused (same_hash (hash_of_with delta_hash.code (canonical delta)) delta_hash) (delta_of limits delta) (long_refused limits delta long)

@@ -4,13 +4,12 @@ use Rattle.std.specs.Prelude.{Option, Some, None, unwrap_or, option_and_then, op
 use Rattle.std.specs.Option.{option_map_or}
 use Rattle.std.specs.List.{AllByRecursion}
 use Rattle.std.proofs.lemmas.Option.{none-some, same_Some}
-use Rattle.st_apply.specs.Acting.{is_create, is_full_for, is_update_for}
+use Rattle.st_apply.specs.Codes.{is_create, is_full_for, is_update_for, Rules, Change, Beginning, Seen, creates, recovers, deactivates, updates, unclaimed, State, absent, active, deactivated}
 use Rattle.st_apply.specs.Resolution.{walk, beginning_of, change_of, Reached, before_updates, start, next_full, full_after, updated_by, update_after, last_full, last_update, ending, begun_behind, resolved_behind, resolved_by, resolve}
-use Rattle.st_apply.specs.Seen.{Rules, Change, Beginning, Seen, creates, recovers, deactivates, updates, unclaimed, State, absent, active, deactivated}
-use Rattle.st_apply.specs.Step.{changed, begun, step}
-use Rattle.st_apply.proofs.ChaseLemmas as chase
-use Rattle.st_apply.proofs.PlaceLemmas.{find_each, find_kept, find_new, behind}
-use Rattle.st_apply.proofs.StepLemmas.{leaves_it, create_acts, full_acts, none_acts, other_leaves, update_acts}
+use Rattle.st_apply.specs.Applied.{changed, begun, step}
+use Rattle.st_apply.proofs.WalkLemmas as chase
+use Rattle.st_apply.proofs.WalkLemmas.{find_each, find_kept, find_new, behind}
+use Rattle.st_apply.proofs.LawLemmas.{leaves_it, create_acts, full_acts, none_acts, other_leaves, update_acts}
 
 and_then_same : {X : Type 0} (o : Option X) → option_and_then (λ x. Some x) o ≡ o
 and_then_same None = refl

@@ -1,13 +1,5 @@
-pub mod Seen
 pub mod Codes
-pub mod DocumentForm
-pub mod Acting
-pub mod Step
+pub mod Applied
 pub mod Resolution
 pub mod Laws
-pub mod Numbered
-pub mod Counting
-pub mod Applied
-pub mod Awaited
-pub mod Anchored
-pub mod Shown
+pub mod inside

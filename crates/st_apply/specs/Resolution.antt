@@ -4,9 +4,8 @@
 use Rattle.std.specs.Prelude.{ℕ, zero, suc, nat_lt, length, List, find, ◌&&◌, Option, Some, None, option_map}
 use Rattle.std.specs.Option.{option_map_or}
 use Rattle.st_base.specs.Options.{◌>>=◌}
-use Rattle.st_apply.specs.Acting.{is_create, is_full_for, is_update_for}
-use Rattle.st_apply.specs.Seen.{Rules, Change, Beginning, Seen, creates, recovers, deactivates, updates, State, absent, active, deactivated}
-use Rattle.st_apply.specs.Step.{changed, begun_update, begun_document}
+use Rattle.st_apply.specs.Codes.{is_create, is_full_for, is_update_for, Rules, Change, Beginning, Seen, creates, recovers, deactivates, updates, State, absent, active, deactivated}
+use Rattle.st_apply.specs.Applied.{changed, begun_update, begun_document}
 
 -- from here to the next, and so on until there is no next, at most this many turns
 abbrev pub walk : {Here : Type 0} → (Here → Option Here) → ℕ → Here → Here

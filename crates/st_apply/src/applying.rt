@@ -1,17 +1,15 @@
 ghost use Rattle.std.specs.Prelude.{◌≡◌, IfOk, true, unwrap_or};
-ghost use Rattle.st_apply.specs.Applied.{applied, beginning_at, reveal_meets, seen_as, seen_at, sidetree};
-ghost use Rattle.st_apply.specs.Awaited.{is_awaited};
-ghost use Rattle.st_apply.specs.Counting.{change_by};
-ghost use Rattle.st_apply.specs.Seen.{absent};
-ghost use Rattle.st_apply.specs.Shown.{shown_active, shown_begun, shown_updated};
-ghost use Rattle.st_apply.specs.Step.{begun, step};
+ghost use Rattle.st_apply.specs.Applied.{applied, beginning_at, reveal_meets, seen_as, seen_at, sidetree, change_by, begun, step};
+ghost use Rattle.st_apply.specs.inside.Applied.{is_awaited};
+ghost use Rattle.st_apply.specs.Codes.{absent};
+ghost use Rattle.st_apply.specs.Laws.{shown_active, shown_begun};
+ghost use Rattle.st_apply.specs.inside.Shown.{shown_updated};
 ghost use Rattle.st_base.specs.Work.{one_apply};
 ghost use Rattle.st_doc.specs.Delta.{plain_delta};
 ghost use Rattle.st_ops.specs.Operation.{plain_operation};
 
-use crate::beginning::{Begun, copy_delta};
 use crate::counting::{changed_document, counted_delta};
-use crate::state::{Active, DidState, Kept};
+use crate::state::{Active, Begun, DidState, Kept, copy_delta};
 use st_base::{Copied, WantOfMemory, Work};
 use st_canon::PackedJson;
 use st_doc::Delta;
@@ -90,7 +88,7 @@ fn on_begun(
     if let Operation::Create { .. } = operation {
         return Ok(None);
     }
-    let active = begun.settled(alloc)?;
+    let active = begun.judged(alloc)?;
     match on_active(alloc, &active, operation, params)? {
         Some(next) => Ok(Some(next)),
         None => Ok(Some(DidState::active(active))),
@@ -98,7 +96,7 @@ fn on_begun(
 }
 
 // The state after an operation on an active state; `None` if it does not act.
-#[tactic(auto, using(crate::proofs::AwaitingLemmas::unawaited_leaves))]
+#[tactic(auto, using(crate::proofs::WalkLemmas::unawaited_leaves))]
 fn on_active(
     alloc: Global,
     active: &Active,
@@ -208,7 +206,7 @@ fn begin(
 }
 
 /// Whether the reveal value meets the commitment.
-#[tactic(auto, using(crate::proofs::MeetingLemmas::meets_is))]
+#[tactic(auto, using(crate::proofs::WalkLemmas::meets_is))]
 pub fn reveals(reveal: &Hash, commitment: &Hash) -> bool
     ensures { result ≡ reveal_meets reveal.now commitment.now }
 {

@@ -1,5 +1,5 @@
 ghost use Rattle.std.specs.Prelude.{◌≡◌, ◌↔◌, IsTrue, map};
-ghost use Rattle.st_apply.specs.Shown.{opened};
+ghost use Rattle.st_apply.specs.Laws.{opened};
 ghost use Rattle.st_canon.specs.View.{plain};
 ghost use Rattle.st_doc.specs.Document.{plain_document};
 
@@ -13,7 +13,7 @@ use std::alloc::Global;
 
 impl DidState {
     ghost use Rattle.std.specs.Prelude.{◌≡◌, ◌↔◌, IfOk, IsTrue};
-    ghost use Rattle.st_apply.specs.Shown.{opened};
+    ghost use Rattle.st_apply.specs.Laws.{opened};
 
     /// Whether the state has these parts. A delta that no step has read yet is read for this. That
     /// was counted when the create or the recover was applied, and is not counted again.

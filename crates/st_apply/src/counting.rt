@@ -1,10 +1,8 @@
 ghost use Rattle.std.specs.Prelude.{◌≡◌, true, false, is_some, IfOk, IfSome, None, OnOk, Some, option_map};
 ghost use Rattle.std.specs.Result.{result_ok};
-ghost use Rattle.st_apply.specs.Counting.{change_by, counted};
-ghost use Rattle.st_apply.specs.Step.{changed};
+ghost use Rattle.st_apply.specs.Applied.{change_by, counted, changed};
 ghost use Rattle.st_base.specs.Answers.{GivesAs};
-ghost use Rattle.st_plain.specs.Canonical.{canonical};
-ghost use Rattle.st_plain.specs.Proper.{IsProper};
+ghost use Rattle.st_plain.specs.Plain.{canonical, IsProper};
 ghost use Rattle.st_doc.specs.Delta.{delta_of, plain_delta, refusal_of};
 ghost use Rattle.st_doc.specs.Document.{empty_document};
 ghost use Rattle.st_hash.specs.Hash.{IsCode, hash_of_with};
@@ -69,7 +67,8 @@ fn may_count(
     delta: &PackedJson,
 ) -> Result<bool, WantOfMemory>
     ensures no { IfOk result (λ may. may ≡ false → counted params.now delta_hash.now (Some delta.now) ≡ None) }
-    ensures yes { IfOk result (λ may. may ≡ true → counted params.now delta_hash.now (Some delta.now) ≡ result_ok (delta_of params.now delta.now)) }
+    ensures yes { IfOk result (λ may. may ≡ true → counted params.now delta_hash.now
+        (Some delta.now) ≡ result_ok (delta_of params.now delta.now)) }
     ensures proper { IfOk result (λ may. may ≡ true → IsProper delta.now) }
 {
     // The text is available, so one that is too long is neither hashed nor read.

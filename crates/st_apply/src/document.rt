@@ -23,7 +23,7 @@ pub(crate) enum DocumentForm {
 
 impl Model for KeptDocument {
     ghost use Rattle.st_apply.specs.Codes.{document_code};
-    ghost use Rattle.st_apply.specs.DocumentForm.{document_kept};
+    ghost use Rattle.st_apply.specs.inside.Applied.{document_kept};
     ghost use Rattle.st_doc.specs.Document.{PlainDocument};
 
     ghost Value = { PlainDocument };

@@ -1,8 +1,6 @@
 ghost use Rattle.std.specs.Prelude.{ℕ, List};
-ghost use Rattle.st_apply.specs.Anchored.{IdleLeaves, OneMoreStep, StepsResolve};
-ghost use Rattle.st_apply.specs.Laws.{FoldIsWalk, GoesOn, LeavesIt, OneMore, SeenAlike, StaysDeactivated, WalksLead};
-ghost use Rattle.st_apply.specs.Numbered.{GivenAscend};
-ghost use Rattle.st_apply.specs.Seen.{Rules, Seen};
+ghost use Rattle.st_apply.specs.Laws.{IdleLeaves, OneMoreStep, StepsResolve, FoldIsWalk, GoesOn, LeavesIt, OneMore, SeenAlike, StaysDeactivated, WalksLead, GivenAscend};
+ghost use Rattle.st_apply.specs.Codes.{Rules, Seen};
 
 /// Resolution from nothing, which follows the commitments, equals one step for each operation in
 /// the order of their places; with related laws. `H`, `D` and `I` are hashes, documents and

@@ -3,7 +3,6 @@
 #![tactic(auto)]
 
 mod applying;
-mod beginning;
 mod comparing;
 mod counting;
 mod document;

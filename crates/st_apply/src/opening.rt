@@ -1,13 +1,12 @@
 ghost use Rattle.std.specs.Prelude.{◌≡◌, IfOk, false};
 ghost use Rattle.st_apply.specs.Applied.{applied};
-ghost use Rattle.st_apply.specs.Seen.{absent, is_active};
-ghost use Rattle.st_apply.specs.Shown.{opened, shown_active, shown_begun};
+ghost use Rattle.st_apply.specs.Codes.{absent, is_active};
+ghost use Rattle.st_apply.specs.Laws.{opened, shown_active, shown_begun};
 ghost use Rattle.st_base.specs.Work.{one_apply, AppliesAtMost};
 ghost use Rattle.st_ops.specs.Operation.{creating, plain_operation};
 
 use crate::applying::apply;
-use crate::beginning::Begun;
-use crate::state::{Active, DidState, Kept};
+use crate::state::{Active, Begun, DidState, Kept};
 use st_base::{Copied, Shared, WantOfMemory, Work};
 use st_canon::PackedJson;
 use st_doc::Document;
@@ -56,8 +55,8 @@ impl Copied for StateParts {
 
 impl DidState {
     ghost use Rattle.std.specs.Prelude.{◌≡◌, IfOk, false};
-    ghost use Rattle.st_apply.specs.Seen.{is_active};
-    ghost use Rattle.st_apply.specs.Shown.{opened};
+    ghost use Rattle.st_apply.specs.Codes.{is_active};
+    ghost use Rattle.st_apply.specs.Laws.{opened};
     ghost use Rattle.st_base.specs.Work.{AppliesAtMost};
 
     /// The parts of the state. A packed document is read for this. If the last operation that acted
@@ -87,7 +86,7 @@ impl DidState {
     {
         match &self.kept {
             Kept::Absent => Ok(StateParts::Absent),
-            Kept::Begun(begun) => open_active(alloc, &begun.settled(alloc)?),
+            Kept::Begun(begun) => open_active(alloc, &begun.judged(alloc)?),
             Kept::Active(active) => open_active(alloc, active),
             Kept::Deactivated => Ok(StateParts::Deactivated),
         }
@@ -130,24 +129,24 @@ pub fn open_applied(
     ensures work { work.new ≡ one_apply work.old }
 {
     let next = apply(alloc, state, operation, params, work)?;
-    settled(alloc, next)
+    judged(alloc, next)
 }
 
 // The state after its delta is read, and its parts.
-fn settled(alloc: Global, state: DidState) -> Result<(DidState, StateParts), WantOfMemory>
+fn judged(alloc: Global, state: DidState) -> Result<(DidState, StateParts), WantOfMemory>
     ensures state { IfOk result (λ made. made.0 ≡ state) }
     ensures parts { IfOk result (λ made. opened made.1 ≡ made.0) }
 {
     let DidState { kept } = state;
     match kept {
         Kept::Absent => Ok((DidState::absent(), StateParts::Absent)),
-        Kept::Begun(begun) => open_settled(alloc, begun.settled(alloc)?),
-        Kept::Active(active) => open_settled(alloc, active),
+        Kept::Begun(begun) => open_judged(alloc, begun.judged(alloc)?),
+        Kept::Active(active) => open_judged(alloc, active),
         Kept::Deactivated => Ok((DidState::deactivated(), StateParts::Deactivated)),
     }
 }
 
-fn open_settled(alloc: Global, active: Active) -> Result<(DidState, StateParts), WantOfMemory>
+fn open_judged(alloc: Global, active: Active) -> Result<(DidState, StateParts), WantOfMemory>
     ensures state { IfOk result (λ made. made.0 ≡ shown_active active) }
     ensures parts { IfOk result (λ made. opened made.1 ≡ made.0) }
 {
@@ -161,7 +160,7 @@ fn open_begun(alloc: Global, begun: &Begun, work: &mut Work) -> Result<StatePart
     ensures work { work.new ≡ one_apply work.old }
 {
     work.tick_applies();
-    let active = begun.settled(alloc)?;
+    let active = begun.judged(alloc)?;
     open_active(alloc, &active)
 }
 

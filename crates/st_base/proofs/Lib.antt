@@ -1,7 +1,2 @@
-pub mod Counted
-pub mod Cuts
-pub mod EachLemmas
-pub mod Lists
-pub mod Numbers
-pub mod Quantifiers
-pub mod RuleLemmas
+pub mod ListLemmas
+pub mod TextLemmas

@@ -1,7 +1,7 @@
 -- Tables of rules. A row is a rule, and whether it fails.
 use Rattle.std.specs.Prelude.{◌≡◌, ⊤, Bool, List, [], ◌∷◌, if◌then◌else◌, Option, Some, None, Result, Ok, Err}
-use Rattle.st_base.specs.declared.refused.FileRefused.{FileRefused}
-use Rattle.st_base.specs.declared.refused.FileRefused.TheVariants.{Rejected, WantOfMemory}
+use Rattle.st_base.specs.declared.errors.FileRefused.{FileRefused}
+use Rattle.st_base.specs.declared.errors.FileRefused.TheVariants.{Rejected, WantOfMemory}
 
 -- each rule, and whether it fails
 abbrev pub Table : Type 0 → Type 0

@@ -1,9 +1,8 @@
 ghost use Rattle.std.specs.Prelude.{◌≡◌, IfOk};
 
-use crate::bytes::Bytes;
+use crate::bytes::{Bytes, Text};
+use crate::errors::WantOfMemory;
 use crate::list::List;
-use crate::text::Text;
-use crate::want::WantOfMemory;
 use std::alloc::Global;
 
 /// A value that can be copied; a copy may share immutable parts.

@@ -1,13 +1,11 @@
-ghost use Rattle.std.specs.Prelude.{◌≡◌, IfOk};
+ghost use Rattle.std.specs.Prelude.{◌≡◌, IfOk, IfSome};
 ghost use Rattle.std.specs.Str.{IsUtf8};
-ghost use Rattle.st_base.specs.KeptText.{IsKeptText, bytes_of};
+ghost use Rattle.st_base.specs.Texts.{IsKeptText, bytes_of};
 
-use crate::bytes::Bytes;
+use crate::bytes::{Bytes, Text};
 use crate::copied::Copied;
-use crate::part::Part;
-use crate::shared::Shared;
-use crate::text::Text;
-use crate::want::WantOfMemory;
+use crate::errors::WantOfMemory;
+use crate::pointers::Shared;
 use std::alloc::Global;
 use std::marker::Model;
 
@@ -27,7 +25,7 @@ pub(crate) enum KeptForm {
 
 impl Model for KeptText {
     ghost use Rattle.std.specs.Prelude.{List, ℕ};
-    ghost use Rattle.st_base.specs.KeptText.{IsKeptText, bytes_of};
+    ghost use Rattle.st_base.specs.Texts.{IsKeptText, bytes_of};
 
     ghost Value = { List ℕ };
 
@@ -139,5 +137,67 @@ fn decoded(bytes: &[u8]) -> &str
     match simdutf8::basic::from_utf8(bytes) {
         Ok(text) => text,
         Err(_) => unreachable!(),
+    }
+}
+
+/// A part of a file, which shares the file with others. Contracts see its bytes.
+#[derive(Drop)]
+pub struct Part {
+    file: Shared<Bytes>,
+    from: usize,
+    to: usize,
+}
+
+impl Model for Part {
+    ghost use Rattle.std.specs.Prelude.{◌≤◌, ℕ, List, length, slice_range};
+
+    ghost Value = { List ℕ };
+
+    ghost view = { λ part. slice_range part.file part.from part.to };
+
+    ghost invariant = { λ part. (part.from ≤ part.to) × (part.to ≤ length part.file) };
+}
+
+impl Part {
+    /// The part of the file at this offset, in bytes, if that is this text.
+    pub fn find(
+        alloc: Global,
+        file: &Shared<Bytes>,
+        from: usize,
+        text: &[u8],
+    ) -> Result<Option<Part>, WantOfMemory>
+        ensures { IfOk result (λ found. IfSome found (λ part. part ≡ text.now)) }
+    {
+        let bytes = file.get().as_slice();
+        if from > bytes.len() || text.len() > bytes.len() - from {
+            return Ok(None);
+        }
+        let to = from + text.len();
+        if &bytes[from..to] != text {
+            return Ok(None);
+        }
+        Ok(Some(Part {
+            file: file.copy(alloc)?,
+            from,
+            to,
+        }))
+    }
+
+    /// Its bytes.
+    pub fn as_slice(&self) -> &[u8]
+        ensures { result.now ≡ self.now }
+    {
+        &self.file.get().as_slice()[self.from..self.to]
+    }
+}
+
+impl Copied for Part {
+    /// Another reference to the same file.
+    fn copy(&self, alloc: Global) -> Result<Part, WantOfMemory> {
+        Ok(Part {
+            file: self.file.copy(alloc)?,
+            from: self.from,
+            to: self.to,
+        })
     }
 }

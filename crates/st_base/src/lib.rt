@@ -3,34 +3,20 @@
 //! them, out-of-memory errors, the refusals of files, copies, and counters of work.
 #![tactic(auto)]
 
-mod boxed;
 mod bytes;
 mod copied;
-mod cut;
+mod errors;
 mod kept_text;
 mod list;
-mod number;
-mod part;
-mod refused;
-mod replies;
-mod shared;
-mod text;
-mod want;
+mod pointers;
 mod words;
 mod work;
 
-pub use boxed::Boxed;
-pub use bytes::Bytes;
+pub use bytes::{Bytes, Text};
 pub use copied::Copied;
-pub use cut::cut_at;
-pub use kept_text::KeptText;
+pub use errors::{FileRefused, WantOfMemory};
+pub use kept_text::{KeptText, Part};
 pub use list::List;
-pub use number::read_number;
-pub use part::Part;
-pub use refused::FileRefused;
-pub use replies::{push_word, reply};
-pub use shared::Shared;
-pub use text::Text;
-pub use want::WantOfMemory;
-pub use words::cut_word;
+pub use pointers::{Boxed, Shared};
+pub use words::{cut_at, cut_word, push_word, read_number, reply};
 pub use work::Work;

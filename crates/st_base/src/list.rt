@@ -1,6 +1,6 @@
 ghost use Rattle.std.specs.Prelude.{◌≡◌, ◌<◌, ◌≤◌, [], ◌∷◌, ◌++◌, length, slice_get, insert, remove, Some, OnOk, OnErr};
 
-use crate::want::WantOfMemory;
+use crate::errors::WantOfMemory;
 use std::alloc::Global;
 use std::marker::Model;
 
@@ -54,7 +54,7 @@ impl<T> List<T> {
 
     ghost use Rattle.std.specs.Borrow.{sem};
     ghost use Rattle.std.specs.Option.{option_copied, option_copied_mut};
-    ghost use Rattle.st_base.specs.Lends.{lends_item};
+    ghost use Rattle.st_base.specs.Lists.{lends_item};
 
     /// A mutable reference to the item at this place; `None` if and only if there is none.
     pub fn get_mut(&mut self, at: usize) -> Option<&mut T>

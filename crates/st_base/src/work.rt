@@ -15,9 +15,9 @@ pub struct Work {
 }
 
 impl Model for Work {
-    ghost use Rattle.st_base.specs.Work.{Counts};
+    ghost use Rattle.st_base.specs.Work.{WorkValue};
 
-    ghost Value = { Counts };
+    ghost Value = { WorkValue };
 
     ghost view = { λ w. record { files = w.files; proofs = w.proofs; applies = w.applies } };
 }

@@ -1,11 +1,25 @@
 -- An entry with the anchor string of ready operations by kind gives these operations, over every content
 -- that has their files.
-use Rattle.std.proofs.Common.{◌≡◌, ◌∙◌, ℕ, ◌<◌, ◌≤◌, ◌^◌, ◌++◌, List, [], ◌∷◌, append-nil, append_assoc, drop, length, map, Option, ◌⊎◌, inl, inr, refl, sym, ap, arith}
-use Rattle.std.specs.List.{filter_map}
+use Rattle.std.proofs.Common.{◌≡◌, ◌∙◌, ℕ, ◌<◌, ◌≤◌, ◌^◌, ◌++◌, List, [], ◌∷◌, append-nil, append_assoc, drop, length, map, Option, ◌⊎◌, inl, inr, refl, sym, ap, arith, ◌+◌, Bool, true, nat_le, filter}
+use Rattle.std.proofs.lemmas.Bool.{and_parts, leb-true}
 use Rattle.std.proofs.lemmas.List.{drop_at, length-append}
 use Rattle.std.proofs.lemmas.List.Elements.{filter_map-append}
+use Rattle.std.specs.List.{filter_map, AllByRecursion}
+use Rattle.st_base.proofs.ListLemmas.{each-both, each-filter, each-passes}
+use Rattle.st_plain.specs.Plain.{canonical, Plain}
+use Rattle.st_hash.specs.Hash.{uri_of, HashValue}
+use Rattle.st_params.specs.ParamsValue.{ParamsValue}
+use Rattle.st_indexfiles.proofs.MemberLemmas.{uri_of_again}
+use Rattle.st_indexfiles.specs.ProvisionalIndex.{provisional_json}
+use Rattle.st_indexfiles.specs.declared.core_index.CoreIndex.{CoreIndex}
+use Rattle.st_indexfiles.specs.declared.provisional_index.ProvisionalIndex.{ProvisionalIndex}
+use Rattle.st_datafiles.specs.ProofFiles.{core_proof_json, provisional_proof_json}
+use Rattle.st_datafiles.specs.declared.role.Role.TheVariants.{Core, CoreProof, Provisional, ProvisionalProof, Chunk}
+use Rattle.st_ops.specs.Operation.{PlainOperation, Proof, recovering, updating, creating, deactivating}
+use Rattle.st_ops.specs.Request.{delta_there}
+use Rattle.st_content.specs.Files.{Files}
+use Rattle.st_anchor.specs.BoundValue.{as_it_is, chunk_in, core_branch, core_in, core_over, core_proof_in, known, known_from, looked_at, looked_below, provisional_branch, provisional_in, provisional_over, provisional_proof_in}
 use Rattle.st_anchor.specs.Gives.{creates_given, deactivates_given, deactivating_only, deltas_below, deltas_read, given, gives, operations_below, operations_of, recovers_given, signed_given, updates_below, updates_given, with_suffix}
-use Rattle.st_anchor.specs.Known.{as_it_is, chunk_in, core_branch, core_in, core_over, core_proof_in, known, known_from, looked_at, looked_below, provisional_branch, provisional_in, provisional_over, provisional_proof_in}
 use Rattle.st_anchor.specs.SignedTexts.{opened_of}
 use Rattle.st_anchor.specs.declared.branches.Context.{Context}
 use Rattle.st_anchor.specs.declared.branches.CoreBranch.{CoreBranch}
@@ -13,24 +27,14 @@ use Rattle.st_anchor.specs.declared.branches.OpenedCore.{OpenedCore}
 use Rattle.st_anchor.specs.declared.branches.ProvisionalBranch.{ProvisionalBranch}
 use Rattle.st_anchor.specs.declared.part.Part.{Part}
 use Rattle.st_anchor.specs.declared.part.Part.TheVariants.{Is}
-use Rattle.st_plain.specs.Canonical.{canonical}
-use Rattle.st_plain.specs.Plain.{Plain}
-use Rattle.st_content.specs.Files.{Files}
-use Rattle.st_datafiles.specs.ProofFiles.{core_proof_json, provisional_proof_json}
-use Rattle.st_datafiles.specs.declared.role.Role.TheVariants.{Core, CoreProof, Provisional, ProvisionalProof, Chunk}
-use Rattle.st_hash.specs.Hash.{uri_of}
-use Rattle.st_indexfiles.proofs.FileUriLemmas.{uri_of_again}
-use Rattle.st_indexfiles.specs.ProvisionalIndex.{provisional_json}
-use Rattle.st_indexfiles.specs.declared.core_index.CoreIndex.{CoreIndex}
-use Rattle.st_indexfiles.specs.declared.provisional_index.ProvisionalIndex.{ProvisionalIndex}
-use Rattle.st_ops.specs.Operation.{PlainOperation, Proof, recovering, updating}
-use Rattle.st_ops.specs.RequestText.{delta_there}
-use Rattle.st_params.specs.Limits.{Limits}
-use Rattle.st_batch.specs.BatchFiles.{anchor_text, chunk_text, core_file, core_index, core_proof_file, if_any, provisional_file, provisional_index, provisional_proof_file}
-use Rattle.st_batch.specs.Groups.{Grouped, is_create, is_recover, listed, signed_text_in, suffix_data_in, target_in, with_core_proof, with_delta}
-use Rattle.st_batch.proofs.AnchorTextLemmas.{anchor_known}
-use Rattle.st_batch.proofs.GivenOperationsLemmas.{IsOfKind, as_many, create_data, creates_back, deactivates_back, delta_kept, opened, recovers_back, target_there, updates_back}
-use Rattle.st_batch.proofs.KnownBatchLemmas.{AreReadyGroups, FilesAreThere, IsThere, chunk_is, core_is, core_proof_is, core_proofs, looked_named, part_of, provisional_is, provisional_proof_is, there_for}
+use Rattle.st_batch.proofs.KnownBatchLemmas.{anchor_known, none_known, AreReadyGroups, FilesAreThere, IsThere, chunk_is, core_is, core_proof_is, core_proofs, looked_named, part_of, provisional_is, provisional_proof_is, there_for, files_there}
+use Rattle.st_batch.proofs.GivenDifferentLemmas.{grouped_times, once}
+use Rattle.st_batch.proofs.GivenOperationsLemmas.{IsOfKind, as_many, create_data, creates_back, deactivates_back, delta_kept, opened, recovers_back, target_there, updates_back, AreOfKind}
+use Rattle.st_batch.proofs.ReadBackLemmas.{IsReady, ready, says_all}
+use Rattle.st_batch.specs.Batch.{anchor_text, chunk_text, core_file, core_index, core_proof_file, if_any, provisional_file, provisional_index, provisional_proof_file, batch_with, are_files_small}
+use Rattle.st_batch.specs.Laws.{AreBatched, FitAll, HasFiles, IsReadBack, SaysAll}
+use Rattle.st_batch.specs.Queue.{Fits, AreDifferent, IsFormed, suffixes_of}
+use Rattle.st_batch.specs.Groups.{Grouped, is_create, is_recover, listed, signed_text_in, suffix_data_in, target_in, with_core_proof, with_delta, grouped, in_order, is_deactivate, is_update}
 
 -- ---- recovers and deactivates, by the core proof file
 
@@ -81,7 +85,7 @@ module _ (read : List ℕ → Part ProvisionalBranch) (over : ProvisionalBranch 
 
 -- ---- all of them
 
-module _ (limits : Limits) (count : ℕ) (groups : Grouped) (are : AreReadyGroups limits count groups) where
+module _ (limits : ParamsValue) (count : ℕ) (groups : Grouped) (are : AreReadyGroups limits count groups) where
   abbrev context : Context
   context = record { count = count; params = limits }
 
@@ -266,3 +270,64 @@ module _ (limits : Limits) (count : ℕ) (groups : Grouped) (are : AreReadyGroup
         ap (λ bound. given (known_from content bound)) text_known
         ∙ ap (λ part. map with_suffix (operations_of part)) (found ∙ says)
         ∙ ap (map with_suffix) below_are
+
+-- ---- The batch of operations that fit is read back as these.
+
+-- operations of this kind, of those that are ready
+of_kind : (limits : ParamsValue) (is_kind : PlainOperation → Bool) (operations : List PlainOperation) → AllByRecursion (IsReady limits) operations
+    → AreOfKind limits is_kind (filter is_kind operations)
+of_kind limits is_kind operations all =
+    each-both (IsReady limits) (λ operation. is_kind operation ≡ true) (IsOfKind limits is_kind) (λ operation right is. (right, is)) (filter is_kind operations)
+    (each-filter (IsReady limits) is_kind operations all) (each-passes is_kind operations)
+
+-- each operation is of one kind
+pub all_counted : (operations : List PlainOperation)
+    → length (filter is_create operations) + length (filter is_recover operations) + length (filter is_deactivate operations)
+    + length (filter is_update operations) ≡ length operations
+all_counted [] = refl
+all_counted (creating suffix_data delta ∷ more) = omega (arith, all_counted more)
+all_counted (updating target proof delta ∷ more) = omega (arith, all_counted more)
+all_counted (recovering target proof delta ∷ more) = omega (arith, all_counted more)
+all_counted (deactivating target proof ∷ more) = omega (arith, all_counted more)
+
+ready_groups : (limits : ParamsValue) (operations : List PlainOperation) → AreDifferent operations → AllByRecursion (IsReady limits) operations
+    → AreReadyGroups limits (length operations) (grouped operations)
+unfolding grouped
+ready_groups limits operations different all = record {
+  creates = of_kind limits is_create operations all;
+  recovers = of_kind limits is_recover operations all;
+  deactivates = of_kind limits is_deactivate operations all;
+  updates = of_kind limits is_update operations all;
+  counted = all_counted operations;
+  once = λ hash. omega (arith, once (suffixes_of operations) different hash, grouped_times hash operations);
+}
+
+module _ (limits : ParamsValue) (content : Files) where
+  -- a text that declares no operations gives none
+  none_given : (core : HashValue) → gives content limits (anchor_text 0 core) ≡ []
+  unfolding given known known_from
+  none_given core = ap (λ bound. given (known_from content bound)) (none_known limits core)
+
+  given_back : (operations : List PlainOperation) → AreBatched limits operations → length operations < 2 ^ 64
+      → HasFiles content (batch_with operations).files → AllByRecursion (IsReady limits) operations
+      → gives content limits (batch_with operations).anchor ≡ map with_suffix (in_order operations)
+  unfolding batch_with grouped are_files_small
+  given_back [] are fits has all = none_given (uri_of (core_file (grouped [])))
+  given_back (operation ∷ operations) are fits has all =
+      let some : 1 ≤ length (operation ∷ operations) = omega arith in
+      let parts = and_parts (nat_le (length (operation ∷ operations)) limits.max_operations) (are_files_small limits (operation ∷ operations))
+      (are.goes some) in
+      gives_these limits (length (operation ∷ operations)) (grouped (operation ∷ operations))
+      (ready_groups limits (operation ∷ operations) are.different all) content
+      (files_there limits content (grouped (operation ∷ operations)) has parts.1) some (leb-true _ _ parts.0) fits
+
+-- The batch of operations is read back as these, if their number fits in a machine word.
+pub batch_is_read_back : (limits : ParamsValue) (operations : List PlainOperation) → AreBatched limits operations → length operations < 2 ^ 64
+    → IsReadBack limits (batch_with operations) operations
+batch_is_read_back limits operations are fits =
+    let all : FitAll limits operations → AllByRecursion (IsReady limits) operations =
+    λ fit. each-both (Fits limits) IsFormed (IsReady limits) (ready limits) operations fit are.formed in
+    record {
+      given = λ content has fit. given_back limits content operations are fits has (all fit);
+      said = λ fit. each-both (Fits limits) (IsReady limits) (SaysAll limits) (says_all limits) operations fit (all fit);
+    }

@@ -3,12 +3,12 @@ use Rattle.std.proofs.Common.{◌≡◌, ◌∙◌, ℕ, ◌+◌, ◌≤◌, Boo
 use Rattle.std.specs.Prelude.{◌||◌}
 use Rattle.std.specs.List.{list_any}
 use Rattle.std.proofs.lemmas.Bool.{or_parts}
-use Rattle.st_base.specs.Twice.{has_twice, shares_one}
+use Rattle.st_base.specs.Lists.{has_twice, shares_one}
 use Rattle.st_hash.specs.Hash.{HashValue, same_hash}
-use Rattle.st_hash.proofs.SameHash.{same_hash-is, same_hash-itself}
+use Rattle.st_hash.proofs.HashLemmas.{same_hash-is, same_hash-itself}
 use Rattle.st_ops.specs.Operation.{PlainOperation, creating, updating, recovering, deactivating}
 use Rattle.st_batch.specs.Groups.{Grouped, grouped}
-use Rattle.st_batch.specs.Kept.{suffixes_of}
+use Rattle.st_batch.specs.Queue.{suffixes_of}
 
 -- how often a hash is among hashes
 abbrev pub times : HashValue → List HashValue → ℕ

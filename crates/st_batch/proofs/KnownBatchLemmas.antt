@@ -1,53 +1,107 @@
--- The files of ready operations by kind: what is known about an entry that names them, over any content that has
--- them.
-use Rattle.std.proofs.Common.{◌≡◌, ◌∙◌, ℕ, suc, ◌+◌, ◌≤◌, ◌++◌, Bool, true, false, nat_lt, List, [], ◌∷◌, length, map, Option, Some, None, option_map, ◌⊎◌, inl, inr, refl, ap, arith}
-use Rattle.std.specs.Prelude.{◌||◌, is_some, IfSome}
-use Rattle.std.specs.List.{AllByRecursion, filter_map, list_all}
-use Rattle.std.specs.Str.{IsUtf8}
+-- The anchor string of a batch has its count and the URI of its core index file.
+use Rattle.std.proofs.Common.{◌≡◌, ◌∙◌, ℕ, ◌<◌, ◌≤◌, ◌^◌, true, nat_le, List, [], ◌∷◌, Some, None, option_and_then, option_map, refl, ap, arith, suc, ◌+◌, ◌++◌, Bool, false, nat_lt, length, map, Option, ◌⊎◌, inl, inr}
+use Rattle.std.proofs.lemmas.Bool.{ne_eqb}
 use Rattle.std.proofs.lemmas.Bool.Decides.{nat_tests}
+use Rattle.std.proofs.lemmas.Fmt.{decimal_is_IsNumeral}
 use Rattle.std.proofs.lemmas.List.{length-append}
-use Rattle.st_anchor.specs.Known.{chunk_in, core_branch, core_in, core_proof_in, delta_count, judged, looked_at, looked_below, looked_up, named as named_part, provisional_branch, provisional_in, provisional_judged, provisional_proof_in}
+use Rattle.std.proofs.lemmas.Str.Parse.{digit_from_value}
+use Rattle.std.specs.Fmt.{decimal}
+use Rattle.std.specs.List.{AllByRecursion, filter_map, list_all}
+use Rattle.std.specs.Prelude.{is_none, if◌then◌else◌, ◌||◌, is_some, IfSome}
+use Rattle.std.specs.Str.{IsUtf8}
+use Rattle.std.specs.Str.Parse.{AllDigits}
+use Rattle.st_base.proofs.TextLemmas.{cut_at-append, number_of-decimal}
+use Rattle.st_base.proofs.ListLemmas.{each-append, each-weaker}
+use Rattle.st_base.specs.Rules.{first_failing}
+use Rattle.st_base.specs.Lists.{has_twice}
+use Rattle.st_base.specs.Texts.{HasNo, cut_at}
+use Rattle.st_plain.proofs.ReadableLemmas.{IsReadable}
+use Rattle.st_plain.specs.Plain.{canonical}
+use Rattle.st_hash.specs.Hash.{HashValue, hash_of_text, hash_text, same_hash, uri_of}
+use Rattle.st_params.specs.ParamsValue.{ParamsValue}
+use Rattle.st_indexfiles.proofs.CoreLemmas.{IsCoreSound, core_again, none_failing}
+use Rattle.st_indexfiles.proofs.MemberLemmas.{file_uri_again, uri_of_again}
+use Rattle.st_indexfiles.proofs.ProvisionalLemmas.{IsProvisionalSound, provisional_again}
+use Rattle.st_indexfiles.proofs.WrittenLemmas.{IsAgain}
+use Rattle.st_indexfiles.specs.CoreIndex.{suffixes_of as suffixes_of_index, one_alone, create_json, create_of, target_json, target_of}
+use Rattle.st_indexfiles.specs.ProvisionalIndex.{provisional_json, suffixes_in, repeats_suffix}
+use Rattle.st_datafiles.proofs.FileLemmas.{chunk_again, core_proof_again, provisional_proof_again}
+use Rattle.st_datafiles.specs.ProofFiles.{core_proof_json, provisional_proof_json}
+use Rattle.st_datafiles.specs.declared.proof_files.CoreProofs.{CoreProofs}
+use Rattle.st_datafiles.specs.declared.role.Role.{Role}
+use Rattle.st_ops.specs.Operation.{PlainOperation}
+use Rattle.st_ops.specs.Request.{delta_there}
+use Rattle.st_ledger.specs.Ledger.{anchor_of, anchor_rules, core_of, count_in, count_of, dot}
+use Rattle.st_ledger.specs.declared.anchor.AnchorRule.TheVariants.{A2}
+use Rattle.st_content.specs.Files.{Files, file_at}
+use Rattle.st_anchor.specs.BoundValue.{anchor_judged, known_of_text, chunk_in, core_branch, core_in, core_proof_in, delta_count, judged, looked_at, looked_below, looked_up, named as named_part, provisional_branch, provisional_in, provisional_judged, provisional_proof_in}
 use Rattle.st_anchor.specs.SignedTexts.{opened_of, proof_of}
 use Rattle.st_anchor.specs.declared.branches.Context.{Context}
 use Rattle.st_anchor.specs.declared.part.Part.{Part}
-use Rattle.st_anchor.specs.declared.part.Part.TheVariants.{Is, Unneeded}
-use Rattle.st_anchor.specs.declared.rule.Rule.TheVariants as fails
-use Rattle.st_base.specs.Twice.{has_twice}
-use Rattle.st_base.proofs.Quantifiers.{each-append, each-weaker}
-use Rattle.st_plain.specs.Canonical.{canonical}
-use Rattle.st_content.specs.Files.{Files, file_at}
-use Rattle.st_datafiles.proofs.ChunkLemmas.{chunk_again}
-use Rattle.st_datafiles.proofs.ProofLemmas.{core_proof_again, provisional_proof_again}
-use Rattle.st_datafiles.specs.ProofFiles.{core_proof_json, provisional_proof_json}
-use Rattle.st_datafiles.specs.declared.core_proofs.CoreProofs.{CoreProofs}
-use Rattle.st_datafiles.specs.declared.role.Role.{Role}
-use Rattle.st_hash.specs.Hash.{HashValue, same_hash, uri_of}
-use Rattle.st_indexfiles.proofs.CoreLemmas.{IsCoreSound, core_again}
-use Rattle.st_indexfiles.proofs.FileUriLemmas.{file_uri_again, uri_of_again}
-use Rattle.st_indexfiles.proofs.ProvisionalLemmas.{IsProvisionalSound, provisional_again}
-use Rattle.st_indexfiles.proofs.WrittenLemmas.{IsAgain}
-use Rattle.st_indexfiles.specs.CoreIndex.{suffixes_of as suffixes_of_index}
-use Rattle.st_indexfiles.specs.CoreRules.{one_alone}
-use Rattle.st_indexfiles.specs.ProvisionalIndex.{provisional_json, suffixes_in}
-use Rattle.st_indexfiles.specs.ProvisionalRules.{repeats_suffix}
-use Rattle.st_indexfiles.specs.SuffixData.{create_json, create_of}
-use Rattle.st_indexfiles.specs.Target.{target_json, target_of}
-use Rattle.st_ops.specs.Operation.{PlainOperation}
-use Rattle.st_ops.specs.RequestText.{delta_there}
-use Rattle.st_params.specs.Limits.{Limits}
-use Rattle.st_batch.specs.BatchFiles.{bytes_there, chunk_text, core_file, core_index, core_proof_file, file_in, filed, files_of, if_any, provisional_file, provisional_index, provisional_proof_file}
-use Rattle.st_batch.specs.Groups.{Grouped, is_create, is_deactivate, is_recover, is_update, signed_text_in, suffix_data_in, target_in, with_delta}
-use Rattle.st_batch.specs.Kept.{suffixes_of}
-use Rattle.st_batch.specs.Prefix.{is_small, most_bytes}
-use Rattle.st_batch.specs.ReadBack.{HasFiles}
-use Rattle.st_plain.proofs.ReadableLemmas.{IsReadable}
+use Rattle.st_anchor.specs.declared.part.Part.TheVariants.{Missing, Rejected, Is, Unneeded}
+use Rattle.st_anchor.specs.declared.part.Rule.TheVariants as fails
 use Rattle.st_batch.proofs.GivenDifferentLemmas.{apart, different, named_in_groups, times, times-append}
 use Rattle.st_batch.proofs.GivenOperationsLemmas.{AreOfKind, HasDelta, IsOfKind, as_many, create_data, create_suffixes, data_again, delta_kept, each_taken, named_again, target_suffixes, target_there, text_there}
-use Rattle.st_batch.proofs.ReadBackFitLemmas.{IsReady}
+use Rattle.st_batch.proofs.ReadBackLemmas.{IsReady}
 use Rattle.st_batch.proofs.SmallLemmas.{each_role, small_each, small_short}
+use Rattle.st_batch.specs.Batch.{anchor_text, bytes_there, chunk_text, core_file, core_index, core_proof_file, file_in, filed, files_of, if_any, provisional_file, provisional_index, provisional_proof_file, is_small, most_bytes}
+use Rattle.st_batch.specs.Groups.{Grouped, is_create, is_deactivate, is_recover, is_update, signed_text_in, suffix_data_in, target_in, with_delta}
+use Rattle.st_batch.specs.Laws.{HasFiles}
+use Rattle.st_batch.specs.Queue.{suffixes_of}
+
+digits_no_dot : (digits : List ℕ) → AllDigits 10 digits → HasNo dot digits
+digits_no_dot [] all = tt
+digits_no_dot (digit ∷ digits) all =
+    (ne_eqb digit dot (λ is. omega (arith, is, digit_from_value digit all.0)), digits_no_dot digits all.1)
+
+module _ (limits : ParamsValue) (count : ℕ) (core : HashValue) where
+  text_cut : count < 2 ^ 64 → cut_at dot (anchor_text count core) ≡ Some (decimal count, hash_text core)
+  text_cut fits = cut_at-append dot (decimal count) (hash_text core) (digits_no_dot (decimal count) (decimal_is_IsNumeral count fits).0.1)
+
+  from_one : 1 ≤ count → (if nat_le 1 count then Some count else None) ≡ Some count
+  from_one some = let one : nat_le 1 count ≡ true = grind (arith, nat_tests) in rw one refl
+
+  count_is : 1 ≤ count → count ≤ limits.max_operations → count < 2 ^ 64 → count_of limits (anchor_text count core) ≡ Some count
+  count_is some within fits =
+      ap (option_and_then (λ parts. count_in limits.max_operations parts.0)) (text_cut fits)
+      ∙ ap (option_and_then (λ number. if nat_le 1 number then Some number else None))
+      (number_of-decimal limits.max_operations count (decimal count) within fits refl)
+      ∙ from_one some
+
+  core_index_is : count < 2 ^ 64 → hash_of_text (hash_text core) ≡ Some core → core_of (anchor_text count core) ≡ Some core
+  core_index_is fits again = ap (option_and_then (λ parts. hash_of_text parts.1)) (text_cut fits) ∙ again
+
+  -- an entry with such a text misses its core index file, and declares the count
+  pub anchor_known : 1 ≤ count → count ≤ limits.max_operations → count < 2 ^ 64 → hash_of_text (hash_text core) ≡ Some core
+      → known_of_text limits (anchor_text count core) ≡ record { context = record { count = count; params = limits }; core = Missing core }
+  unfolding known_of_text
+  anchor_known some within fits again =
+      let counted = count_is some within fits in
+      let named = core_index_is fits again in
+      let none = none_failing (anchor_rules limits (anchor_text count core)) (ap is_none (text_cut fits), (ap is_none counted, (ap is_none named, tt))) in
+      let says : anchor_of limits (anchor_text count core) ≡ Some (record { count = count; core = core }) =
+      λ i. option_and_then (λ found. option_map (λ uri. record { count = found; core = uri }) (named i)) (counted i) in
+      λ i. anchor_judged limits (none i) (says i)
+
+-- The text of a batch without operations is not that of an entry.
+pub none_known : (limits : ParamsValue) (core : HashValue)
+    → known_of_text limits (anchor_text 0 core) ≡ record { context = record { count = 0; params = limits }; core = Rejected (fails.Anchor A2) }
+unfolding known_of_text
+none_known limits core =
+    let fits : 0 < 2 ^ 64 = omega arith in
+    let cut = text_cut limits 0 core fits in
+    let counted : count_of limits (anchor_text 0 core) ≡ None =
+    ap (option_and_then (λ parts. count_in limits.max_operations parts.0)) cut
+    ∙ ap (option_and_then (λ number. if nat_le 1 number then Some number else None))
+    (number_of-decimal limits.max_operations 0 (decimal 0) (omega arith) fits refl) in
+    let first : first_failing (anchor_rules limits (anchor_text 0 core)) ≡ Some A2 = rw (ap is_none cut, ap is_none counted) refl in
+    ap (λ failing. anchor_judged limits failing (anchor_of limits (anchor_text 0 core))) first
+
+-- ---- The files of ready operations by kind: what is known about an entry that names them, over any content that has
+-- them.
 
 -- `count` ready operations by kind, each suffix once
-pub record AreReadyGroups (limits : Limits) (count : ℕ) (groups : Grouped) : Type 0 where
+pub record AreReadyGroups (limits : ParamsValue) (count : ℕ) (groups : Grouped) : Type 0 where
   pub creates : AreOfKind limits is_create groups.creates
   pub recovers : AreOfKind limits is_recover groups.recovers
   pub deactivates : AreOfKind limits is_deactivate groups.deactivates
@@ -78,10 +132,10 @@ there_for [] said P some there = absurd (omega arith)
 there_for (operation ∷ operations) said P some there = there
 
 -- the files of operations by kind are there
-abbrev pub FilesAreThere : Limits → Files → Grouped → Type 0
+abbrev pub FilesAreThere : ParamsValue → Files → Grouped → Type 0
 FilesAreThere limits content groups = (role : Role) → IfSome (file_in role groups) (IsThere content (most_bytes limits role))
 
-module _ (limits : Limits) (content : Files) where
+module _ (limits : ParamsValue) (content : Files) where
   filed_there : (role : Role) (file : Option (List ℕ)) → HasFiles content (filed role file) → bytes_there file ≤ most_bytes limits role
       → IfSome file (IsThere content (most_bytes limits role))
   filed_there role None has short = tt
@@ -121,7 +175,7 @@ core_proofs groups = record {
   deactivates = filter_map signed_text_in groups.deactivates;
 }
 
-module _ (limits : Limits) (count : ℕ) (groups : Grouped) (are : AreReadyGroups limits count groups) where
+module _ (limits : ParamsValue) (count : ℕ) (groups : Grouped) (are : AreReadyGroups limits count groups) where
   creates_long : length (filter_map suffix_data_in groups.creates) ≡ length groups.creates
   creates_long = as_many suffix_data_in (IsOfKind limits is_create) (create_data limits) groups.creates are.creates
 

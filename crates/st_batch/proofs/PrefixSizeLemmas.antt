@@ -6,16 +6,15 @@ use Rattle.std.proofs.lemmas.Bool.{and_from, and_left, and_parts, and_right, le-
 use Rattle.std.proofs.lemmas.List.{length-take-le}
 use Rattle.std.proofs.lemmas.Option.{cond_some}
 use Rattle.st_ops.specs.Operation.{PlainOperation}
-use Rattle.st_params.specs.Limits.{Limits}
-use Rattle.st_batch.specs.BatchFiles.{batch_of_groups, batch_with}
-use Rattle.st_batch.specs.BatchLaws.{NeverShorter}
+use Rattle.st_params.specs.ParamsValue.{ParamsValue}
+use Rattle.st_batch.specs.Batch.{batch_of_groups, batch_with, are_files_small, batch_count, batch_of, is_batch}
+use Rattle.st_batch.specs.Laws.{NeverShorter}
 use Rattle.st_batch.specs.Groups.{grouped}
-use Rattle.st_batch.specs.Prefix.{are_files_small, batch_count, batch_of, batch_where_small, is_batch}
+use Rattle.st_batch.specs.inside.Groups.{batch_where_small}
 use Rattle.st_batch.specs.declared.batch.Batch.{Batch}
-use Rattle.st_batch.proofs.FileSizeLemmas.{file_long}
-use Rattle.st_batch.proofs.GivenPrefixLemmas.{batch_longest}
-use Rattle.st_batch.proofs.MoreSizeLemmas.{file_more}
-use Rattle.st_batch.proofs.OperationSizeLemmas.{grows}
+use Rattle.st_batch.proofs.FileSizeLemmas.{file_long, file_more}
+use Rattle.st_batch.proofs.GivenOperationsLemmas.{batch_longest}
+use Rattle.st_batch.proofs.SizeLemmas.{grows}
 use Rattle.st_batch.proofs.SmallLemmas.{none_fails, short_small, small_all, small_each, small_short}
 
 -- a longer prefix has no shorter file
@@ -30,7 +29,7 @@ never_shorter role queue fewer more less =
 -- ---- batches
 
 -- nor is a file too long with fewer operations if none was
-fewer_small : (limits : Limits) (few many : ℕ) (operations : List PlainOperation) → few ≤ many
+fewer_small : (limits : ParamsValue) (few many : ℕ) (operations : List PlainOperation) → few ≤ many
     → are_files_small limits (take many operations) ≡ true → are_files_small limits (take few operations) ≡ true
 unfolding are_files_small
 fewer_small limits few many operations less small =
@@ -40,7 +39,7 @@ fewer_small limits few many operations less small =
     (omega (arith, never_shorter role operations few many less, small_short limits after role (small_each limits after small role))))
 
 -- operations that go into a batch do so without the last ones
-fewer_go : (limits : Limits) (few many : ℕ) (operations : List PlainOperation) → few ≤ many → many ≤ length operations
+fewer_go : (limits : ParamsValue) (few many : ℕ) (operations : List PlainOperation) → few ≤ many → many ≤ length operations
     → is_batch limits (take many operations) ≡ true → is_batch limits (take few operations) ≡ true
 fewer_go limits few many operations less within go =
     let parts = and_parts (nat_le (length (take many operations)) limits.max_operations) (are_files_small limits (take many operations)) go in
@@ -51,13 +50,13 @@ fewer_go limits few many operations less within go =
     (fewer_small limits few many operations less parts.1)
 
 -- this many first operations go, and either there are no more or one more does not go
-record IsLast (limits : Limits) (operations : List PlainOperation) (n : ℕ) : Type 0 where
+record IsLast (limits : ParamsValue) (operations : List PlainOperation) (n : ℕ) : Type 0 where
   within : n ≤ length operations
   goes : 1 ≤ n → is_batch limits (take n operations) ≡ true
   stops : n < length operations → is_batch limits (take (n + 1) operations) ≡ false
 
 -- these are as many as a batch takes
-last_is_count : (limits : Limits) (operations : List PlainOperation) (n : ℕ) → IsLast limits operations n → n ≡ batch_count limits operations
+last_is_count : (limits : ParamsValue) (operations : List PlainOperation) (n : ℕ) → IsLast limits operations n → n ≡ batch_count limits operations
 last_is_count limits operations n last =
     let found = batch_count limits operations in
     let longest = batch_longest limits operations in
@@ -74,14 +73,14 @@ last_is_count limits operations n last =
 -- ---- how many a batch takes
 
 -- this many are at most as many as a batch may declare, and no file of theirs is too long
-goes_by : (limits : Limits) (operations : List PlainOperation) (n : ℕ) → n ≤ length operations → n ≤ limits.max_operations
+goes_by : (limits : ParamsValue) (operations : List PlainOperation) (n : ℕ) → n ≤ length operations → n ≤ limits.max_operations
     → are_files_small limits (take n operations) ≡ true → is_batch limits (take n operations) ≡ true
 goes_by limits operations n within few small =
     and_from (nat_le (length (take n operations)) limits.max_operations) (are_files_small limits (take n operations))
     (le-leb (length (take n operations)) limits.max_operations (omega (arith, few, length-take-le n operations within))) small
 
 -- as many as a batch may declare, or all, if no file of these is too long
-pub most_go : (limits : Limits) (operations : List PlainOperation)
+pub most_go : (limits : ParamsValue) (operations : List PlainOperation)
     → are_files_small limits (take (min (length operations) limits.max_operations) operations) ≡ true
     → min (length operations) limits.max_operations ≡ batch_count limits operations
 most_go limits operations small =
@@ -94,11 +93,11 @@ most_go limits operations small =
     })
 
 -- those taken are at most as many as it may declare, and no file of theirs is too long
-record Taken (limits : Limits) (operations : List PlainOperation) : Type 0 where
+record Taken (limits : ParamsValue) (operations : List PlainOperation) : Type 0 where
   few : batch_count limits operations ≤ limits.max_operations
   small : are_files_small limits (take (batch_count limits operations) operations) ≡ true
 
-taken_of : (limits : Limits) (operations : List PlainOperation) → 1 ≤ batch_count limits operations → Taken limits operations
+taken_of : (limits : ParamsValue) (operations : List PlainOperation) → 1 ≤ batch_count limits operations → Taken limits operations
 taken_of limits operations some =
     let count = batch_count limits operations in
     let longest = batch_longest limits operations in
@@ -109,14 +108,14 @@ taken_of limits operations some =
 -- ---- halving
 
 -- no file of this many first operations is too long, and one of this many more is
-pub record IsBetween (limits : Limits) (operations : List PlainOperation) (goes stops : ℕ) : Type 0 where
+pub record IsBetween (limits : ParamsValue) (operations : List PlainOperation) (goes stops : ℕ) : Type 0 where
   pub less : goes < stops
   pub within : stops ≤ length operations
   pub few : stops ≤ limits.max_operations
   pub small : 1 ≤ goes → are_files_small limits (take goes operations) ≡ true
   pub long : are_files_small limits (take stops operations) ≡ false
 
-module _ (limits : Limits) (operations : List PlainOperation) where
+module _ (limits : ParamsValue) (operations : List PlainOperation) where
   pub at_first : 1 ≤ batch_count limits operations → {most : ℕ} → most ≡ min (length operations) limits.max_operations
       → are_files_small limits (take most operations) ≡ false → IsBetween limits operations 0 most
   at_first some {most} is long =
@@ -162,18 +161,18 @@ module _ (limits : Limits) (operations : List PlainOperation) where
 -- ---- the written batch
 
 -- no file of this many first operations is too long, or one is
-pub written_small : (limits : Limits) (operations : List PlainOperation) (n : ℕ) (batch : Batch)
+pub written_small : (limits : ParamsValue) (operations : List PlainOperation) (n : ℕ) (batch : Batch)
     → batch_where_small limits n (grouped (take n operations)) ≡ Some batch → are_files_small limits (take n operations) ≡ true
 unfolding are_files_small
 written_small limits operations n batch written = (cond_some _ _ batch written).0
 
-pub written_long : (limits : Limits) (operations : List PlainOperation) (n : ℕ)
+pub written_long : (limits : ParamsValue) (operations : List PlainOperation) (n : ℕ)
     → batch_where_small limits n (grouped (take n operations)) ≡ None → are_files_small limits (take n operations) ≡ false
 unfolding are_files_small
 written_long limits operations n none = none_fails _ _ none
 
 -- as many as a batch takes can be written
-pub is_written : (limits : Limits) (operations : List PlainOperation) (n : ℕ) → 1 ≤ batch_count limits operations → n ≡ batch_count limits operations
+pub is_written : (limits : ParamsValue) (operations : List PlainOperation) (n : ℕ) → 1 ≤ batch_count limits operations → n ≡ batch_count limits operations
     → batch_where_small limits n (grouped (take n operations)) ≡ None → ⊥
 is_written limits operations n some is none =
     let long = ap (λ m. are_files_small limits (take m operations)) (sym is) ∙ written_long limits operations n none in
@@ -181,7 +180,7 @@ is_written limits operations n some is none =
     cc
 
 -- and the batch is that of the queue
-pub written_of : (limits : Limits) (operations : List PlainOperation) (n : ℕ) (batch : Batch) → n ≡ batch_count limits operations
+pub written_of : (limits : ParamsValue) (operations : List PlainOperation) (n : ℕ) (batch : Batch) → n ≡ batch_count limits operations
     → batch_where_small limits n (grouped (take n operations)) ≡ Some batch → batch ≡ batch_of limits operations
 unfolding batch_with
 written_of limits operations n batch is written =

@@ -3,15 +3,14 @@
 use Rattle.std.proofs.Common.{ℕ, ◌+◌, ◌==◌, Bool, List, filter, length, codes, if◌then◌else◌, Option, Some, None, option_map}
 use Rattle.std.specs.Prelude.{max}
 use Rattle.std.specs.List.{sum_by}
-use Rattle.st_plain.specs.Measure.{size_of}
+use Rattle.st_plain.specs.Measures.{size_of}
 use Rattle.st_plain.specs.Plain.{Plain}
 use Rattle.st_datafiles.specs.ProofFiles.{signed_json}
 use Rattle.st_datafiles.specs.declared.role.Role.{Role}
 use Rattle.st_datafiles.specs.declared.role.Role.TheVariants.{Core, CoreProof, Provisional, ProvisionalProof, Chunk}
-use Rattle.st_indexfiles.specs.SuffixData.{create_json}
-use Rattle.st_indexfiles.specs.Target.{target_json}
+use Rattle.st_indexfiles.specs.CoreIndex.{create_json, target_json}
 use Rattle.st_ops.specs.Operation.{PlainOperation}
-use Rattle.st_ops.specs.RequestText.{delta_there}
+use Rattle.st_ops.specs.Request.{delta_there}
 use Rattle.st_batch.specs.Groups.{is_create, is_deactivate, is_recover, is_update, signed_text_in, suffix_data_in, target_in}
 
 -- the entries of each list: those of the core index file, of the provisional one, of the two proof files, of the

@@ -8,13 +8,13 @@ use Rattle.std.specs.List.{AllByRecursion, list_all}
 use Rattle.std.proofs.Math.Bool.{and-true}
 use Rattle.std.proofs.lemmas.Bool.{and_from, and_parts, le-leb, leb-true}
 use Rattle.std.proofs.lemmas.Option.{cond_some}
-use Rattle.st_base.proofs.Quantifiers.{each-append}
+use Rattle.st_base.proofs.ListLemmas.{each-append}
 use Rattle.st_datafiles.specs.declared.role.Role.{Role}
 use Rattle.st_datafiles.specs.declared.role.Role.TheVariants.{Core, CoreProof, Provisional, ProvisionalProof, Chunk}
-use Rattle.st_params.specs.Limits.{Limits}
-use Rattle.st_batch.specs.BatchFiles.{batch_of_groups, bytes_there, file_in, filed, files_of}
+use Rattle.st_params.specs.ParamsValue.{ParamsValue}
+use Rattle.st_batch.specs.Batch.{batch_of_groups, bytes_there, file_in, filed, files_of, is_small, most_bytes}
 use Rattle.st_batch.specs.Groups.{Grouped}
-use Rattle.st_batch.specs.Prefix.{batch_where_small, is_small, most_bytes, where_small}
+use Rattle.st_batch.specs.inside.Groups.{batch_where_small, where_small}
 use Rattle.st_batch.specs.declared.batch.Batch.{Batch}
 use Rattle.st_batch.specs.declared.batch.BatchFile.{BatchFile}
 
@@ -25,13 +25,13 @@ none_fails false found none = refl
 
 -- ---- one file
 
-filed_test : (limits : Limits) (role : Role) (file : Option (List ℕ))
+filed_test : (limits : ParamsValue) (role : Role) (file : Option (List ℕ))
     → list_all (is_small limits) (filed role file) ≡ nat_le (bytes_there file) (most_bytes limits role)
 filed_test limits role None = sym (le-leb 0 (most_bytes limits role) (omega arith))
 filed_test limits role (Some bytes) = and-true (nat_le (length bytes) (most_bytes limits role))
 
 -- a file that is too long is not written
-pub filed_long : (limits : Limits) (role : Role) (bytes : List ℕ) → nat_le (length bytes) (most_bytes limits role) ≡ false
+pub filed_long : (limits : ParamsValue) (role : Role) (bytes : List ℕ) → nat_le (length bytes) (most_bytes limits role) ≡ false
     → where_small limits (filed role (Some bytes)) ≡ None
 filed_long limits role bytes long = rw long refl
 
@@ -78,7 +78,7 @@ all_of_each : {Item : Type 0} (test : Item → Bool) (items : List Item) → All
 all_of_each test [] each = refl
 all_of_each test (item ∷ items) each = and_from (test item) (list_all test items) each.0 (all_of_each test items each.1)
 
-module _ (limits : Limits) (groups : Grouped) where
+module _ (limits : ParamsValue) (groups : Grouped) where
   -- whether the file of a role is small
   abbrev pub is_role_small : Role → Bool
   is_role_small role = list_all (is_small limits) (filed role (file_in role groups))
@@ -120,7 +120,7 @@ module _ (limits : Limits) (groups : Grouped) where
 
 -- ---- a batch
 
-module _ (limits : Limits) (count : ℕ) (groups : Grouped) where
+module _ (limits : ParamsValue) (count : ℕ) (groups : Grouped) where
   -- if a file is too long, it is not written
   pub one_long : (role : Role) → None ≡ where_small limits (filed role (file_in role groups)) → None ≡ batch_where_small limits count groups
   one_long role long =

@@ -1,17 +1,17 @@
 -- The result of flushing a queue.
 use Rattle.std.specs.Prelude.{◌≡◌, ◌≤◌, List, [], length, min}
 use Rattle.st_ops.specs.Operation.{PlainOperation}
-use Rattle.st_params.specs.Limits.{Limits}
-use Rattle.st_batch.specs.Prefix.{IsLongest, batch_count, batch_of, batched, rest_of}
-use Rattle.st_batch.specs.ReadBack.{AreNamed, AscendFrom, IsReadBack}
+use Rattle.st_params.specs.ParamsValue.{ParamsValue}
+use Rattle.st_batch.specs.Batch.{IsLongest, batch_count, batch_of, batched, rest_of}
+use Rattle.st_batch.specs.Laws.{AreNamed, AscendFrom, IsReadBack}
 use Rattle.st_batch.specs.declared.batch.Batch.{Batch}
-use Rattle.st_batch.specs.declared.refused.FlushRefused.{FlushRefused}
-use Rattle.st_batch.specs.declared.refused.FlushRefused.TheVariants.{Nothing, WantOfMemory}
+use Rattle.st_batch.specs.declared.queue.FlushRefused.{FlushRefused}
+use Rattle.st_batch.specs.declared.queue.FlushRefused.TheVariants.{Nothing, WantOfMemory}
 
 -- The batch is that of the queue at these limits, the other operations stay queued, and at least one was taken. No
 -- longer prefix goes into one batch; in version 1 it is the first 1,000, or all if there are fewer. Each file has its
 -- own URI, no role appears twice, and the batch is read back as the operations taken.
-pub record IsFlushed (limits : Limits) (queue left : List PlainOperation) (made : Batch) : Type 0 where
+pub record IsFlushed (limits : ParamsValue) (queue left : List PlainOperation) (made : Batch) : Type 0 where
   pub batch : made ≡ batch_of limits queue
   pub rest : left ≡ rest_of limits queue
   pub some : 1 ≤ batch_count limits queue

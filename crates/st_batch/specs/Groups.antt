@@ -2,7 +2,7 @@
 -- Structures").
 use Rattle.std.specs.Prelude.{ℕ, Bool, true, false, List, ◌++◌, Option, Some, None, option_map, filter}
 use Rattle.st_indexfiles.specs.declared.suffix_data.SuffixData.{SuffixData}
-use Rattle.st_indexfiles.specs.declared.target.Target.{Target}
+use Rattle.st_indexfiles.specs.declared.entries.Target.{Target}
 use Rattle.st_ops.specs.Operation.{PlainOperation, creating, updating, recovering, deactivating}
 
 -- ---- kinds

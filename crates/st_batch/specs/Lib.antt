@@ -1,12 +1,6 @@
-pub mod Codes
+pub mod Queue
 pub mod Groups
-pub mod Grouping
-pub mod BatchFiles
-pub mod Prefix
-pub mod Fits
+pub mod Batch
 pub mod Flushed
-pub mod Submitted
-pub mod Counted
-pub mod Kept
-pub mod ReadBack
-pub mod BatchLaws
+pub mod Laws
+pub mod inside

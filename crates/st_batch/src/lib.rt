@@ -3,26 +3,11 @@
 //! Sidetree v1.0.0, "File Structures").
 #![tactic(auto)]
 
-mod asking;
+mod asked;
 mod batch;
-mod data_files;
-mod delta_checking;
-mod entries;
 mod files;
-mod flushing;
-mod gathering;
-mod grouping;
-mod index_files;
-mod knowing;
-mod laws;
-mod longest;
-mod parts;
+mod groups;
 mod queue;
-mod refused;
-mod writing;
 
-pub use batch::{Batch, BatchFile};
-pub use entries::MOST_QUEUED;
-pub use laws::batch_laws;
-pub use queue::Queue;
-pub use refused::{FlushRefused, SubmitRefused};
+pub use batch::{Batch, BatchFile, batch_laws};
+pub use queue::{FlushRefused, MOST_QUEUED, Queue, SubmitRefused};

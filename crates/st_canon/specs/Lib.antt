@@ -1,6 +1,4 @@
-pub mod Lends
-pub mod LendsValue
-pub mod Packed
-pub mod Place
 pub mod View
+pub mod Packed
 pub mod formers
+pub mod inside

@@ -2,7 +2,7 @@
 use Rattle.std.specs.Prelude.{⊤}
 use Rattle.st_plain.specs.Plain.{Plain}
 use Rattle.st_plain.specs.ReadAgain.{IsReadAgain, value_read}
-use Rattle.st_plain.specs.Reading.{json_of}
+use Rattle.st_plain.specs.Shapes.{json_of}
 use Rattle.st_canon.specs.View.{plain}
 use Rattle.st_canon.specs.declared.packed.Form.{Form}
 use Rattle.st_canon.specs.declared.packed.Form.TheVariants.{Text, Within, Parts}

@@ -1,1 +1,1 @@
-pub mod members
+pub mod object

@@ -1,14 +1,13 @@
 ghost use Rattle.std.specs.Prelude.{◌≡◌, IfOk, Ok};
 ghost use Rattle.st_plain.specs.ReadAgain.{IsReadAgain, value_read};
-ghost use Rattle.st_plain.specs.Reading.{json_of};
+ghost use Rattle.st_plain.specs.Shapes.{json_of};
 ghost use Rattle.st_canon.specs.Packed.{IsPacked, packed_value};
 ghost use Rattle.st_canon.specs.View.{plain};
 
-use crate::counting::size;
-use crate::nesting::depth;
-use crate::reading::read_again;
+use crate::measures::{depth, size};
+use crate::spelling::write;
+use crate::trees::read_again;
 use crate::value::Json;
-use crate::writing::write;
 use st_base::{Bytes, Copied, Part, Shared, WantOfMemory};
 use std::alloc::Global;
 use std::marker::Model;
@@ -35,8 +34,7 @@ pub(crate) enum Form {
 }
 
 impl Model for PackedJson {
-    ghost use Rattle.st_plain.specs.Plain.{Plain};
-    ghost use Rattle.st_plain.specs.PlainCodes.{coded_plain};
+    ghost use Rattle.st_plain.specs.Plain.{Plain, coded_plain};
     ghost use Rattle.st_canon.specs.Packed.{IsPacked, packed_value};
 
     ghost Value = { Plain };
@@ -50,9 +48,8 @@ impl Model for PackedJson {
 
 impl PackedJson {
     ghost use Rattle.std.specs.Prelude.{IfSome, min, ◌^◌, ◌-◌};
-    ghost use Rattle.st_plain.specs.Canonical.{canonical};
-    ghost use Rattle.st_plain.specs.Measure.{size_of};
-    ghost use Rattle.st_plain.specs.Proper.{IsProper};
+    ghost use Rattle.st_plain.specs.Plain.{canonical, IsProper};
+    ghost use Rattle.st_plain.specs.Measures.{size_of};
 
     /// The value in compact form.
     pub fn pack(alloc: Global, value: &Json) -> Result<PackedJson, WantOfMemory>

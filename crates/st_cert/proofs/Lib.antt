@@ -1,7 +1,4 @@
-mod AscendLemmas
-mod CountLemmas
-mod FollowingLemmas
-mod VerdictLemmas
+mod CertificateLemmas
 -- For the crates above.
 -- the laws of certificates, among them that each operation has one verdict
 pub mod LawLemmas

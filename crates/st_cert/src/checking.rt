@@ -1,11 +1,10 @@
 ghost use Rattle.std.specs.Prelude.{◌≡◌, ◌↔◌, IfOk, IsTrue};
 ghost use Rattle.st_base.specs.Work.{AppliesAtMost};
-ghost use Rattle.st_cert.specs.Certificate.{IsCertificate, acting_count, anchored_items};
-ghost use Rattle.st_cert.specs.Following.{Follows};
+ghost use Rattle.st_apply.specs.Codes.{Rules};
+ghost use Rattle.st_cert.specs.Certificate.{IsCertificate, acting_count, anchored_items, ActingSuffice, OneCertificate, OneEach, VerdictActs, VerdictsStay};
+ghost use Rattle.st_cert.specs.inside.Following.{Follows};
 
-use crate::certificate::Certificate;
-use crate::item::CertItem;
-use crate::places::places_ascend;
+use crate::certificate::{CertItem, Certificate, places_ascend};
 use crate::standing::Standing;
 use crate::verdict::Verdict;
 use st_base::{WantOfMemory, Work};
@@ -67,3 +66,18 @@ fn same_verdict(first: Verdict, second: Verdict) -> bool
 {
     first == second
 }
+
+/// A verdict acts if and only if the operation does, for all hashes and documents.
+pub fn verdict_law<H, D>()
+    ensures { (rules : Rules H D) → VerdictActs rules }
+{}
+
+/// Laws of certificates: each operation has one verdict, which no later operation changes;
+/// operations have at most one certificate; and the state follows from only the operations that
+/// act.
+pub fn certificate_laws()
+    ensures each { OneEach }
+    ensures stay { VerdictsStay }
+    ensures unique { OneCertificate }
+    ensures suffice { ActingSuffice }
+{}

@@ -3,19 +3,10 @@
 #![tactic(auto)]
 
 mod certificate;
-mod certifying;
 mod checking;
-mod item;
-mod judging;
-mod laws;
-mod places;
 mod standing;
 mod verdict;
 
-pub use certificate::Certificate;
-pub use certifying::certify;
-pub use checking::check_certificate;
-pub use item::CertItem;
-pub use laws::{certificate_laws, verdict_law};
-pub use places::places_ascend;
+pub use certificate::{CertItem, Certificate, certify, places_ascend};
+pub use checking::{certificate_laws, check_certificate, verdict_law};
 pub use verdict::Verdict;

@@ -1,6 +1,5 @@
-use crate::item::CertItem;
-use crate::judging::judge;
-use crate::verdict::Verdict;
+use crate::certificate::CertItem;
+use crate::verdict::{Verdict, judge};
 use st_apply::{DidState, StateParts, open_applied};
 use st_base::{WantOfMemory, Work};
 use st_params::Schedule;
@@ -17,9 +16,8 @@ pub(crate) struct Standing {
 
 impl Model for Standing {
     ghost use Rattle.std.specs.Prelude.{◌≡◌};
-    ghost use Rattle.st_apply.specs.Codes.{state_code};
-    ghost use Rattle.st_apply.specs.Seen.{State};
-    ghost use Rattle.st_apply.specs.Shown.{opened};
+    ghost use Rattle.st_apply.specs.Codes.{state_code, State};
+    ghost use Rattle.st_apply.specs.Laws.{opened};
     ghost use Rattle.st_doc.specs.Document.{PlainDocument};
     ghost use Rattle.st_hash.specs.Hash.{HashValue};
 
@@ -34,10 +32,9 @@ impl Model for Standing {
 
 impl Standing {
     ghost use Rattle.std.specs.Prelude.{◌≡◌, ◌↔◌, IfOk, IsTrue, true};
-    ghost use Rattle.st_apply.specs.Seen.{absent};
-    ghost use Rattle.st_cert.specs.Certificate.{anchored_item, verdict_in};
-    ghost use Rattle.st_cert.specs.Following.{counted_if, state_behind};
-    ghost use Rattle.st_cert.specs.Verdict.{is_acting};
+    ghost use Rattle.st_apply.specs.Codes.{absent};
+    ghost use Rattle.st_cert.specs.Certificate.{anchored_item, verdict_in, is_acting};
+    ghost use Rattle.st_cert.specs.inside.Following.{counted_if, state_behind};
 
     /// Before any item.
     pub(crate) fn absent() -> Standing

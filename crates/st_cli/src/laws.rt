@@ -1,12 +1,12 @@
 ghost use Rattle.std.specs.Prelude.{◌≡◌, ◌++◌, List, ℕ, Option};
-ghost use Rattle.st_cli.specs.Journalled.{node_answering};
-ghost use Rattle.st_drive.specs.Recording.{changing};
+ghost use Rattle.st_cli.specs.Runs.{node_answering};
+ghost use Rattle.st_drive.specs.OnDisk.{changing};
 ghost use Rattle.st_journal_lines.specs.Answering.{behind};
 ghost use Rattle.st_journal_lines.specs.Journalled.{plain_recorder};
-ghost use Rattle.st_network.specs.StoresWanted.{AreAddressed, AreFour, StoresOnlyWanted};
+ghost use Rattle.st_network.specs.Run.{AreAddressed, AreFour, StoresOnlyWanted};
 ghost use Rattle.st_node.specs.Machine.{new_machine};
 ghost use Rattle.st_node.specs.Peer.{node_peer};
-ghost use Rattle.st_drive.specs.Released.{AreChained, NoneTwice, Run, all_released};
+ghost use Rattle.st_drive.specs.Tables.{AreChained, NoneTwice, Run, all_released};
 ghost use Rattle.st_vault.specs.Image.{IsSpent};
 
 use crate::node_lines::NodeLines;

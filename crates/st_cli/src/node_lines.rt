@@ -1,10 +1,8 @@
 ghost use Rattle.std.specs.Prelude.{◌≡◌, ⊤, false};
-ghost use Rattle.st_cli.specs.Journalled.{node_answering};
-ghost use Rattle.st_cli.specs.JournalledLaws.{answering_laws, node_idles};
-ghost use Rattle.st_node.specs.Changed.{HasFew};
+ghost use Rattle.st_cli.specs.Runs.{node_answering};
+ghost use Rattle.st_cli.specs.inside.NodeLaws.{answering_laws, node_idles, node_laws, kept_of_line, node_meaning};
+ghost use Rattle.st_node.specs.inside.Changed.{HasFew};
 ghost use Rattle.st_node.specs.Machine.{new_machine};
-ghost use Rattle.st_cli.specs.NodeLaws.{node_laws};
-ghost use Rattle.st_cli.specs.NodeLines.{kept_of_line, node_meaning};
 
 use st_base::{Bytes, WantOfMemory, Work};
 use st_drive::{Machine, StepError};
@@ -22,8 +20,7 @@ pub struct NodeLines {
 }
 
 impl Model for NodeLines {
-    ghost use Rattle.st_node.specs.Codes.{coded_machine};
-    ghost use Rattle.st_node.specs.Machine.{Machine as Reference};
+    ghost use Rattle.st_node.specs.Machine.{coded_machine, Machine as Reference};
 
     ghost Value = { Reference };
 

@@ -1,16 +1,12 @@
 ghost use Rattle.std.specs.Prelude.{◌≡◌, ◌↔◌, ◌≤◌, None, IsTrue};
-ghost use Rattle.st_io.specs.Causes.{Rose};
-ghost use Rattle.st_io.specs.Storage.{storage};
-ghost use Rattle.st_drive.specs.Streams.{streams};
+ghost use Rattle.st_io.specs.Past.{Rose, storage};
+ghost use Rattle.st_drive.specs.Lines.{streams};
 ghost use Rattle.st_drive.specs.Tables.{AnswersLines, Ends};
-ghost use Rattle.st_cli.specs.Form.{form_of, max_input};
-ghost use Rattle.st_cli.specs.Node.{node_course};
-ghost use Rattle.st_cli.specs.Runs.{Promised};
-ghost use Rattle.st_cli.specs.Status.{is_status};
+ghost use Rattle.st_cli.specs.Invocation.{invocation_of, max_input};
+ghost use Rattle.st_cli.specs.Runs.{node_course, Promised, is_status};
 
-use crate::form::{Form, MAX_INPUT, NodeOptions};
+use crate::command_line::{Invocation, MAX_INPUT, NodeOptions, read_invocation};
 use crate::node_lines::NodeLines;
-use crate::reading::read_form;
 use st_base::{Text, Work};
 use st_drive::run_machine;
 use st_generate::run_generate;
@@ -64,7 +60,7 @@ pub fn run<S: Source, K: Sink, D: Disk>(
     work: &mut Work,
 ) -> u8
     // Invalid arguments, and only they, are refused.
-    ensures words { (result ≡ 1) ↔ (form_of words.now ≡ None) }
+    ensures words { (result ≡ 1) ↔ (invocation_of words.now ≡ None) }
 
     // The sink is finished at status 0, and under every other only if it was before; a fault has
     // its cause, and there is no other status.
@@ -75,7 +71,7 @@ pub fn run<S: Source, K: Sink, D: Disk>(
     // The properties of a run of the words' command: `NodeRun`, `JournalRun`, `IsWalletRun`,
     // `ExchangeRun` or `GenerateRun` of `specs/Runs.antt`; invalid arguments leave everything
     // unchanged, `IsRefused`.
-    ensures promised { Promised (form_of words.now) (record {
+    ensures promised { Promised (invocation_of words.now) (record {
       io = streams S.left S.faults source.old source.new K.written K.is_finished K.faults sink.old sink.new;
       disk = storage D.reads D.past D.faults disk.old disk.new;
       context = work.old;
@@ -83,9 +79,9 @@ pub fn run<S: Source, K: Sink, D: Disk>(
       status = result;
     }) }
 {
-    match read_form(words) {
-        Some(Form::Node(options)) => run_node(alloc, options, source, sink, work),
-        Some(Form::Journalled(options)) => run_journalled::<NodeLines, S, K, D>(
+    match read_invocation(words) {
+        Some(Invocation::Node(options)) => run_node(alloc, options, source, sink, work),
+        Some(Invocation::Journalled(options)) => run_journalled::<NodeLines, S, K, D>(
             alloc,
             options.limit,
             &options.schedule,
@@ -94,15 +90,15 @@ pub fn run<S: Source, K: Sink, D: Disk>(
             sink,
             disk,
         ),
-        Some(Form::Wallet) => run_wallet(alloc, MAX_INPUT as usize, source, sink, disk),
-        Some(Form::Exchange) => run_exchange::<Node, S, K>(
+        Some(Invocation::Wallet) => run_wallet(alloc, MAX_INPUT as usize, source, sink, disk),
+        Some(Invocation::Exchange) => run_exchange::<Node, S, K>(
             alloc,
             MAX_INPUT as usize,
             source,
             sink,
             work,
         ),
-        Some(Form::Generate(plan)) => run_generate::<Node, K>(alloc, plan, sink, work),
+        Some(Invocation::Generate(plan)) => run_generate::<Node, K>(alloc, plan, sink, work),
         None => 1,
     }
 }

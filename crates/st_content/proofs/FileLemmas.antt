@@ -9,10 +9,10 @@ use Rattle.std.specs.declared.cmp.Ordering.{Ordering}
 use Rattle.std.specs.declared.cmp.Ordering.TheVariants.{Less, Equal, Greater}
 use Rattle.std.proofs.lemmas.Bool.{eqb-true, eqb-false, ne_eqb}
 use Rattle.std.proofs.lemmas.Option.{cond_some}
-use Rattle.st_hash.specs.Hash.{HashValue, hash_cmp, same_hash, sha256, sha256_digest, uri_of}
-use Rattle.st_hash.specs.Order.{same_hash-ties}
-use Rattle.st_hash.proofs.SameHash.{same_hash-is, same_hash-itself, same_hash-other}
-use Rattle.st_content.specs.Files.{AreNamed, Files, file_at, files_of, with_entry, with_file}
+use Rattle.st_hash.specs.Hash.{HashValue, hash_cmp, same_hash, sha256, sha256_digest, uri_of, same_hash-ties}
+use Rattle.st_hash.proofs.HashLemmas.{same_hash-is, same_hash-itself, same_hash-other}
+use Rattle.st_content.specs.Files.{AreNamed, Files, file_at, files_of, with_file}
+use Rattle.st_content.specs.inside.Files.{with_entry}
 
 -- ---- files by their digests
 

@@ -1,8 +1,6 @@
 -- Files by their URI, which is the SHA-256 hash of their bytes.
 use Rattle.std.specs.Prelude.{◌≡◌, ℕ, List, map, Option, Some, if◌then◌else◌, is_some}
-use Rattle.std.specs.BTreeMap.{insert_entry, is_at}
-use Rattle.std.specs.Cmp.Lexicographic.{slice_cmp}
-use Rattle.std.specs.Ordering.{nat_cmp}
+use Rattle.std.specs.BTreeMap.{insert_entry}
 use Rattle.std.specs.Map.{lookup}
 use Rattle.st_hash.specs.Hash.{HashValue, hash_cmp, same_hash, uri_of}
 
@@ -26,9 +24,3 @@ AreNamed files = (uri : HashValue) (file : List ℕ) → file_at uri files ≡ S
 -- the files with these digests
 abbrev pub files_of : List (List ℕ × List ℕ) → Files
 files_of entries = map (λ entry. (record { code = 0x12; digest = entry.0 }, entry.1)) entries
-
--- these, with one more if none has its digest
-abbrev pub with_entry : List ℕ → List ℕ → List (List ℕ × List ℕ) → List (List ℕ × List ℕ)
-with_entry digest file entries =
-    if is_some (lookup (is_at (slice_cmp nat_cmp digest)) entries) then entries
-    else insert_entry (slice_cmp nat_cmp) entries digest file

@@ -4,7 +4,8 @@ ghost use Rattle.std.specs.BTreeMap.{ContainsKey};
 ghost use Rattle.std.specs.Cmp.Lexicographic.{slice_cmp};
 ghost use Rattle.std.specs.Ordering.{nat_cmp};
 ghost use Rattle.st_hash.specs.Hash.{HashValue, uri_of};
-ghost use Rattle.st_content.specs.Files.{AreNamed, file_at, with_entry, with_file};
+ghost use Rattle.st_content.specs.Files.{AreNamed, file_at, with_file};
+ghost use Rattle.st_content.specs.inside.Files.{with_entry};
 
 use st_base::{Bytes, Shared, WantOfMemory};
 use st_hash::{Hash, uri_of};

@@ -1,3 +1,2 @@
 -- For the crates above: a written file fails no rule and is read again.
-pub mod ChunkLemmas
-pub mod ProofLemmas
+pub mod FileLemmas

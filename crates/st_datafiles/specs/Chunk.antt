@@ -2,13 +2,12 @@
 -- v1.0.0, "Chunk Files"). `None` is a file that is not JSON.
 use Rattle.std.specs.Prelude.{ℕ, ◌==◌, Bool, not, nat_lt, List, [], ◌∷◌, codes, length, Option, is_none, is_some, option_and_then}
 use Rattle.st_base.specs.Rules.{Table, first_failing}
-use Rattle.st_plain.specs.Entries.{items_in}
-use Rattle.st_plain.specs.Objects.{object_of_some, some_list}
+use Rattle.st_plain.specs.Objects.{items_in, object_of_some, some_list}
 use Rattle.st_plain.specs.Plain.{Plain}
 use Rattle.st_plain.specs.Shapes.{entries_in, json_in, member_in, only_member}
-use Rattle.st_datafiles.specs.declared.chunk_rule.ChunkRule.{ChunkRule}
-use Rattle.st_datafiles.specs.declared.chunk_rule.ChunkRule.TheVariants.{K1, K2, K3, K4}
-use Rattle.st_params.specs.Limits.{Limits}
+use Rattle.st_datafiles.specs.declared.chunk.ChunkRule.{ChunkRule}
+use Rattle.st_datafiles.specs.declared.chunk.ChunkRule.TheVariants.{K1, K2, K3, K4}
+use Rattle.st_params.specs.ParamsValue.{ParamsValue}
 
 -- the content of a chunk file's JSON: the deltas, which are any values
 unfoldable pub deltas_of : Option Plain → List Plain
@@ -32,7 +31,7 @@ chunk_json_rules wanted chunk =
     ∷ []
 
 -- all rules, if creates, recovers and updates together are this many
-abbrev pub chunk_rules : Limits → ℕ → List ℕ → Table ChunkRule
+abbrev pub chunk_rules : ParamsValue → ℕ → List ℕ → Table ChunkRule
 chunk_rules limits wanted file =
     (K1, nat_lt limits.max_chunk (length file))
     ∷ (K2, is_none (json_in file))
@@ -46,5 +45,5 @@ chunk_rule_name K3 = codes "K3"
 chunk_rule_name K4 = codes "K4"
 
 -- the first rule that a chunk file fails
-abbrev pub first_failing_chunk_rule : Limits → ℕ → List ℕ → Option ChunkRule
+abbrev pub first_failing_chunk_rule : ParamsValue → ℕ → List ℕ → Option ChunkRule
 first_failing_chunk_rule limits wanted file = first_failing (chunk_rules limits wanted file)

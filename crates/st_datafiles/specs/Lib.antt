@@ -1,3 +1,2 @@
 pub mod Chunk
 pub mod ProofFiles
-pub mod ProofRules

@@ -3,21 +3,14 @@
 //! of an entry's files.
 #![tactic(auto)]
 
-mod chunk_reading;
-mod chunk_rule;
-mod chunk_writing;
-mod core_proofs;
-mod place;
-mod proof_reading;
-mod proof_rule;
-mod proof_writing;
+mod chunk;
+mod guess;
+mod proof_files;
 mod role;
 
-pub use chunk_reading::read_chunk;
-pub use chunk_rule::{ChunkRefused, ChunkRule};
-pub use chunk_writing::write_chunk;
-pub use core_proofs::CoreProofs;
-pub use proof_reading::{read_core_proof, read_provisional_proof};
-pub use proof_rule::{ProofRefused, ProofRule};
-pub use proof_writing::{write_core_proof, write_provisional_proof};
+pub use chunk::{ChunkRefused, ChunkRule, read_chunk, write_chunk};
+pub use proof_files::{
+    CoreProofs, ProofRefused, ProofRule, read_core_proof, read_provisional_proof, write_core_proof,
+    write_provisional_proof,
+};
 pub use role::Role;

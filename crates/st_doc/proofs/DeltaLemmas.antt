@@ -1,22 +1,77 @@
--- Properties of deltas, and of values that are too long: for the crates above.
-use Rattle.std.proofs.Common.{◌≡◌, ℕ, ◌<◌, ◌≤◌, Bool, true, false, nat_le, List, codes, Option, Some, None, Result, Ok, Err, refl, arith}
-use Rattle.std.specs.Prelude.{is_some, ok_or}
-use Rattle.std.specs.Result.{result_ok}
+-- The entries of a list, and of another value.
+use Rattle.std.proofs.Common.{◌≡◌, true, false, Option, Some, None, option_map, unwrap_or, [], refl, ℕ, ◌+◌, ◌-◌, ◌<◌, ◌≤◌, ◌^◌, max, Bool, nat_le, ◌∷◌, ◌++◌, length, arith, length-append, List, codes, Result, Ok, Err}
 use Rattle.std.proofs.lemmas.Bool.Decides.{nat_tests}
+use Rattle.std.specs.Prelude.{is_some, ◌&&◌, ok_or}
+use Rattle.std.specs.Result.{result_ok}
 use Rattle.st_base.specs.Answers.{◌>>=◌, ◌>>◌, holds_or}
-use Rattle.st_plain.specs.Depth.{depth_of}
-use Rattle.st_plain.specs.Entries.{list_in}
-use Rattle.st_plain.specs.Measure.{size_of}
-use Rattle.st_plain.specs.Plain.{Plain}
-use Rattle.st_plain.specs.Shapes.{both_members}
+use Rattle.st_plain.specs.Plain.{canonical, canonical_items, canonical_members, comma, quoted, Plain, Items, null, boolean, whole, text, list, object, no_items, item, Members, no_members, member}
+use Rattle.st_plain.specs.Measures.{depth_of, items_depth, members_depth, fits, size_of}
+use Rattle.st_plain.specs.Objects.{entries, items_in, list_in}
+use Rattle.st_plain.specs.Shapes.{entries_in, both_members}
 use Rattle.st_hash.specs.Hash.{HashValue}
-use Rattle.st_params.specs.Limits.{Limits}
+use Rattle.st_params.specs.ParamsValue.{ParamsValue}
 use Rattle.st_doc.specs.Delta.{delta_of, hash_in, outer_of}
-use Rattle.st_doc.specs.declared.refused.DeltaRefused.{DeltaRefused}
-use Rattle.st_doc.specs.declared.refused.DeltaRefused.TheVariants.{BadDelta, TooLong}
+use Rattle.st_doc.specs.declared.delta.DeltaRefused.{DeltaRefused}
+use Rattle.st_doc.specs.declared.delta.DeltaRefused.TheVariants.{BadDelta, TooLong}
+
+some_items : (there : Option Items) → is_some there ≡ true → Some (unwrap_or (option_map entries there) []) ≡ option_map entries there
+some_items (Some items) is = refl
+some_items None is = absurd cc
+
+not_there : (there : Option Items) → is_some there ≡ false → None ≡ option_map entries there
+not_there (Some items) is = absurd cc
+not_there None is = refl
+
+pub listed : (p : Plain) → is_some (items_in p) ≡ true → Some (entries_in (Some p)) ≡ list_in p
+listed p is = some_items (items_in p) is
+
+pub not_listed : (p : Plain) → is_some (items_in p) ≡ false → None ≡ list_in p
+not_listed p is = not_there (items_in p) is
+
+-- ---- The depth of a value is at most the length of its canonical text, or 1 for a scalar.
+
+mutual
+  shallow : (p : Plain) → depth_of p ≤ max 1 (length (canonical p))
+  shallow null = omega arith
+  shallow (boolean b) = omega arith
+  shallow (whole z) = omega arith
+  shallow (text t) = omega arith
+  shallow (list ps) =
+      omega (arith, shallow_items false ps, length-append (canonical_items false ps) (93 ∷ []))
+  shallow (object ms) =
+      omega (arith, shallow_members false ms, length-append (canonical_members false ms) (125 ∷ []))
+
+  shallow_items : (b : Bool) (ps : Items) → items_depth ps ≤ length (canonical_items b ps) + 1
+  shallow_items b no_items = omega arith
+  shallow_items b (item p ps) =
+      let rest = canonical_items true ps in
+      omega (arith, shallow p, shallow_items true ps, length-append (comma b) (canonical p ++ rest), length-append (canonical p) rest)
+
+  shallow_members : (b : Bool) (ms : Members) → members_depth ms ≤ length (canonical_members b ms) + 1
+  shallow_members b no_members = omega arith
+  shallow_members b (member name p ms) =
+      let rest = canonical_members true ms in
+      omega (
+        arith,
+        shallow p,
+        shallow_members true ms,
+        length-append (comma b) (quoted name ++ (58 ∷ (canonical p ++ rest))),
+        length-append (quoted name) (58 ∷ (canonical p ++ rest)),
+        length-append (canonical p) rest,
+      )
+
+bounded : (depth size most : ℕ) → depth ≤ max 1 size → most < 2 ^ 64
+    → nat_le depth (2 ^ 64 - 1) && nat_le size most ≡ nat_le size most
+bounded depth size most shallow fits = grind (arith, nat_tests)
+
+-- if the bound on the size fits in 64 bits, it implies a bound on the depth
+pub fits_by_size : (p : Plain) (most : ℕ) → most < 2 ^ 64 → fits (2 ^ 64 - 1) most p ≡ nat_le (size_of p) most
+fits_by_size p most held = bounded (depth_of p) (length (canonical p)) most (shallow p) held
+
+-- ---- Properties of deltas, and of values that are too long: for the crates above.
 
 -- a value that is a delta
-abbrev pub IsDelta : Limits → Plain → Type 0
+abbrev pub IsDelta : ParamsValue → Plain → Type 0
 IsDelta limits delta = is_some (result_ok (delta_of limits delta)) ≡ true
 
 -- if the steps after a test give a value, the test holds and they give it without the test
@@ -48,13 +103,13 @@ behind_depth both update = ok_or (list_in both.0) BadDelta >>= (λ values. Ok (v
 abbrev behind_commitment : Plain → Plain × Plain → HashValue → Outer
 behind_commitment delta both update = holds_or (nat_le (depth_of delta) 64) BadDelta >> behind_depth both update
 
-abbrev behind_form : Limits → Plain → Plain × Plain → Outer
+abbrev behind_form : ParamsValue → Plain → Plain × Plain → Outer
 behind_form limits delta both = ok_or (hash_in limits.version both.1) BadDelta >>= behind_commitment delta both
 
 abbrev both_of : Plain → Option (Plain × Plain)
 both_of delta = both_members (codes "patches") (codes "updateCommitment") (Some delta)
 
-abbrev behind_size : Limits → Plain → Outer
+abbrev behind_size : ParamsValue → Plain → Outer
 behind_size limits delta = ok_or (both_of delta) BadDelta >>= behind_form limits delta
 
 -- ---- properties of a delta
@@ -69,17 +124,17 @@ first_gave : {A B : Type 0} (first : Result A DeltaRefused) (next : A → Result
 first_gave (Ok a) next some = refl
 first_gave (Err refusal) next some = absurd cc
 
-sized : (limits : Limits) (delta : Plain) → IsDelta limits delta
+sized : (limits : ParamsValue) (delta : Plain) → IsDelta limits delta
     → (nat_le (size_of delta) limits.max_delta ≡ true) × (is_some (result_ok (behind_size limits delta)) ≡ true)
 unfolding delta_of outer_of
 sized limits delta is = passed (nat_le (size_of delta) limits.max_delta) TooLong (behind_size limits delta) (first_gave _ _ is)
 
 -- its canonical text has at most this many bytes
-pub delta_size : (limits : Limits) (delta : Plain) → IsDelta limits delta → size_of delta ≤ limits.max_delta
+pub delta_size : (limits : ParamsValue) (delta : Plain) → IsDelta limits delta → size_of delta ≤ limits.max_delta
 delta_size limits delta is = within (size_of delta) limits.max_delta (sized limits delta is).0
 
 -- it nests at most 64 deep
-pub delta_depth : (limits : Limits) (delta : Plain) → IsDelta limits delta → depth_of delta ≤ 64
+pub delta_depth : (limits : ParamsValue) (delta : Plain) → IsDelta limits delta → depth_of delta ≤ 64
 delta_depth limits delta is =
     behind (both_of delta) BadDelta (behind_form limits delta)
     (λ both formed. behind (hash_in limits.version both.1) BadDelta (behind_commitment delta both)
@@ -88,12 +143,12 @@ delta_depth limits delta is =
     (sized limits delta is).1
 
 -- a longer value is refused
-pub long_refused : (limits : Limits) (delta : Plain) → limits.max_delta < size_of delta → delta_of limits delta ≡ Err TooLong
+pub long_refused : (limits : ParamsValue) (delta : Plain) → limits.max_delta < size_of delta → delta_of limits delta ≡ Err TooLong
 unfolding delta_of outer_of
 long_refused limits delta more = rw (beyond (size_of delta) limits.max_delta more) refl
 
 -- a value that is short enough but nests deeper is refused
-pub deep_refused : (limits : Limits) (delta : Plain) → nat_le (size_of delta) limits.max_delta ≡ true
+pub deep_refused : (limits : ParamsValue) (delta : Plain) → nat_le (size_of delta) limits.max_delta ≡ true
     → nat_le (depth_of delta) 64 ≡ false → delta_of limits delta ≡ Err BadDelta
 unfolding delta_of outer_of
 deep_refused limits delta short deep = rw (short, deep) (behind_refused _ _ _ (formed (both_of delta)))

@@ -1,8 +1,3 @@
 pub mod DeltaLemmas
-pub mod DepthLemmas
-pub mod EffectLemmas
-pub mod PatchLists
-pub mod ScannedLemmas
-pub mod StepLists
+pub mod PatchLemmas
 pub mod TakenLemmas
-pub mod TwiceLemmas

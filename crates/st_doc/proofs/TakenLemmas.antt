@@ -1,16 +1,13 @@
 -- A document's JSON converts back to the document.
 use Rattle.std.proofs.Common.{◌≡◌, ℕ, Bool, true, false, List, [], ◌∷◌, map, Option, Some, None, if◌then◌else◌, refl, ap, sym, ◌∙◌}
 use Rattle.std.specs.Prelude.{codes, ◌&&◌}
-use Rattle.st_plain.specs.Measure.{fits}
-use Rattle.st_plain.specs.Objects.{some_list}
+use Rattle.st_plain.specs.Measures.{fits}
+use Rattle.st_plain.specs.Objects.{some_list, items_of}
 use Rattle.st_plain.specs.Plain.{Plain, text, list}
 use Rattle.st_plain.specs.Shapes.{entries_in}
-use Rattle.st_plain.specs.Entries.{items_of}
-use Rattle.st_plain.proofs.ItemLemmas.{entries-items_of}
-use Rattle.st_plain.proofs.ObjectLemmas.{entries_in-some_list, member_at-some_listed}
-use Rattle.st_params.specs.Limits.{Limits}
-use Rattle.st_doc.specs.Document.{PlainDocument, document_in, document_json, if_document, is_document, keeps_rules}
-use Rattle.st_doc.specs.Entries.{texts_of}
+use Rattle.st_plain.proofs.ListedLemmas.{entries-items_of, entries_in-some_list, member_at-some_listed}
+use Rattle.st_params.specs.ParamsValue.{ParamsValue}
+use Rattle.st_doc.specs.Document.{PlainDocument, document_in, document_json, if_document, is_document, keeps_rules, texts_of}
 
 texts_of-text : (texts : List (List ℕ)) → texts_of (map text texts) ≡ texts
 texts_of-text [] = refl
@@ -44,7 +41,7 @@ swapped false true = refl
 swapped false false = refl
 
 -- the check of its JSON is the check of the document
-right_is : (limits : Limits) (document : PlainDocument) (json : Plain) → json ≡ document_json document
+right_is : (limits : ParamsValue) (document : PlainDocument) (json : Plain) → json ≡ document_json document
     → (fits limits.max_depth limits.max_document json && keeps_rules limits.version (document_in json)) ≡ is_document limits document
 right_is limits document json is =
     ap (λ j. fits limits.max_depth limits.max_document j && keeps_rules limits.version (document_in j)) is
@@ -60,7 +57,7 @@ none true document is = absurd cc
 none false document is = refl
 
 -- a document that passes, taken back out of its JSON, is unchanged
-pub taken_is : (limits : Limits) (document taken : PlainDocument) (json : Plain)
+pub taken_is : (limits : ParamsValue) (document taken : PlainDocument) (json : Plain)
     → (fits limits.max_depth limits.max_document json && keeps_rules limits.version (document_in json)) ≡ true
     → json ≡ document_json document → taken ≡ document_in json → Some taken ≡ if_document limits document
 taken_is limits document taken json right is from =
@@ -68,7 +65,7 @@ taken_is limits document taken json right is from =
     ∙ given (is_document limits document) document (sym (right_is limits document json is) ∙ right)
 
 -- a value that fails is not a document
-pub none_is : (limits : Limits) (document : PlainDocument) (json : Plain)
+pub none_is : (limits : ParamsValue) (document : PlainDocument) (json : Plain)
     → (fits limits.max_depth limits.max_document json && keeps_rules limits.version (document_in json)) ≡ false
     → json ≡ document_json document → None ≡ if_document limits document
 none_is limits document json wrong is = none (is_document limits document) document (sym (right_is limits document json is) ∙ wrong)

@@ -1,7 +1,7 @@
 -- Texts that all differ.
 use Rattle.std.specs.Prelude.{ℕ, Bool, not, bytes_eq, List}
 use Rattle.std.specs.List.{list_any}
-use Rattle.st_base.specs.Twice.{has_twice}
+use Rattle.st_base.specs.Lists.{has_twice}
 
 -- the text is one of these
 abbrev pub is_among : List (List ℕ) → List ℕ → Bool

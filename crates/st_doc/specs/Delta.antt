@@ -2,17 +2,16 @@
 -- the commitment to the next update.
 use Rattle.std.specs.Prelude.{ℕ, ◌+◌, nat_le, List, [], ◌∷◌, map, codes, Option, Some, None, ok_or, option_and_then, Result, Ok}
 use Rattle.st_base.specs.Answers.{◌>>=◌, ◌>>◌, holds_or}
-use Rattle.st_plain.specs.Depth.{depth_of}
-use Rattle.st_plain.specs.Entries.{list_in, text_in}
-use Rattle.st_plain.specs.Measure.{size_of}
+use Rattle.st_plain.specs.Measures.{depth_of, size_of}
+use Rattle.st_plain.specs.Objects.{list_in, text_in}
 use Rattle.st_plain.specs.Plain.{Plain}
 use Rattle.st_plain.specs.Shapes.{both_members}
 use Rattle.st_hash.specs.Hash.{HashValue, hash_of_text_at}
-use Rattle.st_params.specs.Limits.{Limits}
+use Rattle.st_params.specs.ParamsValue.{ParamsValue}
 use Rattle.st_doc.specs.Patch.{PlainPatch, patch_of, plain_patch}
 use Rattle.st_doc.specs.declared.delta.Delta.{Delta}
-use Rattle.st_doc.specs.declared.refused.DeltaRefused.{DeltaRefused}
-use Rattle.st_doc.specs.declared.refused.DeltaRefused.TheVariants.{TooLong, BadDelta, BadPatch, WantOfMemory}
+use Rattle.st_doc.specs.declared.delta.DeltaRefused.{DeltaRefused}
+use Rattle.st_doc.specs.declared.delta.DeltaRefused.TheVariants.{TooLong, BadDelta, BadPatch, WantOfMemory}
 
 -- a delta: patches, and the commitment to the key of the next update
 pub record PlainDelta : Type 0 where
@@ -28,7 +27,7 @@ abbrev pub hash_in : ℕ → Plain → Option HashValue
 hash_in version value = option_and_then (hash_of_text_at version) (text_in value)
 
 -- The patches of these values, or the number of the first that is not a patch; `i` is the number of the first value.
-abbrev pub patches_of : Limits → ℕ → List Plain → Result (List PlainPatch) DeltaRefused
+abbrev pub patches_of : ParamsValue → ℕ → List Plain → Result (List PlainPatch) DeltaRefused
 patches_of limits i [] = Ok []
 patches_of limits i (value ∷ values) = do
   patch ← ok_or (patch_of limits value) (BadPatch i)
@@ -38,7 +37,7 @@ patches_of limits i (value ∷ values) = do
 -- The values in `patches` and the update commitment of a value with the outer form of a delta. Else the reason: its
 -- canonical text is too long; or it is not an object of `patches`, a list, and `updateCommitment`, a hash text of the
 -- version, or nests more than 64 deep.
-unfoldable pub outer_of : Limits → Plain → Result (List Plain × HashValue) DeltaRefused
+unfoldable pub outer_of : ParamsValue → Plain → Result (List Plain × HashValue) DeltaRefused
 outer_of limits delta = do
   holds_or (nat_le (size_of delta) limits.max_delta) TooLong
   both ← ok_or (both_members (codes "patches") (codes "updateCommitment") (Some delta)) BadDelta
@@ -48,7 +47,7 @@ outer_of limits delta = do
   Ok (values, update)
 
 -- The delta of a value, or the first fault: its outer form, or a value that is not a patch.
-unfoldable pub delta_of : Limits → Plain → Result PlainDelta DeltaRefused
+unfoldable pub delta_of : ParamsValue → Plain → Result PlainDelta DeltaRefused
 delta_of limits delta = do
   outer ← outer_of limits delta
   patches ← patches_of limits 0 outer.0

@@ -1,23 +1,21 @@
 -- The patches of a delta, after DIF Sidetree v1.0.0, "Standard Patch Actions"; the rules, and the patches on
 -- names, are this project's own. Each is an object with exactly `action` and the member that this action needs.
-use Rattle.std.specs.Prelude.{ℕ, ◌&&◌, List, map, codes, if◌then◌else◌, bytes_eq, Option, Some, None, option_and_then}
 use Rattle.std.specs.List.{list_all}
+use Rattle.std.specs.Prelude.{ℕ, ◌&&◌, List, map, codes, if◌then◌else◌, bytes_eq, Option, Some, None, option_and_then, not, ◌++◌, filter, unwrap_or, find}
 use Rattle.std.specs.Result.{result_ok}
-use Rattle.st_base.specs.Each.{each_of}
+use Rattle.st_base.specs.Lists.{each_of}
 use Rattle.st_base.specs.Options.{◌>>=◌, ◌>>◌}
-use Rattle.st_plain.specs.Entries.{list_in, text_in}
+use Rattle.st_plain.specs.Objects.{list_in, text_in}
 use Rattle.st_plain.specs.Plain.{Plain}
 use Rattle.st_plain.specs.Shapes.{both_members, text_at}
 use Rattle.st_canon.specs.View.{plain}
+use Rattle.st_params.specs.ParamsValue.{ParamsValue}
+use Rattle.st_jsonpatch.specs.AllStepped.{all_stepped}
 use Rattle.st_jsonpatch.specs.Step.{PlainStep, plain_step, step_of}
-use Rattle.st_params.specs.Limits.{Limits}
-use Rattle.st_doc.specs.Alike.{none_twice}
-use Rattle.st_doc.specs.Document.{PlainDocument, document_of, may_have_names, plain_document}
-use Rattle.st_doc.specs.Entries.{id_of, is_id, is_key, is_name, is_service}
+use Rattle.st_doc.specs.Alike.{none_twice, is_among}
+use Rattle.st_doc.specs.Document.{PlainDocument, document_of, may_have_names, plain_document, document_json, if_document, id_of, is_id, is_key, is_name, is_service}
 use Rattle.st_doc.specs.declared.action.Action.{Action}
 use Rattle.st_doc.specs.declared.action.Action.TheVariants as action
-use Rattle.st_doc.specs.declared.patch.Found.{Found}
-use Rattle.st_doc.specs.declared.patch.Found.TheVariants.{Keys, Services, Whole}
 use Rattle.st_doc.specs.declared.patch.Patch.{Patch}
 use Rattle.st_doc.specs.declared.patch.Patch.TheVariants.{AddKeys, RemoveKeys, AddServices, RemoveServices, Replace, Steps, AddNames, RemoveNames}
 
@@ -42,12 +40,6 @@ plain_patch (Replace document) = replace (plain_document document)
 plain_patch (Steps list) = steps (map plain_step list)
 plain_patch (AddNames names) = add_names names
 plain_patch (RemoveNames names) = remove_names names
-
--- the same for a patch that was read
-abbrev pub found_patch : Found → PlainPatch
-found_patch (Keys keys) = add_keys keys
-found_patch (Services services) = add_services services
-found_patch (Whole patch) = plain_patch patch
 
 -- ---- the contents of a patch
 
@@ -108,7 +100,7 @@ remove_services_of patch = do
   Some (remove_services ids)
 
 -- `replace`: a whole document
-abbrev pub replace_of : Limits → Plain → Option PlainPatch
+abbrev pub replace_of : ParamsValue → Plain → Option PlainPatch
 replace_of limits patch = do
   value ← beside_action (codes "document") patch
   document ← result_ok (document_of limits value)
@@ -154,7 +146,7 @@ abbrev pub action_of : ℕ → Plain → Option Action
 action_of version value = option_and_then (action_named version) (text_at (codes "action") (Some value))
 
 -- the patch of a value with this action
-abbrev pub patch_by : Limits → Action → Plain → Option PlainPatch
+abbrev pub patch_by : ParamsValue → Action → Plain → Option PlainPatch
 patch_by limits action.AddKeys patch = add_keys_of patch
 patch_by limits action.RemoveKeys patch = remove_keys_of patch
 patch_by limits action.AddServices patch = add_services_of patch
@@ -165,7 +157,54 @@ patch_by limits action.AddNames patch = add_names_of patch
 patch_by limits action.RemoveNames patch = remove_names_of patch
 
 -- The patch of a value.
-unfoldable pub patch_of : Limits → Plain → Option PlainPatch
+unfoldable pub patch_of : ParamsValue → Plain → Option PlainPatch
 patch_of limits value = do
   action ← action_of limits.version value
   patch_by limits action value
+
+-- ---- A document's lists after adding and removing.
+
+-- the entry of this id
+abbrev pub entry_of : List ℕ → List Plain → Option Plain
+entry_of id entries = find (λ entry. bytes_eq (id_of entry) id) entries
+
+-- each new entry replaces the entry of its id in its place, or is appended
+unfoldable pub added : List Plain → List Plain → List Plain
+added new entries =
+    map (λ entry. unwrap_or (entry_of (id_of entry) new) entry) entries
+    ++ filter (λ entry. not (is_among (map id_of entries) (id_of entry))) new
+
+-- each entry with one of the ids is removed
+unfoldable pub removed : List (List ℕ) → List Plain → List Plain
+removed ids entries = filter (λ entry. not (is_among ids (id_of entry))) entries
+
+-- each name that is not there is appended; one that is there keeps its place
+unfoldable pub added_names : List (List ℕ) → List (List ℕ) → List (List ℕ)
+added_names new names = names ++ filter (λ name. not (is_among names name)) new
+
+-- each of these names is removed
+unfoldable pub removed_names : List (List ℕ) → List (List ℕ) → List (List ℕ)
+removed_names gone names = filter (λ name. not (is_among gone name)) names
+
+-- ---- The document after one patch.
+
+-- the steps applied to the document's JSON, if none fails and the result is a document
+abbrev pub after_steps : ParamsValue → List PlainStep → PlainDocument → Option PlainDocument
+after_steps limits list document = do
+  value ← result_ok (all_stepped limits.max_depth limits.max_document 0 list (document_json document))
+  result_ok (document_of limits value)
+
+-- The document after a patch, if the patch does not fail.
+abbrev pub after_patch : ParamsValue → PlainPatch → PlainDocument → Option PlainDocument
+after_patch limits (add_keys keys) document = if_document limits (record document { keys = added keys document.keys })
+after_patch limits (remove_keys ids) document = if_document limits (record document { keys = removed ids document.keys })
+after_patch limits (add_services services) document =
+    if_document limits (record document { services = added services document.services })
+after_patch limits (remove_services ids) document =
+    if_document limits (record document { services = removed ids document.services })
+after_patch limits (replace new) document = if_document limits new
+after_patch limits (steps list) document = after_steps limits list document
+after_patch limits (add_names names) document =
+    if_document limits (record document { names = added_names names document.names })
+after_patch limits (remove_names names) document =
+    if_document limits (record document { names = removed_names names document.names })

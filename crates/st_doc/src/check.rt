@@ -1,15 +1,13 @@
 ghost use Rattle.std.specs.Prelude.{◌≡◌, ◌&&◌, option_map, IfOk};
 ghost use Rattle.std.specs.List.{list_all};
-ghost use Rattle.st_plain.specs.Measure.{fits};
+ghost use Rattle.st_plain.specs.Measures.{fits};
 ghost use Rattle.st_canon.specs.View.{plain};
-ghost use Rattle.st_doc.specs.Document.{document_in, if_document, keeps_rules, may_have_names, plain_document};
-ghost use Rattle.st_doc.specs.Entries.{is_name};
+ghost use Rattle.st_doc.specs.Document.{document_in, if_document, keeps_rules, may_have_names, plain_document, is_name};
 
 use crate::document::Document;
-use crate::forms::is_name;
+use crate::forms::{is_name, text_of, texts_in};
 use crate::ids::{ids_stand_once, texts_stand_once};
 use crate::key::are_keys;
-use crate::scanned::{text_of, texts_in};
 use crate::service::are_services;
 use st_base::{Text, WantOfMemory};
 use st_canon::{Json, fits};

@@ -2,8 +2,8 @@ ghost use Rattle.std.specs.Prelude.{◌≡◌, map, filter, not, option_map, unw
 ghost use Rattle.std.specs.Option.{option_copied};
 ghost use Rattle.st_canon.specs.View.{plain};
 ghost use Rattle.st_doc.specs.Alike.{is_among};
-ghost use Rattle.st_doc.specs.Effects.{added, added_names, entry_of, removed, removed_names};
-ghost use Rattle.st_doc.specs.Entries.{id_of};
+ghost use Rattle.st_doc.specs.Patch.{added, added_names, entry_of, removed, removed_names};
+ghost use Rattle.st_doc.specs.Document.{id_of};
 
 use crate::ids::{has_id, id_of, is_among};
 use st_base::{Copied, List, Text, WantOfMemory};
@@ -26,7 +26,7 @@ pub(crate) fn add_entries(
 }
 
 // The same, with copies of the new entries.
-#[tactic(auto, unfolding(crate::specs::Effects::added))]
+#[tactic(auto, unfolding(crate::specs::Patch::added))]
 fn add_copies(alloc: Global, entries: List<Json>, new: &[Json]) -> Result<List<Json>, WantOfMemory>
     ensures { IfOk result (λ all. map plain all ≡ added (map plain new.now) (map plain entries)) }
 {
@@ -63,7 +63,8 @@ fn replace_entries(alloc: Global, entries: &mut [Json], new: &[Json]) -> Result<
 }
 
 fn replace_entry(alloc: Global, entry: &mut Json, new: &[Json]) -> Result<(), WantOfMemory>
-    ensures { OnOk result (plain entry.new ≡ unwrap_or (entry_of (id_of (plain entry.old)) (map plain new.now)) (plain entry.old)) }
+    ensures { OnOk result (plain entry.new ≡ unwrap_or
+        (entry_of (id_of (plain entry.old)) (map plain new.now)) (plain entry.old)) }
 {
     let replacement = match entry_of(new, id_of(entry)) {
         Some(replacement) => replacement.copy(alloc)?,
@@ -85,7 +86,7 @@ fn entry_of<'a>(entries: &'a [Json], id: &str) -> Option<&'a Json>
 }
 
 /// Removes each entry with one of the ids.
-#[tactic(auto, unfolding(crate::specs::Effects::removed))]
+#[tactic(auto, unfolding(crate::specs::Patch::removed))]
 pub(crate) fn remove_entries(entries: List<Json>, ids: &[Text]) -> List<Json>
     ensures { map plain result ≡ removed ids.now (map plain entries) }
 {
@@ -101,7 +102,7 @@ fn keep_others(entries: &mut Vec<Json>, ids: &[Text])
 }
 
 /// Appends each name that is not there yet.
-#[tactic(auto, unfolding(crate::specs::Effects::added_names))]
+#[tactic(auto, unfolding(crate::specs::Patch::added_names))]
 pub(crate) fn add_names(
     alloc: Global,
     names: List<Text>,
@@ -129,7 +130,7 @@ fn other_names(alloc: Global, names: &[Text], new: &[Text]) -> Result<Vec<Text>,
 }
 
 /// Removes each of these names.
-#[tactic(auto, unfolding(crate::specs::Effects::removed_names))]
+#[tactic(auto, unfolding(crate::specs::Patch::removed_names))]
 pub(crate) fn remove_names(names: List<Text>, gone: &[Text]) -> List<Text>
     ensures { result ≡ removed_names gone.now names }
 {

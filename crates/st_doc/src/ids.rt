@@ -2,7 +2,7 @@ ghost use Rattle.std.specs.Prelude.{◌≡◌, ◌+◌, ◌<◌, drop, length, m
 ghost use Rattle.std.specs.BTreeSet.{IsFromIterResult};
 ghost use Rattle.st_canon.specs.View.{plain};
 ghost use Rattle.st_doc.specs.Alike.{is_among, none_twice};
-ghost use Rattle.st_doc.specs.Entries.{id_of};
+ghost use Rattle.st_doc.specs.Document.{id_of};
 
 use st_base::{List, Text, WantOfMemory};
 use st_canon::Json;

@@ -1,17 +1,18 @@
 ghost use Rattle.std.specs.Prelude.{◌≡◌, true, codes, is_some, IfOk, IfSome, Some};
 ghost use Rattle.std.specs.List.{list_all};
 ghost use Rattle.st_plain.specs.Shapes.{is_object_of, member_in};
-ghost use Rattle.st_doc.specs.Entries.{are_purposes, are_purposes_if_there, is_key, is_purpose, key_names};
+ghost use Rattle.st_doc.specs.Document.{are_purposes, are_purposes_if_there, is_key, is_purpose, key_names};
 
-use crate::forms::{is_id_text, is_object, is_short_text, is_short_text_if_there};
+use crate::forms::{
+    is_id_text, is_object, is_short_text, is_short_text_if_there, list_in, texts_in,
+};
 use crate::ids::texts_stand_once;
-use crate::scanned::{list_in, texts_in};
 use st_base::WantOfMemory;
 use st_scan::{Entries, Scanned};
 use std::alloc::Global;
 
 /// Whether this is a key of a document.
-#[tactic(auto, unfolding(crate::specs::Entries::is_key))]
+#[tactic(auto, unfolding(crate::specs::Document::is_key))]
 fn is_key(alloc: Global, key: &Scanned<'_>) -> Result<bool, WantOfMemory>
     ensures { IfOk result (λ is. is ≡ is_key key.now) }
 {

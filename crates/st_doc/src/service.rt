@@ -1,7 +1,7 @@
 ghost use Rattle.std.specs.Prelude.{◌≡◌, true, codes, is_some, IfOk, IfSome, Some};
 ghost use Rattle.std.specs.List.{list_all};
 ghost use Rattle.st_plain.specs.Shapes.{is_object_of, member_in};
-ghost use Rattle.st_doc.specs.Entries.{is_endpoint, is_service, service_names};
+ghost use Rattle.st_doc.specs.Document.{is_endpoint, is_service, service_names};
 
 use crate::forms::{is_id_text, is_object, is_short_text};
 use st_base::WantOfMemory;
@@ -9,7 +9,7 @@ use st_scan::{Entries, Scanned};
 use std::alloc::Global;
 
 /// Whether this is a service of a document.
-#[tactic(auto, unfolding(crate::specs::Entries::is_service))]
+#[tactic(auto, unfolding(crate::specs::Document::is_service))]
 fn is_service(alloc: Global, service: &Scanned<'_>) -> Result<bool, WantOfMemory>
     ensures { IfOk result (λ is. is ≡ is_service service.now) }
 {

@@ -2,14 +2,15 @@
 use Rattle.std.proofs.Common.{◌≡◌, ◌∙◌, ◌⊎◌, inl, inr, ⊎_elim, ◌++◌, ◌+◌, ◌-◌, ◌≤◌, ◌<◌, ℕ, zero, suc, List, [], ◌∷◌, Option, Some, None, refl, ap, sym, subst, arith, append_assoc, append-nil, length, length-append}
 use Rattle.std.specs.Prelude.{Contains}
 use Rattle.std.proofs.lemmas.List.Elements.{Contains-append_left, Contains-append_right, Contains-append_cases}
-use Rattle.st_io.specs.Past.{Past, Images, Only, Leaves}
-use Rattle.st_io.specs.Spent.{KeepsSpent, SpentInAll}
-use Rattle.st_drive.specs.OnDisk.{Rules, replies, after, kept, AllHold, Went, GaveUp, HoldsEither, HoldsReplied, Store, RanOnDisk, GaveUpOnDisk, Opens, LeavesOnDisk, RunLeaves}
-use Rattle.st_drive.specs.Released.{Ascend, KeepsNumbers}
+use Rattle.st_io.specs.Past.{Past, Images, Only, Leaves, KeepsSpent, SpentInAll}
+use Rattle.st_drive.specs.OnDisk.{Rules, replies, after, kept, AllHold, Went, GaveUp, Store, RanOnDisk, GaveUpOnDisk}
+use Rattle.st_drive.specs.inside.OnDisk.{HoldsEither, HoldsReplied, Opens, LeavesOnDisk, RunLeaves, NumberLaws, NextLaws, HasSpent, GaveUpSpending}
+use Rattle.st_drive.specs.Tables.{KeepsNumbers}
+use Rattle.st_drive.specs.inside.Parts.{Ascend}
 use Rattle.st_drive.specs.Runs.{Begins, NearlyReplied}
-use Rattle.st_drive.specs.Spending.{Spender, listed, numbers, AllSpent, spending, released, NumberLaws, NextLaws, HasSpent, GaveUpSpending, StandsReplied, KeepsStanding, EndsOpened, EndsStanding, CostsOne, LosesOne, KeptNumbers, run_of}
+use Rattle.st_drive.specs.Spending.{Spender, listed, numbers, AllSpent, spending, released, StandsReplied, KeepsStanding, EndsOpened, EndsStanding, CostsOne, LosesOne, KeptNumbers, run_of}
 use Rattle.st_drive.proofs.OnDiskLemmas.{line_went, line_gave, run_opens}
-use Rattle.st_drive.proofs.ReleasedLemmas.{none_in, one_in, ascend_lower, at_least, none_twice}
+use Rattle.st_drive.proofs.RunLemmas.{none_in, one_in, ascend_lower, at_least, none_twice}
 
 at_or_above : (x q : ℕ) → (q ≤ x) ⊎ (suc x ≤ q)
 at_or_above x q = search arith

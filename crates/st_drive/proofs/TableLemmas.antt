@@ -9,16 +9,14 @@ use Rattle.std.proofs.KnownBytes.{Appends-nil, Consumes-nil}
 use Rattle.std.specs.Prelude.{true, OnOk, OnErr, IfErr}
 use Rattle.std.specs.declared.option.Option.{Option}
 use Rattle.std.specs.Io.KnownBytes.{Appends, Consumes, IsAtEnd}
-use Rattle.st_io.specs.Causes.{Rose}
-use Rattle.st_io.specs.Sinks.{FinishesNothing}
-use Rattle.st_drive.specs.declared.stop.Stop.{Stop}
-use Rattle.st_drive.specs.declared.stop.Stop.TheVariants.{ReadFault, WriteFault, DeviceFault, OverLimit, WantOfMemory}
-use Rattle.st_drive.specs.Lines.{all_lines}
-use Rattle.st_drive.specs.Runs.{Begins, CarriedOut, Course, EndsWithin, NearlyReplied}
-use Rattle.st_drive.specs.Stops.{IsRunStop}
-use Rattle.st_drive.specs.Streams.{GoesWell, Streams, Unread}
+use Rattle.st_io.specs.Past.{Rose, FinishesNothing}
+use Rattle.st_drive.specs.declared.machine.Stop.{Stop}
+use Rattle.st_drive.specs.declared.machine.Stop.TheVariants.{ReadFault, WriteFault, DeviceFault, OverLimit, WantOfMemory}
+use Rattle.st_drive.specs.Lines.{all_lines, GoesWell, Streams}
+use Rattle.st_drive.specs.Runs.{Begins, CarriedOut, Course, EndsWithin, NearlyReplied, IsRunStop}
+use Rattle.st_drive.specs.inside.Parts.{Unread}
 use Rattle.st_drive.specs.Tables.{Answered, AnsweredFirst, AnswersInput, AnswersLines, Ends, RunTable, SoFar, TakesBytes, is_end, status_of}
-use Rattle.st_drive.proofs.Ends.{if_some, if_some_map}
+use Rattle.st_drive.proofs.EndLemmas.{if_some, if_some_map}
 
 -- ---- a whole input
 

@@ -2,8 +2,8 @@
 -- one.
 use Rattle.std.proofs.Common.{◌≡◌, ◌∙◌, ◌⊎◌, inl, inr, ⊎_elim, ◌++◌, ◌<◌, ◌^◌, ℕ, List, [], ◌∷◌, refl, ap, sym, subst, arith, append_assoc, length, length-append, take}
 use Rattle.st_io.specs.Past.{Past, GoesOn}
-use Rattle.st_io.proofs.PastLemmas.{stands, goes_on}
-use Rattle.st_drive.specs.Meaning.{Laws}
+use Rattle.st_io.proofs.HistoryLemmas.{stands, goes_on}
+use Rattle.st_drive.specs.Lines.{Laws}
 use Rattle.st_drive.specs.Runs.{Begins}
 use Rattle.st_drive.specs.OnDisk.{Rules, replies, after, kept, AllHold, HoldsFirst, HoldsNearlyAll, Went, GaveUp, Store, RanOnDisk, GaveUpOnDisk, disk_meaning, RulesLaws}
 

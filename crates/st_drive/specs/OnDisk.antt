@@ -1,9 +1,9 @@
 -- Machines that work on a disk: the images that a stop may leave at each moment of a run, and those at the end. Such
 -- a machine is given only by its rules: a reply, a next machine and the state on the disk, for each line.
-use Rattle.std.specs.Prelude.{◌≡◌, ◌⊎◌, ◌+◌, ◌≤◌, ◌<◌, ◌^◌, ℕ, List, [], ◌∷◌, ◌++◌, length, take, IsSome, ⊤}
+use Rattle.std.specs.Prelude.{◌≡◌, ◌+◌, ◌≤◌, ◌<◌, ◌^◌, ℕ, List, [], ◌∷◌, ◌++◌, length, take, IsSome, ⊤, ◌⊎◌, Bool, Some, if◌then◌else◌}
 use Rattle.std.specs.declared.option.Option.{Option}
 use Rattle.st_io.specs.Past.{Past, Images, GoesOn, LeftSinceSync}
-use Rattle.st_drive.specs.Meaning.{Meaning}
+use Rattle.st_drive.specs.Lines.{Meaning}
 use Rattle.st_drive.specs.Runs.{Begins, NearlyReplied}
 
 -- The possible effects of a machine of type M on its context of type C, whatever its disk reveals, such as a bound on
@@ -79,10 +79,6 @@ pub record GaveUp {M C K : Type 0} (rules : Rules M C K)
   pub goes : GoesOn old new
   pub moments : (image : List ℕ) → new.left_since old.now image → HoldsFirst rules m k lines image
   pub now : (image : List ℕ) → Images new image → HoldsNearlyAll rules m k lines image
-
--- an image has the state before this line, or the one after it
-abbrev pub HoldsEither : {M C K : Type 0} → Rules M C K → M → K → List ℕ → List ℕ → Type 0
-HoldsEither rules m k line image = rules.holds k image ⊎ rules.holds (rules.keep m k line) image
 
 -- ---- its meaning for a run
 
@@ -166,37 +162,69 @@ HasReleased rules m lines written first =
     (before : List (List ℕ)) (line : List ℕ) (later : List (List ℕ)) → before ++ line ∷ later ≡ lines
     → Released rules m before written → Begins (before ++ line ∷ []) first
 
--- An image has the state after a prefix of the lines. That has each line with a written byte of its reply, and the
--- replies to all of it are written, or to all except the last line: a stop loses at most one reply.
-pub record HoldsReplied {M C K : Type 0} (rules : Rules M C K)
-    (m : M) (k : K) (lines : List (List ℕ)) (written image : List ℕ) : Type 0 where
-  pub first : List (List ℕ)
-  pub begins : Begins first lines
-  pub released : HasReleased rules m lines written first
-  pub replied : NearlyReplied (replies rules m) written first
-  pub holds : rules.holds (kept rules m k first) image
+-- ---- Machines that record on their disk each line that changes them, before they reply to it, for example in a journal.
 
--- The images of the disk of a run over lines, whatever ended it, at each moment since its start and at the end.
-pub record LeavesOnDisk {M C K : Type 0} (rules : Rules M C K)
-    (m : M) (k : K) (lines : List (List ℕ)) (written : List ℕ) (old new : Past) : Type 0 where
-  pub goes : GoesOn old new
-  pub moments : (image : List ℕ) → new.left_since old.now image → HoldsFirst rules m k lines image
-  pub end : (image : List ℕ) → Images new image → HoldsReplied rules m k lines written image
+-- a machine of type M with a context of type C that records lines
+pub record Recorder (M C : Type 0) : Type 1 where
+  -- its reply to a line, and the machine after it
+  pub reply : M → List ℕ → List ℕ
+  pub next : M → List ℕ → M
+  -- a line changes the machine, and is recorded
+  pub changes : M → List ℕ → Bool
+  -- the records of an image, or none if it is damaged
+  pub records : List ℕ → Option (List (List ℕ))
+  -- the possible effects on its context
+  pub effect : Effect M C
 
--- Opening a disk with the state k: at each moment an image is one of the start or has the state k, and from the first
--- successful sync on each has it.
-pub record Opens {M C K : Type 0} (rules : Rules M C K) (k : K) (old new : Past) : Type 0 where
-  pub goes : GoesOn old new
-  pub moments : (image : List ℕ) → new.left_since old.now image → Images old image ⊎ rules.holds k image
-  pub synced : (image : List ℕ) → LeftSinceSync new old.now image → rules.holds k image
+-- this line, if it is recorded
+abbrev pub recorded : Bool → List ℕ → List (List ℕ)
+recorded changes line = if changes then line ∷ [] else []
 
--- The images of the disk of a run, from before it is opened, whatever ended the run.
-pub record RunLeaves {M C K : Type 0} (rules : Rules M C K)
-    (m : M) (k : K) (lines : List (List ℕ)) (written : List ℕ) (old new : Past) : Type 0 where
-  pub goes : GoesOn old new
-  -- at each moment an image is one of the start, or has the state after a prefix of the lines
-  pub moments : (image : List ℕ) → new.left_since old.now image → Images old image ⊎ HoldsFirst rules m k lines image
-  -- from the first successful sync on each has that
-  pub synced : (image : List ℕ) → LeftSinceSync new old.now image → HoldsFirst rules m k lines image
-  -- at the end too, with all lines with a written byte of their reply, and at most one more
-  pub end : (image : List ℕ) → Images new image → (Images old image × (written ≡ [])) ⊎ HoldsReplied rules m k lines written image
+-- its rules: its state is the lines that changed it
+abbrev pub recording : {M C : Type 0} → Recorder M C → Rules M C (List (List ℕ))
+recording recorder = record {
+  reply = recorder.reply;
+  next = recorder.next;
+  keep = λ m r line. r ++ recorded (recorder.changes m line) line;
+  holds = λ r image. recorder.records image ≡ Some r;
+  effect = recorder.effect;
+}
+
+-- those of these lines that change the machine, one after another
+abbrev pub changing : {M C : Type 0} → Recorder M C → M → List (List ℕ) → List (List ℕ)
+changing recorder m [] = []
+changing recorder m (line ∷ lines) =
+    recorded (recorder.changes m line) line ++ changing recorder (recorder.next m line) lines
+
+-- ---- a whole run
+
+-- the records of an image are r, and then the changing lines of a prefix of these lines
+abbrev pub HasPrefix : {M C : Type 0} → Recorder M C → M → (r lines : List (List ℕ)) → (image : List ℕ) → Type 0
+HasPrefix recorder m r lines image =
+    (prefix : List (List ℕ)) × Begins prefix lines × (recorder.records image ≡ Some (r ++ changing recorder m prefix))
+
+-- The same for a prefix that has each line with a written byte of its reply. All replies to the prefix are written,
+-- or all except the last: a stop leaves at most one record without its reply.
+pub record HasRepliedPrefix {M C : Type 0} (recorder : Recorder M C)
+    (m : M) (r lines : List (List ℕ)) (written image : List ℕ) : Type 0 where
+  pub prefix : List (List ℕ)
+  pub begins : Begins prefix lines
+  pub released : HasReleased (recording recorder) m lines written prefix
+  pub replied : NearlyReplied (replies (recording recorder) m) written prefix
+  pub records_are : recorder.records image ≡ Some (r ++ changing recorder m prefix)
+
+-- The images of the disk of a run of such a machine at each moment, which starts as m with the records r.
+pub record KeepsPrefixes {M C : Type 0} (recorder : Recorder M C) (m : M) (r lines : List (List ℕ)) (old new : Past) : Type 0 where
+  -- at each moment an image is one of the start, or has the records of a prefix
+  pub moments : (image : List ℕ) → new.left_since old.now image → Images old image ⊎ HasPrefix recorder m r lines image
+  -- from the first successful sync on each has the records of a prefix
+  pub synced : (image : List ℕ) → LeftSinceSync new old.now image → HasPrefix recorder m r lines image
+
+-- The images at the end: each is one of the start, if nothing was written, or has the records of such a prefix.
+abbrev pub KeepsRecords : {M C : Type 0} → Recorder M C → (m : M) (r lines : List (List ℕ)) (written : List ℕ) (old new : Past) → Type 0
+KeepsRecords recorder m r lines written old new =
+    (image : List ℕ) → Images new image → (Images old image × (written ≡ [])) ⊎ HasRepliedPrefix recorder m r lines written image
+
+-- Those of a run that opened its disk: each has the records of such a prefix.
+abbrev pub EndsReplied : {M C : Type 0} → Recorder M C → (m : M) (r lines : List (List ℕ)) (written : List ℕ) (new : Past) → Type 0
+EndsReplied recorder m r lines written new = (image : List ℕ) → Images new image → HasRepliedPrefix recorder m r lines written image

@@ -1,11 +1,10 @@
 -- Machines that spend a number on their disk before they release it with a reply, such as counters: which numbers a
 -- run has released, and that these are spent.
-use Rattle.std.specs.Prelude.{◌≡◌, ◌⊎◌, ◌+◌, ◌-◌, ◌≤◌, ◌<◌, ℕ, zero, suc, List, [], ◌∷◌, ◌++◌, length, Contains, Option, Some, None}
+use Rattle.std.specs.Prelude.{◌≡◌, ◌⊎◌, ◌+◌, ◌-◌, ◌<◌, ℕ, zero, suc, List, [], ◌∷◌, ◌++◌, length, Contains, Option, Some, None}
 use Rattle.std.proofs.Common.{inl, inr}
-use Rattle.st_io.specs.Past.{Past, Images, LeftSinceSync, Leaves}
-use Rattle.st_io.specs.Spent.{KeepsSpent, SpentInAll}
-use Rattle.st_drive.specs.OnDisk.{Effect, Rules, HasReleased, Store, IsTold, after, replies}
-use Rattle.st_drive.specs.Released.{NoneTwice, Run}
+use Rattle.st_io.specs.Past.{Past, Images, LeftSinceSync, SpentInAll}
+use Rattle.st_drive.specs.OnDisk.{Effect, Rules, HasReleased, after, replies}
+use Rattle.st_drive.specs.Tables.{NoneTwice, Run}
 use Rattle.st_drive.specs.Runs.{Begins, NearlyReplied}
 
 -- a machine of type M with a context of type C that spends numbers
@@ -30,10 +29,6 @@ listed (Some q) = q ∷ []
 -- all these numbers are spent in an image
 abbrev pub AllSpent : (spent : List ℕ → ℕ → Type 0) → List ℕ → List ℕ → Type 0
 AllSpent spent numbers image = (q : ℕ) → Contains numbers q → spent image q
-
--- each present image is that of this machine
-abbrev pub AllStand : {M C : Type 0} → Spender M C → M → Past → Type 0
-AllStand spender m past = (image : List ℕ) → Images past image → spender.stands m image
 
 -- the state after a line: the numbers so far and that of its reply, or the next machine
 abbrev pub kept_with : {M C : Type 0} → Spender M C → M → (List ℕ ⊎ M) → List ℕ → (List ℕ ⊎ M)
@@ -67,49 +62,6 @@ released spender m (line ∷ lines) zero = []
 released spender m (line ∷ lines) (suc n) =
     listed (spender.number m line)
     ++ released spender (spender.next m line) lines (suc n - length (spender.reply m line))
-
--- the laws of numbers: each is at least the machine's lowest, which is above it afterwards and never falls
-pub record NumberLaws {M C : Type 0} (spender : Spender M C) (lowest : M → ℕ) : Type 0 where
-  pub rises : (m : M) (line : List ℕ) → lowest m ≤ lowest (spender.next m line)
-  pub given : (m : M) (line : List ℕ) (q : ℕ) → spender.number m line ≡ Some q
-      → (lowest m ≤ q) × (q < lowest (spender.next m line))
-
--- The laws of numbers that are used one after another: a number is the machine's lowest, which then rises by one and
--- else stays; its reply has a byte; and all numbers spent in a machine's image are below the lowest.
-pub record NextLaws {M C : Type 0} (spender : Spender M C) (lowest : M → ℕ) : Type 0 where
-  pub stays : (m : M) (line : List ℕ) → spender.number m line ≡ None → lowest (spender.next m line) ≡ lowest m
-  pub given : (m : M) (line : List ℕ) (q : ℕ) → spender.number m line ≡ Some q
-      → (q ≡ lowest m) × (lowest (spender.next m line) ≡ q + 1) × (0 < length (spender.reply m line))
-  pub below : (m : M) (image : List ℕ) (q : ℕ) → spender.stands m image → spender.spent image q → q < lowest m
-
--- ---- one step
-
--- an image is that of the machine before, or of the next one
-abbrev pub StandsForEither : {M C : Type 0} → Spender M C → (before next : M) → List ℕ → Type 0
-StandsForEither spender before next image = spender.stands before image ⊎ spender.stands next image
-
--- The machine has replied to a line. If the disk reveals its contents, it still does, the machine is the next one,
--- spent numbers stay so at each moment, and the number of the reply is spent in every image.
-pub record HasSpent {M C D : Type 0} (spender : Spender M C) (store : Store D)
-    (m : M) (c : C × D) (line : List ℕ) (n : M) (d : C × D) : Type 0 where
-  pub effect : spender.effect.ran m c.0 (line ∷ []) n d.0
-  pub told : IsTold store c.1 → IsTold store d.1
-  pub came : IsTold store c.1 → n ≡ spender.next m line
-  pub stays : IsTold store c.1 → KeepsSpent spender.spent (store.past c.1) (store.past d.1)
-  pub given : IsTold store c.1 → (q : ℕ) → spender.number m line ≡ Some q → SpentInAll spender.spent (store.past d.1) q
-  -- if each image was that of one machine, each since is that one's or the next one's, and now each is the next one's
-  pub moments : IsTold store c.1 → (before : M) → AllStand spender before (store.past c.1)
-      → Leaves (StandsForEither spender before (spender.next m line)) (store.past c.1) (store.past d.1)
-  pub now : IsTold store c.1 → (before : M) → AllStand spender before (store.past c.1)
-      → AllStand spender (spender.next m line) (store.past d.1)
-
--- it gave up at a line: spent numbers stay so, and each image is that of the machine before it or after it
-pub record GaveUpSpending {M C D : Type 0} (spender : Spender M C) (store : Store D)
-    (m : M) (c : C × D) (line : List ℕ) (d : C × D) : Type 0 where
-  pub effect : spender.effect.gave_up m c.0 (line ∷ []) d.0
-  pub stays : IsTold store c.1 → KeepsSpent spender.spent (store.past c.1) (store.past d.1)
-  pub moments : IsTold store c.1 → (before : M) → AllStand spender before (store.past c.1)
-      → Leaves (StandsForEither spender before (spender.next m line)) (store.past c.1) (store.past d.1)
 
 -- ---- a whole run
 

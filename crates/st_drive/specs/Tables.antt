@@ -1,14 +1,13 @@
 -- The end of a run over lines: the status, and by status the bytes taken from its source and written to its sink, and
 -- its effect on its context.
-use Rattle.std.specs.Prelude.{◌≡◌, ◌≢◌, ◌==◌, ◌||◌, ◌⊎◌, ⊤, Bool, true, ℕ, ◌+◌, ◌≤◌, List, [], ◌++◌, length, take, Result, Ok, Err, Some, IsTrue, IfSome}
-use Rattle.std.specs.declared.option.Option.{Option}
 use Rattle.std.specs.Io.KnownBytes.{Consumes, Appends, IsAtEnd}
-use Rattle.st_io.specs.Sinks.{FinishesNothing}
-use Rattle.st_drive.specs.declared.stop.Stop.{Stop}
-use Rattle.st_drive.specs.declared.stop.Stop.TheVariants.{ReadFault, WriteFault, DeviceFault, OverLimit, WantOfMemory}
-use Rattle.st_drive.specs.Lines.{all_lines, whole_lines}
+use Rattle.std.specs.Prelude.{◌≡◌, ◌≢◌, ◌==◌, ◌||◌, ◌⊎◌, ⊤, Bool, true, ℕ, ◌+◌, ◌≤◌, List, [], ◌++◌, length, take, Result, Ok, Err, Some, IsTrue, IfSome, ◌∷◌, Contains}
+use Rattle.std.specs.declared.option.Option.{Option}
+use Rattle.st_io.specs.Past.{FinishesNothing}
+use Rattle.st_drive.specs.Lines.{all_lines, whole_lines, GoesWell, Streams}
 use Rattle.st_drive.specs.Runs.{Begins, CarriedOut, Course, EndsWithin}
-use Rattle.st_drive.specs.Streams.{GoesWell, Streams}
+use Rattle.st_drive.specs.declared.machine.Stop.{Stop}
+use Rattle.st_drive.specs.declared.machine.Stop.TheVariants.{ReadFault, WriteFault, DeviceFault, OverLimit, WantOfMemory}
 
 -- ---- the status
 
@@ -120,3 +119,36 @@ pub record AnswersLines (course : Course) (limit : ℕ) (io : Streams) (disk_fai
   pub ends : Ends io disk_failed status
   -- 0 and 2 to 6 are the only statuses
   pub statuses : IsTrue (is_end status)
+
+-- ---- Numbers that runs release, such as counters: the properties of one run, and those of any list of runs and stops.
+
+-- none of these appears twice
+abbrev pub NoneTwice : List ℕ → Type 0
+NoneTwice [] = ⊤
+NoneTwice (q ∷ qs) = (Contains qs q → ⊥) × NoneTwice qs
+
+-- A run, by its numbers: the image that it started on, the numbers that it released, and an image that a stop at its
+-- end may leave.
+pub record Run : Type 0 where
+  pub image : List ℕ
+  pub released : List ℕ
+  pub left : List ℕ
+
+-- The properties of a run. `spent image q` says that a number is spent in an image.
+pub record KeepsNumbers (spent : List ℕ → ℕ → Type 0) (run : Run) : Type 0 where
+  -- no released number was spent at the start, and no two are equal
+  pub fresh : (q : ℕ) → Contains run.released q → spent run.image q → ⊥
+  pub once : NoneTwice run.released
+  -- each is spent at the end, and so are those spent at the start
+  pub durable : (q : ℕ) → Contains run.released q → spent run.left q
+  pub stays : (q : ℕ) → spent run.image q → spent run.left q
+
+-- each of these runs has these properties, and starts on the image that the previous one left
+abbrev pub AreChained : (spent : List ℕ → ℕ → Type 0) → (image : List ℕ) → List Run → Type 0
+AreChained spent image [] = ⊤
+AreChained spent image (run ∷ runs) = (run.image ≡ image) × KeepsNumbers spent run × AreChained spent run.left runs
+
+-- all numbers that these runs released
+abbrev pub all_released : List Run → List ℕ
+all_released [] = []
+all_released (run ∷ runs) = run.released ++ all_released runs

@@ -1,10 +1,41 @@
 ghost use Rattle.std.specs.Prelude.{◌≡◌, ◌+◌, ◌≤◌, ℕ, Bool, true, List, [], ◌∷◌, ◌++◌, length, IfOk, OnErr, IsErrOf};
-ghost use Rattle.st_io.specs.Causes.{Rose};
-ghost use Rattle.st_drive.specs.Meaning.{Meaning, Laws, Fewer, FitsAfter};
+ghost use Rattle.st_io.specs.Past.{Rose};
+ghost use Rattle.st_drive.specs.Lines.{Meaning, Laws, Fewer, FitsAfter};
 
 use st_base::{Bytes, WantOfMemory};
 use std::alloc::Global;
 use thiserror::Error;
+
+/// Why a run ends before all its lines are answered.
+#[derive(Clone, Copy, Debug, Drop, PartialEq, Eq, Error)]
+pub enum Stop {
+    /// The source failed.
+    #[error("the input could not be read")]
+    ReadFault,
+    /// The sink failed.
+    #[error("the output could not be written")]
+    WriteFault,
+    /// The machine's device failed.
+    #[error("a device failed")]
+    DeviceFault,
+    /// The source gave more bytes than the limit.
+    #[error("the input is too long")]
+    OverLimit,
+    /// Out of memory.
+    #[error("out of memory")]
+    WantOfMemory,
+}
+
+impl From<WantOfMemory> for Stop {
+    ghost use Rattle.std.specs.Prelude.{◌≡◌};
+    ghost use Rattle.st_drive.specs.declared.machine.Stop.TheVariants.{WantOfMemory};
+
+    ghost from_gives = { λ _ stop. stop ≡ WantOfMemory };
+
+    fn from(_want: WantOfMemory) -> Stop {
+        Stop::WantOfMemory
+    }
+}
 
 /// Why a machine gives up at a line.
 #[derive(Clone, Copy, Debug, Drop, PartialEq, Eq, Error)]

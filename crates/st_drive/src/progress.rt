@@ -1,14 +1,13 @@
 ghost use Rattle.std.specs.Prelude.{◌≡◌, ◌+◌, ◌≤◌, [], ◌∷◌, ◌++◌, length, take, vec_len, IfOk, OnOk};
 ghost use Rattle.std.proofs.Props.{props};
-ghost use Rattle.st_base.specs.Words.{HasNo};
-ghost use Rattle.st_drive.specs.Lines.{capped};
-ghost use Rattle.st_drive.specs.Meaning.{FitsAfter, FitsBeside};
-ghost use Rattle.st_drive.specs.Parts.{Gathers, Orderly, Writes, outlet, turn};
+ghost use Rattle.st_base.specs.Texts.{HasNo};
+ghost use Rattle.st_drive.specs.Lines.{capped, FitsAfter, FitsBeside};
+ghost use Rattle.st_drive.specs.Runs.{Orderly, Writes, turn};
+ghost use Rattle.st_drive.specs.inside.Parts.{Gathers, outlet};
 
 use crate::lines::{LINE_FEED, cut_front, cut_line, keep_front};
-use crate::machine::{Machine, StepError};
+use crate::machine::{Machine, StepError, Stop};
 use crate::replies::{gather, write_gathered};
-use crate::stop::Stop;
 use st_base::cut_at;
 use st_io::Sink;
 use std::alloc::Global;

@@ -1,19 +1,48 @@
--- Requests and answers are within the limits of messages, and have an encoding:
---     asked-is, asked-short          the request of a node
---     answered-sent, answered-short  the messages of its answer
-use Rattle.std.proofs.Common.{◌≡◌, ◌≤◌, ℕ, nat_le, Bool, true, false, cond, List, [], ◌∷◌, length, take, filter, Option, Some, None, Result, Ok, Err, IfOk, subst, sym, refl, arith}
+-- Whether a URI is among others, by a set:
+--     among_keys        a set, by its keys
+--     among_pushed      a set with one more
+use Rattle.std.proofs.Common.{◌≡◌, ◌∙◌, Bool, true, false, cond, List, [], ◌∷◌, ◌++◌, ap, sym, refl, ◌≤◌, ℕ, nat_le, length, take, filter, Option, Some, None, Result, Ok, Err, IfOk, subst, arith}
 use Rattle.std.proofs.lemmas.Bool.Decides.{nat_tests}
 use Rattle.std.proofs.lemmas.List.{length-take}
 use Rattle.std.proofs.lemmas.List.Sums.{length-filter, count_by-le-length}
-use Rattle.std.specs.List.{AllByRecursion, flat_map}
-use Rattle.st_base.proofs.Quantifiers.{each-append, each-filter, each-take}
+use Rattle.std.specs.BTreeMap.{is_at}
+use Rattle.std.specs.BTreeSet.{BTreeSet, Updates, contains}
+use Rattle.std.specs.List.{list_any, AllByRecursion, flat_map}
+use Rattle.std.specs.Prelude.{◌||◌}
+use Rattle.st_base.proofs.ListLemmas.{any_push, each-append, each-filter, each-take}
+use Rattle.st_hash.specs.Hash.{HashValue, hash_cmp, same_hash, same_hash-equivalence, same_hash-ties}
 use Rattle.st_content.specs.Files.{Files, file_at}
-use Rattle.st_hash.specs.Hash.{HashValue}
-use Rattle.st_exchange.specs.Answer.{answer_of, blob_at, blob_of, each_once, is_among, want_of}
+use Rattle.st_exchange.specs.Peer.{is_among, answer_of, blob_at, blob_of, each_once, want_of}
 use Rattle.st_exchange.specs.Message.{AreListed, IsMessage, IsShort, IsUri, longest_blob, most_uris}
 use Rattle.st_exchange.specs.declared.message.Answer.{Answer}
 use Rattle.st_exchange.specs.declared.message.Message.{Message}
 use Rattle.st_exchange.specs.declared.message.Message.TheVariants.{Want, Have, Blob}
+use Rattle.st_exchange.specs.inside.Among.{HasThose}
+
+turned : (first second : HashValue) → same_hash first second ≡ same_hash second first
+turned first second = same_hash-equivalence.symm first second
+
+pub among_keys : (set : BTreeSet HashValue) (uri : HashValue) → contains hash_cmp set uri ≡ is_among set.keys uri
+among_keys set uri = λ i. list_any (λ other. sym (same_hash-ties uri other) i) set.keys
+
+or_here : (here before : Bool) → cond here true before ≡ (before || here)
+or_here true true = refl
+or_here true false = refl
+or_here false true = refl
+or_here false false = refl
+
+module _ (uris : List HashValue) (uri : HashValue) (old new : BTreeSet HashValue) (has : HasThose uris old) where
+  pub among_pushed : Updates hash_cmp old new uri true → HasThose (uris ++ uri ∷ []) new
+  among_pushed updates other =
+      updates.0 other
+      ∙ ap (λ (before : Bool). cond (is_at (hash_cmp uri) other) true before) (has other)
+      ∙ or_here (is_at (hash_cmp uri) other) (is_among uris other)
+      ∙ ap (λ (here : Bool). is_among uris other || here) (sym (same_hash-ties uri other) ∙ turned uri other)
+      ∙ sym (any_push (same_hash other) uris uri)
+
+-- ---- Requests and answers are within the limits of messages, and have an encoding:
+--     asked-is, asked-short          the request of a node
+--     answered-sent, answered-short  the messages of its answer
 
 pub asked-is : (wanted : List HashValue) → AllByRecursion IsUri wanted → AreListed (take most_uris wanted)
 asked-is wanted each = record { few = omega (arith, length-take most_uris wanted); each = each-take IsUri most_uris wanted each }

@@ -1,4 +1,3 @@
-pub mod Among
-pub mod Answer
-pub mod Message
 pub mod Peer
+pub mod Message
+pub mod inside

@@ -1,11 +1,11 @@
 ghost use Rattle.std.specs.Prelude.{◌≡◌, ◌++◌, IfOk, OnOk, filter};
 ghost use Rattle.std.specs.List.{AllByRecursion, flat_map};
-ghost use Rattle.st_exchange.specs.Answer.{answer_of, blob_at, each_once, is_among, kept_of, want_of};
+ghost use Rattle.st_exchange.specs.Peer.{answer_of, blob_at, each_once, is_among, kept_of, want_of};
 ghost use Rattle.st_exchange.specs.Message.{IsMessage, IsShort};
 
 use crate::asking::{once, wanted_of};
 use crate::message::{Answer, LONGEST_BLOB, Message};
-use crate::wanting::Wants;
+use crate::peer::Wants;
 use st_base::{Bytes, Copied, List, WantOfMemory};
 use st_content::Content;
 use st_hash::{Hash, uri_of};

@@ -1,11 +1,11 @@
 ghost use Rattle.std.specs.Prelude.{◌≡◌, ◌++◌, ◌∷◌, [], IfOk, OnOk, filter, take};
 ghost use Rattle.std.specs.List.{AllByRecursion};
-ghost use Rattle.st_exchange.specs.Among.{HasThose};
-ghost use Rattle.st_exchange.specs.Answer.{ask_of, each_once, is_among, with_one};
+ghost use Rattle.st_exchange.specs.inside.Among.{HasThose};
+ghost use Rattle.st_exchange.specs.Peer.{ask_of, each_once, is_among, with_one};
 ghost use Rattle.st_exchange.specs.Message.{IsMessage, IsShort, IsUri, most_uris};
 
 use crate::message::{MOST_URIS, Message};
-use crate::wanting::Wants;
+use crate::peer::Wants;
 use st_base::{List, WantOfMemory};
 use st_hash::Hash;
 use std::alloc::Global;

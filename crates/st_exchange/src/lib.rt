@@ -5,16 +5,10 @@
 
 mod answering;
 mod asking;
-mod decoding;
-mod encoding;
 mod message;
 mod peer;
-mod wanting;
 
 pub use answering::answer;
 pub use asking::ask;
-pub use decoding::decode;
-pub use encoding::encode;
-pub use message::{Answer, DecodeRefused, LONGEST_BLOB, MOST_URIS, Message};
-pub use peer::Peer;
-pub use wanting::Wants;
+pub use message::{Answer, DecodeRefused, LONGEST_BLOB, MOST_URIS, Message, decode, encode};
+pub use peer::{Peer, Wants};

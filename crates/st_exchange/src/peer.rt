@@ -1,12 +1,12 @@
-ghost use Rattle.std.specs.Prelude.{◌≡◌, IfOk};
-ghost use Rattle.st_exchange.specs.Answer.{is_among};
-ghost use Rattle.st_exchange.specs.Peer.{FileDue, LineDue, Peer as Means, PeerLaws};
-ghost use Rattle.st_hash.specs.Hash.{uri_of};
+ghost use Rattle.std.specs.Prelude.{◌≡◌, IfOk, List};
+ghost use Rattle.st_hash.specs.Hash.{uri_of, HashValue};
+ghost use Rattle.st_exchange.specs.Peer.{is_among, FileDue, LineDue, Peer as Means, PeerLaws};
 
 use st_base::{Bytes, List, WantOfMemory, Work};
 use st_content::Content;
 use st_hash::Hash;
 use std::alloc::Global;
+use std::collections::BTreeSet;
 
 /// A node that answers lines, keeps files and wants others.
 pub trait Peer: Sized + Drop {
@@ -54,4 +54,24 @@ pub trait Peer: Sized + Drop {
 
     /// Its laws.
     ghost laws: { PeerLaws peer };
+}
+
+/// A test of whether a file is wanted.
+pub trait Wants {
+    /// The URIs of the files that are wanted.
+    ghost wanted: { Self → List HashValue };
+
+    /// Whether the file of this URI is wanted.
+    fn wants(&self, alloc: Global, uri: &Hash) -> Result<bool, WantOfMemory>
+        ensures { IfOk result (λ found. found ≡ is_among (wanted self.now) uri.now) };
+}
+
+/// The files of these URIs are wanted.
+impl Wants for BTreeSet<Hash> {
+    ghost wanted = { λ uris. uris.keys };
+
+    #[tactic(auto, using(crate::proofs::AnswerLemmas::among_keys))]
+    fn wants(&self, _alloc: Global, uri: &Hash) -> Result<bool, WantOfMemory> {
+        Ok(self.contains(uri))
+    }
 }

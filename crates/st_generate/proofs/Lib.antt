@@ -1,4 +1,1 @@
-mod EndLemmas
-mod LineLemmas
-mod RoundLemmas
-mod TalkLemmas
+mod SummaryLemmas

@@ -1,7 +1,9 @@
 -- The plan in the words of a workload.
-use Rattle.std.specs.Prelude.{ℕ, ◌-◌, ◌^◌, List, [], ◌∷◌, nat_le, Option, Some, None}
+use Rattle.std.specs.Io.KnownBytes.{Appends}
+use Rattle.std.specs.Prelude.{ℕ, ◌-◌, ◌^◌, List, [], ◌∷◌, nat_le, Option, Some, None, ◌==◌, ◌||◌, Bool}
 use Rattle.st_base.specs.Options.{◌>>=◌, ◌>>◌}
-use Rattle.st_base.specs.Words.{number_of}
+use Rattle.st_base.specs.Texts.{number_of}
+use Rattle.st_drive.specs.Runs.{Begins}
 use Rattle.st_generate.specs.declared.plan.Plan.{Plan}
 
 -- the largest number of identifiers of a workload
@@ -25,3 +27,13 @@ plan_with seed dids rounds = do
 abbrev pub plan_of : List (List ℕ) → Option Plan
 plan_of (seed ∷ dids ∷ rounds ∷ []) = plan_with seed dids rounds
 plan_of words = None
+
+-- ---- A run that writes a summary.
+
+-- the statuses of such a run: the summary is complete, the sink failed, or memory ran out
+abbrev pub is_generate_end : ℕ → Bool
+is_generate_end status = status == 0 || (status == 3 || status == 6)
+
+-- a prefix of the text follows what was written before
+abbrev pub WritesFront : (text : List ℕ) (held holds : Option (List ℕ)) → Type 0
+WritesFront text held holds = (front : List ℕ) × Begins front text × Appends held holds front

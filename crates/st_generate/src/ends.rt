@@ -1,8 +1,7 @@
 ghost use Rattle.std.specs.Prelude.{◌≡◌, ◌+◌, bytes_eq, codes, IfOk};
 ghost use Rattle.st_generate.specs.Summary.{all_asked, asked, resolve_line};
 ghost use Rattle.st_generate.specs.Talk.{begins_with, one_if};
-ghost use Rattle.st_workload.specs.Each.{each};
-ghost use Rattle.st_workload.specs.Identity.{identity_of};
+ghost use Rattle.st_workload.specs.Identifier.{each, identity_of};
 
 use crate::plan::Plan;
 use crate::talk::{Talk, begins_with, plus_one_if};

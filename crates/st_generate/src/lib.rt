@@ -3,13 +3,10 @@
 #![tactic(auto)]
 
 mod ends;
-mod number;
 mod plan;
 mod rounds;
-mod run;
 mod summary;
 mod talk;
 
 pub use plan::{Plan, read_plan};
-pub use run::run_generate;
-pub use summary::generate;
+pub use summary::{generate, run_generate};

@@ -1,10 +1,10 @@
 ghost use Rattle.std.specs.Prelude.{◌≡◌, ◌≤◌, ◌+◌, ◌++◌, drop, map, IfOk, OnOk};
-ghost use Rattle.st_base.specs.Words.{first_word};
+ghost use Rattle.st_base.specs.Texts.{first_word};
 ghost use Rattle.st_drive.specs.Lines.{whole_lines};
-ghost use Rattle.st_generate.specs.Rounds.{anchor_in, anchor_line, batched, batches_of, behind_one, content_line, content_lines};
+ghost use Rattle.st_generate.specs.Summary.{anchor_in, anchor_line, batched, batches_of, behind_one, content_line, content_lines};
 ghost use Rattle.st_generate.specs.Talk.{told};
-ghost use Rattle.st_workload.specs.Each.{each};
-ghost use Rattle.st_workload.specs.Identity.{identity_of, line_of};
+ghost use Rattle.st_workload.specs.Identifier.{each, identity_of};
+ghost use Rattle.st_workload.specs.inside.Identity.{line_of};
 
 use crate::plan::Plan;
 use crate::talk::Talk;
@@ -136,7 +136,7 @@ fn behind_one(line: &[u8]) -> &[u8]
     }
 }
 
-#[tactic(auto, unfolding(crate::specs::Rounds::anchor_in))]
+#[tactic(auto, unfolding(crate::specs::Summary::anchor_in))]
 fn anchor_in(reply: &[u8]) -> &[u8]
     ensures { result.now ≡ anchor_in reply.now }
 {
@@ -145,7 +145,7 @@ fn anchor_in(reply: &[u8]) -> &[u8]
 }
 
 // The line that gives another node the file of this line.
-#[tactic(auto, unfolding(crate::specs::Rounds::content_line))]
+#[tactic(auto, unfolding(crate::specs::Summary::content_line))]
 fn content_line(alloc: Global, line: &[u8]) -> Result<Bytes, WantOfMemory>
     ensures { IfOk result (λ content. content ≡ content_line line.now) }
 {

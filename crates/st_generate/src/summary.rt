@@ -1,8 +1,10 @@
-ghost use Rattle.std.specs.Prelude.{◌≡◌, ◌≤◌, ◌++◌, IfOk, OnOk};
-ghost use Rattle.st_generate.specs.Plan.{most_rounds};
+ghost use Rattle.std.specs.Io.KnownBytes.{Appends};
+ghost use Rattle.std.specs.Prelude.{◌≡◌, ◌≤◌, ◌++◌, IfOk, OnOk, ◌≢◌, ◌⊎◌, true, IsTrue, OnErr};
+ghost use Rattle.st_io.specs.Past.{HasCause, Rose, FinishesNothing};
+ghost use Rattle.st_workload.specs.Identifier.{events};
+ghost use Rattle.st_generate.specs.Plan.{most_rounds, WritesFront, is_generate_end};
 ghost use Rattle.st_generate.specs.Summary.{ends_of, fed, lines_of, summary, summary_line};
 ghost use Rattle.st_generate.specs.Talk.{new_talk, told};
-ghost use Rattle.st_workload.specs.Order.{events};
 
 use crate::ends::{Ends, ask_all};
 use crate::plan::Plan;
@@ -10,7 +12,9 @@ use crate::rounds::{Batches, all_batches};
 use crate::talk::{Talk, tell_all};
 use itoa::Buffer;
 use st_base::{Bytes, List, WantOfMemory, Work};
+use st_drive::write_all;
 use st_exchange::Peer;
+use st_io::{Failed, Sink};
 use st_workload::{all_identities, events};
 use std::alloc::Global;
 
@@ -77,7 +81,8 @@ fn feed<N: Peer>(
     files: List<Bytes>,
     work: &mut Work,
 ) -> Result<Talk<N>, WantOfMemory>
-    ensures { IfOk result (λ talk. talk ≡ told N.peer (events plan.seed plan.dids anchors files) (new_talk N.peer)) }
+    ensures { IfOk result (λ talk. talk ≡ told N.peer (events plan.seed plan.dids anchors files)
+        (new_talk N.peer)) }
 {
     let lines = events(alloc, plan.seed, plan.dids, anchors.as_slice(), files)?;
     let talk = Talk::new(alloc)?;
@@ -111,5 +116,47 @@ fn push_line(alloc: Global, text: &mut Bytes, word: &str, n: u64) -> Result<(), 
     text.push_all(alloc, word.as_bytes())?;
     text.push_all(alloc, Buffer::new().format(n).as_bytes())?;
     text.push_all(alloc, b"\n")?;
+    Ok(())
+}
+
+/// Writes the summary of a plan to a sink, and returns a status: 0 if it is written completely and
+/// the sink is finished, 3 if the sink failed, after a prefix was written, and 6 if memory ran out,
+/// before anything is written. There is no other.
+pub fn run_generate<N: Peer, K: Sink>(
+    alloc: Global,
+    plan: Plan,
+    sink: &mut K,
+    work: &mut Work,
+) -> u8
+    requires { plan.rounds ≤ most_rounds }
+    ensures done { result ≡ 0 → Appends (K.written sink.old) (K.written sink.new) (summary N.peer plan) }
+    ensures front { WritesFront (summary N.peer plan) (K.written sink.old) (K.written sink.new) }
+    ensures finished { result ≡ 0 → K.is_finished sink.new ≡ true }
+    ensures unfinished { result ≢ 0
+        → FinishesNothing (K.is_finished sink.old) (K.is_finished sink.new) }
+    ensures write_fault { result ≡ 3 → Rose (K.faults sink.old) (K.faults sink.new) }
+    ensures unwritten { result ≡ 6 → sink.new ≡ sink.old }
+    ensures statuses { IsTrue (is_generate_end result) }
+    ensures complete { ¬ Rose (K.faults sink.old) (K.faults sink.new) → (result ≡ 0) ⊎ (result ≡ 6) }
+{
+    match generate::<N>(alloc, plan, work) {
+        Ok(text) => match write_whole(sink, text.as_slice()) {
+            Ok(()) => 0,
+            Err(_) => 3,
+        },
+        Err(_) => 6,
+    }
+}
+
+// Writes all of it and finishes, or writes a prefix if the sink fails.
+fn write_whole<K: Sink>(sink: &mut K, text: &[u8]) -> Result<(), Failed>
+    ensures ok { OnOk result (Appends (K.written sink.old) (K.written sink.new) text.now) }
+    ensures front { WritesFront text.now (K.written sink.old) (K.written sink.new) }
+    ensures finished { OnOk result (K.is_finished sink.new ≡ true) }
+    ensures unfinished { OnErr result (FinishesNothing (K.is_finished sink.old) (K.is_finished sink.new)) }
+    ensures cause { HasCause (K.faults sink.old) (K.faults sink.new) result }
+{
+    write_all(sink, text)?;
+    sink.finish()?;
     Ok(())
 }

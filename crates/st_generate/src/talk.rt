@@ -1,5 +1,5 @@
 ghost use Rattle.std.specs.Prelude.{◌≡◌, ◌+◌, ◌*◌, ◌≤◌, codes, IfOk};
-ghost use Rattle.st_generate.specs.Paid.{IsPaid};
+ghost use Rattle.st_generate.specs.inside.Codes.{IsPaid};
 ghost use Rattle.st_generate.specs.Talk.{begins_with, counted, new_talk, one_if, reply, tell, told};
 
 use st_base::{Bytes, WantOfMemory, Work};
@@ -31,8 +31,7 @@ pub struct Talk<N: Peer> {
 }
 
 impl<N: Peer> Model for Talk<N> {
-    ghost use Rattle.st_generate.specs.Codes.{coded_talk};
-    ghost use Rattle.st_generate.specs.Paid.{IsPaid};
+    ghost use Rattle.st_generate.specs.inside.Codes.{coded_talk, IsPaid};
     ghost use Rattle.st_generate.specs.Talk.{TalkValue};
 
     ghost Value = { TalkValue N };
@@ -152,7 +151,8 @@ fn tell_node<N: Peer>(
     requires { IsPaid read (N.peer.due node) accepted.anchors }
     ensures node { IfOk result (λ told. told.node ≡ N.peer.next node line.now) }
     ensures reply { IfOk result (λ told. told.reply ≡ N.peer.reply node line.now) }
-    ensures accepted { IfOk result (λ told. told.accepted ≡ counted line.now (N.peer.reply node line.now) accepted) }
+    ensures accepted { IfOk result (λ told. told.accepted
+        ≡ counted line.now (N.peer.reply node line.now) accepted) }
     ensures paid { IfOk result (λ told. IsPaid told.read (N.peer.due told.node) told.accepted.anchors) }
 {
     let before = work.files();
@@ -175,7 +175,8 @@ fn count_all(
     before: u64,
     now: u64,
 ) -> Result<(Accepted, u64), WantOfMemory>
-    ensures { IfOk result (λ more. (more.0 ≡ counted line.now reply.now accepted) × (more.1 + before ≡ read + now)) }
+    ensures { IfOk result (λ more. (more.0 ≡ counted line.now reply.now accepted) ×
+        (more.1 + before ≡ read + now)) }
 {
     let accepted = count(accepted, line, reply)?;
     let read = plus_grown(read, before, now)?;

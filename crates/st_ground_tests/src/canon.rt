@@ -1,6 +1,5 @@
 ghost use Rattle.std.specs.Prelude.{◌≡◌, [], ◌∷◌, ◌&&◌, codes, is_some, map, option_map, IfOk, OnOk, Some, None};
-ghost use Rattle.st_plain.specs.Find.{member_at};
-ghost use Rattle.st_plain.specs.Objects.{object_of, object_of_some, some_list};
+ghost use Rattle.st_plain.specs.Objects.{member_at, object_of, object_of_some, some_list};
 ghost use Rattle.st_plain.specs.Shapes.{is_object_of, is_text_if_there, member_in, text_at};
 ghost use Rattle.st_canon.specs.View.{plain, plain_members};
 
@@ -15,7 +14,7 @@ use st_canon::{Json, Object, is_text_if_there, read, some_list, write};
 use std::alloc::Global;
 
 // An object of fixed members, put in another order than they are listed.
-#[tactic(auto, unfolding(st_plain::proofs::OnLiterals::names_on_literals))]
+#[tactic(auto, unfolding(st_plain::proofs::NameLemmas::names_on_literals))]
 fn pair_of(alloc: Global, first: Json, second: Json) -> Result<Json, WantOfMemory>
     ensures { IfOk result (λ json. plain json ≡ object_of ((codes "type", plain first) ∷ (codes "deltaHash", plain second) ∷ [])) }
 {
@@ -50,7 +49,7 @@ fn is_header(json: &Json) -> bool
 }
 
 // A member that was set is found, one that was removed is gone, and the others stay.
-#[tactic(auto, using(st_plain::proofs::Named::by_name))]
+#[tactic(auto, using(st_plain::proofs::NameLemmas::by_name))]
 fn moved(alloc: Global, object: &mut Object, value: Json) -> Result<(), WantOfMemory>
     ensures set { OnOk result (member_at (codes "to") (plain_members object.new) ≡ Some (plain value)) }
     ensures gone { OnOk result (member_at (codes "from") (plain_members object.new) ≡ None) }

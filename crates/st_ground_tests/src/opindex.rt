@@ -81,14 +81,14 @@ type Lists = Index<u64, Gathers>;
 fn ten_ones(alloc: Global, work: &mut Work) -> Result<Sums, WantOfMemory> {
     let mut index = Index::new(alloc, Adds)?;
     for place in 0..10u32 {
-        index = index.put(alloc, 5, place, 1)?.settle(alloc, work)?;
+        index = index.put(alloc, 5, place, 1)?.fold(alloc, work)?;
     }
     Ok(index)
 }
 
 fn folds_on_from_a_put(alloc: Global, index: Sums, work: &mut Work) -> Result<bool, WantOfMemory> {
     let before = work.applies();
-    let index = index.put(alloc, 5, 3, 4)?.settle(alloc, work)?;
+    let index = index.put(alloc, 5, 3, 4)?.fold(alloc, work)?;
     Ok(
         *index.state(&5) == 13
             && work.applies() <= before.saturating_add(14)
@@ -98,7 +98,7 @@ fn folds_on_from_a_put(alloc: Global, index: Sums, work: &mut Work) -> Result<bo
 
 fn folds_on_from_a_cut(alloc: Global, index: Sums, work: &mut Work) -> Result<bool, WantOfMemory> {
     let before = work.applies();
-    let index = index.cut(alloc, 8)?.settle(alloc, work)?;
+    let index = index.cut(alloc, 8)?.fold(alloc, work)?;
     Ok(
         *index.state(&5) == 11
             && work.applies() <= before.saturating_add(7)
@@ -125,14 +125,14 @@ fn put_from(alloc: Global, index: Sums, first: u32, item: u64) -> Result<Sums, W
 
 fn are_folded_once(alloc: Global, work: &mut Work) -> Result<bool, WantOfMemory> {
     let index = Index::new(alloc, Adds)?;
-    let index = put_from(alloc, index, 0, 1)?.settle(alloc, work)?;
+    let index = put_from(alloc, index, 0, 1)?.fold(alloc, work)?;
     Ok(*index.state(&5) == 40 && work.applies() <= 47 && are_changed_once(alloc, index, work)?)
 }
 
 fn are_changed_once(alloc: Global, index: Sums, work: &mut Work) -> Result<bool, WantOfMemory> {
     let before = work.applies();
     let index = put_from(alloc, index, 10, 2)?;
-    let index = index.put(alloc, 6, 3, 7)?.settle(alloc, work)?;
+    let index = index.put(alloc, 6, 3, 7)?.fold(alloc, work)?;
     Ok(
         *index.state(&5) == 70
             && *index.state(&6) == 7
@@ -151,9 +151,7 @@ fn gathered(alloc: Global, work: &mut Work) -> Result<Lists, WantOfMemory> {
     let mut index = Index::new(alloc, Gathers)?;
     for item in 0..20u64 {
         let place = 40 - 2 * item as u32;
-        index = index
-            .put(alloc, item % 2, place, item)?
-            .settle(alloc, work)?;
+        index = index.put(alloc, item % 2, place, item)?.fold(alloc, work)?;
     }
     Ok(index.put(alloc, 1, 6, 100)?)
 }
@@ -173,9 +171,9 @@ fn are_cut_at_0(index: &Lists) -> bool
 }
 
 fn own_memory(alloc: Global, work: &mut Work) -> Result<bool, WantOfMemory> {
-    let index = gathered(alloc, work)?.cut(alloc, 14)?.settle(alloc, work)?;
+    let index = gathered(alloc, work)?.cut(alloc, 14)?.fold(alloc, work)?;
     let right = are_cut_at_14(&index);
-    let index = index.cut(alloc, 0)?.settle(alloc, work)?;
+    let index = index.cut(alloc, 0)?.fold(alloc, work)?;
     Ok(right && are_cut_at_0(&index))
 }
 
@@ -238,7 +236,7 @@ fn first_other(alloc: Global, work: &mut Work) -> Result<Option<u64>, WantOfMemo
             .wrapping_mul(6_364_136_223_846_793_005)
             .wrapping_add(1_442_695_040_888_963_407);
         let at = (seed >> 33) as usize % (3 * PLACES);
-        index = changed(alloc, index, &mut items, at, item)?.settle(alloc, work)?;
+        index = changed(alloc, index, &mut items, at, item)?.fold(alloc, work)?;
         for key in 0..3usize {
             if !is_plain(alloc, &index, &items, key)? {
                 return Ok(Some(item));

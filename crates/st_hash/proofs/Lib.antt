@@ -1,6 +1,2 @@
-pub mod FixedLemmas
-pub mod HashTexts
-pub mod SameHash
-pub mod Spelling
-pub mod Symbols
-pub mod Utf8Bytes
+pub mod Base64Lemmas
+pub mod HashLemmas

@@ -1,13 +1,36 @@
--- Hashes of SHA-256 and SHA-512 (FIPS 180-4), their multihashes and their texts.
-use Rattle.std.specs.Prelude.{◌≡◌, ℕ, Bool, bytes_eq, List, ◌∷◌, ◌==◌, ◌&&◌, ◌⊎◌, length, if◌then◌else◌, Option, Some, None, option_and_then}
+-- Base64url without padding (RFC 4648, section 5).
+use Rattle.std.proofs.Common.{ap}
+use Rattle.std.specs.Cmp.{IsEquivalence, IsPartialOrder, IsTotalOrder, on_equiv, on_total, and_equiv, then_total, both_tied, po, nat_cmp_total, nat_eq_equiv, second_so, unsigned_ties}
+use Rattle.std.specs.Cmp.Lexicographic.{slice_cmp, bytes_decides, nat_list_cmp_total, nat_list_eq_equiv, texts_ties}
 use Rattle.std.specs.Option.{option_or}
-use Rattle.base64.specs.GeneralPurpose.{IsBytes}
+use Rattle.std.specs.Ordering.{nat_cmp, ordering_then, as_partial_cmp, eq_by_cmp}
+use Rattle.std.specs.Prelude.{ℕ, ◌==◌, List, length, if◌then◌else◌, Option, Some, None, option_and_then, ◌≡◌, Bool, bytes_eq, ◌∷◌, ◌&&◌, ◌⊎◌, [], IsTrue, refl}
+use Rattle.std.specs.Result.{result_ok}
+use Rattle.std.specs.declared.cmp.Ordering.{Ordering}
+use Rattle.base64.specs.Engines.{url_safe_no_pad}
+use Rattle.base64.specs.GeneralPurpose.{encode_of, decode_of, IsBytes}
 pub use Rattle.sha2.specs.Sha256.{sha256}
 pub use Rattle.sha2.specs.Sha512.{sha512}
-use Rattle.std.specs.Cmp.Lexicographic.{slice_cmp}
-use Rattle.std.specs.Ordering.{nat_cmp, ordering_then}
-use Rattle.std.specs.declared.cmp.Ordering.{Ordering}
-use Rattle.st_hash.specs.Base64url.{base64url, bytes_of_text}
+use Rattle.st_hash.specs.declared.hash.Digest.{Digest}
+use Rattle.st_hash.specs.declared.hash.Digest.TheVariants.{Sha256, Sha512}
+
+-- the text of bytes
+abbrev pub base64url : List ℕ → List ℕ
+base64url bytes = encode_of url_safe_no_pad bytes
+
+-- the bytes that a text is the base64url of
+abbrev pub bytes_of_text : List ℕ → Option (List ℕ)
+bytes_of_text text = result_ok (decode_of url_safe_no_pad text)
+
+-- these bytes, if there are this many
+abbrev pub so_many : ℕ → List ℕ → Option (List ℕ)
+so_many n bytes = if length bytes == n then Some bytes else None
+
+-- the bytes of this length that a text is the base64url of
+abbrev pub fixed_of_text : ℕ → List ℕ → Option (List ℕ)
+fixed_of_text n text = option_and_then (so_many n) (bytes_of_text text)
+
+-- ---- Hashes of SHA-256 and SHA-512 (FIPS 180-4), their multihashes and their texts.
 
 -- the multihash code of the algorithm, and the digest
 pub record HashValue : Type 0 where
@@ -91,3 +114,43 @@ hash_cmp first second = ordering_then (nat_cmp first.code second.code) (slice_cm
 -- the two hashes are the same
 abbrev pub same_hash : HashValue → HashValue → Bool
 same_hash first second = (first.code == second.code) && bytes_eq first.digest second.digest
+
+-- ---- The laws of the order of hashes, and of the bytes that a hash passes to a hasher.
+
+pub same_hash-equivalence : IsEquivalence same_hash
+same_hash-equivalence = and_equiv (on_equiv (λ hash. hash.code) nat_eq_equiv) (on_equiv (λ hash. hash.digest) nat_list_eq_equiv)
+
+pub hash_cmp-total : IsTotalOrder hash_cmp
+hash_cmp-total = then_total (on_total (λ hash. hash.code) nat_cmp_total) (on_total (λ hash. hash.digest) nat_list_cmp_total)
+
+-- two hashes are the same if and only if they tie in the order
+pub same_hash-ties : (first second : HashValue) → same_hash first second ≡ eq_by_cmp hash_cmp first second
+same_hash-ties first second =
+    both_tied _ _ _ _ (unsigned_ties first.code second.code) (texts_ties first.digest second.digest)
+
+pub hash_cmp-partial : IsPartialOrder same_hash (as_partial_cmp hash_cmp)
+hash_cmp-partial = po hash_cmp-total same_hash-ties
+
+-- a hash passes the bytes of its digest to a hasher
+abbrev pub fed : HashValue → List (List ℕ)
+fed hash = hash.digest ∷ []
+
+pub same_hash-fed : (first second : HashValue) → IsTrue (same_hash first second) → fed first ≡ fed second
+same_hash-fed first second same =
+    ap (λ digest. digest ∷ [])
+    ((bytes_decides first.digest second.digest).0 (second_so (first.code == second.code) (bytes_eq first.digest second.digest) same))
+
+-- ---- A digest of one of the two algorithms, as contracts see it.
+
+-- a digest with the code of its algorithm (Multihash)
+abbrev pub hash_in : Digest → HashValue
+hash_in (Sha256 digest) = record { code = 0x12; digest = digest }
+hash_in (Sha512 digest) = record { code = 0x13; digest = digest }
+
+-- the digest of a hash, by its code
+abbrev pub digest_in : HashValue → Digest
+digest_in hash = if hash.code == 0x13 then Sha512 hash.digest else Sha256 hash.digest
+
+pub digest_in-hash_in : (digest : Digest) → digest_in (hash_in digest) ≡ digest
+digest_in-hash_in (Sha256 digest) = refl
+digest_in-hash_in (Sha512 digest) = refl

@@ -1,4 +1,1 @@
-pub mod Base64url
-pub mod Digest
 pub mod Hash
-pub mod Order

@@ -1,7 +1,6 @@
 ghost use Rattle.std.specs.Prelude.{◌≡◌, length, refl};
 ghost use Rattle.std.specs.Ordering.{as_partial_cmp};
-ghost use Rattle.st_hash.specs.Hash.{IsCode, IsHash, hash_cmp, same_hash, digest_length, sha256_digest};
-ghost use Rattle.st_hash.specs.Order.{fed, same_hash-equivalence, same_hash-fed, hash_cmp-total, same_hash-ties, hash_cmp-partial};
+ghost use Rattle.st_hash.specs.Hash.{IsCode, IsHash, hash_cmp, same_hash, digest_length, sha256_digest, fed, same_hash-equivalence, same_hash-fed, hash_cmp-total, same_hash-ties, hash_cmp-partial};
 
 use st_base::{Copied, WantOfMemory};
 use std::alloc::Global;
@@ -30,8 +29,7 @@ enum Digest {
 impl Model for Hash {
     ghost use Rattle.std.specs.Prelude.{◌≡◌};
     ghost use Rattle.std.proofs.Common.{ap};
-    ghost use Rattle.st_hash.specs.Hash.{HashValue, IsHash};
-    ghost use Rattle.st_hash.specs.Digest.{hash_in, digest_in, digest_in-hash_in};
+    ghost use Rattle.st_hash.specs.Hash.{HashValue, IsHash, hash_in, digest_in, digest_in-hash_in};
 
     ghost Value = { HashValue };
 

@@ -3,13 +3,11 @@
 #![tactic(auto)]
 
 mod base64url;
-mod fixed;
 mod hash;
 mod hashing;
 mod text;
 
-pub use base64url::{DecRefused, dec, enc};
-pub use fixed::read_fixed;
+pub use base64url::{DecRefused, dec, enc, read_fixed};
 pub use hash::{Hash, SHA_256, SHA_512};
 pub use hashing::{hash_with, hash256, rehash, sha256, uri_of};
 pub use text::{BadHash, hash_text, read_hash, read_hash_at};

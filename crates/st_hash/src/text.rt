@@ -2,8 +2,7 @@ ghost use Rattle.std.specs.Prelude.{◌≡◌, ◌≢◌, ℕ, ◌+◌, ◌≤�
 ghost use Rattle.std.specs.Result.{result_ok};
 ghost use Rattle.st_hash.specs.Hash.{HashValue, IsHash, IsOfVersion, digest_length, hash_text, hash_of_text, hash_of_text_at, hash_of_text_with, text_length};
 
-use crate::base64url::enc;
-use crate::fixed::read_fixed;
+use crate::base64url::{enc, read_fixed};
 use crate::hash::{Hash, SHA_256, SHA_512};
 use st_base::{Text, WantOfMemory};
 use std::alloc::Global;

@@ -1,5 +1,2 @@
-mod KeyLemmas
-mod PublicLemmas
-mod PartLemmas
-mod LawLemmas
 mod VaultLemmas
+mod LawLemmas

@@ -1,7 +1,7 @@
 -- Data stored from one signature to the next: the top key, and the parts that all counters of one lower key share.
 use Rattle.std.specs.Prelude.{◌≡◌, ◌+◌, Option, IfSome}
-use Rattle.st_lms.specs.Keys.{SecretKey}
-use Rattle.st_vault.specs.Children.{child_of}
+use Rattle.st_lms.specs.Tree.{SecretKey}
+use Rattle.st_vault.specs.Image.{child_of}
 use Rattle.st_hss.specs.Uses.{head_of}
 use Rattle.st_hss.specs.declared.trees.Lower.{Lower}
 use Rattle.st_hss.specs.declared.trees.Trees.{Trees}

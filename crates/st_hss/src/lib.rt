@@ -2,17 +2,9 @@
 //! which signs 32 messages. All are derived from the key of a vault with 1,024 counters.
 #![tactic(auto)]
 
-mod laws;
 mod public;
-mod refused;
-mod signing;
-mod strings;
 mod trees;
 mod vault;
-mod verification;
 
-pub use laws::hss_laws;
-pub use public::{HssPublic, HssRefused};
-pub use refused::{HssSignRefused, HssVaultRefused};
-pub use vault::HssVault;
-pub use verification::verify_hss;
+pub use public::{HssPublic, HssRefused, verify_hss};
+pub use vault::{HssSignRefused, HssVault, HssVaultRefused, hss_laws};

@@ -1,25 +1,54 @@
 ghost use Rattle.std.specs.Prelude.{◌≡◌, ◌≢◌, ◌↔◌, ◌≤◌, IsErr, IsErrOf, IfOk, IfErr};
-ghost use Rattle.st_io.specs.Spent.{SpentInAll};
-ghost use Rattle.st_io.specs.Storage.{storage};
-ghost use Rattle.st_io.specs.Tears.{IfTold};
-ghost use Rattle.st_lms.specs.Parameters.{IsOneTimeType};
+ghost use Rattle.st_io.specs.Past.{SpentInAll, storage};
+ghost use Rattle.st_io.specs.Histories.{IfTold};
+ghost use Rattle.st_lms.specs.OneTime.{IsOneTimeType};
 ghost use Rattle.st_vault.specs.Image.{IsSpent};
-ghost use Rattle.st_vault.specs.Opening.{ReadsAs};
-ghost use Rattle.st_vault.specs.Reserving.{HasSpent, MaySpend};
-ghost use Rattle.st_hss.specs.Signed.{IsHssSignature};
-ghost use Rattle.st_hss.specs.Signing.{SignGives};
+ghost use Rattle.st_vault.specs.Vault.{ReadsAs, HasSpent, MaySpend};
+ghost use Rattle.st_hss.specs.Public.{OneMessageALeaf, SignsForPublic, IsHssSignature, SignGives};
 ghost use Rattle.st_hss.specs.Uses.{hss_public_of};
 
 use crate::public::HssPublic;
-use crate::refused::{HssSignRefused, HssVaultRefused};
-use crate::signing::{LEAVES, signature_with};
-use crate::trees::{Trees, trees_for};
-use st_base::Bytes;
+use crate::trees::{LEAVES, Trees, signature_with, trees_for};
+use st_base::{Bytes, WantOfMemory};
 use st_io::Disk;
 use st_vault::{ReserveRefused, Vault};
 use std::alloc::Global;
 use std::fmt;
 use std::marker::Model;
+use thiserror::Error;
+
+/// Why a vault does not sign with two levels.
+#[derive(Debug, Drop, Error)]
+pub enum HssVaultRefused {
+    /// The tree of the vault's key isn't of height 10. The vault is returned.
+    #[error("the vault hasn't 1,024 counters")]
+    WrongTree(Vault),
+}
+
+/// Why there is no signature.
+#[derive(Debug, Drop, Error)]
+pub enum HssSignRefused {
+    /// No counter is left. The vault is returned.
+    #[error("no counter is left")]
+    Exhausted(HssVault),
+    /// The disk failed, and the vault is lost: open the disk again.
+    #[error("the disk has failed")]
+    DiskFault,
+    /// Out of memory. The vault is lost, and so is the reserved counter, if any.
+    #[error("memory is wanting")]
+    WantOfMemory,
+}
+
+impl From<WantOfMemory> for HssSignRefused {
+    ghost use Rattle.std.specs.Prelude.{◌≡◌};
+    ghost use Rattle.st_hss.specs.declared.vault.HssSignRefused.TheVariants as refused;
+
+    ghost from_gives = { λ _ refusal. refusal ≡ refused.WantOfMemory };
+
+    fn from(_want: WantOfMemory) -> HssSignRefused {
+        HssSignRefused::WantOfMemory
+    }
+}
 
 /// The LMS type of a tree of height 10.
 const TREE: u32 = 6;
@@ -40,7 +69,7 @@ pub struct HssVault {
 
 impl Model for HssVault {
     ghost use Rattle.std.specs.Prelude.{◌≡◌};
-    ghost use Rattle.st_vault.specs.Values.{VaultValue};
+    ghost use Rattle.st_vault.specs.Image.{VaultValue};
     ghost use Rattle.st_hss.specs.Trees.{IfKept};
 
     ghost Value = { VaultValue };
@@ -160,9 +189,16 @@ impl HssVault {
 }
 
 /// The one-time type of a vault's key is known.
-#[tactic(auto, using(crate::proofs::KeyLemmas::known_from_child))]
+#[tactic(auto, using(crate::proofs::VaultLemmas::known_from_child))]
 fn know_key(vault: &Vault)
     ensures { IsOneTimeType vault.now.key.ots }
 {
     vault.child(0);
 }
+
+/// Laws of signatures of two levels: no leaf signs two different messages, if each counter signs
+/// once; and each signature is one under the key's public key.
+pub fn hss_laws()
+    ensures one_message_a_leaf { OneMessageALeaf }
+    ensures signs_for_public { SignsForPublic }
+{}

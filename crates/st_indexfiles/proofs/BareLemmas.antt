@@ -4,17 +4,13 @@ use Rattle.std.proofs.Common.{◌≡◌, ◌≢◌, ◌==◌, ◌++◌, Bool, tr
 use Rattle.std.specs.List.{AllByRecursion, flat_map}
 use Rattle.std.specs.Option.{option_or}
 use Rattle.std.proofs.lemmas.Bool.Decides.{nat_tests}
-use Rattle.st_plain.specs.Canonical.{canonical, escape}
-use Rattle.st_plain.specs.Entries.{text_in}
-use Rattle.st_plain.specs.Objects.{object_of}
-use Rattle.st_plain.specs.Plain.{Plain, null, boolean, whole, text, list, object}
-use Rattle.st_plain.proofs.OnLiterals.{names_on_literals}
-use Rattle.st_hash.specs.Base64url.{bytes_of_text}
-use Rattle.st_hash.specs.Hash.{HashValue, IsHash, hash_of_multihash, hash_of_text_at, hash_of_text_with, hash_text, multihash}
-use Rattle.st_hash.proofs.HashTexts.{multihash_bytes}
-use Rattle.st_hash.proofs.Symbols.{IsApart, base64url_apart, decoded_apart}
-use Rattle.st_indexfiles.specs.Hashes.{hash_in, uri_in}
-use Rattle.st_indexfiles.specs.SuffixData.{suffix_data_json}
+use Rattle.st_plain.specs.Plain.{canonical, escape, Plain, null, boolean, whole, text, list, object}
+use Rattle.st_plain.specs.Objects.{text_in, object_of}
+use Rattle.st_plain.proofs.NameLemmas.{names_on_literals}
+use Rattle.st_hash.specs.Hash.{bytes_of_text, HashValue, IsHash, hash_of_multihash, hash_of_text_at, hash_of_text_with, hash_text, multihash}
+use Rattle.st_hash.proofs.HashLemmas.{multihash_bytes}
+use Rattle.st_hash.proofs.Base64Lemmas.{IsApart, base64url_apart, decoded_apart}
+use Rattle.st_indexfiles.specs.CoreIndex.{hash_in, uri_in, suffix_data_json}
 use Rattle.st_indexfiles.specs.declared.suffix_data.SuffixData.{SuffixData}
 
 -- none of these bytes is escaped

@@ -1,33 +1,55 @@
--- The JSON of a core index that was written: its content is the index, and it fails no rule.
-use Rattle.std.proofs.Common.{◌≡◌, ◌∙◌, ℕ, ◌+◌, ◌≤◌, true, false, nat_lt, List, codes, length, map, Option, Some, None, refl, sym, ap, arith}
-use Rattle.std.specs.Prelude.{◌||◌, is_some, option_map}
-use Rattle.std.specs.List.{AllByRecursion, filter_map}
+-- Written files that fail no rule: lemmas shared by several tables.
+use Rattle.std.proofs.Common.{◌≡◌, ◌∙◌, ℕ, true, false, nat_lt, List, [], ◌∷◌, length, Option, Some, None, refl, ap, ◌+◌, ◌≤◌, codes, map, sym, arith}
 use Rattle.std.proofs.lemmas.Bool.{and_from, and_parts, le-ltb, not_from_true}
-use Rattle.st_base.specs.Each.{each_is}
-use Rattle.st_base.specs.Twice.{has_twice}
-use Rattle.st_plain.specs.Canonical.{canonical}
-use Rattle.st_plain.specs.Find.{member_at}
-use Rattle.st_plain.specs.Objects.{some_list, some_object}
-use Rattle.st_plain.specs.Plain.{Plain}
-use Rattle.st_plain.specs.Shapes.{entries_in, is_list_if_there, json_in, member_in}
-use Rattle.st_plain.proofs.ObjectLemmas.{entries_in-some_list, has_only-some_listed, member_at-some_listed, member_in-some_object}
-use Rattle.st_plain.proofs.ReadableLemmas.{json_again}
+use Rattle.std.specs.List.{AllByRecursion, list_all, filter_map}
+use Rattle.std.specs.Prelude.{is_none, ◌||◌, is_some, option_map}
+use Rattle.st_base.specs.Lists.{each_is, has_twice}
+use Rattle.st_base.specs.Rules.{Table, first_failing}
+use Rattle.st_plain.proofs.ListedLemmas.{entries_in-some_list, has_only-some_listed, member_at-some_listed, member_in-some_object}
+use Rattle.st_plain.proofs.ReadableLemmas.{IsReadable, json_again}
+use Rattle.st_plain.specs.Plain.{canonical, Plain, Members, no_members, member}
+use Rattle.st_plain.specs.Objects.{has_only, member_at, some_list, some_object}
+use Rattle.st_plain.specs.Shapes.{is_list_if_there, json_in, entries_in, member_in}
+use Rattle.st_scan.specs.Standing.{is_object_of_lists_if_there}
 use Rattle.st_hash.specs.Hash.{same_hash}
-use Rattle.st_indexfiles.specs.CoreIndex.{core_index_of, core_json, core_lists, core_members, core_operations, operations_of, suffixes_of}
-use Rattle.st_indexfiles.specs.CoreParts.{says_stray_proof}
-use Rattle.st_indexfiles.specs.CoreRules.{core_json_rules, core_kinds, core_names, first_failing_core_rule, has_core_entries, has_core_form, has_core_members, has_signed, one_alone, operation_count}
-use Rattle.st_indexfiles.specs.Hashes.{hash_json, is_uri_if_there, uri_in}
-use Rattle.st_indexfiles.specs.ProvisionalRules.{core_count}
-use Rattle.st_indexfiles.specs.SuffixData.{create_json, create_of}
-use Rattle.st_indexfiles.specs.Target.{target_json, target_of}
-use Rattle.st_indexfiles.specs.Written.{IsCoreReadAgain}
+use Rattle.st_params.specs.ParamsValue.{ParamsValue}
+use Rattle.st_indexfiles.proofs.WrittenLemmas.{counted_core, stray_core, core_readable, IsAgain, IsUriAgain, all_again, each_again, now_again, uri_again, uri_passes, uri_read}
+use Rattle.st_indexfiles.specs.CoreIndex.{core_index_of, core_json, core_lists, core_members, core_operations, operations_of, suffixes_of, core_json_rules, core_kinds, core_names, first_failing_core_rule, has_core_entries, has_core_form, has_core_members, has_signed, one_alone, operation_count, hash_json, is_uri_if_there, uri_in, create_json, create_of, target_json, target_of}
+use Rattle.st_indexfiles.specs.ProvisionalIndex.{core_count}
 use Rattle.st_indexfiles.specs.declared.core_index.CoreIndex.{CoreIndex}
-use Rattle.st_indexfiles.specs.declared.core_rule.CoreRule.TheVariants.{C1, C2}
-use Rattle.st_params.specs.Limits.{Limits}
-use Rattle.st_indexfiles.proofs.PassingLemmas.{list_passes, lists_pass, written_passes}
-use Rattle.st_indexfiles.proofs.ReadLemmas.{counted_core, stray_core}
-use Rattle.st_indexfiles.proofs.ReadableLemmas.{core_readable}
-use Rattle.st_indexfiles.proofs.WrittenLemmas.{IsAgain, IsUriAgain, all_again, each_again, now_again, uri_again, uri_passes, uri_read}
+use Rattle.st_indexfiles.specs.declared.core_index.CoreRule.TheVariants.{C1, C2}
+use Rattle.st_indexfiles.specs.inside.CoreParts.{says_stray_proof, IsCoreReadAgain}
+
+-- if each test passes, no rule fails
+pub none_failing : {Rule : Type 0} (rules : Table Rule) → AllByRecursion (λ row. row.1 ≡ false) rules → first_failing rules ≡ None
+none_failing [] all = refl
+none_failing (row ∷ rows) all = rw all.0 (none_failing rows all.1)
+
+-- the text of a readable value fails no rule if it is short enough and the value fails none
+pub written_passes : {Rule : Type 0} (long not_json : Rule) (rules : Option Plain → Table Rule) (most : ℕ) (value : Plain)
+    → IsReadable 127 value
+    → AllByRecursion (λ row. row.1 ≡ false) ((long, nat_lt most (length (canonical value))) ∷ rules (Some value))
+    → first_failing ((long, nat_lt most (length (canonical value))) ∷ (not_json, is_none (json_in (canonical value))) ∷ rules (json_in (canonical value))) ≡ None
+written_passes long not_json rules most value readable pass =
+    ap (λ read. first_failing ((long, nat_lt most (length (canonical value))) ∷ (not_json, is_none read) ∷ rules read)) (json_again value readable)
+    ∙ none_failing ((long, nat_lt most (length (canonical value))) ∷ (not_json, false) ∷ rules (Some value))
+    (pass.0, (refl, pass.1))
+
+-- ---- objects of lists
+
+pub list_passes : (entries : List Plain) → is_list_if_there (some_list entries) ≡ true
+unfolding some_list
+list_passes [] = refl
+list_passes (entry ∷ entries) = refl
+
+-- an object of optional lists
+pub lists_pass : (names : List (List ℕ)) (ms : Members) → has_only names ms ≡ true
+    → list_all (λ name. is_list_if_there (member_at name ms)) names ≡ true → is_object_of_lists_if_there names (some_object ms) ≡ true
+unfolding some_object
+lists_pass names no_members only lists = refl
+lists_pass names (member n p ms) only lists = and_from (has_only names (member n p ms)) _ only lists
+
+-- ---- The JSON of a core index that was written: its content is the index, and it fails no rule.
 
 -- each part of a core index is read from its written form
 pub record IsCoreRead (version : ℕ) (index : CoreIndex) : Type 0 where
@@ -38,7 +60,7 @@ pub record IsCoreRead (version : ℕ) (index : CoreIndex) : Type 0 where
   pub deactivates : AllByRecursion (IsAgain (target_of version) target_json) index.deactivates
 
 -- properties of a core index that is written at these limits under this count
-pub record IsCoreSound (limits : Limits) (count : ℕ) (index : CoreIndex) : Type 0 where
+pub record IsCoreSound (limits : ParamsValue) (count : ℕ) (index : CoreIndex) : Type 0 where
   pub parts : IsCoreRead limits.version index
   pub few : length index.creates + length index.recovers + length index.deactivates ≤ count
   pub different : has_twice same_hash (suffixes_of index) ≡ false
@@ -119,7 +141,7 @@ module _ (index : CoreIndex) where
       (and_from _ _ create (and_from _ _ recover (and_from _ _ deactivate refl))) in
       and_from _ _ names (rw operations_there lists)
 
-module _ (limits : Limits) (count : ℕ) (index : CoreIndex) (sound : IsCoreSound limits count index) where
+module _ (limits : ParamsValue) (count : ℕ) (index : CoreIndex) (sound : IsCoreSound limits count index) where
   says : core_index_of limits.version (json index) ≡ index
   says = core_says index limits.version sound.parts
 

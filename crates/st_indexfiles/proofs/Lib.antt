@@ -3,16 +3,12 @@ pub mod BareLemmas
 -- a written core index fails no rule and is read again
 pub mod CoreLemmas
 -- the URI of a file is a hash that is read from its text
-pub mod FileUriLemmas
--- their canonical text, one member after another
 pub mod MemberLemmas
+-- their canonical text, one member after another
 -- written files that fail no rule, whatever the table
-pub mod PassingLemmas
 -- a written provisional index fails no rule and is read again
 pub mod ProvisionalLemmas
-pub mod ReadLemmas
--- the written text is read again
-pub mod ReadableLemmas
-pub mod TwiceLemmas
--- hashes, entries and URIs are read from their written form
 pub mod WrittenLemmas
+
+-- the written text is read again
+-- hashes, entries and URIs are read from their written form

@@ -1,27 +1,35 @@
 -- The canonical text of index files, one member after another.
-use Rattle.std.proofs.Common.{◌≡◌, ◌∙◌, ℕ, Bool, true, false, List, [], ◌∷◌, ◌++◌, codes, map, Option, Some, None, option_map, refl, sym, ap, append_assoc}
-use Rattle.std.proofs.Common.{◌≤◌, ◌<◌, length, nat_lt, arith}
+use Rattle.std.proofs.Common.{◌≡◌, ◌∙◌, ℕ, Bool, true, false, List, [], ◌∷◌, ◌++◌, codes, map, Option, Some, None, option_map, refl, sym, ap, append_assoc, ◌≤◌, ◌<◌, length, nat_lt, arith, zero, suc, slice_index, inl, ◌+◌, ◌==◌, not, cond, drop, get_or}
 use Rattle.std.proofs.lemmas.Bool.Decides.{nat_tests}
-use Rattle.std.specs.Prelude.{◌||◌, is_some}
 use Rattle.std.proofs.lemmas.List.{append-nil}
+use Rattle.std.proofs.lemmas.Map.Made.{distinct_count-le}
+use Rattle.std.specs.BTreeSet.{BTreeSet, IsFromIterResult, contains}
+use Rattle.std.specs.Int.{to_be_bytes, w32}
+use Rattle.std.specs.List.{AllByRecursion, list_any}
+use Rattle.std.specs.Ordering.{eq_by_cmp}
+use Rattle.std.specs.Prelude.{◌||◌, is_some}
+use Rattle.std.specs.Set.{distinct_count, unique_keys}
 use Rattle.std.specs.Str.{chars}
-use Rattle.st_plain.specs.Canonical.{canonical, comma, escape}
-use Rattle.st_plain.specs.Listed.{member_text, name_text}
-use Rattle.st_plain.specs.Objects.{put_some, some_list, some_listed, some_object}
-use Rattle.st_plain.specs.Plain.{Plain, list, object, Members, no_members, member}
-use Rattle.st_plain.specs.Entries.{items_of}
+use Rattle.base64.specs.GeneralPurpose.{IsBytes}
+use Rattle.sha2.proofs.Facts256.{length-sha256}
+use Rattle.sha2.specs.Sha256.{digest_bytes, sha256}
+use Rattle.st_base.proofs.ListLemmas.{next_item, each-append}
+use Rattle.st_base.specs.Lists.{has_twice, shares_one}
 use Rattle.st_plain.proofs.ListedLemmas.{canonical-sorted}
-use Rattle.st_plain.proofs.OnLiterals.{names_on_literals}
-use Rattle.st_indexfiles.specs.CoreIndex.{core_json, core_lists, core_members, core_operations}
-use Rattle.st_indexfiles.specs.Hashes.{hash_json}
+use Rattle.st_plain.proofs.NameLemmas.{names_on_literals}
+use Rattle.st_plain.specs.Plain.{canonical, comma, escape, Plain, list, object, Members, no_members, member}
+use Rattle.st_plain.specs.Objects.{put_some, some_list, some_listed, some_object, items_of}
+use Rattle.st_plain.specs.inside.Objects.{member_text, name_text}
+use Rattle.st_hash.proofs.HashLemmas.{hash_of_text-hash_text}
+use Rattle.st_hash.specs.Hash.{IsHash, hash_of_text, hash_text, uri_of, HashValue, hash_cmp, same_hash, same_hash-ties}
+use Rattle.st_indexfiles.proofs.WrittenLemmas.{IsUriAgain}
+use Rattle.st_indexfiles.specs.CoreIndex.{core_json, core_lists, core_members, core_operations, hash_json, create_json, create_of, target_json, target_of}
 use Rattle.st_indexfiles.specs.ProvisionalIndex.{chunk_json, provisional_json, provisional_lists, provisional_members, provisional_operations}
-use Rattle.st_indexfiles.specs.SuffixData.{create_json, create_of}
-use Rattle.st_indexfiles.specs.Target.{target_json, target_of}
-use Rattle.st_indexfiles.specs.Written.{AreReadAgain}
 use Rattle.st_indexfiles.specs.declared.core_index.CoreIndex.{CoreIndex}
 use Rattle.st_indexfiles.specs.declared.provisional_index.ProvisionalIndex.{ProvisionalIndex}
 use Rattle.st_indexfiles.specs.declared.suffix_data.SuffixData.{SuffixData}
-use Rattle.st_indexfiles.specs.declared.target.Target.{Target}
+use Rattle.st_indexfiles.specs.declared.entries.Target.{Target}
+use Rattle.st_indexfiles.specs.inside.CoreParts.{AreReadAgain}
 
 -- ---- pieces written one after another
 
@@ -175,3 +183,75 @@ module _ (index : ProvisionalIndex) where
   unfolding chars
   provisional_operations_text =
       canonical-sorted (provisional_lists index) ((codes "update", some_list (map target_json index.updates)) ∷ []) refl refl ∙ simp append_assoc
+
+-- ---- A file's URI is a hash that is read from its text again.
+
+abbrev IsByte : ℕ → Type 0
+IsByte byte = byte < 256
+
+word_below : (n : ℕ) → AllByRecursion IsByte (to_be_bytes w32 n)
+word_below n = (omega arith, (omega arith, (omega arith, (omega arith, tt))))
+
+digest_below : (h : List ℕ) (n : ℕ) → AllByRecursion IsByte (digest_bytes h n)
+unfolding digest_bytes
+digest_below h zero = tt
+digest_below h (suc n) = each-append IsByte (digest_bytes h n) (to_be_bytes w32 (slice_index h n)) (digest_below h n) (word_below (slice_index h n))
+
+at_place : (bytes : List ℕ) → AllByRecursion IsByte bytes → IsBytes bytes
+at_place [] all i = omega arith
+at_place (byte ∷ bytes) all zero = all.0
+at_place (byte ∷ bytes) all (suc i) = at_place bytes all.1 i
+
+-- the URI of a file is a hash
+pub uri_is_hash : (file : List ℕ) → IsHash (uri_of file)
+unfolding sha256
+uri_is_hash file = record { code = inl refl; long = length-sha256 file; bytes = at_place _ (digest_below _ 8) }
+
+-- and is read from its text
+pub uri_of_again : (file : List ℕ) → hash_of_text (hash_text (uri_of file)) ≡ Some (uri_of file)
+uri_of_again file = hash_of_text-hash_text (uri_of file) (uri_is_hash file) refl
+
+-- the same of an optional file
+pub file_uri_again : (file : Option (List ℕ)) → IsUriAgain (option_map uri_of file)
+file_uri_again None = tt
+file_uri_again (Some bytes) = uri_of_again bytes
+
+-- ---- An item appears twice if there are fewer different ones than items; hashes by the order of a set.
+
+same_count : (m n : ℕ) → not (suc m == suc n) ≡ not (m == n)
+same_count m n = grind (arith, nat_tests)
+
+fewer : (m n : ℕ) → m ≤ n → not (m == suc n) ≡ true
+fewer m n h = grind (arith, nat_tests)
+
+has_twice-counted : {Item : Type 0} (same : Item → Item → Bool) (items : List Item)
+    → not (distinct_count same items == length items) ≡ has_twice same items
+has_twice-counted same [] = refl
+has_twice-counted same (item ∷ later) =
+    elim (list_any (same item) later) as (λ found. not (length (cond found (unique_keys same later) (item ∷ unique_keys same later)) == suc (length later)) ≡ (found || has_twice same later)) [
+      | true ↦ fewer (distinct_count same later) (length later) (distinct_count-le same later)
+      | false ↦ same_count (distinct_count same later) (length later) ∙ has_twice-counted same later
+    ]
+
+-- a hash appears twice if there are fewer different ones than hashes
+pub has_twice-count : (hashes : List HashValue) (different : ℕ) → different ≡ distinct_count (eq_by_cmp hash_cmp) hashes
+    → not (different == length hashes) ≡ has_twice same_hash hashes
+has_twice-count hashes different is =
+    ap (λ count. not (count == length hashes)) is ∙ has_twice-counted (eq_by_cmp hash_cmp) hashes
+    ∙ (λ i. has_twice (λ x y. sym (same_hash-ties x y) i) hashes)
+
+-- a set of hashes has those of the list it was made from
+pub found_in : (set : BTreeSet HashValue) (hashes : List HashValue) → IsFromIterResult hash_cmp hashes set → (hash : HashValue)
+    → contains hash_cmp set hash ≡ list_any (same_hash hash) hashes
+found_in set hashes made hash = made.0 hash ∙ (λ i. list_any (λ other. sym (same_hash-ties hash other) i) hashes)
+
+pub shares_one-found : (hashes others : List HashValue) (at : ℕ) (hash : HashValue) → at < length hashes → hash ≡ get_or hashes at hash
+    → list_any (same_hash hash) others ≡ true → shares_one same_hash (drop at hashes) others ≡ true
+shares_one-found hashes others at hash inside is found =
+    ap (λ left. shares_one same_hash left others) (next_item hashes at hash inside is) ∙ rw found refl
+
+pub shares_one-later : (hashes others : List HashValue) (at : ℕ) (hash : HashValue) → at < length hashes → hash ≡ get_or hashes at hash
+    → list_any (same_hash hash) others ≡ false
+    → shares_one same_hash (drop at hashes) others ≡ shares_one same_hash (drop (at + 1) hashes) others
+shares_one-later hashes others at hash inside is none =
+    ap (λ left. shares_one same_hash left others) (next_item hashes at hash inside is) ∙ rw none refl

@@ -3,29 +3,22 @@ use Rattle.std.proofs.Common.{◌≡◌, ◌∙◌, ℕ, ◌+◌, ◌≤◌, ◌
 use Rattle.std.specs.Prelude.{is_none, is_some, option_map}
 use Rattle.std.specs.List.{AllByRecursion, filter_map}
 use Rattle.std.proofs.lemmas.Bool.{and_from, and_parts, le-ltb, ne_eqb, not_from_true}
-use Rattle.st_base.specs.Each.{each_is}
-use Rattle.st_plain.specs.Canonical.{canonical}
+use Rattle.st_base.specs.Lists.{each_is}
+use Rattle.st_plain.specs.Plain.{canonical, Plain}
 use Rattle.st_plain.specs.Objects.{some_object}
-use Rattle.st_plain.specs.Plain.{Plain}
 use Rattle.st_plain.specs.Shapes.{entries_in, is_list_if_there, json_in, member_in, only_member, only_of}
-use Rattle.st_plain.proofs.ObjectLemmas.{entries_in-some_list, has_only-some_listed, member_at-some_listed, member_in-some_object}
+use Rattle.st_plain.proofs.ListedLemmas.{entries_in-some_list, has_only-some_listed, member_at-some_listed, member_in-some_object}
 use Rattle.st_plain.proofs.ReadableLemmas.{json_again}
 use Rattle.st_hash.specs.Hash.{hash_of_text, hash_text}
-use Rattle.st_indexfiles.specs.CoreIndex.{operations_of}
-use Rattle.st_indexfiles.specs.CoreRules.{one_alone}
-use Rattle.st_indexfiles.specs.Hashes.{hash_json, is_uri_if_there, uri_in}
-use Rattle.st_indexfiles.specs.ProvisionalIndex.{chunk_in, chunk_json, provisional_index_of, provisional_json, provisional_lists, provisional_members, provisional_operations, provisional_with, suffixes_in, updates_in}
-use Rattle.st_indexfiles.specs.ProvisionalRules.{core_count, first_failing_provisional_rule, has_provisional_entries, has_provisional_form, provisional_json_rules, provisional_names, repeats_suffix, update_count}
-use Rattle.st_indexfiles.specs.Target.{target_json, target_of}
-use Rattle.st_indexfiles.specs.Written.{IsProvisionalReadAgain}
+use Rattle.st_indexfiles.specs.CoreIndex.{operations_of, one_alone, hash_json, is_uri_if_there, uri_in, target_json, target_of}
+use Rattle.st_indexfiles.specs.ProvisionalIndex.{chunk_in, chunk_json, provisional_index_of, provisional_json, provisional_lists, provisional_members, provisional_operations, provisional_with, suffixes_in, updates_in, core_count, first_failing_provisional_rule, has_provisional_entries, has_provisional_form, provisional_json_rules, provisional_names, repeats_suffix, update_count}
+use Rattle.st_indexfiles.specs.inside.CoreParts.{IsProvisionalReadAgain}
 use Rattle.st_indexfiles.specs.declared.core_index.CoreIndex.{CoreIndex}
 use Rattle.st_indexfiles.specs.declared.provisional_index.ProvisionalIndex.{ProvisionalIndex}
-use Rattle.st_indexfiles.specs.declared.provisional_rule.ProvisionalRule.TheVariants.{P1, P2}
-use Rattle.st_params.specs.Limits.{Limits}
-use Rattle.st_indexfiles.proofs.PassingLemmas.{list_passes, lists_pass, written_passes}
-use Rattle.st_indexfiles.proofs.ReadLemmas.{counted_updates, stray_provisional}
-use Rattle.st_indexfiles.proofs.ReadableLemmas.{provisional_readable}
-use Rattle.st_indexfiles.proofs.WrittenLemmas.{IsAgain, IsUriAgain, all_again, each_again, now_again, read_as, uri_again, uri_passes, uri_read}
+use Rattle.st_indexfiles.specs.declared.provisional_index.ProvisionalRule.TheVariants.{P1, P2}
+use Rattle.st_params.specs.ParamsValue.{ParamsValue}
+use Rattle.st_indexfiles.proofs.CoreLemmas.{list_passes, lists_pass, written_passes}
+use Rattle.st_indexfiles.proofs.WrittenLemmas.{counted_updates, stray_provisional, provisional_readable, IsAgain, IsUriAgain, all_again, each_again, now_again, read_as, uri_again, uri_passes, uri_read}
 
 -- each part of a provisional index is read from its written form
 pub record IsProvisionalRead (version : ℕ) (index : ProvisionalIndex) : Type 0 where
@@ -34,7 +27,7 @@ pub record IsProvisionalRead (version : ℕ) (index : ProvisionalIndex) : Type 0
   pub updates : AllByRecursion (IsAgain (target_of version) target_json) index.updates
 
 -- properties of a provisional index that is written at these limits under this count, given a core index
-pub record IsProvisionalSound (limits : Limits) (count : ℕ) (core : CoreIndex) (index : ProvisionalIndex) : Type 0 where
+pub record IsProvisionalSound (limits : ParamsValue) (count : ℕ) (core : CoreIndex) (index : ProvisionalIndex) : Type 0 where
   pub parts : IsProvisionalRead limits.version index
   pub different : repeats_suffix (suffixes_in index.updates) core ≡ false
   pub few : core_count core + length index.updates ≤ count
@@ -105,7 +98,7 @@ module _ (index : ProvisionalIndex) where
       (and_from _ _ update refl) in
       and_from _ _ names (rw operations_there lists)
 
-module _ (limits : Limits) (count : ℕ) (core : CoreIndex) (index : ProvisionalIndex) (sound : IsProvisionalSound limits count core index) where
+module _ (limits : ParamsValue) (count : ℕ) (core : CoreIndex) (index : ProvisionalIndex) (sound : IsProvisionalSound limits count core index) where
   entries_pass : has_provisional_entries limits.version (json index) ≡ true
   unfolding has_provisional_entries
   entries_pass =

@@ -1,19 +1,194 @@
--- What was written is read again: hashes, lists of entries, URIs.
-use Rattle.std.specs.Prelude.{is_some, IfSome}
-use Rattle.std.specs.List.{AllByRecursion, filter_map}
-use Rattle.std.specs.Option.{option_or}
-use Rattle.std.proofs.Common.{◌≡◌, ℕ, ◌==◌, Bool, true, false, cond, List, [], ◌∷◌, Option, Some, None, option_and_then, option_map, map, refl, ap}
+-- If the parts of a file have their form, as many entries and URIs are read as the file has.
+use Rattle.std.proofs.Common.{◌≡◌, ◌∙◌, ℕ, suc, ◌+◌, true, if◌then◌else◌, List, [], ◌∷◌, codes, length, Option, Some, None, refl, ap, ◌≤◌, map, arith, ◌==◌, Bool, false, cond, option_and_then}
 use Rattle.std.proofs.lemmas.Bool.{and_parts}
-use Rattle.st_base.specs.Each.{each_is}
+use Rattle.std.proofs.lemmas.Str.{IsUtf8-from_ascii}
+use Rattle.std.specs.List.{cons_option, filter_map, AllByRecursion}
+use Rattle.std.specs.Option.{option_or}
+use Rattle.std.specs.Prelude.{◌||◌, is_some, nat_lt, option_map, IfSome}
+use Rattle.std.specs.Str.{IsUtf8}
+use Rattle.base64.proofs.EngineFacts.{IsAscii-encode_of}
+use Rattle.base64.specs.Engines.{url_safe_no_pad}
+use lib.Utf8.{encode, encodes, scalars}
+use Rattle.st_base.specs.Lists.{each_is}
+use Rattle.st_plain.proofs.NameLemmas.{names_on_literals}
+use Rattle.st_plain.proofs.ReadableLemmas.{IsReadable, IsReadableThere, deeper, list_there, listed_readable, object_readable, object_there}
 use Rattle.st_plain.specs.Plain.{Plain}
-use Rattle.st_plain.proofs.OnLiterals.{names_on_literals}
-use Rattle.st_hash.specs.Hash.{HashValue, hash_of_text, hash_of_text_at, hash_of_text_with, hash_text}
-use Rattle.st_indexfiles.specs.Hashes.{hash_json, is_uri_if_there, uri_in}
-use Rattle.st_indexfiles.specs.SuffixData.{create_json, create_of}
-use Rattle.st_indexfiles.specs.Target.{target_json, target_of}
-use Rattle.st_indexfiles.specs.Written.{AreReadAgain, IsHashReadAgain, IsUriReadAgain, ReadsAs}
+use Rattle.st_plain.specs.Shapes.{member_in}
+use Rattle.st_hash.specs.Hash.{HashValue, hash_text, hash_of_text, hash_of_text_at, hash_of_text_with}
+use Rattle.st_indexfiles.specs.CoreIndex.{core_index_of, operations_of, core_json, core_lists, core_members, core_operations, has_core_entries, has_core_members, has_signed, one_alone, operation_count, is_uri_if_there, uri_in, hash_json, create_of, create_json, target_of, target_json, IsHashReadAgain, ReadsAs}
+use Rattle.st_indexfiles.specs.ProvisionalIndex.{updates_in, chunk_json, provisional_json, provisional_lists, provisional_members, provisional_operations, core_count, has_provisional_entries, update_count}
+use Rattle.st_indexfiles.specs.declared.core_index.CoreIndex.{CoreIndex}
+use Rattle.st_indexfiles.specs.declared.provisional_index.ProvisionalIndex.{ProvisionalIndex}
 use Rattle.st_indexfiles.specs.declared.suffix_data.SuffixData.{SuffixData}
-use Rattle.st_indexfiles.specs.declared.target.Target.{Target}
+use Rattle.st_indexfiles.specs.declared.entries.Target.{Target}
+use Rattle.st_indexfiles.specs.inside.CoreParts.{core_operations_in, core_said, core_uris_in, says_stray_proof, AreReadAgain, IsUriReadAgain}
+
+-- ---- entries and URIs
+
+one_read : {Read : Type 0} (found : Option Read) (others : List Read) → is_some found ≡ true → length (cons_option found others) ≡ suc (length others)
+one_read None others some = cc some
+one_read (Some one) others some = refl
+
+-- if each item is read, as many are read
+length-read : {Item Read : Type 0} (read : Item → Option Read) (items : List Item) → each_is read items ≡ true
+    → length (filter_map read items) ≡ length items
+length-read read [] each = refl
+length-read read (item ∷ items) each =
+    let parts = and_parts (is_some (read item)) (each_is read items) each in
+    one_read (read item) (filter_map read items) parts.0 ∙ ap suc (length-read read items parts.1)
+
+-- if the value is a URI or missing, a URI is read if and only if it is present
+uri_there : (there : Option Plain) → is_uri_if_there there ≡ true → is_some (uri_in there) ≡ is_some there
+uri_there None is = refl
+uri_there (Some value) is = is
+
+-- ---- core index files
+
+-- the content of its parts is its content
+pub said_core : (version : ℕ) (index : Option Plain)
+    → core_said version (core_uris_in index) (core_operations_in index) ≡ (if has_core_entries version index then Some (core_index_of version index) else None)
+unfolding core_said core_uris_in core_operations_in has_core_entries core_index_of
+said_core version index = refl
+
+module _ (version : ℕ) (index : Option Plain) (are_entries : has_core_entries version index ≡ true) where
+  -- as many operations are read as the file has
+  pub counted_core : core_count (core_index_of version index) ≡ operation_count index
+  unfolding has_core_entries core_index_of operation_count
+  counted_core =
+      let parts = and_parts _ _ are_entries in
+      let later = and_parts _ _ parts.1 in
+      let creates = length-read (create_of version) (operations_of (codes "create") index) parts.0 in
+      let recovers = length-read (target_of version) (operations_of (codes "recover") index) later.0 in
+      let deactivates = length-read (target_of version) (operations_of (codes "deactivate") index) later.1 in
+      λ i. creates i + recovers i + deactivates i
+
+  -- and it shows whether only one of a proof file and a signed operation is there
+  pub stray_core : (max_lock_id : ℕ) → has_core_members max_lock_id index ≡ true
+      → says_stray_proof (core_index_of version index) ≡ one_alone (is_some (member_in (codes "coreProofFileUri") index)) (has_signed index)
+  unfolding has_core_entries has_core_members core_index_of says_stray_proof has_signed
+  stray_core max_lock_id are_members =
+      let later = and_parts _ _ (and_parts _ _ are_entries).1 in
+      let recovers = length-read (target_of version) (operations_of (codes "recover") index) later.0 in
+      let deactivates = length-read (target_of version) (operations_of (codes "deactivate") index) later.1 in
+      let proof = uri_there (member_in (codes "coreProofFileUri") index) (and_parts _ _ are_members).0 in
+      λ i. one_alone (proof i) (nat_lt 0 (recovers i) || nat_lt 0 (deactivates i))
+
+-- ---- provisional index files
+
+module _ (version : ℕ) (index : Option Plain) (are_entries : has_provisional_entries version index ≡ true) where
+  -- as many updates are read as the file has
+  pub counted_updates : length (updates_in version index) ≡ update_count index
+  unfolding has_provisional_entries updates_in update_count
+  counted_updates = length-read (target_of version) (operations_of (codes "update") index) (and_parts _ _ are_entries).1
+
+  -- and the URI of the proof file is read if and only if it is present
+  pub stray_provisional : is_some (uri_in (member_in (codes "provisionalProofFileUri") index)) ≡ is_some (member_in (codes "provisionalProofFileUri") index)
+  unfolding has_provisional_entries
+  stray_provisional = uri_there (member_in (codes "provisionalProofFileUri") index) (and_parts _ _ are_entries).0
+
+-- ---- The JSON of index files is proper and does not nest too deep, so its canonical text is read again.
+
+-- ---- hash texts
+
+-- a hash text is UTF-8
+pub hash_text_utf8 : (hash : HashValue) → IsUtf8 (hash_text hash)
+hash_text_utf8 hash = IsUtf8-from_ascii (hash_text hash) (IsAscii-encode_of url_safe_no_pad _)
+
+-- so a hash as JSON is readable
+pub hash_readable : (hash : HashValue) → IsReadable 1 (hash_json hash)
+hash_readable hash = (hash_text_utf8 hash, omega arith)
+
+-- ---- entries
+
+-- a name that is a literal
+pub utf8 : (literal : List ℕ) → (scalars literal ≡ true) × (encodes literal ≡ literal) → IsUtf8 literal
+utf8 literal is = (literal, is)
+
+pub target_readable : (target : Target) → IsReadable 3 (target_json target)
+unfolding names_on_literals encode
+target_readable target = (
+  (
+    utf8 (codes "didSuffix") (refl, refl),
+    (refl, tt),
+    hash_text_utf8 target.suffix,
+    (utf8 (codes "revealValue") (refl, refl), tt, hash_text_utf8 target.reveal, tt),
+  ),
+  omega arith,
+)
+
+pub create_readable : (create : SuffixData) → IsReadable 3 (create_json create)
+unfolding names_on_literals encode
+create_readable create = (
+  (
+    utf8 (codes "suffixData") (refl, refl),
+    tt,
+    (
+      utf8 (codes "deltaHash") (refl, refl),
+      (refl, tt),
+      hash_text_utf8 create.delta_hash,
+      (utf8 (codes "recoveryCommitment") (refl, refl), tt, hash_text_utf8 create.recovery_commitment, tt),
+    ),
+    tt,
+  ),
+  omega arith,
+)
+
+targets_readable : (targets : List Target) → AllByRecursion (IsReadable 3) (map target_json targets)
+targets_readable [] = tt
+targets_readable (target ∷ targets) = (target_readable target, targets_readable targets)
+
+creates_readable : (creates : List SuffixData) → AllByRecursion (IsReadable 3) (map create_json creates)
+creates_readable [] = tt
+creates_readable (create ∷ creates) = (create_readable create, creates_readable creates)
+
+-- an optional URI
+pub uri_readable : (most : ℕ) (uri : Option HashValue) → 1 ≤ most → IsReadableThere most (option_map hash_json uri)
+uri_readable most None some = tt
+uri_readable most (Some uri) some = deeper 1 most (hash_json uri) some (hash_readable uri)
+
+-- ---- a core index
+
+module _ (index : CoreIndex) where
+  pub core_readable : IsReadable 127 (core_json index)
+  unfolding encode
+  core_readable =
+      let operations = listed_readable 4 (core_lists index) (
+        (utf8 (codes "create") (refl, refl), list_there 3 (map create_json index.creates) (creates_readable index.creates)),
+        (
+          (utf8 (codes "recover") (refl, refl), list_there 3 (map target_json index.recovers) (targets_readable index.recovers)),
+          ((utf8 (codes "deactivate") (refl, refl), list_there 3 (map target_json index.deactivates) (targets_readable index.deactivates)), tt),
+        ),
+      ) in
+      let all = listed_readable 5 (core_members index) (
+        (utf8 (codes "coreProofFileUri") (refl, refl), uri_readable 5 index.core_proof (omega arith)),
+        (
+          (utf8 (codes "provisionalIndexFileUri") (refl, refl), uri_readable 5 index.provisional (omega arith)),
+          ((utf8 (codes "operations") (refl, refl), object_there 4 (core_operations index) operations), tt),
+        ),
+      ) in
+      deeper 6 127 (core_json index) (omega arith) (object_readable 5 _ all)
+
+-- ---- a provisional index
+
+module _ (index : ProvisionalIndex) where
+  chunk_readable : IsReadable 4 (chunk_json index.chunk)
+  unfolding encode
+  chunk_readable = ((utf8 (codes "chunkFileUri") (refl, refl), tt, hash_text_utf8 index.chunk, tt), omega arith)
+
+  pub provisional_readable : IsReadable 127 (provisional_json index)
+  unfolding encode
+  provisional_readable =
+      let operations = listed_readable 4 (provisional_lists index) ((utf8 (codes "update") (refl, refl), list_there 3 (map target_json index.updates) (targets_readable index.updates)), tt) in
+      let all = listed_readable 5 (provisional_members index) (
+        (utf8 (codes "provisionalProofFileUri") (refl, refl), uri_readable 5 index.proof (omega arith)),
+        (
+          (utf8 (codes "chunks") (refl, refl), list_there 4 (chunk_json index.chunk ∷ []) (chunk_readable, tt)),
+          ((utf8 (codes "operations") (refl, refl), object_there 4 (provisional_operations index) operations), tt),
+        ),
+      ) in
+      deeper 6 127 (provisional_json index) (omega arith) (object_readable 5 _ all)
+
+-- ---- What was written is read again: hashes, lists of entries, URIs.
 
 -- ---- hashes
 

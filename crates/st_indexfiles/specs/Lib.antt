@@ -1,9 +1,3 @@
 pub mod CoreIndex
-pub mod CoreParts
-pub mod CoreRules
-pub mod Hashes
 pub mod ProvisionalIndex
-pub mod ProvisionalRules
-pub mod SuffixData
-pub mod Target
-pub mod Written
+pub mod inside

@@ -1,14 +1,11 @@
 ghost use Rattle.std.specs.Prelude.{◌≡◌, ◌++◌, ◌||◌, ℕ, codes, is_some, IfOk, OnOk, None};
-ghost use Rattle.st_plain.specs.Canonical.{canonical};
-ghost use Rattle.st_plain.specs.Listed.{member_text};
+ghost use Rattle.st_plain.specs.Plain.{canonical};
+ghost use Rattle.st_plain.specs.inside.Objects.{member_text};
 ghost use Rattle.st_plain.specs.Objects.{some_object};
 ghost use Rattle.st_plain.specs.Shapes.{json_in};
-ghost use Rattle.st_indexfiles.specs.CoreIndex.{core_index_of, core_json, core_operations};
-ghost use Rattle.st_indexfiles.specs.CoreRules.{first_failing_core_rule};
-ghost use Rattle.st_indexfiles.specs.SuffixData.{create_json, create_of};
-ghost use Rattle.st_indexfiles.specs.Target.{target_json, target_of};
-ghost use Rattle.st_indexfiles.specs.Written.{AreReadAgain};
-ghost use Rattle.st_params.specs.Limits.{Limits};
+ghost use Rattle.st_indexfiles.specs.CoreIndex.{core_index_of, core_json, core_operations, first_failing_core_rule, create_json, create_of, target_json, target_of};
+ghost use Rattle.st_indexfiles.specs.inside.CoreParts.{AreReadAgain};
+ghost use Rattle.st_params.specs.ParamsValue.{ParamsValue};
 
 use crate::core_index::CoreIndex;
 use crate::members::{append_list, append_name, append_uri};
@@ -20,7 +17,7 @@ use std::alloc::Global;
 pub fn write_core(alloc: Global, index: &CoreIndex) -> Result<Bytes, WantOfMemory>
     ensures text { IfOk result (λ text. text ≡ canonical (core_json index.now)) }
     // If the text fails no rule, it is read as the same index.
-    ensures read { IfOk result (λ text. (limits : Limits) (count : ℕ) → first_failing_core_rule limits count text ≡ None
+    ensures read { IfOk result (λ text. (limits : ParamsValue) (count : ℕ) → first_failing_core_rule limits count text ≡ None
         → core_index_of limits.version (json_in text) ≡ index.now) }
 {
     let mut text = Bytes::new(alloc);

@@ -5,30 +5,17 @@
 #![tactic(auto)]
 
 mod core_index;
-mod core_parts;
-mod core_reading;
-mod core_rule;
 mod core_writing;
 mod entries;
-mod hashes;
 mod members;
 mod provisional_index;
-mod provisional_reading;
-mod provisional_rule;
-mod provisional_writing;
 mod suffix_data;
-mod suffixes;
-mod target;
-mod twice;
 
-pub use core_index::CoreIndex;
-pub use core_reading::read_core;
-pub use core_rule::{CoreRefused, CoreRule};
+pub use core_index::{CoreIndex, CoreRefused, CoreRule, read_core};
 pub use core_writing::write_core;
-pub use hashes::{hash_in, hash_in_json, hash_json};
-pub use provisional_index::ProvisionalIndex;
-pub use provisional_reading::read_provisional;
-pub use provisional_rule::{ProvisionalRefused, ProvisionalRule};
-pub use provisional_writing::write_provisional;
+pub use entries::Target;
+pub use members::{hash_in, hash_in_json, hash_json};
+pub use provisional_index::{
+    ProvisionalIndex, ProvisionalRefused, ProvisionalRule, read_provisional, write_provisional,
+};
 pub use suffix_data::{SuffixData, suffix_of};
-pub use target::Target;

@@ -1,13 +1,11 @@
 ghost use Rattle.std.specs.Prelude.{◌≡◌, ◌++◌, ◌≤◌, codes, IfOk, OnOk, Some};
-ghost use Rattle.st_plain.specs.Canonical.{canonical};
+ghost use Rattle.st_plain.specs.Plain.{canonical};
 ghost use Rattle.st_canon.specs.View.{plain};
 ghost use Rattle.st_hash.specs.Hash.{IsHash};
-ghost use Rattle.st_indexfiles.specs.SuffixData.{suffix_data_json, suffix_data_of, suffix_of};
-ghost use Rattle.st_indexfiles.specs.Written.{IsHashReadAgain};
+ghost use Rattle.st_indexfiles.specs.CoreIndex.{suffix_data_json, suffix_data_of, suffix_of, IsHashReadAgain};
 
 use crate::entries::Entry;
-use crate::hashes::{hash_in, hash_json};
-use crate::members::append_hash;
+use crate::members::{append_hash, hash_in, hash_json};
 use st_base::{Bytes, Copied, WantOfMemory};
 use st_canon::{Json, Object};
 use st_hash::{Hash, hash_text, hash_with};
@@ -29,7 +27,7 @@ pub struct SuffixData {
 }
 
 impl SuffixData {
-    ghost use Rattle.st_indexfiles.specs.SuffixData.{suffix_data_json, suffix_data_of};
+    ghost use Rattle.st_indexfiles.specs.CoreIndex.{suffix_data_json, suffix_data_of};
 
     /// The suffix data of a value: an object with exactly the two hash texts of the version. It
     /// allocates nothing.
@@ -49,7 +47,7 @@ impl SuffixData {
 
     /// The suffix data as a JSON object. Every version that reads its hash texts reads these
     /// hashes.
-    #[tactic(auto, unfolding(st_plain::proofs::OnLiterals::names_on_literals))]
+    #[tactic(auto, unfolding(st_plain::proofs::NameLemmas::names_on_literals))]
     pub fn json(&self, alloc: Global) -> Result<Json, WantOfMemory>
         ensures value { IfOk result (λ json. plain json ≡ suffix_data_json self.now) }
         ensures delta_hash { OnOk result (IsHashReadAgain self.now.delta_hash) }
@@ -119,7 +117,7 @@ fn know_hash(hash: &Hash)
 }
 
 impl Entry for SuffixData {
-    ghost use Rattle.st_indexfiles.specs.SuffixData.{create_json, create_of};
+    ghost use Rattle.st_indexfiles.specs.CoreIndex.{create_json, create_of};
 
     ghost of = { create_of };
 

@@ -2,17 +2,15 @@
 use Rattle.std.proofs.Common.{◌≡◌, inr, ℕ, ◌+◌, ◌<◌, ◌≤◌, max, List, [], ◌∷◌, ◌++◌, length, get_or, take, drop, replicate, refl, sym, ◌∙◌, ap, subst, arith}
 use Rattle.std.proofs.lemmas.List.{length-replicate, reverse-append, take_more, take-append-drop}
 use Rattle.std.specs.Prelude.{reverse}
-use Rattle.st_io.specs.Crashes.{torn_by, crashed, BeginsWithin}
-use Rattle.st_io.specs.Histories.{DiskHistory, IsImage, reads_after, past_of, AllBeganWithin}
+use Rattle.st_io.specs.Histories.{torn_by, crashed, DiskHistory, IsImage, reads_after, past_of, overwritten, Torn}
+use Rattle.st_io.specs.inside.Histories.{BeginsWithin, AllBeganWithin}
 use Rattle.st_io.specs.Past.{Images}
-use Rattle.st_io.specs.Tears.{overwritten, Torn}
 use Rattle.st_io.specs.declared.history.Step.{Step}
 use Rattle.st_io.specs.declared.history.Step.TheVariants.{Wrote, Synced}
 use Rattle.st_io.specs.declared.history.Written.{Written}
-use Rattle.st_io.specs.declared.pick.Pick.{Pick}
-use Rattle.st_io.specs.declared.pick.Pick.TheVariants.{Old, New, Fill}
-use Rattle.st_io.proofs.HistoryLemmas.{left_image}
-use Rattle.st_io.proofs.TearLemmas.{length_overwritten, overwritten_is_torn, length_lengthened, lengthened_is_torn}
+use Rattle.st_io.specs.declared.history.Pick.{Pick}
+use Rattle.st_io.specs.declared.history.Pick.TheVariants.{Old, New, Fill}
+use Rattle.st_io.proofs.HistoryLemmas.{left_image, length_overwritten, overwritten_is_torn, length_lengthened, lengthened_is_torn}
 
 length_torn : (pick : Pick) (written : Written) (image : List ℕ) → written.at ≤ length image
     → length (torn_by pick written image) ≡ max (length image) (written.at + length written.bytes)

@@ -1,5 +1,2 @@
 mod CrashLemmas
-mod HistoryLemmas
-pub mod PastLemmas
-pub mod MomentLemmas
-pub mod TearLemmas
+pub mod HistoryLemmas

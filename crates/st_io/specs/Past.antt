@@ -1,5 +1,5 @@
 -- The images that a stop may leave of a disk, at each moment so far.
-use Rattle.std.specs.Prelude.{◌≡◌, ◌⊎◌, ◌↔◌, ◌<◌, ◌≤◌, ℕ, List, Option}
+use Rattle.std.specs.Prelude.{◌≡◌, ◌⊎◌, ◌↔◌, ◌<◌, ◌≤◌, ℕ, List, Option, Bool, true, false, Result, MatchResult, ◌+◌, ◌-◌, ◌^◌, min, IsErrOf, OnErr}
 
 -- An image is a list of bytes that a stop may leave. A past has the moment, a number that doesn't fall; the images at
 -- each moment from a stated one on, which are among those from an earlier one on; and whether a successful sync, one
@@ -72,3 +72,67 @@ pub record AddsNoImage (old new : Past) : Type 0 where
 pub record StaysAsItWas (told now : Option (List ℕ)) (old new : Past) : Type 0 where
   pub reads : now ≡ told
   pub images : AddsNoImage old new
+
+-- ---- Numbers, such as counters, that are spent whatever a stop leaves of a disk.
+
+-- a number is spent in every present image
+abbrev pub SpentInAll : (spent : List ℕ → ℕ → Type 0) → Past → ℕ → Type 0
+SpentInAll spent past q = (image : List ℕ) → Images past image → spent image q
+
+-- A disk continues, and numbers spent in every image at the old moment are spent in every image at each moment since.
+pub record KeepsSpent (spent : List ℕ → ℕ → Type 0) (old new : Past) : Type 0 where
+  pub goes : GoesOn old new
+  pub stays : (q : ℕ) → SpentInAll spent old q → (image : List ℕ) → new.left_since old.now image → spent image q
+
+-- ---- Whether a sink is finished after a write.
+
+-- a write that appended leaves the sink unfinished; one that appended nothing or failed leaves this unchanged
+abbrev pub WriteUnfinishes : {E : Type 0} → Bool → Bool → Result ℕ E → Type 0
+WriteUnfinishes old new result =
+    MatchResult result (λ n. (0 < n → new ≡ false) × (n ≡ 0 → new ≡ old)) (λ _. new ≡ old)
+
+-- the sink is finished only if it was before
+abbrev pub FinishesNothing : Bool → Bool → Type 0
+FinishesNothing before now = now ≡ true → before ≡ true
+
+-- ---- Counts of faults. They never fall, and stay at 2^64 - 1 after they get there.
+
+-- the count is greater than before, or at its maximum
+abbrev pub Rose : ℕ → ℕ → Type 0
+Rose before now = min (before + 1) (2 ^ 64 - 1) ≤ now
+
+-- the count hasn't fallen, and the result is `Err` only if it rose
+pub record HasCause {T E : Type 0} (before now : ℕ) (result : Result T E) : Type 0 where
+  pub later : before ≤ now
+  pub failed : OnErr result (Rose before now)
+
+-- the count hasn't fallen, and the result is this error only if it rose
+pub record FaultHasCause {T E : Type 0} (fault : E) (before now : ℕ) (result : Result T E) : Type 0 where
+  pub later : before ≤ now
+  pub rose : IsErrOf result fault → Rose before now
+
+-- ---- The surroundings of a call that works on a disk: the disk before the call and after it.
+
+-- a disk; its contents are `None` if it doesn't reveal them
+pub record Storage : Type 1 where
+  -- its contents, before and after
+  pub reads : Option (List ℕ)
+  pub reads_behind : Option (List ℕ)
+  -- the images that a stop may have left by then, and at each moment until the end of the call
+  pub before : Past
+  pub behind : Past
+  -- it failed in this call
+  pub failed : Type 0
+  -- it is unchanged
+  pub kept : Type 0
+
+-- any disk, by what it reveals
+abbrev pub storage : {D : Type 0} (reads : D → Option (List ℕ)) (past : D → Past) (faults : D → ℕ) (disk disk_now : D) → Storage
+storage reads past faults disk disk_now = record {
+  reads = reads disk;
+  reads_behind = reads disk_now;
+  before = past disk;
+  behind = past disk_now;
+  failed = Rose (faults disk) (faults disk_now);
+  kept = disk_now ≡ disk;
+}

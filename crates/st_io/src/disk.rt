@@ -1,10 +1,9 @@
 ghost use Rattle.std.specs.Prelude.{◌≡◌, ◌+◌, ◌≤◌, ℕ, List, length, take, drop, IfOk, OnOk, OnErr};
 ghost use Rattle.std.specs.declared.option.Option.{Option};
-ghost use Rattle.st_io.specs.Causes.{HasCause};
-ghost use Rattle.st_io.specs.Past.{Past, Images, GoesOn, NoSync, OneSync, AddsNone, Follow, Only};
-ghost use Rattle.st_io.specs.Tears.{IfTold, Turns, Holds, Torn};
+ghost use Rattle.st_io.specs.Past.{HasCause, Past, Images, GoesOn, NoSync, OneSync, AddsNone, Follow, Only, SplitsSinceSync};
+ghost use Rattle.st_io.specs.Histories.{IfTold, Turns, Holds, Torn};
 
-use crate::failed::Failed;
+use crate::streams::Failed;
 
 /// A list of bytes that outlives a stop.
 ///
@@ -80,3 +79,30 @@ pub trait Disk {
     /// The contents are one of its images.
     ghost is_image: { (disk : Self) → IfTold (reads disk) (Images (past disk)) };
 }
+
+/// Overwrites the bytes from `at` on with `from`, as `Disk::write_at` does, and syncs. After Ok,
+/// the new contents are its only image.
+///
+/// The result is `Failed` only if the disk's count of faults rose in this call. At each moment of
+/// the call an image is one from before it, or such a one with any bytes in the range.
+pub fn write_synced<D: Disk>(disk: &mut D, at: u64, from: &[u8]) -> Result<(), Failed>
+    requires { IfTold (D.reads disk.old) (λ image. at ≤ length image) }
+    ensures written { OnOk result (Turns (D.reads disk.old) (D.reads disk.new) (Holds at from.now)) }
+    ensures durable { OnOk result (IfTold (D.reads disk.new) (Only (D.past disk.new))) }
+    ensures images { Follow (Torn at (length from.now)) (D.past disk.old) (D.past disk.new) }
+    ensures time { GoesOn (D.past disk.old) (D.past disk.new) }
+    ensures cause { HasCause (D.faults disk.old) (D.faults disk.new) result }
+{
+    disk.write_at(at, from)?;
+    disk.sync()
+}
+
+/// The images that a stop may leave from a successful sync on can be split at a later moment, like
+/// the images since a moment. So a clause about a whole run follows call by call.
+///
+/// It takes a disk before and after, so no program can call it: proofs use
+/// `st_io.proofs.PastLemmas.split_since_sync` with the clause `time` of each call.
+pub fn images_split<D: Disk>(before: &D, after: &D)
+    requires { GoesOn (D.past before.now) (D.past after.now) }
+    ensures { (t : ℕ) → SplitsSinceSync (D.past before.now) (D.past after.now) t }
+{}

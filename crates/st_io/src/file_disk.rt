@@ -1,8 +1,8 @@
 ghost use Rattle.std.specs.Prelude.{◌≡◌, None, length};
-ghost use Rattle.st_io.specs.Untold.{untold_past};
+ghost use Rattle.st_io.specs.Histories.{untold_past};
 
 use crate::disk::Disk;
-use crate::failed::Failed;
+use crate::streams::Failed;
 use std::fs::{File, Files, Metadata, OpenOptions};
 use std::io::{Read, Seek, SeekFrom, Write};
 use std::os::fd::AsRawFd;
@@ -145,7 +145,7 @@ fn open_locked<R: Files<File = File>>(rt: &R, name: &str) -> io::Result<File> {
 }
 
 // The file at a durable name: a newly created file outlives a stop only after its folder is synced.
-fn settled<R: Files<File = File>>(rt: &R, name: &str) -> io::Result<File> {
+fn open_durable<R: Files<File = File>>(rt: &R, name: &str) -> io::Result<File> {
     let file = open_locked(rt, name)?;
     file.sync_all()?;
     fs::open(rt, ".")?.sync_all()?;
@@ -156,7 +156,7 @@ fn settled<R: Files<File = File>>(rt: &R, name: &str) -> io::Result<File> {
 fn open_once<R: Files<File = File>>(rt: &R, name: &str, slot: &mut Slot) -> io::Result<()> {
     if let Slot::Unopened = slot {
         *slot = Slot::Lost;
-        *slot = Slot::Open(settled(rt, name)?);
+        *slot = Slot::Open(open_durable(rt, name)?);
     }
     Ok(())
 }

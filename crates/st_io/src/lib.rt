@@ -3,40 +3,22 @@
 //! scripted faults, and over the runtime.
 #![tactic(auto)]
 
-mod crash;
 mod disk;
-mod durable;
-mod failed;
 mod file_disk;
-mod front;
 mod history;
-mod overwrite;
-mod pick;
 mod plain_disk;
-mod plain_sink;
-mod plain_source;
+mod plain_streams;
 mod script_disk;
-mod script_sink;
-mod script_source;
-mod sink;
-mod source;
-mod splits;
-mod std_sink;
-mod std_source;
+mod script_streams;
+mod std_streams;
+mod streams;
 
-pub use disk::Disk;
-pub use durable::write_synced;
-pub use failed::Failed;
+pub use disk::{Disk, images_split, write_synced};
 pub use file_disk::FileDisk;
-pub use pick::Pick;
+pub use history::Pick;
 pub use plain_disk::PlainDisk;
-pub use plain_sink::PlainSink;
-pub use plain_source::PlainSource;
+pub use plain_streams::{PlainSink, PlainSource};
 pub use script_disk::ScriptDisk;
-pub use script_sink::ScriptSink;
-pub use script_source::ScriptSource;
-pub use sink::Sink;
-pub use source::Source;
-pub use splits::images_split;
-pub use std_sink::StdSink;
-pub use std_source::StdSource;
+pub use script_streams::{ScriptSink, ScriptSource};
+pub use std_streams::{StdSink, StdSource};
+pub use streams::{Failed, Sink, Source};

@@ -1,14 +1,12 @@
 #![tactic(auto, using(crate::proofs::HistoryLemmas::synced_by_now))]
 
 ghost use Rattle.std.specs.Prelude.{◌≡◌, ◌≤◌, Some, length, OnOk, OnErr};
-ghost use Rattle.st_io.specs.Causes.{HasCause};
-ghost use Rattle.st_io.specs.Histories.{reads_of, past_of, reads_is_image};
-ghost use Rattle.st_io.specs.Past.{GoesOn, NoSync, OneSync, AddsNone, Follow, Only};
-ghost use Rattle.st_io.specs.Tears.{IfTold, Turns, Holds, Torn};
+ghost use Rattle.st_io.specs.Past.{HasCause, GoesOn, NoSync, OneSync, AddsNone, Follow, Only};
+ghost use Rattle.st_io.specs.Histories.{reads_of, past_of, reads_is_image, IfTold, Turns, Holds, Torn};
 
 use crate::disk::Disk;
-use crate::failed::Failed;
 use crate::history::History;
+use crate::streams::Failed;
 use st_base::Bytes;
 use std::alloc::Global;
 

@@ -1,18 +1,13 @@
 #![tactic(auto, using(crate::proofs::HistoryLemmas::synced_by_now))]
 
 ghost use Rattle.std.specs.Prelude.{◌≡◌, ◌+◌, ◌≤◌, ◌↔◌, Some, [], length, take, drop, IsTrue, IsErr, IfOk, OnOk, OnErr};
-ghost use Rattle.st_io.specs.Causes.{HasCause};
-ghost use Rattle.st_io.specs.Crashes.{crashed};
-ghost use Rattle.st_io.specs.Histories.{reads_of, past_of, reads_is_image, with_step, with_write};
-ghost use Rattle.st_io.specs.Past.{Images, GoesOn, NoSync, OneSync, AddsNone, Follow, Only};
-ghost use Rattle.st_io.specs.Scripts.{Fails, FailsNext, CountsCall};
-ghost use Rattle.st_io.specs.Tears.{IfTold, Turns, Holds, Torn};
+ghost use Rattle.st_io.specs.Past.{HasCause, Images, GoesOn, NoSync, OneSync, AddsNone, Follow, Only};
+ghost use Rattle.st_io.specs.Histories.{crashed, reads_of, past_of, reads_is_image, with_step, with_write, Fails, FailsNext, CountsCall, IfTold, Turns, Holds, Torn};
 ghost use Rattle.st_io.specs.declared.history.Step.TheVariants.{Synced};
 
 use crate::disk::Disk;
-use crate::failed::Failed;
-use crate::history::History;
-use crate::pick::Pick;
+use crate::history::{History, Pick};
+use crate::streams::Failed;
 use st_base::{Bytes, List, WantOfMemory};
 use std::alloc::Global;
 use std::marker::Model;
@@ -30,7 +25,7 @@ pub struct ScriptDisk {
 }
 
 impl Model for ScriptDisk {
-    ghost use Rattle.st_io.specs.Scripts.{DiskScript};
+    ghost use Rattle.st_io.specs.Histories.{DiskScript};
 
     ghost Value = { DiskScript };
 

@@ -1,18 +1,14 @@
 ghost use Rattle.std.specs.Prelude.{◌≡◌, ◌≢◌, ◌<◌, ◌^◌, List, ℕ, Some, IfErr, IfOk, OnOk};
 ghost use Rattle.std.specs.Option.{ok_or};
 ghost use Rattle.st_base.specs.Answers.{GivesAs};
-ghost use Rattle.st_io.specs.Causes.{FaultHasCause};
-ghost use Rattle.st_io.specs.Past.{Images, Leaves, LeftSinceSync, Only, StaysAsItWas};
-ghost use Rattle.st_io.specs.Tears.{IfTold, Turns};
-ghost use Rattle.st_journal.specs.Coming.{IsReading, coming, left_of};
-ghost use Rattle.st_journal.specs.Image.{records};
-ghost use Rattle.st_journal.specs.Moments.{IsReady, IsOldOrHas};
-ghost use Rattle.st_journal.specs.Opening.{begun, opened, refusal_of};
-ghost use Rattle.st_journal.specs.declared.refused.JournalRefused.TheVariants.{Damaged};
+ghost use Rattle.st_io.specs.Past.{FaultHasCause, Images, Leaves, LeftSinceSync, Only, StaysAsItWas};
+ghost use Rattle.st_io.specs.Histories.{IfTold, Turns};
+ghost use Rattle.st_journal.specs.Opening.{IsReading, coming, left_of, begun, opened, refusal_of};
+ghost use Rattle.st_journal.specs.Image.{records, IsReady, IsOldOrHas};
+ghost use Rattle.st_journal.specs.declared.journal.JournalRefused.TheVariants.{Damaged};
 
-use crate::journal::Journal;
+use crate::journal::{Journal, JournalRefused};
 use crate::opening::{Opening, begin_synced};
-use crate::refused::JournalRefused;
 use st_base::{Bytes, List};
 use st_io::Disk;
 use std::alloc::Global;

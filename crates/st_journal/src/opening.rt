@@ -1,18 +1,12 @@
 ghost use Rattle.std.specs.Prelude.{◌≡◌, ◌≢◌, ◌+◌, ◌<◌, ◌^◌, List, ℕ, None, Ok, Err, drop, length, IfErr, IfOk, IfSome};
-ghost use Rattle.st_io.specs.Causes.{FaultHasCause};
-ghost use Rattle.st_io.specs.Past.{Leaves, LeftSinceSync, Only, StaysAsItWas};
-ghost use Rattle.st_io.specs.Tears.{IfTold};
-ghost use Rattle.st_journal.specs.Coming.{Comes, HasBegun, IsReading, RecordIs, coming, left_of};
-ghost use Rattle.st_journal.specs.Image.{records};
-ghost use Rattle.st_journal.specs.Moments.{IsReady, IsOldOrHas};
-ghost use Rattle.st_journal.specs.Opening.{opened, refusal_of};
-ghost use Rattle.st_journal.specs.Values.{at_end};
+ghost use Rattle.st_io.specs.Past.{FaultHasCause, Leaves, LeftSinceSync, Only, StaysAsItWas};
+ghost use Rattle.st_io.specs.Histories.{IfTold};
+ghost use Rattle.st_journal.specs.Opening.{Comes, HasBegun, IsReading, RecordIs, coming, left_of, opened, refusal_of};
+ghost use Rattle.st_journal.specs.Image.{records, IsReady, IsOldOrHas, at_end};
 
-use crate::journal::Journal;
+use crate::journal::{Journal, JournalRefused};
 use crate::layout::{CLOSED_GATE, HEAD_LEN, LONGEST};
-use crate::reading::read_record;
-use crate::refused::JournalRefused;
-use crate::window::{Window, bare_window, no_window};
+use crate::window::{Window, bare_window, no_window, read_record};
 use st_base::Bytes;
 use st_io::{Disk, write_synced};
 use std::alloc::Global;

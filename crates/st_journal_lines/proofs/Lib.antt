@@ -1,5 +1,3 @@
-mod LawLemmas
+pub mod RunLemmas
 mod ReplayLemmas
 mod StepLemmas
-mod OpenedLemmas
-pub mod RunLemmas

@@ -3,29 +3,26 @@
 --     opened_run      the properties if the journal was opened
 --     refused_run     and if it wasn't
 use Rattle.std.proofs.Common.{◌≡◌, ◌∙◌, inl, inr, ⊎_elim, ◌++◌, ◌≤◌, ℕ, Bool, true, false, List, [], ◌∷◌, Some, Ok, Err, is_some, refl, ap, sym, subst, arith, length, append-nil, ◌⊎◌, IsTrue, ◌||◌}
-use Rattle.std.specs.Prelude.{IsErrOf}
 use Rattle.std.proofs.lemmas.Bool.{false≢true}
-use Rattle.st_io.specs.Causes.{Rose}
-use Rattle.st_io.specs.Past.{Past}
-use Rattle.st_io.specs.Storage.{Storage, storage}
-use Rattle.st_drive.specs.Lines.{all_lines}
-use Rattle.st_drive.specs.OnDisk.{AllHold, EffectLaws, HasReleased, IsTold, LeavesOnDisk, Opens, RunLeaves, Store, disk_meaning, replies}
-use Rattle.st_drive.specs.Recording.{EndsReplied, HasPrefix, HasRepliedPrefix, KeepsPrefixes, KeepsRecords, changing, recorded, recording}
-use Rattle.st_drive.specs.Runs.{Begins, NearlyReplied, course}
-use Rattle.st_drive.specs.Streams.{Outcome, Streams, Unread}
-use Rattle.st_drive.specs.Tables.{AnsweredFirst, AnswersLines, is_end}
-use Rattle.st_drive.proofs.InputLemmas.{answered_input, answered_source, nothing_written}
-use Rattle.st_drive.proofs.OnDiskLemmas.{leaves_on_disk, run_leaves, run_opens}
-use Rattle.st_drive.proofs.RecordingLemmas.{ends_replied, keeps_prefixes, keeps_records}
-use Rattle.st_drive.proofs.TableLemmas.{IsUnread, ends_unread, ends_weaker, lines_by, not_begun, rose_before, took_none}
-use Rattle.st_journal.specs.Image.{records}
+use Rattle.std.specs.Prelude.{IsErrOf}
+use Rattle.st_io.specs.Past.{Rose, Past, Storage, storage}
+use Rattle.st_journal.specs.Image.{records, JournalValue}
 use Rattle.st_journal.specs.Opening.{opened}
-use Rattle.st_journal.specs.Values.{JournalValue}
-use Rattle.st_journal.specs.declared.refused.JournalRefused.{JournalRefused}
-use Rattle.st_journal.specs.declared.refused.JournalRefused.TheVariants.{TooLong, Damaged, DiskFault, WantOfMemory}
-use Rattle.st_journal_lines.specs.Answering.{Answering, behind, grown, recorder_of}
-use Rattle.st_journal_lines.specs.Journalled.{EndsLines, RunFromRecords, RecordedRun, KeepsFirstLines, KeepsLines, OpensJournal, Refuses, WentWithin, is_journal_end, journal_course, plain_recorder, refusal_status}
-use Rattle.st_journal_lines.proofs.OpenedLemmas.{damaged_is, machine_is, no_end, not_refused, opened_records, too_long_is, within_records}
+use Rattle.st_journal.specs.declared.journal.JournalRefused.{JournalRefused}
+use Rattle.st_journal.specs.declared.journal.JournalRefused.TheVariants.{TooLong, Damaged, DiskFault, WantOfMemory}
+use Rattle.st_drive.proofs.LineLemmas.{answered_input, answered_source, nothing_written}
+use Rattle.st_drive.proofs.OnDiskLemmas.{leaves_on_disk, run_leaves, run_opens, ends_replied, keeps_prefixes, keeps_records}
+use Rattle.st_drive.proofs.TableLemmas.{IsUnread, ends_unread, ends_weaker, lines_by, not_begun, rose_before, took_none}
+use Rattle.st_drive.specs.Lines.{all_lines, Outcome, Streams}
+use Rattle.st_drive.specs.OnDisk.{AllHold, EffectLaws, HasReleased, IsTold, Store, disk_meaning, replies, EndsReplied, HasPrefix, HasRepliedPrefix, KeepsPrefixes, KeepsRecords, changing, recorded, recording}
+use Rattle.st_drive.specs.Runs.{Begins, NearlyReplied, course}
+use Rattle.st_drive.specs.Tables.{AnsweredFirst, AnswersLines, is_end}
+use Rattle.st_drive.specs.inside.OnDisk.{LeavesOnDisk, Opens, RunLeaves}
+use Rattle.st_drive.specs.inside.Parts.{Unread}
+use Rattle.st_journal_lines.proofs.ReplayLemmas.{damaged_is, machine_is, no_end, not_refused, opened_records, too_long_is, within_records}
+use Rattle.st_journal_lines.specs.Answering.{Answering, behind, grown, recorder_of, Idles}
+use Rattle.st_journal_lines.specs.Journalled.{EndsLines, RunFromRecords, RecordedRun, KeepsFirstLines, KeepsLines, OpensJournal, Refuses, WentWithin, is_journal_end, journal_course, plain_recorder}
+use Rattle.st_journal_lines.specs.inside.Journalled.{refusal_status}
 
 -- the statuses of a run over lines are among those of a run with a journal
 or_left : (a b : Bool) → IsTrue a → IsTrue (a || b)
@@ -264,12 +261,52 @@ module _ {M C : Type 0} (answering : Answering M C) where
   refused_run effects {m} {limit} {run} Damaged is =
       let damaged = λ (image : List ℕ) (told : run.disk.reads ≡ Some image). damaged_is answering m image Damaged (is.opens.gives image told) refl in
       refused_with is.opens is.unread is.kept (search arith) (λ image told r has. absurd (let other = sym (damaged image told) ∙ has in cc))
-      (λ image told. ((λ e. damaged image told, λ e. inl is.status),
-      (λ e. absurd (omega (arith, is.status, e)), λ e. absurd (let other = sym (damaged image told) ∙ e in cc))))
+      (λ image told. (
+        (λ e. damaged image told, λ e. inl is.status),
+        (λ e. absurd (omega (arith, is.status, e)), λ e. absurd (let other = sym (damaged image told) ∙ e in cc)),
+      ))
       (λ e. inl refl) (λ working. inr (inl is.status)) (subst (λ s. IsTrue (is_journal_end s)) (sym is.status) refl)
   refused_run effects {m} {limit} {run} TooLong is =
       let too_long = λ (image : List ℕ) (told : run.disk.reads ≡ Some image). too_long_is answering m image TooLong (is.opens.gives image told) refl in
       refused_with is.opens is.unread is.kept (search arith) (λ image told r has. absurd (let other = sym (too_long image told) ∙ has in cc))
-      (λ image told. ((λ e. absurd (omega (arith, is.status, e)), λ e. absurd (let other = sym (too_long image told) ∙ e in cc)),
-      (λ e. too_long image told, λ e. inl is.status)))
+      (λ image told. (
+        (λ e. absurd (omega (arith, is.status, e)), λ e. absurd (let other = sym (too_long image told) ∙ e in cc)),
+        (λ e. too_long image told, λ e. inl is.status),
+      ))
       (λ e. inr refl) (λ working. inr (inr is.status)) (subst (λ s. IsTrue (is_journal_end s)) (sym is.status) refl)
+
+-- ---- The machine that a journal restores is the one after all lines, also those that aren't recorded.
+
+module _ {M C : Type 0} (answering : Answering M C) where
+  pub behind_more : (m : M) (first more : List (List ℕ)) → behind answering m (first ++ more) ≡ behind answering (behind answering m first) more
+  behind_more m [] more = refl
+  behind_more m (line ∷ first) more = behind_more (answering.next m line) first more
+
+  module _ {S : Type 0} {start : S → M} {good : M → Type 0} (idles : Idles answering start good) where
+    stays_good : (m : M) (lines : List (List ℕ)) → good m → good (behind answering m lines)
+    stays_good m [] is = is
+    stays_good m (line ∷ lines) is = stays_good (answering.next m line) lines (idles.stays m line is)
+
+    -- a line, if it is recorded
+    one_changing : (m : M) (line : List ℕ) (changes : Bool) → good m → answering.changes m line ≡ changes
+        → behind answering m (recorded changes line) ≡ answering.next m line
+    one_changing m line true is told = refl
+    one_changing m line false is told = sym (idles.idle m line is told)
+
+    changing_behind : (m : M) (lines : List (List ℕ)) → good m
+        → behind answering m (changing (plain_recorder answering) m lines) ≡ behind answering m lines
+    changing_behind m [] is = refl
+    changing_behind m (line ∷ lines) is =
+        let more = changing (plain_recorder answering) (answering.next m line) lines in
+        behind_more m (recorded (answering.changes m line) line) more
+        ∙ ap (λ n. behind answering n more) (one_changing m line (answering.changes m line) is refl)
+        ∙ changing_behind (answering.next m line) lines (idles.stays m line is)
+
+    pub journal_back : (seed : S) (r lines : List (List ℕ))
+        → behind answering (start seed) (r ++ changing (plain_recorder answering) (behind answering (start seed) r) lines)
+        ≡ behind answering (start seed) (r ++ lines)
+    journal_back seed r lines =
+        let m = behind answering (start seed) r in
+        behind_more (start seed) r (changing (plain_recorder answering) m lines)
+        ∙ changing_behind m lines (stays_good (start seed) r (idles.starts seed))
+        ∙ sym (behind_more (start seed) r lines)

@@ -4,13 +4,10 @@ use Rattle.std.proofs.Math.Path.{subst₂}
 use Rattle.std.proofs.lemmas.Bool.{false≢true}
 use Rattle.std.specs.Prelude.{IsSome}
 use Rattle.st_io.specs.Past.{Past, Images, Leaves}
-use Rattle.st_io.specs.Tears.{IfTold}
-use Rattle.st_drive.specs.OnDisk.{AllHold, GaveUpOnDisk, IsTold, RanOnDisk, Store}
-use Rattle.st_drive.specs.Recording.{recording}
-use Rattle.st_drive.proofs.RecordingLemmas.{gave_up_recording, has_recorded}
-use Rattle.st_journal.specs.Image.{records}
-use Rattle.st_journal.specs.Moments.{IsBeforeOrAfter, with_record}
-use Rattle.st_journal.specs.Values.{JournalValue, at_end}
+use Rattle.st_io.specs.Histories.{IfTold}
+use Rattle.st_drive.specs.OnDisk.{AllHold, GaveUpOnDisk, IsTold, RanOnDisk, Store, recording}
+use Rattle.st_drive.proofs.OnDiskLemmas.{gave_up_recording, has_recorded}
+use Rattle.st_journal.specs.Image.{records, IsBeforeOrAfter, with_record, JournalValue, at_end}
 use Rattle.st_journal_lines.specs.Answering.{Answering, grown, recorder_of}
 
 module _ {M C : Type 0} (answering : Answering M C) where

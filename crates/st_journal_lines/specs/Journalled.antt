@@ -2,21 +2,16 @@
 -- statuses.
 use Rattle.std.specs.Prelude.{◌≡◌, ◌⊎◌, ◌==◌, ◌||◌, ◌<◌, ◌^◌, ℕ, Bool, List, ◌++◌, Some, Result, Ok, Err, IfOk, OnOk, OnErr, IsErrOf, IsTrue}
 use Rattle.st_base.specs.Answers.{GivesAs}
-use Rattle.st_io.specs.Past.{LeftSinceSync, Leaves, Past, StaysAsItWas}
-use Rattle.st_io.specs.Storage.{Storage}
-use Rattle.st_io.specs.Tears.{IfTold, Turns}
-use Rattle.st_drive.specs.Lines.{all_lines}
-use Rattle.st_drive.specs.OnDisk.{replies}
-use Rattle.st_drive.specs.Recording.{Recorder, EndsReplied, KeepsPrefixes, KeepsRecords, recording}
+use Rattle.st_io.specs.Past.{LeftSinceSync, Leaves, Past, StaysAsItWas, Storage}
+use Rattle.st_io.specs.Histories.{IfTold, Turns}
+use Rattle.st_drive.specs.Lines.{all_lines, GoesWell, Outcome, Tells}
+use Rattle.st_drive.specs.OnDisk.{replies, Recorder, EndsReplied, KeepsPrefixes, KeepsRecords, recording}
 use Rattle.st_drive.specs.Runs.{Begins, Course}
-use Rattle.st_drive.specs.Streams.{GoesWell, Outcome, Tells}
 use Rattle.st_drive.specs.Tables.{AnswersLines, Ends, TakesBytes, is_end, replying}
-use Rattle.st_journal.specs.Image.{records}
-use Rattle.st_journal.specs.Moments.{IsOldOrHas, IsReady}
+use Rattle.st_journal.specs.Image.{records, IsOldOrHas, IsReady, JournalValue}
 use Rattle.st_journal.specs.Opening.{opened, refusal_of}
-use Rattle.st_journal.specs.Values.{JournalValue}
-use Rattle.st_journal.specs.declared.refused.JournalRefused.{JournalRefused}
-use Rattle.st_journal.specs.declared.refused.JournalRefused.TheVariants.{TooLong, Damaged, DiskFault, WantOfMemory}
+use Rattle.st_journal.specs.declared.journal.JournalRefused.{JournalRefused}
+use Rattle.st_journal.specs.declared.journal.JournalRefused.TheVariants.{TooLong, Damaged, DiskFault}
 use Rattle.st_journal_lines.specs.Answering.{Answering, StayedOrWent, WentOverFirst, behind, behind_opened}
 
 -- the machine records the lines that change it; the end of its journal is left out
@@ -58,15 +53,6 @@ WentWithin {M} answering m c d lines =
 abbrev pub journal_course : {M C : Type 0} → Answering M C → (m : M) (r : List (List ℕ)) (c d : C) → Course
 journal_course answering m r c d =
     replying (replies_by answering (behind answering m r)) (λ lines. WentWithin answering m c d (r ++ lines))
-
--- ---- the statuses
-
--- of a journal that is refused for this cause
-abbrev pub refusal_status : JournalRefused → ℕ
-refusal_status DiskFault = 4
-refusal_status WantOfMemory = 6
-refusal_status Damaged = 7
-refusal_status TooLong = 8
 
 -- of a run
 abbrev pub is_journal_end : ℕ → Bool

@@ -1,3 +1,3 @@
 pub mod Answering
-pub mod AnsweringLaws
 pub mod Journalled
+pub mod inside

@@ -2,13 +2,8 @@
 //! before its reply, and replaying the records restores it.
 #![tactic(auto)]
 
-mod laws;
 mod lines;
-mod opening;
-mod replayable;
 mod running;
 
-pub use laws::journal_law;
-pub use lines::JournalLines;
-pub use replayable::Replayable;
-pub use running::run_journalled;
+pub use lines::{JournalLines, Replayable};
+pub use running::{journal_law, run_journalled};

@@ -1,22 +1,68 @@
-ghost use Rattle.std.specs.Prelude.{◌≡◌, refl, true, ◌≤◌, ◌+◌, ◌*◌, ◌^◌, ℕ, List, length, IsSome, IsErrOf, IfOk, OnOk};
-ghost use Rattle.st_io.specs.Causes.{Rose};
-ghost use Rattle.st_io.specs.Past.{Images, Leaves};
-ghost use Rattle.st_io.specs.Tears.{IfTold};
-ghost use Rattle.st_drive.specs.OnDisk.{disk_meaning};
-ghost use Rattle.st_drive.specs.Recording.{recording};
-ghost use Rattle.st_journal.specs.Image.{records};
-ghost use Rattle.st_journal.specs.Moments.{IsReady, IsBeforeOrAfter, with_record};
-ghost use Rattle.st_journal.specs.Values.{at_end};
-ghost use Rattle.st_journal_lines.specs.Answering.{recorder_of};
-ghost use Rattle.st_journal_lines.specs.AnsweringLaws.{fits_less, machine_laws};
+ghost use Rattle.std.specs.Prelude.{◌≡◌, ℕ, List, [], ◌∷◌, IfOk, OnErr, refl, true, ◌≤◌, ◌+◌, ◌*◌, ◌^◌, length, IsSome, IsErrOf, OnOk};
+ghost use Rattle.st_io.specs.Past.{Rose, Images, Leaves};
+ghost use Rattle.st_io.specs.Histories.{IfTold};
+ghost use Rattle.st_journal.specs.Image.{records, IsReady, IsBeforeOrAfter, with_record, at_end};
+ghost use Rattle.st_drive.specs.OnDisk.{disk_meaning, recording};
+ghost use Rattle.st_journal_lines.specs.Answering.{Answering, AnsweringLaws, Idles, recorder_of, fits_less, machine_laws};
 
-use crate::replayable::Replayable;
-use st_base::Bytes;
+use st_base::{Bytes, WantOfMemory};
 use st_drive::{Machine, StepError};
 use st_io::Disk;
 use st_journal::{AppendRefused, Journal};
 use std::alloc::Global;
 use std::marker::{Model, PhantomData};
+
+/// A machine of lines without a disk, which is restored by replaying the lines that changed it.
+pub trait Replayable: Sized + Drop {
+    /// What the machine uses but doesn't own, such as a counter of work.
+    type Context;
+
+    /// What it starts with, such as a schedule of limits.
+    type Seed;
+
+    /// The machine before any line.
+    ghost start: { Self.Seed → Self };
+
+    /// Its reply to a line, the next machine, whether the line changed it, and the possible effects
+    /// on its context.
+    ghost answering: { Answering Self Self.Context };
+
+    /// A property of each machine that replay restores from the start.
+    ghost good: { Self → Type 0 };
+
+    /// How many bytes of a line it reads.
+    ghost CAP: { ℕ };
+
+    /// How many bytes of a line it reads: the others are skipped.
+    const CAP: usize;
+
+    /// The machine before any line.
+    ///
+    /// It may run out of memory.
+    fn start(alloc: Global, seed: &Self::Seed) -> Result<Self, WantOfMemory>
+        ensures { IfOk result (λ machine. machine ≡ start seed.now) };
+
+    /// Answers one line: the next machine, the reply, and whether the line changed it.
+    ///
+    /// It may run out of memory.
+    fn answer(
+        self,
+        alloc: Global,
+        context: &mut Self::Context,
+        line: &[u8],
+    ) -> Result<(Self, Bytes, bool), WantOfMemory>
+        ensures next { IfOk result (λ done. done.0 ≡ answering.next self line.now) }
+        ensures reply { IfOk result (λ done. done.1 ≡ answering.reply self line.now) }
+        ensures changes { IfOk result (λ done. done.2 ≡ answering.changes self line.now) }
+        ensures ran { IfOk result (λ done. answering.effect.ran self context.old (line.now ∷ []) done.0 context.new) }
+        ensures gave_up { OnErr result (answering.effect.gave_up self context.old (line.now ∷ []) context.new) };
+
+    /// A line that isn't reported as a change leaves a machine that replay restores unchanged.
+    ghost idles: { Idles answering start good };
+
+    /// Its laws.
+    ghost laws: { AnsweringLaws answering CAP };
+}
 
 /// A machine that is driven by lines, with the journal in which each line that changes it is
 /// recorded before its reply is returned. It belongs to the disk of that journal, which nobody else
@@ -29,7 +75,7 @@ pub struct JournalLines<N, D> {
 }
 
 impl<N, D> Model for JournalLines<N, D> {
-    ghost use Rattle.st_journal.specs.Values.{JournalValue};
+    ghost use Rattle.st_journal.specs.Image.{JournalValue};
 
     ghost Value = { N × JournalValue };
 

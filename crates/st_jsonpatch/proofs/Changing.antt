@@ -3,9 +3,9 @@ use Rattle.std.proofs.Common.{◌≡◌, Option, Some, None, option_map, Result,
 use Rattle.std.specs.Option.{OnSome}
 use Rattle.st_plain.specs.Plain.{Plain}
 use Rattle.st_canon.specs.declared.value.Json.{Json}
-use Rattle.st_jsonpatch.specs.Changed.{Changes}
-use Rattle.st_jsonpatch.specs.declared.refused.ChangeRefused.{ChangeRefused}
-use Rattle.st_jsonpatch.specs.declared.refused.ChangeRefused.TheVariants.{Fails, WantOfMemory}
+use Rattle.st_jsonpatch.specs.inside.Changed.{Changes}
+use Rattle.st_jsonpatch.specs.declared.steps.ChangeRefused.{ChangeRefused}
+use Rattle.st_jsonpatch.specs.declared.steps.ChangeRefused.TheVariants.{Fails, WantOfMemory}
 
 -- the change that a call made to the entry, it made to the whole
 pub whole_changes : {P : Type 0} (back : Plain → P) (change : Option Plain) (new : Plain) (whole : P) (r : Result (Option Json) ChangeRefused)

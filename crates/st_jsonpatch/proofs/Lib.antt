@@ -1,4 +1,3 @@
 pub mod Changing
-pub mod Indices
-pub mod Paths
+pub mod PointerLemmas
 pub mod Pieces

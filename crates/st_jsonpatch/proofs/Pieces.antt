@@ -1,9 +1,10 @@
 -- Pieces of a pointer's text, and their tokens.
 use Rattle.std.proofs.Common.{◌≡◌, ◌≢◌, ℕ, suc, ◌==◌, true, false, List, [], ◌∷◌, ◌++◌, length, Result, Ok, Err, refl, ap, sym, subst, ◌∙◌, append_assoc, arith, eqb-true}
-use Rattle.st_jsonpatch.specs.Pointer.{after, Lacks, begun_with, pieces_of, token_from, token_of, tokens_of, pointer_of, refusal_of}
+use Rattle.st_jsonpatch.specs.Pointer.{begun_with, pieces_of, token_from, token_of, tokens_of, pointer_of, refusal_of}
+use Rattle.st_jsonpatch.specs.inside.Changed.{after, Lacks}
 use Rattle.st_base.specs.Answers.{Gives}
-use Rattle.st_jsonpatch.specs.declared.refused.PointerRefused.{PointerRefused}
-use Rattle.st_jsonpatch.specs.declared.refused.PointerRefused.TheVariants.{BadPointer, WantOfMemory}
+use Rattle.st_jsonpatch.specs.declared.pointer.PointerRefused.{PointerRefused}
+use Rattle.st_jsonpatch.specs.declared.pointer.PointerRefused.TheVariants.{BadPointer, WantOfMemory}
 
 other_first : (c b : ℕ) (bs : List ℕ) → Lacks c (b ∷ bs) → (b == c) ≡ false
 other_first c b bs lacks = elim (b == c) as (λ t. (b == c) ≡ t → t ≡ false) [

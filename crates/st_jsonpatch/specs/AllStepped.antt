@@ -4,8 +4,8 @@ use Rattle.st_base.specs.Answers.{◌>>=◌}
 use Rattle.st_plain.specs.Plain.{Plain}
 use Rattle.st_jsonpatch.specs.Step.{PlainStep}
 use Rattle.st_jsonpatch.specs.Stepped.{stepped}
-use Rattle.st_jsonpatch.specs.declared.refused.StepsRefused.{StepsRefused}
-use Rattle.st_jsonpatch.specs.declared.refused.StepsRefused.TheVariants.{Failed, WantOfMemory}
+use Rattle.st_jsonpatch.specs.declared.steps.StepsRefused.{StepsRefused}
+use Rattle.st_jsonpatch.specs.declared.steps.StepsRefused.TheVariants.{Failed, WantOfMemory}
 
 -- The value after all steps, or the number of the first that fails; `i` is the number of the first step.
 abbrev pub all_stepped : ℕ → ℕ → ℕ → List PlainStep → Plain → Result Plain ℕ

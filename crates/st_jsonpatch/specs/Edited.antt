@@ -2,11 +2,9 @@
 -- changes.
 use Rattle.std.specs.Prelude.{ℕ, nat_le, List, [], ◌∷◌, length, bytes_eq, codes, insert, remove, slice_set, if◌then◌else◌, Option, Some, None, option_map, option_and_then}
 use Rattle.std.specs.Option.{option_map_or}
-use Rattle.st_plain.specs.Entries.{entries}
-use Rattle.st_plain.specs.Find.{member_at, put, without}
+use Rattle.st_plain.specs.Objects.{entries, member_at, put, without, items_of}
 use Rattle.st_plain.specs.Plain.{Plain, list, object, Items, Members}
-use Rattle.st_plain.specs.Entries.{items_of}
-use Rattle.st_jsonpatch.specs.At.{index_of, item_at}
+use Rattle.st_jsonpatch.specs.Pointer.{index_of, item_at}
 
 -- the effect of a token on its parent
 pub data Act : Type 0 where

@@ -1,8 +1,6 @@
 pub mod AllStepped
-pub mod At
-pub mod Changed
-pub mod Edited
-pub mod Lends
 pub mod Pointer
+pub mod Edited
 pub mod Step
 pub mod Stepped
+pub mod inside

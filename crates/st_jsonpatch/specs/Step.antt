@@ -6,11 +6,11 @@ use Rattle.st_plain.specs.Plain.{Plain}
 use Rattle.st_plain.specs.Shapes.{member_in, text_at}
 use Rattle.st_canon.specs.View.{plain}
 use Rattle.st_jsonpatch.specs.Pointer.{pointer_of}
-use Rattle.st_jsonpatch.specs.declared.refused.PointerRefused.{PointerRefused}
+use Rattle.st_jsonpatch.specs.declared.pointer.PointerRefused.{PointerRefused}
 use Rattle.st_jsonpatch.specs.declared.step.Step.{Step}
 use Rattle.st_jsonpatch.specs.declared.step.Step.TheVariants.{Add, Remove, Replace, Move, Copy, Test}
-use Rattle.st_jsonpatch.specs.declared.refused.StepRefused.{StepRefused}
-use Rattle.st_jsonpatch.specs.declared.refused.StepRefused.TheVariants.{BadStep, WantOfMemory}
+use Rattle.st_jsonpatch.specs.declared.step.StepRefused.{StepRefused}
+use Rattle.st_jsonpatch.specs.declared.step.StepRefused.TheVariants.{BadStep, WantOfMemory}
 
 -- a step over plain values; a path is the list of its tokens
 pub data PlainStep : Type 0 where

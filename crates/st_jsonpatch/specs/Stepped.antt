@@ -1,9 +1,9 @@
 -- The effect of a step of a JSON Patch on a value (RFC 6902, section 4).
 use Rattle.std.specs.Prelude.{ℕ, Bool, true, false, not, ◌&&◌, List, [], ◌∷◌, bytes_eq, Option, Some, None}
 use Rattle.st_base.specs.Options.{◌>>=◌, ◌>>◌}
-use Rattle.st_plain.specs.Measure.{fits, is_equal}
+use Rattle.st_plain.specs.Measures.{fits, is_equal}
 use Rattle.st_plain.specs.Plain.{Plain}
-use Rattle.st_jsonpatch.specs.At.{at}
+use Rattle.st_jsonpatch.specs.Pointer.{at}
 use Rattle.st_jsonpatch.specs.Edited.{edited, put_new, take_out, set_to}
 use Rattle.st_jsonpatch.specs.Step.{PlainStep, add, remove, replace, move, copy, test}
 

@@ -4,11 +4,11 @@ ghost use Rattle.st_plain.specs.Shapes.{text_at};
 ghost use Rattle.st_canon.specs.View.{plain};
 ghost use Rattle.st_jsonpatch.specs.Step.{add, remove, replace, move, copy, test, path_at, plain_step, refusal_of, step_named, step_of, value_in, with_from, with_path, with_value};
 
-use crate::pointer::Pointer;
-use crate::refused::{PointerRefused, StepRefused};
+use crate::pointer::{Pointer, PointerRefused};
 use st_base::{Copied, WantOfMemory};
 use st_canon::Json;
 use std::alloc::Global;
+use thiserror::Error;
 
 /// A step of a JSON Patch (RFC 6902, section 4).
 #[derive(Drop)]
@@ -163,5 +163,26 @@ impl Copied for Step {
                 value: value.copy(alloc)?,
             }),
         }
+    }
+}
+
+/// Why a value is not read as a step.
+#[derive(Clone, Copy, Debug, Drop, Error, PartialEq, Eq)]
+pub enum StepRefused {
+    /// The value is not an object with `op`, `path` and the members that this `op` needs.
+    #[error("not a step of a JSON Patch")]
+    BadStep,
+    #[error("out of memory")]
+    WantOfMemory,
+}
+
+impl From<WantOfMemory> for StepRefused {
+    ghost use Rattle.std.specs.Prelude.{◌≡◌};
+    ghost use Rattle.st_jsonpatch.specs.declared.step.StepRefused.TheVariants.{WantOfMemory};
+
+    ghost from_gives = { λ _ refused. refused ≡ WantOfMemory };
+
+    fn from(_want: WantOfMemory) -> StepRefused {
+        StepRefused::WantOfMemory
     }
 }

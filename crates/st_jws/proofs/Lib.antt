@@ -1,6 +1,2 @@
-pub mod Cutting
-pub mod Joining
-pub mod JwkJson
-pub mod Opens
-pub mod SameMembers
-pub mod WrittenKeys
+pub mod SignedLemmas
+pub mod KeyLemmas

@@ -1,16 +1,14 @@
 -- LMS keys as JSON Web Keys (RFC 7517), in this project's form.
-use Rattle.std.specs.Prelude.{◌≡◌, ⊤, ℕ, Bool, false, ◌&&◌, List, [], ◌∷◌, length, codes, Option, Some, None, option_map, option_and_then}
-use Rattle.base64.specs.GeneralPurpose.{IsBytes}
+use Rattle.std.specs.Prelude.{ℕ, Bool, false, ◌&&◌, List, [], ◌∷◌, codes, Option, Some, None, option_map, option_and_then, ◌≡◌}
 use Rattle.st_base.specs.Options.{◌>>=◌, ◌>>◌}
-use Rattle.st_plain.specs.Entries.{text_in}
+use Rattle.st_plain.specs.Plain.{canonical, Plain, text}
 use Rattle.st_plain.specs.Names.{is_name}
-use Rattle.st_plain.specs.Objects.{object_of_some}
-use Rattle.st_plain.specs.Plain.{Plain, text}
+use Rattle.st_plain.specs.Objects.{object_of_some, text_in}
 use Rattle.st_plain.specs.Shapes.{is_object_of, member_in, text_at}
-use Rattle.st_hash.specs.Base64url.{base64url, fixed_of_text}
+use Rattle.st_hash.specs.Hash.{base64url, fixed_of_text, HashValue, hash_of_with}
+use Rattle.st_lms.specs.Signature.{public_in}
+use Rattle.st_lms.specs.Tree.{PublicKey, public_text}
 use Rattle.st_jws.specs.declared.jwk.Jwk.{Jwk}
-use Rattle.st_lms.specs.Decided.{public_in}
-use Rattle.st_lms.specs.Keys.{PublicKey, public_text}
 
 -- the name of the algorithm, and of the type of key
 abbrev pub lms : List ℕ
@@ -34,13 +32,6 @@ jwk_members key =
 -- the JSON of a key
 abbrev pub jwk_json : Jwk → Plain
 jwk_json key = object_of_some (jwk_members key)
-
--- ---- read
-
--- a nonce, if any, has 16 bytes
-abbrev pub IsNonce : Option (List ℕ) → Type 0
-IsNonce None = ⊤
-IsNonce (Some nonce) = (length nonce ≡ 16) × IsBytes nonce
 
 -- the members that a key may have as JSON
 abbrev pub jwk_names : List (List ℕ)
@@ -72,3 +63,26 @@ jwk_of value = do
   public ← option_and_then public_of_text (text_at (codes "pub") (Some value))
   nonce ← nonce_at (member_in (codes "nonce") (Some value))
   Some (record { public = public; nonce = nonce })
+
+-- ---- Reveal values and commitments of keys (DIF Sidetree v1.0.0, "Public Key Commitment Scheme"), by the
+-- multihash code of their algorithm.
+
+-- the hash of the canonical text of the key's JSON
+abbrev pub reveal_of_with : ℕ → Jwk → HashValue
+reveal_of_with code key = hash_of_with code (canonical (jwk_json key))
+
+-- the hash of the digest of the reveal value with this algorithm
+abbrev pub commitment_of_with : ℕ → Jwk → HashValue
+commitment_of_with code key = hash_of_with code (reveal_of_with code key).digest
+
+-- the reveal value by SHA-256
+abbrev pub reveal_of : Jwk → HashValue
+reveal_of key = reveal_of_with 0x12 key
+
+-- the commitment by SHA-256
+abbrev pub commitment_of : Jwk → HashValue
+commitment_of key = commitment_of_with 0x12 key
+
+-- the reveal value meets the commitment, which is the hash of its digest with the same algorithm
+abbrev pub Meets : HashValue → HashValue → Type 0
+Meets reveal commitment = commitment ≡ hash_of_with reveal.code reveal.digest

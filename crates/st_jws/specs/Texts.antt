@@ -1,7 +1,7 @@
 -- Compact signed texts (RFC 7515, section 7.1): three texts joined by two dots.
 use Rattle.std.specs.Prelude.{ℕ, List, ◌∷◌, ◌++◌, Option, Some}
 use Rattle.st_base.specs.Options.{◌>>=◌}
-use Rattle.st_base.specs.Words.{cut_at}
+use Rattle.st_base.specs.Texts.{cut_at}
 
 -- the byte of a dot
 abbrev pub dot : ℕ

@@ -1,6 +1,6 @@
 ghost use Rattle.std.specs.Prelude.{◌≡◌, ◌↔◌, IfOk, IsTrue};
 ghost use Rattle.st_hash.specs.Hash.{IsCode};
-ghost use Rattle.st_jws.specs.Commitment.{Meets, commitment_of, commitment_of_with, reveal_of, reveal_of_with};
+ghost use Rattle.st_jws.specs.Jwk.{Meets, commitment_of, commitment_of_with, reveal_of, reveal_of_with};
 
 use crate::jwk::Jwk;
 use st_base::WantOfMemory;

@@ -1,16 +1,15 @@
 ghost use Rattle.std.specs.Prelude.{◌≡◌, codes, length, option_and_then, option_map, IfOk, IfSome, OnOk, Some};
 ghost use Rattle.std.specs.Result.{result_ok};
 ghost use Rattle.base64.specs.GeneralPurpose.{IsBytes};
-ghost use Rattle.st_plain.specs.Find.{member_at};
-ghost use Rattle.st_plain.specs.Objects.{some_listed};
-ghost use Rattle.st_plain.specs.Plain.{object, text};
-ghost use Rattle.st_plain.specs.Proper.{IsProper, MembersAreProper};
+ghost use Rattle.st_plain.specs.Objects.{member_at, some_listed};
+ghost use Rattle.st_plain.specs.Plain.{object, text, IsProper, MembersAreProper};
 ghost use Rattle.st_plain.specs.Shapes.{text_at};
 ghost use Rattle.st_canon.specs.View.{plain, plain_members};
-ghost use Rattle.st_hash.specs.Base64url.{base64url, fixed_of_text};
-ghost use Rattle.st_jws.specs.HasKey.{HasKey};
-ghost use Rattle.st_jws.specs.Jwk.{bytes_json, is_lms, is_lms_key, jwk_json, jwk_members, jwk_of, lms, nonce_at, public_of_text, IsNonce};
-ghost use Rattle.st_lms.specs.Keys.{IsPublicKey, public_text};
+ghost use Rattle.st_hash.specs.Hash.{base64url, fixed_of_text};
+ghost use Rattle.st_lms.specs.Tree.{IsPublicKey, public_text};
+ghost use Rattle.st_jws.specs.Jwk.{bytes_json, is_lms, is_lms_key, jwk_json, jwk_members, jwk_of, lms, nonce_at, public_of_text};
+ghost use Rattle.st_jws.specs.Signing.{key_in};
+ghost use Rattle.st_jws.specs.inside.Jwk.{HasKey, IsNonce};
 
 use st_base::{Text, WantOfMemory};
 use st_canon::{Json, Object};
@@ -76,7 +75,7 @@ fn all_members(alloc: Global, key: &Jwk) -> Result<Object, WantOfMemory>
     Ok(members)
 }
 
-#[tactic(auto, unfolding(st_plain::proofs::OnLiterals::names_on_literals, st_plain::specs::Objects::put_some))]
+#[tactic(auto, unfolding(st_plain::proofs::NameLemmas::names_on_literals, st_plain::specs::Objects::put_some))]
 fn set_members(alloc: Global, key: &Jwk) -> Result<Object, WantOfMemory>
     ensures members { IfOk result (λ members.
         plain_members members ≡ some_listed (jwk_members key.now)) }
@@ -199,5 +198,25 @@ fn read_nonce(members: &Object) -> Option<Option<[u8; 16]>>
             None => None,
         },
         Some(_) => None,
+    }
+}
+
+/// The key of a payload: the value of its only member `updateKey` or `recoveryKey`.
+pub(crate) fn key_in(payload: &Json) -> Option<Jwk>
+    ensures { result ≡ key_in (plain payload.now) }
+{
+    match (payload.member("updateKey"), payload.member("recoveryKey")) {
+        (Some(key), None) => key_of(key),
+        (None, Some(key)) => key_of(key),
+        _ => None,
+    }
+}
+
+fn key_of(value: &Json) -> Option<Jwk>
+    ensures { result ≡ jwk_of (plain value.now) }
+{
+    match Jwk::read(value) {
+        Ok(key) => Some(key),
+        Err(_) => None,
     }
 }

@@ -3,16 +3,11 @@
 #![tactic(auto)]
 
 mod commit;
-mod header;
 mod jwk;
-mod opening;
-mod payload;
-mod refused;
+mod signed;
 mod signing;
-mod texts;
 
 pub use commit::{commitment, commitment_with, meets, reveal, reveal_with};
 pub use jwk::{BadJwk, Jwk};
-pub use opening::{Signed, open_signed};
-pub use refused::SignedRefused;
+pub use signed::{Signed, SignedRefused, open_signed};
 pub use signing::{join_signed, signing_input};

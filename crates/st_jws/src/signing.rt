@@ -1,10 +1,8 @@
 ghost use Rattle.std.specs.Prelude.{◌≡◌, ◌≤◌, ◌++◌, ◌∷◌, ℕ, length, IfOk, IsAscii, OnOk, Ok};
 ghost use Rattle.base64.specs.GeneralPurpose.{IsBytes};
-ghost use Rattle.st_plain.specs.Plain.{Plain};
-ghost use Rattle.st_plain.specs.Proper.{IsProper};
+ghost use Rattle.st_plain.specs.Plain.{Plain, IsProper};
 ghost use Rattle.st_canon.specs.View.{plain};
-ghost use Rattle.st_jws.specs.Opening.{opened};
-ghost use Rattle.st_jws.specs.Signing.{Signs, join_signed, signing_input};
+ghost use Rattle.st_jws.specs.Signing.{opened, Signs, join_signed, signing_input};
 ghost use Rattle.st_jws.specs.Texts.{dot};
 ghost use Rattle.st_jws.specs.declared.jwk.Jwk.{Jwk};
 

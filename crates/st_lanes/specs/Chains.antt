@@ -1,9 +1,7 @@
 -- Chains of digests. The places of a chain are numbered from 0 on, and each has a value of 32 bytes.
-use Rattle.std.specs.Prelude.{◌≡◌, ℕ, zero, suc, ◌+◌, ◌-◌, ◌*◌, ◌%◌, ◌<◌, List, ◌∷◌, ◌++◌, drop, slice_index, take}
+use Rattle.std.specs.Prelude.{ℕ, zero, suc, ◌+◌, ◌-◌, ◌*◌, ◌%◌, List, ◌∷◌, ◌++◌, drop, slice_index, take}
 use Rattle.std.specs.Int.{to_be_bytes, w16}
-use Rattle.sha2.specs.Sha256.{digest_bytes, sha256}
-use Rattle.st_lanes.specs.Lanes.{lane}
-use Rattle.st_lanes.specs.Links.{AreWords}
+use Rattle.sha2.specs.Sha256.{sha256}
 
 -- the value n places after place k, which has the value v. A step hashes the head p, a byte, and the
 -- value before; the byte is 0xff at place 0, and k - 1 at place k
@@ -20,13 +18,3 @@ value_at row i = take 32 (drop (32 * i) row)
 abbrev pub end_of : List ℕ → List ℕ → List ℕ → List ℕ → ℕ → List ℕ
 end_of head from to starts i =
     steps (head ++ to_be_bytes w16 i) (slice_index from i) (slice_index to i - slice_index from i) (value_at starts i)
-
--- the words w are those of the value n places after place k, which has the value v
-pub record IsAt (w p : List ℕ) (k : ℕ) (v : List ℕ) (n : ℕ) : Type 0 where
-  pub words : AreWords w
-  pub value : digest_bytes w 8 ≡ steps p k n v
-
--- each lane whose chain has n steps holds the end of that chain
-abbrev pub HoldEnds : (ℕ → List ℕ) → List (List ℕ) → List ℕ → List ℕ → ℕ → Type 0
-HoldEnds end value numbers counts n =
-    (k : ℕ) → k < 8 → slice_index counts k ≡ n → digest_bytes (lane k value) 8 ≡ end (slice_index numbers k)

@@ -1,16 +1,64 @@
-// Chains, eight at a time.
-
-ghost use Rattle.std.specs.Prelude.{◌≡◌, ℕ, ◌+◌, ◌-◌, ◌*◌, ◌%◌, ◌<◌, ◌≤◌, All, Contains, length, slice_index, take};
+ghost use Rattle.std.specs.Prelude.{◌≡◌, ℕ, ◌<◌, ◌++◌, ◌∷◌, List, slice_index, ◌+◌, ◌-◌, ◌*◌, ◌%◌, ◌≤◌, All, Contains, length, take};
+ghost use Rattle.sha2.specs.Sha256.{digest_bytes, sha256};
 ghost use Rattle.st_lanes.specs.Chains.{end_of, value_at};
+ghost use Rattle.st_lanes.specs.inside.Lanes.{lane, AreWords, IsHead, joined, link_words};
 
-use crate::link::step;
+use crate::block::{compress, initial_hash};
 use crate::rows::{heads, keep_ends, values};
-use crate::words::{add, and};
+use crate::words::{add, and, shift_left, shift_right};
 use std::simd::u32x8;
+
+// A step of a chain in each lane, from words to words.
+
+#[inline(always)]
+fn joined(x: u32x8, y: u32x8) -> u32x8
+    ensures { (k : ℕ) → k < 8 → slice_index result k ≡ joined (slice_index x k) (slice_index y k) }
+{
+    add(shift_left(x, 8), shift_right(y, 24))
+}
+
+#[inline(always)]
+fn link(head: &[u32x8; 6], value: &[u32x8; 8], j: u32x8) -> [u32x8; 16]
+    ensures { (k : ℕ) → k < 8
+        → lane k result ≡ link_words (lane k head.now) (lane k value.now) (slice_index j k) }
+{
+    let [a, b, c, d, e, f, g, h] = *value;
+    [
+        head[0],
+        head[1],
+        head[2],
+        head[3],
+        head[4],
+        add(add(head[5], shift_left(j, 8)), shift_right(a, 24)),
+        joined(a, b),
+        joined(b, c),
+        joined(c, d),
+        joined(d, e),
+        joined(e, f),
+        joined(f, g),
+        joined(g, h),
+        add(shift_left(h, 8), u32x8::splat(0x80)),
+        u32x8::splat(0),
+        u32x8::splat(440),
+    ]
+}
+
+/// The digests, as words, of the messages of a head of 22 bytes, one byte and a digest.
+#[inline(always)]
+pub(crate) fn step(head: &[u32x8; 6], value: &[u32x8; 8], j: u32x8) -> [u32x8; 8]
+    ensures digest { (k : ℕ) (p : List ℕ) → k < 8 → IsHead (lane k head.now) p → AreWords (lane k value.now)
+        → slice_index j k < 256
+        → digest_bytes (lane k result) 8 ≡ sha256 (p ++ slice_index j k ∷ digest_bytes (lane k value.now) 8) }
+    ensures words { (k : ℕ) → k < 8 → AreWords (lane k result) }
+{
+    compress(&initial_hash(), &link(head, value, j))
+}
+
+// Chains, eight at a time.
 
 // The places of the lanes' chains in a table.
 #[inline(always)]
-#[tactic(auto, using(crate::proofs::Values::filled_none, crate::proofs::Values::filled_more))]
+#[tactic(auto, using(crate::proofs::Lanes::filled_none, crate::proofs::Lanes::filled_more))]
 fn pick(table: &[u16; 265], numbers: &[u32; 8]) -> [u32; 8]
     requires { (k : ℕ) → k < 8 → slice_index numbers.now k < 265 }
     ensures { (k : ℕ) → k < 8
@@ -25,7 +73,7 @@ fn pick(table: &[u16; 265], numbers: &[u32; 8]) -> [u32; 8]
 
 // How many steps each lane's chain has.
 #[inline(always)]
-#[tactic(auto, using(crate::proofs::Values::filled_none, crate::proofs::Values::filled_more))]
+#[tactic(auto, using(crate::proofs::Lanes::filled_none, crate::proofs::Lanes::filled_more))]
 fn count_steps(from: &[u32; 8], to: &[u32; 8]) -> [u32; 8]
     ensures { (k : ℕ) → k < 8 → slice_index result k ≡ slice_index to.now k - slice_index from.now k }
 {
@@ -93,7 +141,7 @@ fn walk_eight(
 }
 
 // All numbers of chains in order.
-#[tactic(auto, using(crate::proofs::Values::filled_none, crate::proofs::Values::filled_more))]
+#[tactic(auto, using(crate::proofs::Lanes::filled_none, crate::proofs::Lanes::filled_more))]
 fn all_numbers() -> [u16; 265]
     ensures long { length result ≡ 265 }
     ensures numbers { (i : ℕ) → i < 265 → slice_index result i ≡ i }
@@ -123,7 +171,7 @@ fn by_steps(from: &[u16; 265], to: &[u16; 265], count: usize) -> [u16; 265]
 
 // The eight numbers before place `end`. If there are fewer, the first one fills the other lanes.
 #[inline(always)]
-#[tactic(auto, using(crate::proofs::Values::filled_none, crate::proofs::Values::filled_more))]
+#[tactic(auto, using(crate::proofs::Lanes::filled_none, crate::proofs::Lanes::filled_more))]
 fn eight_before(order: &[u16], end: usize) -> [u32; 8]
     requires some { 0 < end }
     requires fits { end ≤ length order.now }

@@ -8,7 +8,6 @@
 
 mod block;
 mod chains;
-mod link;
 mod rows;
 mod words;
 

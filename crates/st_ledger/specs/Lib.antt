@@ -1,2 +1,1 @@
-pub mod Anchor
 pub mod Ledger

@@ -1,5 +1,5 @@
 ghost use Rattle.std.specs.Prelude.{◌≡◌};
-ghost use Rattle.st_ledger.specs.Anchor.{AnswersByRule, anchor_of, anchor_rule_name, anchor_rules, count_in};
+ghost use Rattle.st_ledger.specs.Ledger.{AnswersByRule, anchor_of, anchor_rule_name, anchor_rules, count_in};
 
 use st_base::{cut_at, read_number};
 use st_hash::{Hash, read_hash};

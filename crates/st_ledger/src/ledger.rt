@@ -1,12 +1,39 @@
-ghost use Rattle.std.specs.Prelude.{◌≡◌, ◌≤◌, ◌-◌, [], ◌∷◌, ◌++◌, length, take, slice_get, IsOk, IfOk, OnOk, OnErr};
 ghost use Rattle.std.specs.Option.{option_copied};
+ghost use Rattle.std.specs.Prelude.{◌≡◌, ◌≤◌, ◌-◌, [], ◌∷◌, ◌++◌, length, take, slice_get, IsOk, IfOk, OnOk, OnErr};
 ghost use Rattle.st_ledger.specs.Ledger.{IsLedger, admitted, last_height};
 
-use crate::entry::Entry;
-use crate::refused::LedgerRefused;
-use st_base::{Bytes, WantOfMemory};
+use st_base::{Bytes, Copied, WantOfMemory};
 use std::alloc::Global;
 use std::marker::Model;
+use thiserror::Error;
+
+/// Why an entry of a height can't be next.
+#[derive(Clone, Copy, Debug, PartialEq, Eq, Error)]
+pub enum LedgerRefused {
+    /// The last entry's height, which is greater.
+    #[error("the height falls below {0}")]
+    HeightFalls(u32),
+    /// The ledger has the largest number of entries.
+    #[error("the ledger is full")]
+    LedgerFull,
+}
+
+/// One entry of the ledger: a height, and an anchor string or any other text.
+#[derive(Debug, Drop)]
+pub struct Entry {
+    pub height: u32,
+    pub text: Bytes,
+}
+
+impl Copied for Entry {
+    fn copy(&self, alloc: Global) -> Result<Entry, WantOfMemory> {
+        let text = self.text.copy(alloc)?;
+        Ok(Entry {
+            height: self.height,
+            text,
+        })
+    }
+}
 
 // The largest number of entries of a ledger.
 const MOST_ENTRIES: usize = 1_048_576;
@@ -20,7 +47,7 @@ pub struct Ledger {
 
 impl Model for Ledger {
     ghost use Rattle.std.specs.Prelude.{List};
-    ghost use Rattle.st_ledger.specs.declared.entry.Entry.{Entry};
+    ghost use Rattle.st_ledger.specs.declared.ledger.Entry.{Entry};
     ghost use Rattle.st_ledger.specs.Ledger.{IsLedger};
 
     ghost Value = { List Entry };

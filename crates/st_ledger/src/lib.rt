@@ -3,11 +3,7 @@
 #![tactic(auto)]
 
 mod anchor;
-mod entry;
 mod ledger;
-mod refused;
 
 pub use anchor::{Anchor, AnchorRule, read_anchor};
-pub use entry::Entry;
-pub use ledger::Ledger;
-pub use refused::LedgerRefused;
+pub use ledger::{Entry, Ledger, LedgerRefused};

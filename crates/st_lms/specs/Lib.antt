@@ -1,12 +1,5 @@
 pub mod Strings
-pub mod Parameters
-pub mod TypeNumbers
 pub mod OneTime
-pub mod Keys
 pub mod Tree
 pub mod Signature
-pub mod Inverses
-pub mod Parts
-pub mod PartsOf
-pub mod Decided
-pub mod KeptNodes
+pub mod inside

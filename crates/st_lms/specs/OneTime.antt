@@ -1,9 +1,65 @@
--- One-time signatures (RFC 8554, section 4). A key is named by its LM-OTS type t, the identifier
--- id, and its number q.
-use Rattle.std.specs.Prelude.{ℕ, zero, suc, ◌+◌, ◌-◌, ◌*◌, ◌/◌, ◌^◌, List, ◌∷◌, ◌++◌}
+-- The parameter sets, by the numbers of their types (RFC 8554, sections 4.1 and 5.1), for SHA-256
+-- with strings of 32 bytes.
+use Rattle.std.specs.Prelude.{ℕ, ◌-◌, ◌^◌, ◌≤◌, [], ◌∷◌, slice_index, ◌==◌, if◌then◌else◌, zero, suc, ◌+◌, ◌*◌, ◌/◌, List, ◌++◌}
 use Rattle.sha2.specs.Sha256.{sha256}
 use Rattle.st_lms.specs.Strings.{u32str, u16str, coef, joined, value_at}
-use Rattle.st_lms.specs.Parameters.{width, chains, shift, greatest_digit}
+use Rattle.st_lms.specs.declared.parameters.OneTimeType.{OneTimeType}
+use Rattle.st_lms.specs.declared.parameters.OneTimeType.TheVariants.{Width1, Width2, Width4, Width8}
+use Rattle.st_lms.specs.declared.parameters.TreeType.{TreeType}
+use Rattle.st_lms.specs.declared.parameters.TreeType.TheVariants.{Height5, Height10}
+
+-- the LM-OTS types: w is 1, 2, 4 or 8
+abbrev pub IsOneTimeType : ℕ → Type 0
+IsOneTimeType t = (1 ≤ t) × (t ≤ 4)
+
+-- the LMS types: the tree has height 5 or 10
+abbrev pub IsTreeType : ℕ → Type 0
+IsTreeType t = (5 ≤ t) × (t ≤ 6)
+
+-- w: the number of bits of a digit
+unfoldable pub width : ℕ → ℕ
+width t = slice_index (1 ∷ 2 ∷ 4 ∷ 8 ∷ []) (t - 1)
+
+-- p: the number of signed digits, each with its own chain
+unfoldable pub chains : ℕ → ℕ
+chains t = slice_index (265 ∷ 133 ∷ 67 ∷ 34 ∷ []) (t - 1)
+
+-- ls: how far the checksum is shifted to the left
+unfoldable pub shift : ℕ → ℕ
+shift t = slice_index (7 ∷ 6 ∷ 4 ∷ 0 ∷ []) (t - 1)
+
+-- the greatest digit, which is also the number of steps of a whole chain
+unfoldable pub greatest_digit : ℕ → ℕ
+greatest_digit t = 2 ^ width t - 1
+
+-- h: the height of the tree
+unfoldable pub height : ℕ → ℕ
+height t = slice_index (5 ∷ 10 ∷ []) (t - 5)
+
+-- ---- The numbers of the types (RFC 8554, section 8).
+
+-- the number of a one-time type
+abbrev pub one_time_number : OneTimeType → ℕ
+one_time_number Width1 = 1
+one_time_number Width2 = 2
+one_time_number Width4 = 3
+one_time_number Width8 = 4
+
+-- the number of a tree type
+abbrev pub tree_number : TreeType → ℕ
+tree_number Height5 = 5
+tree_number Height10 = 6
+
+-- the one-time type with this number; every number except 1 to 3 gives that of width 8
+abbrev pub one_time_of : ℕ → OneTimeType
+one_time_of n = if n == 1 then Width1 else if n == 2 then Width2 else if n == 3 then Width4 else Width8
+
+-- the tree type with this number; every number except 5 gives that of height 10
+abbrev pub tree_of : ℕ → TreeType
+tree_of n = if n == 5 then Height5 else Height10
+
+-- ---- One-time signatures (RFC 8554, section 4). A key is named by its LM-OTS type t, the identifier
+-- id, and its number q.
 
 -- ---- domain separation of hashes (7.1)
 

@@ -3,20 +3,16 @@
 #![tactic(auto)]
 
 mod digits;
-mod hasher;
-mod kept;
 mod one_time;
 mod parameters;
-mod places;
 mod public;
 mod secret;
-mod sign;
+mod signer;
 mod strings;
 mod tree;
 mod verification;
 
-pub use kept::Signer;
 pub use public::{Public, PublicRefused};
 pub use secret::{BadType, Secret};
-pub use sign::sign_at;
+pub use signer::{Signer, sign_at};
 pub use verification::verify;

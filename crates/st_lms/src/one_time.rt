@@ -1,13 +1,10 @@
 ghost use Rattle.std.specs.Prelude.{◌≡◌, ◌+◌, ◌*◌, ◌<◌, ℕ, List, length, slice_index, take};
-ghost use Rattle.st_lms.specs.OneTime.{candidate_key, chain, key_of_ends, message_hash, one_time_public, secret_element, signed_values};
-ghost use Rattle.st_lms.specs.Parameters.{chains};
+ghost use Rattle.st_lms.specs.OneTime.{candidate_key, chain, key_of_ends, message_hash, one_time_public, secret_element, signed_values, chains, one_time_number};
 ghost use Rattle.st_lms.specs.Strings.{value_at};
-ghost use Rattle.st_lms.specs.TypeNumbers.{one_time_number};
 
-use crate::digits::Digits;
-use crate::hasher::{D_MESG, D_PBLC, hasher};
+use crate::digits::{Digits, Places, Values, digit_places, head, last_places, repeated};
 use crate::parameters::OneTimeType;
-use crate::places::{Places, Values, digit_places, head, last_places, repeated};
+use crate::strings::{D_MESG, D_PBLC, hasher};
 use sha2::Digest;
 use st_lanes::walk;
 

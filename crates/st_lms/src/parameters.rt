@@ -1,6 +1,5 @@
 ghost use Rattle.std.specs.Prelude.{◌≡◌, ◌≤◌, ◌^◌, MatchOption};
-ghost use Rattle.st_lms.specs.Parameters.{IsOneTimeType, IsTreeType, width, chains, shift, greatest_digit, height};
-ghost use Rattle.st_lms.specs.TypeNumbers.{one_time_number, tree_number};
+ghost use Rattle.st_lms.specs.OneTime.{IsOneTimeType, IsTreeType, width, chains, shift, greatest_digit, height, one_time_number, tree_number};
 
 /// An LM-OTS parameter set, named by how many bits a digit has.
 #[derive(Clone, Copy, Debug, PartialEq, Eq)]
@@ -37,7 +36,7 @@ impl OneTimeType {
         }
     }
 
-    #[tactic(auto, unfolding(crate::specs::Parameters::width, crate::specs::Parameters::greatest_digit, crate::specs::Parameters::chains, crate::specs::Parameters::shift))]
+    #[tactic(auto, unfolding(crate::specs::OneTime::width, crate::specs::OneTime::greatest_digit, crate::specs::OneTime::chains, crate::specs::OneTime::shift))]
     pub(crate) fn parameters(self) -> Parameters
         ensures number { result.number ≡ one_time_number self }
         ensures width { result.width ≡ width (one_time_number self) }
@@ -91,7 +90,7 @@ impl TreeType {
         }
     }
 
-    #[tactic(auto, unfolding(crate::specs::Parameters::height))]
+    #[tactic(auto, unfolding(crate::specs::OneTime::height))]
     pub(crate) fn height(self) -> u32
         ensures { result ≡ height (tree_number self) }
     {
@@ -102,7 +101,7 @@ impl TreeType {
     }
 
     /// The number of leaves of the tree.
-    #[tactic(auto, unfolding(crate::specs::Parameters::height))]
+    #[tactic(auto, unfolding(crate::specs::OneTime::height))]
     pub(crate) fn leaf_count(self) -> u32
         ensures count { result ≡ 2 ^ height (tree_number self) }
         ensures small { result ≤ 1024 }

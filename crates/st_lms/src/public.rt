@@ -1,10 +1,10 @@
-#![tactic(auto, using(crate::proofs::KnownKeys::known_public))]
+#![tactic(auto, using(crate::proofs::KeyLemmas::known_public))]
 
 ghost use Rattle.std.specs.Prelude.{◌≡◌, ◌≢◌, ◌↔◌, ◌+◌, ◌*◌, ◌≤◌, length, IfOk};
 ghost use Rattle.std.specs.Result.{result_ok};
-ghost use Rattle.st_lms.specs.Decided.{public_in};
-ghost use Rattle.st_lms.specs.Keys.{PublicKey, IsPublicKey, public_text, tree_type_in, one_time_type_in};
-ghost use Rattle.st_lms.specs.Parameters.{IsOneTimeType, IsTreeType, chains, height};
+ghost use Rattle.st_lms.specs.Signature.{public_in};
+ghost use Rattle.st_lms.specs.Tree.{PublicKey, IsPublicKey, public_text, tree_type_in, one_time_type_in};
+ghost use Rattle.st_lms.specs.OneTime.{IsOneTimeType, IsTreeType, chains, height};
 
 use crate::parameters::{OneTimeType, TreeType};
 use crate::strings::{copied, put, str_to_u32, u32str};
@@ -32,12 +32,12 @@ pub struct Public {
 }
 
 impl Model for Public {
-    ghost use Rattle.st_lms.specs.Keys.{PublicKey};
-    ghost use Rattle.st_lms.specs.TypeNumbers.{one_time_number, tree_number, one_time_of, tree_of};
+    ghost use Rattle.st_lms.specs.Tree.{PublicKey};
+    ghost use Rattle.st_lms.specs.OneTime.{one_time_number, tree_number, one_time_of, tree_of};
 
     ghost Value = { PublicKey };
 
-    ghost use Rattle.st_lms.specs.Inverses.{public_inverse};
+    ghost use Rattle.st_lms.specs.Signature.{public_inverse};
 
     ghost view = { λ p. record {
       ots = one_time_number p.ots;

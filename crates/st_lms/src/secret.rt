@@ -1,10 +1,9 @@
-#![tactic(auto, using(crate::proofs::KnownKeys::known_secret))]
+#![tactic(auto, using(crate::proofs::KeyLemmas::known_secret))]
 
 ghost use Rattle.std.specs.Prelude.{◌≡◌, ◌↔◌, ◌≤◌, ◌^◌, IsOk, IfOk};
-ghost use Rattle.st_lms.specs.Keys.{IsSecretKey, secret_key};
-ghost use Rattle.st_lms.specs.Parameters.{IsOneTimeType, IsTreeType, height};
+ghost use Rattle.st_lms.specs.Tree.{IsSecretKey, secret_key, IsNode, node};
+ghost use Rattle.st_lms.specs.OneTime.{IsOneTimeType, IsTreeType, height};
 ghost use Rattle.st_lms.specs.Signature.{public_of, randomizer_of};
-ghost use Rattle.st_lms.specs.Tree.{IsNode, node};
 
 use crate::one_time::{one_time_public, secret_element};
 use crate::parameters::{OneTimeType, TreeType};
@@ -30,12 +29,12 @@ pub struct Secret {
 }
 
 impl Model for Secret {
-    ghost use Rattle.st_lms.specs.Keys.{SecretKey};
-    ghost use Rattle.st_lms.specs.TypeNumbers.{one_time_number, tree_number, one_time_of, tree_of};
+    ghost use Rattle.st_lms.specs.Tree.{SecretKey};
+    ghost use Rattle.st_lms.specs.OneTime.{one_time_number, tree_number, one_time_of, tree_of};
 
     ghost Value = { SecretKey };
 
-    ghost use Rattle.st_lms.specs.Inverses.{secret_inverse};
+    ghost use Rattle.st_lms.specs.Signature.{secret_inverse};
 
     ghost view = { λ s. record {
       ots = one_time_number s.ots;

@@ -1,7 +1,7 @@
 ghost use Rattle.std.specs.Prelude.{◌≡◌, ◌*◌, length};
 ghost use Rattle.st_lms.specs.Tree.{leaf, inner, parent, node_above};
 
-use crate::hasher::{D_INTR, D_LEAF, hasher};
+use crate::strings::{D_INTR, D_LEAF, hasher};
 use sha2::Digest;
 
 /// Leaf `r`, over a one-time public key.

@@ -1,9 +1,7 @@
 ghost use Rattle.std.specs.Prelude.{◌≡◌, ◌↔◌, ◌+◌, ◌*◌, ◌^◌, ◌≤◌, ◌<◌, ◌++◌, IsTrue, length};
-ghost use Rattle.st_lms.specs.Decided.{is_signature};
-ghost use Rattle.st_lms.specs.Parameters.{chains, height};
-ghost use Rattle.st_lms.specs.Parts.{PartsHold};
-ghost use Rattle.st_lms.specs.PartsOf.{parts_seen};
-ghost use Rattle.st_lms.specs.Signature.{IsSignature, root_of};
+ghost use Rattle.st_lms.specs.Signature.{is_signature, IsSignature, root_of};
+ghost use Rattle.st_lms.specs.OneTime.{chains, height};
+ghost use Rattle.st_lms.specs.inside.Parts.{PartsHold, parts_seen};
 ghost use Rattle.st_lms.specs.Strings.{u32str};
 
 use crate::digits::checked;

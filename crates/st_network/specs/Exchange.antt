@@ -1,28 +1,66 @@
--- The answer of four nodes to a line, and the state afterwards. A message is delivered when a line says so, also
--- repeatedly or never: so the network between them may lose, repeat and reorder.
-use Rattle.std.specs.Prelude.{◌≡◌, ℕ, ◌-◌, ◌^◌, nat_le, List, [], ◌∷◌, ◌++◌, codes, bytes_eq, is_some, length, map, slice_get, if◌then◌else◌, Option, Some, None, Result, Ok, Err}
+-- Four nodes and the messages between them, after any line.
+use Rattle.std.specs.Coded.{Coded, code_by, coded_list, coded×}
 use Rattle.std.specs.Fmt.{decimal}
+use Rattle.std.specs.List.{sum_by}
 use Rattle.std.specs.Option.{ok_or}
+use Rattle.std.specs.Prelude.{ℕ, ◌-◌, ◌&&◌, nat_le, Bool, List, [], ◌∷◌, length, slice_set, ◌≡◌, ◌^◌, ◌++◌, codes, bytes_eq, is_some, map, slice_get, if◌then◌else◌, Option, Some, None, Result, Ok, Err, refl}
 use Rattle.st_base.specs.Answers.{◌>>=◌, ◌>>◌, holds_or}
-use Rattle.st_base.specs.Replies.{reply}
-use Rattle.st_base.specs.Words.{cut_at, first_word, number_of, other_words}
+use Rattle.st_base.specs.Texts.{reply, cut_at, first_word, number_of, other_words}
+use Rattle.st_hash.specs.Hash.{bytes_of_text, hash_of_text, hash_text, uri_of}
 use Rattle.st_content.specs.Files.{file_at}
-use Rattle.st_exchange.specs.Answer.{answer_of, ask_of}
+use Rattle.st_exchange.specs.Peer.{answer_of, ask_of, Peer}
 use Rattle.st_exchange.specs.Message.{message_of, spelling}
 use Rattle.st_exchange.specs.declared.message.Answer.{Answer}
 use Rattle.st_exchange.specs.declared.message.Message.{Message}
 use Rattle.st_exchange.specs.declared.message.Message.TheVariants.{Have}
-use Rattle.st_hash.specs.Base64url.{bytes_of_text}
-use Rattle.st_hash.specs.Hash.{hash_of_text, hash_text, uri_of}
-use Rattle.st_network.specs.Network.{Network, fits, longest_line, space, with_node}
-use Rattle.st_network.specs.declared.cause.Cause.{Cause}
-use Rattle.st_network.specs.declared.cause.Cause.TheVariants as cause
-use Rattle.st_network.specs.declared.cause.StepRefused.{StepRefused}
-use Rattle.st_network.specs.declared.cause.StepRefused.TheVariants as refused_is
-use Rattle.st_network.specs.declared.letter.Letter.{Letter}
-use Rattle.st_network.specs.declared.letter.Step.{Step}
-use Rattle.st_network.specs.declared.letter.Step.TheVariants.{Line, Post, Store}
-use Rattle.st_exchange.specs.Peer.{Peer}
+use Rattle.st_network.specs.contracts.letters.Letter as letter_row
+use Rattle.st_network.specs.declared.command.Cause.{Cause}
+use Rattle.st_network.specs.declared.command.Cause.TheVariants as cause
+use Rattle.st_network.specs.declared.letters.Letter.{Letter}
+use Rattle.st_network.specs.declared.letters.Step.{Step}
+use Rattle.st_network.specs.declared.letters.Step.TheVariants.{Line, Post, Store}
+
+-- four nodes, numbered from 0, and the messages sent between them, numbered from 0
+pub record Network (M : Type 0) : Type 0 where
+  pub nodes : List M
+  pub letters : List Letter
+
+-- before anything was received
+abbrev pub new_network : {M : Type 0} → Peer M → Network M
+new_network peer = record { nodes = peer.start ∷ peer.start ∷ peer.start ∷ peer.start ∷ []; letters = [] }
+
+-- with another node of this number
+abbrev pub with_node : {M : Type 0} → ℕ → M → Network M → Network M
+with_node i node network = record network { nodes = slice_set network.nodes i node }
+
+-- ---- limits
+
+-- the largest number of bytes of a line
+abbrev pub longest_line : ℕ
+longest_line = 24000000
+
+-- the byte of a space
+abbrev pub space : ℕ
+space = 32
+
+-- the largest number of messages that are kept
+abbrev pub most_letters : ℕ
+most_letters = 100000
+
+-- the largest number of their bytes in all
+abbrev pub most_bytes : ℕ
+most_bytes = 1073741824
+
+-- the size of a message in bytes
+abbrev pub size_of : Letter → ℕ
+size_of letter = length letter.bytes
+
+-- there are not too many of them, and they have not too many bytes in all
+abbrev pub fits : List Letter → Bool
+fits letters = nat_le (length letters) most_letters && nat_le (sum_by size_of letters) most_bytes
+
+-- ---- The answer of four nodes to a line, and the state afterwards. A message is delivered when a line says so, also
+-- repeatedly or never: so the network between them may lose, repeat and reorder.
 
 -- ---- the step of a line
 
@@ -214,7 +252,10 @@ after peer network (line ∷ lines) = after peer (answered peer network line).ne
 abbrev pub AnswersWith : {M : Type 0} → Answered M → Network M × List ℕ → Type 0
 AnswersWith answer done = (done.0 ≡ answer.next) × (done.1 ≡ answer.reply)
 
--- the cause of an error, if it has one
-abbrev pub cause_of : StepRefused → Option Cause
-cause_of (refused_is.Refused why) = Some why
-cause_of refused_is.WantOfMemory = None
+-- ---- How the logic stores a network. No statement about networks depends on it.
+
+-- a network as the pair of its fields
+abbrev pub coded_network : {M : Type 0} → Coded M → Coded (Network M)
+coded_network {M} coded =
+    code_by (List M × List Letter) (coded× (coded_list coded) (coded_list letter_row.the_row.coded))
+    (λ n. (n.nodes, n.letters)) (λ p. record { nodes = p.0; letters = p.1 }) (λ _. refl)

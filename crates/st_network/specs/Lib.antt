@@ -1,8 +1,4 @@
-pub mod Codes
 pub mod Exchange
 pub mod LineLaws
-pub mod Lines
-pub mod Network
 pub mod Run
-pub mod StoresWanted
-pub mod Work
+pub mod inside

@@ -3,17 +3,15 @@ use Rattle.std.specs.Prelude.{◌≡◌, refl, ℕ, ◌+◌, ◌≤◌, Bool, tr
 use Rattle.std.proofs.Common.{◌∙◌, ap, sym, subst, arith, length-take, take_all}
 use Rattle.std.proofs.lemmas.Bool.Decides.{nat_tests}
 use Rattle.st_base.specs.Answers.{◌>>◌, holds_or}
-use Rattle.st_base.specs.Work.{Counts}
-use Rattle.st_base.specs.Words.{first_word, other_words}
-use Rattle.st_drive.specs.Meaning.{Laws}
-use Rattle.st_network.specs.Exchange.{Answered, after, answered, answered_step, replies, step_of, step_of_words}
-use Rattle.st_network.specs.Lines.{kept_of_line, network_meaning}
-use Rattle.st_network.specs.Network.{Network, longest_line, space}
-use Rattle.st_network.specs.Work.{DueOver, accepted_in, proofs_in, proofs_of_step}
+use Rattle.st_base.specs.Work.{WorkValue}
+use Rattle.st_base.specs.Texts.{first_word, other_words}
+use Rattle.st_drive.specs.Lines.{Laws}
+use Rattle.st_network.specs.Exchange.{Answered, after, answered, answered_step, replies, step_of, step_of_words, Network, longest_line, space}
+use Rattle.st_network.specs.Run.{kept_of_line, network_meaning, DueOver, accepted_in, proofs_in, proofs_of_step}
 use Rattle.st_exchange.specs.Peer.{Peer, StaysDue, anchors_told}
-use Rattle.st_network.specs.declared.cause.Cause.{Cause}
-use Rattle.st_network.specs.declared.cause.Cause.TheVariants as cause
-use Rattle.st_network.specs.declared.letter.Step.{Step}
+use Rattle.st_network.specs.declared.command.Cause.{Cause}
+use Rattle.st_network.specs.declared.command.Cause.TheVariants as cause
+use Rattle.st_network.specs.declared.letters.Step.{Step}
 
 -- a line that is short enough is not truncated
 uncut : (most : ℕ) (line : List ℕ) → nat_le (length line) most ≡ true → take (most + 1) line ≡ line
@@ -55,14 +53,14 @@ module _ {M : Type 0} (peer : Peer M) where
   proofs-append network [] more = omega arith
   proofs-append network (line ∷ lines) more = omega (arith, proofs-append (answered peer network line).next lines more)
 
-  cut_due : (network later : Network M) (line : List ℕ) (old new : Counts)
+  cut_due : (network later : Network M) (line : List ℕ) (old new : WorkValue)
       → DueOver peer network (take kept_of_line line ∷ []) later old new → DueOver peer network (line ∷ []) later old new
   cut_due network later line old new due =
       subst (λ (step : Result Step Cause). StaysDue peer network.nodes later.nodes
       (anchors_told (answered_step peer network step).reply + 0) (proofs_of_step peer network step + 0) old new)
       (by_length peer network line (nat_le (length line) longest_line) refl) due
 
-  due_more : (network next last : Network M) (lines more : List (List ℕ)) (old mid new : Counts) → next ≡ after peer network lines
+  due_more : (network next last : Network M) (lines more : List (List ℕ)) (old mid new : WorkValue) → next ≡ after peer network lines
       → DueOver peer network lines next old mid → DueOver peer next more last mid new → DueOver peer network (lines ++ more) last old new
   due_more network next last lines more old mid new came first second = record {
     files = omega (arith, first.files, second.files, accepted-append network lines more, ap (λ (next : Network M). accepted_in peer next more) came);

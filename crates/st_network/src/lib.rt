@@ -3,21 +3,10 @@
 //! reorder. A node receives a file by a message only if it wants it, by its own URI.
 #![tactic(auto)]
 
-mod cause;
-mod delivering;
-mod doing;
-mod laws;
-mod letter;
+mod command;
 mod letters;
-mod lines;
 mod network;
-mod reading;
-mod running;
-mod telling;
-mod wanting;
-mod words;
+mod steps;
 
-pub use laws::exchange_law;
-pub use letter::Letter;
-pub use network::Network;
-pub use running::run_exchange;
+pub use letters::Letter;
+pub use network::{Network, exchange_law, run_exchange};

@@ -1,39 +1,54 @@
--- Each reply tells whether the line changed the machine.
-use Rattle.std.proofs.Common.{◌≡◌, ◌∙◌, ◌≢◌, ℕ, ◌≤◌, ◌-◌, Bool, true, false, nat_le, List, [], ◌∷◌, ◌++◌, length, take, codes, is_some, if◌then◌else◌, Option, Some, None, Result, Ok, Err, refl, sym, ap, subst, arith, length-take, take_all, length-append, length-drop}
+-- A line that changes the machine is short (`changing_short`).
+use Rattle.std.proofs.Common.{◌≡◌, ◌∙◌, ℕ, ◌≤◌, Bool, true, false, nat_le, List, length, Result, Err, refl, sym, ap, arith, ◌≢◌, ◌-◌, [], ◌∷◌, ◌++◌, take, codes, is_some, if◌then◌else◌, Option, Some, None, Ok, subst, length-take, take_all, length-append, length-drop}
 use Rattle.std.proofs.lemmas.Bool.{false≢true}
 use Rattle.std.proofs.lemmas.Bool.Decides.{nat_tests}
 use Rattle.std.specs.BTreeMap.{insert_entry}
 use Rattle.std.specs.List.{AllByRecursion}
 use Rattle.std.specs.Option.{option_or}
-use Rattle.st_base.specs.Answers.{◌>>=◌}
-use Rattle.st_base.specs.Replies.{reply}
-use Rattle.st_content.specs.Files.{Files, file_at, with_file}
-use Rattle.st_content.proofs.FileLemmas.{file_at-with_file}
-use Rattle.st_hash.specs.Hash.{HashValue, hash_cmp, hash_text, uri_of}
-use Rattle.st_node.proofs.FormLemmas.{cut_form}
-use Rattle.st_node.specs.Changing.{is_changing}
-use Rattle.st_node.specs.Changed.{IsCountable, IsNode, Serves, TakesSome, TellsChange, TellsChanges}
-use Rattle.st_batch.specs.Kept.{IsQueued}
-use Rattle.st_batch.specs.BatchLaws.{TakesTheFirst}
-use Rattle.st_batch.specs.Prefix.{batch_count, batch_of, rest_of}
-use Rattle.st_batch.specs.Submitted.{asked_rightly, queued_with, submitted, suffix_to_queue}
-use Rattle.st_batch.specs.declared.refused.SubmitRefused.{SubmitRefused}
+use Rattle.st_base.specs.Answers.{◌>>◌, holds_or, ◌>>=◌}
+use Rattle.st_base.specs.Texts.{reply, first_word, other_words}
 use Rattle.st_plain.specs.Plain.{Plain}
-use Rattle.st_anchor.specs.declared.role_state.RoleState.{RoleState}
-use Rattle.st_batch.specs.Fits.{Fits}
+use Rattle.st_hash.specs.Hash.{HashValue, hash_cmp, hash_text, uri_of}
+use Rattle.st_params.specs.ParamsValue.{ParamsValue, version_at}
+use Rattle.st_ops.specs.Operation.{PlainOperation}
 use Rattle.st_ledger.specs.Ledger.{admitted, last_height}
-use Rattle.st_ledger.specs.declared.entry.Entry.{Entry}
-use Rattle.st_ledger.specs.declared.refused.LedgerRefused.{LedgerRefused}
-use Rattle.st_node.specs.Command.{command_of}
-use Rattle.st_node.specs.Machine.{Answered, AnswersWith, Machine, answered_admitted, answered_batch, answered_command, answered_content, answered_flush, answered_read, answered_rollback, answered_submit, answered_submitted, asked_did, explain_reply, ledger_word, limits_now, refused, replied, reported, resolution, resolve_reply, rolled_back}
+use Rattle.st_ledger.specs.declared.ledger.Entry.{Entry}
+use Rattle.st_ledger.specs.declared.ledger.LedgerRefused.{LedgerRefused}
+use Rattle.st_content.proofs.FileLemmas.{file_at-with_file}
+use Rattle.st_content.specs.Files.{Files, file_at, with_file}
+use Rattle.st_anchor.specs.declared.part.RoleState.{RoleState}
+use Rattle.st_observer.specs.Observed.{Observed, report}
+use Rattle.st_resolve.specs.Identifier.{PlainDid}
+use Rattle.st_batch.specs.Laws.{TakesTheFirst}
+use Rattle.st_batch.specs.Queue.{Fits, IsQueued, asked_rightly, queued_with, submitted, queueable_suffix}
+use Rattle.st_batch.specs.Batch.{batch_count, batch_of, rest_of}
+use Rattle.st_batch.specs.declared.queue.SubmitRefused.{SubmitRefused}
+use Rattle.st_node.proofs.ReplyLemmas.{cut_form}
+use Rattle.st_node.specs.Laws.{IsNode, TellsChange, TellsChanges, is_changing}
+use Rattle.st_node.specs.Command.{command_of_words, longest_line, space, command_of}
+use Rattle.st_node.specs.Machine.{Machine, answered, answered_read, Answered, AnswersWith, answered_admitted, answered_batch, answered_command, answered_content, answered_flush, answered_rollback, answered_submit, answered_submitted, asked_did, explain_reply, ledger_word, limits_now, refused, replied, reported, resolution, resolve_reply, rolled_back}
 use Rattle.st_node.specs.declared.command.Command.{Command}
 use Rattle.st_node.specs.declared.command.Command.TheVariants.{Content, Anchor, Rollback, Resolve, Explain, Wanted, Report, Submit, Flush}
 use Rattle.st_node.specs.declared.command.LineCause.{LineCause}
-use Rattle.st_observer.specs.Observed.{Observed, report}
-use Rattle.st_ops.specs.Operation.{PlainOperation}
-use Rattle.st_params.specs.Limits.{Limits}
-use Rattle.st_params.specs.Schedule.{version_at}
-use Rattle.st_resolve.specs.Identifier.{PlainDid}
+use Rattle.st_node.specs.declared.command.LineCause.TheVariants as line_is
+use Rattle.st_node.specs.inside.Changed.{IsCountable, Serves, TakesSome}
+
+refused_long : (fits : Bool) (next : Result Command LineCause) → fits ≡ false → (holds_or fits line_is.Long >> next) ≡ Err line_is.Long
+refused_long fits next long = rw long refl
+
+by_length : (machine : Machine) (line : List ℕ) (fits : Bool) → nat_le (length line) longest_line ≡ fits
+    → is_changing (answered machine line).reply ≡ true → length line ≤ longest_line
+by_length machine line true short changes = grind (arith, nat_tests)
+by_length machine line false long changes =
+    let none : is_changing (answered machine line).reply ≡ false =
+    ap (λ read. is_changing (answered_read machine read).reply)
+    (refused_long (nat_le (length line) longest_line) (command_of_words (first_word space line) (other_words space line)) long) in
+    absurd (false≢true (sym none ∙ changes))
+
+pub changing_short : (machine : Machine) (line : List ℕ) → is_changing (answered machine line).reply ≡ true → length line ≤ longest_line
+changing_short machine line changes = by_length machine line (nat_le (length line) longest_line) refl changes
+
+-- ---- Each reply tells whether the line changed the machine.
 
 -- ---- by the form of the reply
 
@@ -118,15 +133,15 @@ went_on (Ok value) next last e = (value, e)
 went_on (Err refusal) next last e = absurd cc
 
 -- the submitted operation is at the end of the queue
-queued_last : (limits : Limits) (queue : List PlainOperation) (request : List ℕ) (done : List PlainOperation × HashValue)
+queued_last : (limits : ParamsValue) (queue : List PlainOperation) (request : List ℕ) (done : List PlainOperation × HashValue)
     → submitted limits queue request ≡ Ok done → (operation : PlainOperation) × (done.0 ≡ queue ++ operation ∷ [])
 queued_last limits queue request done e =
     let asked = went_on (asked_rightly limits request) (queued_with queue) done e in
-    let queued = went_on (suffix_to_queue queue asked.0) (λ suffix. Ok (queue ++ asked.0 ∷ [], suffix)) done asked.1 in
+    let queued = went_on (queueable_suffix queue asked.0) (λ suffix. Ok (queue ++ asked.0 ∷ [], suffix)) done asked.1 in
     let same : (queue ++ asked.0 ∷ [], queued.0) ≡ done = cc queued.1 in
     (asked.0, sym (ap (λ d. d.0) same))
 
-submitted_by : (machine : Machine) (limits : Limits) (request : List ℕ) (done : Result (List PlainOperation × HashValue) SubmitRefused)
+submitted_by : (machine : Machine) (limits : ParamsValue) (request : List ℕ) (done : Result (List PlainOperation × HashValue) SubmitRefused)
     → submitted limits machine.queue request ≡ done → Tells machine (answered_submitted machine done)
 submitted_by machine limits request (Ok done) e =
     let queued = queued_last limits machine.queue request done e in
@@ -139,7 +154,7 @@ submit_tells machine request =
 
 -- ---- `flush`
 
-fewer_left : (limits : Limits) (queue : List PlainOperation) → 1 ≤ length queue → 1 ≤ batch_count limits queue → rest_of limits queue ≢ queue
+fewer_left : (limits : ParamsValue) (queue : List PlainOperation) → 1 ≤ length queue → 1 ≤ batch_count limits queue → rest_of limits queue ≢ queue
 fewer_left limits queue some takes same = omega (arith, ap length same, length-drop (batch_count limits queue) queue)
 
 flush_by : (machine : Machine) → TakesSome machine → (waits : Bool) → nat_le 1 (length machine.queue) ≡ waits
@@ -190,7 +205,7 @@ takes_some first observed [] queued = λ some. absurd (omega (arith, some))
 takes_some first observed (operation ∷ waiting) queued = λ some.
     let one = queued.0 in
     first one.limits.version (version_at observed.schedule (last_height observed.ledger)) operation waiting one.formed.hashes
-    (subst (λ (limits : Limits). Fits limits operation) one.versioned one.fitted)
+    (subst (λ (limits : ParamsValue). Fits limits operation) one.versioned one.fitted)
 
 serves : TakesTheFirst → (machine : Machine) (command : Command) → IsNode machine → Serves machine command
 serves first machine (Content bytes) is = tt

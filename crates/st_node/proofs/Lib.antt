@@ -1,19 +1,5 @@
-mod AnchorLemmas
-mod ArrivingLemmas
-mod ChangedLemmas
+pub mod ReplyLemmas
 mod ContentLemmas
-mod CountsLemmas
-mod DueLemmas
-mod ExplainLemmas
-mod EntryLemmas
-mod FlushLemmas
-mod FormLemmas
-mod IsolationLemmas
-mod PaidLemmas
-mod ResolvedLemmas
-mod SumLemmas
-mod TellingLemmas
-pub mod ChangingLemmas
-pub mod IdleLemmas
-pub mod LineLemmas
-pub mod RunLemmas
+pub mod ChangedLemmas
+mod WorkLemmas
+pub mod LawLemmas

@@ -2,8 +2,8 @@
 use Rattle.std.specs.Prelude.{ℕ, ◌-◌, ◌^◌, nat_le, List, length, bytes_eq, codes, is_none, if◌then◌else◌, Option, Some, None, Result, Ok, Err}
 use Rattle.std.specs.Option.{ok_or}
 use Rattle.st_base.specs.Answers.{◌>>=◌, ◌>>◌, holds_or}
-use Rattle.st_base.specs.Words.{cut_at, first_word, number_of, other_words}
-use Rattle.st_hash.specs.Base64url.{bytes_of_text}
+use Rattle.st_base.specs.Texts.{cut_at, first_word, number_of, other_words}
+use Rattle.st_hash.specs.Hash.{bytes_of_text}
 use Rattle.st_node.specs.declared.command.Command.{Command}
 use Rattle.st_node.specs.declared.command.Command.TheVariants.{Content, Anchor, Rollback, Resolve, Explain, Wanted, Report, Submit, Flush}
 use Rattle.st_node.specs.declared.command.LineCause.{LineCause}

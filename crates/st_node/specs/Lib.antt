@@ -1,10 +1,6 @@
-pub mod AlikeReplies
-pub mod Codes
-pub mod Command
-pub mod Isolation
+pub mod Laws
 pub mod Machine
+pub mod Command
 pub mod Peer
-pub mod PeerLaws
-pub mod Changing
-pub mod Changed
 pub mod Work
+pub mod inside

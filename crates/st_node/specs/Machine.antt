@@ -1,49 +1,47 @@
 -- The reference machine: the answer of a node to a line, and its state afterwards. The state is only the ledger, the
 -- files and the queue; each answer is defined from these.
-use Rattle.std.specs.Prelude.{◌≡◌, ℕ, ◌-◌, nat_le, List, [], ◌∷◌, ◌++◌, codes, flat_map, length, map, is_some, if◌then◌else◌, Option, Some, None, Result, Ok, Err}
+use Rattle.std.specs.Coded.{Coded, code_by, coded_list, coded_option, coded_ℕ, coded×}
 use Rattle.std.specs.Fmt.{decimal}
-use Rattle.st_anchor.specs.RuleNames.{rule_name}
-use Rattle.st_anchor.specs.declared.role_state.RoleState.{RoleState}
-use Rattle.st_anchor.specs.declared.role_state.RoleState.TheVariants as role_is
-use Rattle.st_apply.specs.Anchored.{Anchored}
-use Rattle.st_base.specs.Replies.{reply, spaced}
+use Rattle.std.specs.Prelude.{◌≡◌, ℕ, ◌-◌, nat_le, List, [], ◌∷◌, ◌++◌, codes, flat_map, length, map, is_some, if◌then◌else◌, Option, Some, None, Result, Ok, Err, refl}
 use Rattle.st_base.specs.Answers.{◌>>=◌}
-use Rattle.st_batch.specs.Prefix.{batch_of, rest_of}
-use Rattle.st_batch.specs.Submitted.{submitted}
-use Rattle.st_batch.specs.declared.batch.Batch.{Batch}
-use Rattle.st_batch.specs.declared.batch.BatchFile.{BatchFile}
-use Rattle.st_batch.specs.declared.refused.SubmitRefused.{SubmitRefused}
-use Rattle.st_batch.specs.declared.refused.SubmitRefused.TheVariants as submit_is
-use Rattle.st_plain.specs.Canonical.{canonical}
-use Rattle.st_plain.specs.Plain.{Plain}
+use Rattle.st_base.specs.Texts.{reply, spaced}
+use Rattle.st_plain.specs.Plain.{canonical, Plain}
+use Rattle.st_hash.specs.Hash.{base64url, HashValue, hash_text, uri_of}
+use Rattle.st_params.specs.ParamsValue.{ParamsValue, newest_of, params_at}
+use Rattle.st_datafiles.specs.declared.role.Role.{Role}
+use Rattle.st_datafiles.specs.declared.role.Role.TheVariants.{Core, CoreProof, Provisional, ProvisionalProof, Chunk}
+use Rattle.st_ops.specs.Operation.{PlainOperation, creating, updating, recovering, deactivating}
+use Rattle.st_ledger.specs.Ledger.{admitted, last_height}
+use Rattle.st_ledger.specs.contracts.ledger.Entry as entry_row
+use Rattle.st_ledger.specs.declared.ledger.Entry.{Entry}
+use Rattle.st_ledger.specs.declared.ledger.LedgerRefused.{LedgerRefused}
+use Rattle.st_ledger.specs.declared.ledger.LedgerRefused.TheVariants.{HeightFalls, LedgerFull}
+use Rattle.st_content.specs.Files.{Files, file_at}
+use Rattle.st_anchor.specs.RuleNames.{rule_name}
+use Rattle.st_anchor.specs.declared.part.RoleState.{RoleState}
+use Rattle.st_anchor.specs.declared.part.RoleState.TheVariants as role_is
+use Rattle.st_apply.specs.Laws.{Anchored}
+use Rattle.st_observer.specs.Observed.{Observed, appended, arrived, cut_to, nothing_yet, operations, report, state_of, wanted}
+use Rattle.st_resolve.specs.Identifier.{PlainDid, did_of}
+use Rattle.st_resolve.specs.Result.{result_of}
+use Rattle.st_resolve.specs.declared.identifier.DidRefused.{DidRefused}
+use Rattle.st_resolve.specs.declared.identifier.DidRefused.TheVariants as did_is
+use Rattle.st_resolve.specs.declared.result.RenderRefused.{RenderRefused}
+use Rattle.st_resolve.specs.declared.result.RenderRefused.TheVariants as result_is
 use Rattle.st_cert.specs.Certificate.{verdicts}
 use Rattle.st_cert.specs.declared.verdict.Verdict.{Verdict}
 use Rattle.st_cert.specs.declared.verdict.Verdict.TheVariants as verdict_is
-use Rattle.st_content.specs.Files.{Files, file_at}
-use Rattle.st_datafiles.specs.declared.role.Role.{Role}
-use Rattle.st_datafiles.specs.declared.role.Role.TheVariants.{Core, CoreProof, Provisional, ProvisionalProof, Chunk}
-use Rattle.st_hash.specs.Base64url.{base64url}
-use Rattle.st_hash.specs.Hash.{HashValue, hash_text, uri_of}
-use Rattle.st_ledger.specs.Ledger.{admitted, last_height}
-use Rattle.st_ledger.specs.declared.entry.Entry.{Entry}
-use Rattle.st_ledger.specs.declared.refused.LedgerRefused.{LedgerRefused}
-use Rattle.st_ledger.specs.declared.refused.LedgerRefused.TheVariants.{HeightFalls, LedgerFull}
+use Rattle.st_batch.specs.Queue.{coded_operations, submitted}
+use Rattle.st_batch.specs.Batch.{batch_of, rest_of}
+use Rattle.st_batch.specs.declared.batch.Batch.{Batch}
+use Rattle.st_batch.specs.declared.batch.BatchFile.{BatchFile}
+use Rattle.st_batch.specs.declared.queue.SubmitRefused.{SubmitRefused}
+use Rattle.st_batch.specs.declared.queue.SubmitRefused.TheVariants as submit_is
 use Rattle.st_node.specs.Command.{command_of}
 use Rattle.st_node.specs.declared.command.Command.{Command}
 use Rattle.st_node.specs.declared.command.Command.TheVariants.{Content, Anchor, Rollback, Resolve, Explain, Wanted, Report, Submit, Flush}
 use Rattle.st_node.specs.declared.command.LineCause.{LineCause}
 use Rattle.st_node.specs.declared.command.LineCause.TheVariants as line_is
-use Rattle.st_observer.specs.Observed.{Observed, appended, arrived, cut_to, nothing_yet, operations, report, state_of}
-use Rattle.st_observer.specs.Wanted.{wanted}
-use Rattle.st_ops.specs.Operation.{PlainOperation, creating, updating, recovering, deactivating}
-use Rattle.st_params.specs.Limits.{Limits}
-use Rattle.st_params.specs.Schedule.{newest_of, params_at}
-use Rattle.st_resolve.specs.Identifier.{PlainDid, did_of}
-use Rattle.st_resolve.specs.Result.{result_of}
-use Rattle.st_resolve.specs.declared.refused.DidRefused.{DidRefused}
-use Rattle.st_resolve.specs.declared.refused.DidRefused.TheVariants as did_is
-use Rattle.st_resolve.specs.declared.refused.RenderRefused.{RenderRefused}
-use Rattle.st_resolve.specs.declared.refused.RenderRefused.TheVariants as result_is
 
 -- the ledger and the files under a schedule of limits, and the operations that wait for a batch
 pub record Machine : Type 0 where
@@ -134,7 +132,7 @@ or_word word (Ok value) = Ok value
 or_word word (Err refusal) = Err (word refusal)
 
 -- the limits of the highest version
-abbrev pub newest : Observed → Limits
+abbrev pub newest : Observed → ParamsValue
 newest observed = newest_of observed.schedule
 
 -- The result of an identifier: from the state of its suffix, which follows from the ledger and the files.
@@ -239,7 +237,7 @@ answered_report machine n = reported machine (report n machine.observed)
 -- ---- `submit`: the operation of a request is appended to the queue
 
 -- the limits at the height of the last entry, or at height 0 if there is none
-abbrev pub limits_now : Observed → Limits
+abbrev pub limits_now : Observed → ParamsValue
 limits_now observed = params_at observed.schedule (last_height observed.ledger)
 
 -- why a request is refused; running out of memory never appears here
@@ -366,3 +364,25 @@ after machine (line ∷ lines) = after (answered machine line).next lines
 -- The node is the one after the answer, and its reply is returned.
 abbrev pub AnswersWith : Answered → Machine × List ℕ → Type 0
 AnswersWith answer done = (done.0 ≡ answer.next) × (done.1 ≡ answer.reply)
+
+-- ---- How the logic stores a machine. No statement about machines depends on it.
+
+abbrev coded_bytes : Coded (List ℕ)
+coded_bytes = coded_list coded_ℕ
+
+abbrev coded_hash : Coded HashValue
+coded_hash = code_by (ℕ × List ℕ) (coded× coded_ℕ coded_bytes) (λ h. (h.code, h.digest)) (λ p. record { code = p.0; digest = p.1 }) (λ _. refl)
+
+abbrev coded_observed : Coded Observed
+coded_observed =
+    code_by (Option ℕ × (List Entry × Files))
+    (coded× (coded_option coded_ℕ) (coded× (coded_list entry_row.the_row.coded) (coded_list (coded× coded_hash coded_bytes))))
+    (λ o. (o.schedule, (o.ledger, o.files)))
+    (λ p. record { schedule = p.0; ledger = p.1.0; files = p.1.1 })
+    (λ _. refl)
+
+-- a machine as the pair of its fields
+abbrev pub coded_machine : Coded Machine
+coded_machine =
+    code_by (Observed × List PlainOperation) (coded× coded_observed coded_operations)
+    (λ m. (m.observed, m.queue)) (λ p. record { observed = p.0; queue = p.1 }) (λ _. refl)

@@ -1,14 +1,13 @@
 -- Bounds on the work that is counted: for one line, and for several lines.
 use Rattle.std.specs.Prelude.{◌≡◌, ℕ, ◌+◌, ◌-◌, ◌*◌, ◌≤◌, nat_le, Bool, true, false, List, [], ◌∷◌, ◌++◌, length, sum_by, Option, option_map, unwrap_or, Result, Ok, Err}
 use Rattle.st_anchor.specs.States.{decided_roles, opened_proofs}
-use Rattle.st_apply.specs.Anchored.{Anchored}
-use Rattle.st_base.specs.Work.{Counts, AppliesAtMost, ProofsAtMost}
-use Rattle.st_batch.specs.Prefix.{batch_of}
+use Rattle.st_apply.specs.Laws.{Anchored}
+use Rattle.st_base.specs.Work.{WorkValue, AppliesAtMost, ProofsAtMost}
+use Rattle.st_batch.specs.Batch.{batch_of}
 use Rattle.st_batch.specs.declared.batch.BatchFile.{BatchFile}
-use Rattle.st_ledger.specs.Anchor.{anchor_of}
-use Rattle.st_ledger.specs.Ledger.{admitted}
-use Rattle.st_ledger.specs.declared.entry.Entry.{Entry}
-use Rattle.st_ledger.specs.declared.refused.LedgerRefused.{LedgerRefused}
+use Rattle.st_ledger.specs.Ledger.{anchor_of, admitted}
+use Rattle.st_ledger.specs.declared.ledger.Entry.{Entry}
+use Rattle.st_ledger.specs.declared.ledger.LedgerRefused.{LedgerRefused}
 use Rattle.st_node.specs.Command.{command_of}
 use Rattle.st_node.specs.Machine.{Machine, after, all_arrived, answered, asked_did, limits_now}
 use Rattle.st_node.specs.declared.command.Command.{Command}
@@ -17,13 +16,13 @@ use Rattle.st_node.specs.declared.command.LineCause.{LineCause}
 use Rattle.st_observer.specs.Observed.{Observed, appended, arrived, known_of, operations}
 use Rattle.st_observer.specs.Work.{GrewAtMost, arrival_cost, decided_in, entry_cost, losing, opened_in}
 use Rattle.st_resolve.specs.Identifier.{PlainDid}
-use Rattle.st_params.specs.Schedule.{params_at}
+use Rattle.st_params.specs.ParamsValue.{params_at}
 
 -- ---- the cost of a command
 
 -- A file costs one reading for each role of any entry that it decides, and one opening for each signed text in newly
 -- read proof files.
-abbrev pub ArrivalCounts : Observed → List ℕ → Counts → Counts → Type 0
+abbrev pub ArrivalCounts : Observed → List ℕ → WorkValue → WorkValue → Type 0
 ArrivalCounts observed bytes old new =
     GrewAtMost
     (decided_in (arrived bytes observed) - decided_in observed)
@@ -32,7 +31,7 @@ ArrivalCounts observed bytes old new =
     old new
 
 -- An entry costs the same for its own roles.
-abbrev pub EntryCounts : Observed → Entry → Counts → Counts → Type 0
+abbrev pub EntryCounts : Observed → Entry → WorkValue → WorkValue → Type 0
 EntryCounts observed entry old new =
     GrewAtMost
     (decided_roles (known_of observed.schedule observed.files entry))
@@ -41,18 +40,18 @@ EntryCounts observed entry old new =
     old new
 
 -- nothing is counted for a refused one
-abbrev pub AdmittedCounts : Observed → Entry → Result Unit LedgerRefused → Counts → Counts → Type 0
+abbrev pub AdmittedCounts : Observed → Entry → Result Unit LedgerRefused → WorkValue → WorkValue → Type 0
 AdmittedCounts observed entry (Ok _) old new = EntryCounts observed entry old new
 AdmittedCounts observed entry (Err cause) old new = new ≡ old
 
 -- A cut reads and opens nothing, and costs at most 7 applied operations for each identifier that loses one; if it is
 -- refused, nothing is counted.
-abbrev pub FittingCounts : Observed → ℕ → Bool → Counts → Counts → Type 0
+abbrev pub FittingCounts : Observed → ℕ → Bool → WorkValue → WorkValue → Type 0
 FittingCounts observed n true old new = AppliesAtMost (7 * length (losing n observed)) old new
 FittingCounts observed n false old new = new ≡ old
 
 -- the same by the number of entries kept
-abbrev pub RollbackCounts : Observed → ℕ → Counts → Counts → Type 0
+abbrev pub RollbackCounts : Observed → ℕ → WorkValue → WorkValue → Type 0
 RollbackCounts observed n old new = FittingCounts observed n (nat_le n (length observed.ledger)) old new
 
 -- the cost of files that are received one after another
@@ -62,7 +61,7 @@ arrivals_cost (file ∷ files) observed = arrival_cost file.bytes observed + arr
 
 -- Files received one after another cost one reading for each role that they decide together, and one opening for each
 -- signed text in newly read proof files.
-abbrev pub ArrivalsCounts : Observed → List BatchFile → Counts → Counts → Type 0
+abbrev pub ArrivalsCounts : Observed → List BatchFile → WorkValue → WorkValue → Type 0
 ArrivalsCounts observed files old new =
     GrewAtMost
     (decided_in (all_arrived files observed) - decided_in observed)
@@ -71,13 +70,13 @@ ArrivalsCounts observed files old new =
     old new
 
 -- nothing is counted if nothing is queued
-abbrev pub QueueCounts : Machine → Bool → Counts → Counts → Type 0
+abbrev pub QueueCounts : Machine → Bool → WorkValue → WorkValue → Type 0
 QueueCounts machine true old new =
     ArrivalsCounts machine.observed (batch_of (limits_now machine.observed) machine.queue).files old new
 QueueCounts machine false old new = new ≡ old
 
 -- A flush costs what the files of its batch cost; making them costs nothing.
-abbrev pub FlushCounts : Machine → Counts → Counts → Type 0
+abbrev pub FlushCounts : Machine → WorkValue → WorkValue → Type 0
 FlushCounts machine old new = QueueCounts machine (nat_le 1 (length machine.queue)) old new
 
 -- the operations of an identifier, or none if there is no identifier
@@ -92,7 +91,7 @@ asked_operations observed text = operations_of_found observed (asked_did observe
 -- The counts of executing a command; no count falls. Resolving an identifier reads nothing and applies at most one
 -- operation. Explaining one reads nothing and applies at most as many operations as entries give for it. Submitting a
 -- request opens at most one signed text, also if it is refused. Queries of the state cost nothing.
-abbrev pub CommandCounts : Machine → Command → Counts → Counts → Type 0
+abbrev pub CommandCounts : Machine → Command → WorkValue → WorkValue → Type 0
 CommandCounts machine (Content bytes) old new = ArrivalCounts machine.observed bytes old new
 CommandCounts machine (Anchor height text) old new =
     AdmittedCounts machine.observed (record { height = height; text = text }) (admitted machine.observed.ledger height) old new
@@ -105,7 +104,7 @@ CommandCounts machine (Submit request) old new = ProofsAtMost 1 old new
 CommandCounts machine Flush old new = FlushCounts machine old new
 
 -- and of answering a line: nothing is counted for a line that is not a command
-abbrev pub LineCounts : Machine → Result Command LineCause → Counts → Counts → Type 0
+abbrev pub LineCounts : Machine → Result Command LineCause → WorkValue → WorkValue → Type 0
 LineCounts machine (Ok command) old new = CommandCounts machine command old new
 LineCounts machine (Err cause) old new = new ≡ old
 
@@ -181,17 +180,17 @@ submitted_in lines = sum_by submitted_by_line lines
 -- The counts plus the work still due afterwards are at most the earlier counts, the work due before, and the new
 -- work: each of these entries adds five files and as many signed texts as it declares operations, and each submission
 -- adds one signed text.
-pub record StaysDue (before later : Observed) (entries : List Entry) (submissions : ℕ) (old new : Counts) : Type 0 where
+pub record StaysDue (before later : Observed) (entries : List Entry) (submissions : ℕ) (old new : WorkValue) : Type 0 where
   pub files : new.files + files_due later ≤ old.files + files_due before + 5 * length entries
   pub proofs : new.proofs + proofs_due later ≤ old.proofs + proofs_due before + sum_by (declared_count before.schedule) entries + submissions
 
 -- the same over several lines
-abbrev pub DueOver : Machine → List (List ℕ) → Counts → Counts → Type 0
+abbrev pub DueOver : Machine → List (List ℕ) → WorkValue → WorkValue → Type 0
 DueOver machine lines old new =
     StaysDue machine.observed (after machine lines).observed (entries_of machine lines) (submitted_in lines) old new
 
 -- From the start, several lines read at most five files for each accepted anchor, and open at most as many signed
 -- texts as these declare operations, and one for each `submit` line.
-pub record RunCounts (schedule : Option ℕ) (entries : List Entry) (submissions : ℕ) (old new : Counts) : Type 0 where
+pub record RunCounts (schedule : Option ℕ) (entries : List Entry) (submissions : ℕ) (old new : WorkValue) : Type 0 where
   pub files : new.files ≤ old.files + 5 * length entries
   pub proofs : new.proofs ≤ old.proofs + sum_by (declared_count schedule) entries + submissions

@@ -1,12 +1,50 @@
 ghost use Rattle.std.specs.Option.{option_copied};
+ghost use Rattle.std.specs.Prelude.{◌≡◌, ◌&&◌, codes, drop};
 ghost use Rattle.st_base.specs.Answers.{Gives};
+ghost use Rattle.st_node.specs.Laws.{begins_with, is_changing, is_positive};
 ghost use Rattle.st_node.specs.Command.{anchor_of, cause_of, command_of, command_of_words, content_of, explain_of, flush_of, report_of, resolve_of, rollback_of, submit_of, wanted_of};
 
-use crate::lent::Lent;
 use st_base::{Bytes, Copied, WantOfMemory, cut_at, cut_word, read_number};
 use st_hash::{DecRefused, dec};
 use std::alloc::Global;
+use std::marker::Model;
 use thiserror::Error;
+
+/// A borrowed part of a line, without memory of its own. Contracts see its bytes.
+#[derive(Debug, Drop)]
+pub struct Lent<'a> {
+    bytes: &'a [u8],
+}
+
+impl<'a> Model for Lent<'a> {
+    ghost use Rattle.std.specs.Prelude.{List, ℕ};
+
+    ghost Value = { List ℕ };
+
+    ghost view = { λ lent. lent.bytes.now };
+}
+
+impl<'a> Copied for Lent<'a> {
+    fn copy(&self, _alloc: Global) -> Result<Lent<'a>, WantOfMemory> {
+        Ok(Lent { bytes: self.bytes })
+    }
+}
+
+impl<'a> Lent<'a> {
+    /// These bytes.
+    pub fn new(bytes: &'a [u8]) -> Lent<'a>
+        ensures { result ≡ bytes.now }
+    {
+        Lent { bytes }
+    }
+
+    /// The bytes, for as long as the line is borrowed.
+    pub fn as_slice(&self) -> &'a [u8]
+        ensures { result.now ≡ self.now }
+    {
+        self.bytes
+    }
+}
 
 /// The largest number of bytes of a line.
 pub const LONGEST_LINE: usize = 24_000_000;
@@ -252,5 +290,39 @@ fn read_flush(behind: Option<&[u8]>) -> Result<Command<'_>, LineRefused>
     match behind {
         Some(_) => Err(LineRefused::BadLine(LineCause::Words)),
         None => Ok(Command::Flush),
+    }
+}
+
+/// Whether a reply says that its line changed the node: it starts with `have `, `anchored `,
+/// `queued ` or `batch `, or with `cut ` and a digit other than 0.
+pub fn changing(reply: &[u8]) -> bool
+    ensures { result ≡ is_changing reply.now }
+{
+    begins_with(b"have ", reply)
+        || begins_with(b"anchored ", reply)
+        || cuts(reply)
+        || begins_with(b"queued ", reply)
+        || begins_with(b"batch ", reply)
+}
+
+// Whether a reply says that entries were removed.
+fn cuts(reply: &[u8]) -> bool
+    ensures { result ≡ begins_with (codes "cut ") reply.now && is_positive (drop 4 reply.now) }
+{
+    begins_with(b"cut ", reply) && is_positive(&reply[4..])
+}
+
+fn begins_with(front: &[u8], text: &[u8]) -> bool
+    ensures { result ≡ begins_with front.now text.now }
+{
+    text.starts_with(front)
+}
+
+fn is_positive(text: &[u8]) -> bool
+    ensures { result ≡ is_positive text.now }
+{
+    match text {
+        [] => false,
+        [digit, ..] => 49 <= *digit && *digit <= 57,
     }
 }

@@ -1,13 +1,13 @@
 ghost use Rattle.std.specs.Prelude.{◌≡◌, ◌++◌, IfOk, OnOk, codes, length, map};
 ghost use Rattle.std.specs.Fmt.{decimal};
-ghost use Rattle.st_apply.specs.Anchored.{place_of};
-ghost use Rattle.st_base.specs.Replies.{reply};
+ghost use Rattle.st_apply.specs.Laws.{place_of};
+ghost use Rattle.st_base.specs.Texts.{reply};
 ghost use Rattle.st_base.specs.Work.{AppliesAtMost};
 ghost use Rattle.st_cert.specs.Certificate.{anchored_item, anchored_items};
 ghost use Rattle.st_node.specs.Machine.{asked_did, explain_reply, explained, item_line, item_lines, kind_word, verdict_word};
 ghost use Rattle.st_node.specs.Work.{asked_operations};
 ghost use Rattle.st_observer.specs.Observed.{operations};
-ghost use Rattle.st_observer.specs.States.{plain_held};
+ghost use Rattle.st_observer.specs.Work.{plain_held};
 ghost use Rattle.st_ops.specs.Operation.{plain_operation};
 
 use itoa::Buffer;

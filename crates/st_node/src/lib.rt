@@ -3,21 +3,13 @@
 //! batches of submitted requests.
 #![tactic(auto)]
 
-mod causes;
-mod changes;
+mod batches;
 mod command;
 mod explaining;
-mod flushing;
-mod laws;
-mod lent;
 mod node;
 mod peer;
-mod resolving;
-mod submitting;
-mod telling;
+mod replies;
 
-pub use changes::changing;
-pub use command::{Command, LONGEST_LINE, LineCause, LineRefused, read_command};
-pub use laws::{alike_law, changes_law, isolation_law};
-pub use lent::Lent;
+pub use command::{Command, LONGEST_LINE, Lent, LineCause, LineRefused, changing, read_command};
 pub use node::Node;
+pub use peer::{alike_law, changes_law, isolation_law};

@@ -1,18 +1,16 @@
 ghost use Rattle.std.specs.Prelude.{◌≡◌, ◌≤◌, IfOk, OnOk, length};
 ghost use Rattle.st_base.specs.Work.{ProofsAtMost};
-ghost use Rattle.st_node.specs.Changed.{IsCountable, Serves, TakesSome, TellsChange};
+ghost use Rattle.st_node.specs.Laws.{TellsChange};
+ghost use Rattle.st_node.specs.inside.Changed.{IsCountable, Serves, TakesSome};
 ghost use Rattle.st_node.specs.Command.{command_of};
 ghost use Rattle.st_node.specs.Machine.{AnswersWith, answered, answered_anchor, answered_command, answered_content, answered_flush, answered_report, answered_rollback, answered_submit, answered_wanted, new_machine};
 ghost use Rattle.st_node.specs.Work.{AdmittedCounts, ArrivalCounts, CommandCounts, FlushCounts, LineCounts, RollbackCounts, StaysDue, entry_of_command, entry_of_line, submitted_by, submitted_by_line};
 ghost use Rattle.st_ledger.specs.Ledger.{admitted};
 
-use crate::causes::{cause_word, ledger_word};
+use crate::batches::{limits_now, submit, take_files, tell_batch};
 use crate::command::{Command, LineRefused, read_command};
 use crate::explaining::explain;
-use crate::flushing::{take_files, tell_batch};
-use crate::resolving::resolve;
-use crate::submitting::{limits_now, submit};
-use crate::telling::{tell_states, tell_wanted};
+use crate::replies::{cause_word, ledger_word, resolve, tell_states, tell_wanted};
 use itoa::Buffer;
 use st_base::{Bytes, WantOfMemory, Work, reply};
 use st_batch::{Batch, FlushRefused, Queue};
@@ -33,8 +31,7 @@ pub struct Node {
 }
 
 impl Model for Node {
-    ghost use Rattle.st_node.specs.Codes.{coded_machine};
-    ghost use Rattle.st_node.specs.Machine.{Machine};
+    ghost use Rattle.st_node.specs.Machine.{coded_machine, Machine};
 
     ghost Value = { Machine };
 
@@ -186,7 +183,8 @@ impl Node {
         text: &[u8],
         work: &mut Work,
     ) -> Result<(Node, Bytes), WantOfMemory>
-        ensures answer { IfOk result (AnswersWith (answered_anchor self (record { height = height; text = text.now }))) }
+        ensures answer { IfOk result (AnswersWith
+            (answered_anchor self (record { height = height; text = text.now }))) }
         ensures counts { AdmittedCounts self.observed (record { height = height; text = text.now })
             (admitted self.observed.ledger height) work.old work.new }
     {

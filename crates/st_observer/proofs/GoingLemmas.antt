@@ -7,29 +7,28 @@ use Rattle.std.proofs.Common.{◌≡◌, ◌∙◌, ◌⊎◌, ⊎_elim, inl, in
 use Rattle.std.specs.List.{AllByRecursion, list_any}
 use Rattle.std.proofs.lemmas.Bool.{cases_eq, cases_lt, eqb-true, or_from, or_parts, true≢false}
 use Rattle.std.proofs.lemmas.List.{ext_get_or, get_or-map, get_or_past, length-map, map-set, set-get_or}
-use Rattle.st_anchor.specs.Coming.{Extends, IsUnmissed}
-use Rattle.st_anchor.specs.Known.{Known, known, known_from, known_of_text}
+use Rattle.st_anchor.specs.Gives.{IsUnmissed}
+use Rattle.st_anchor.specs.inside.Coming.{Extends}
+use Rattle.st_anchor.specs.BoundValue.{BoundValue, known, known_from, known_of_text}
 use Rattle.st_anchor.specs.States.{role_state, role_states}
-use Rattle.st_anchor.specs.declared.role_state.RoleState.{RoleState}
-use Rattle.st_anchor.specs.declared.role_state.RoleState.TheVariants.{Missing}
+use Rattle.st_anchor.specs.declared.part.RoleState.{RoleState}
+use Rattle.st_anchor.specs.declared.part.RoleState.TheVariants.{Missing}
 use Rattle.st_anchor.proofs.ComingLemmas.{known_from-unmissed, with_file-extends}
 use Rattle.st_anchor.proofs.KnownLemmas.{known_from-again}
 use Rattle.st_content.specs.Files.{Files, with_file}
 use Rattle.st_datafiles.specs.declared.role.Role.TheVariants.{Core, CoreProof, Provisional, ProvisionalProof, Chunk}
 use Rattle.st_hash.specs.Hash.{HashValue, same_hash, uri_of}
-use Rattle.st_hash.proofs.SameHash.{same_hash-itself}
-use Rattle.st_ledger.specs.declared.entry.Entry.{Entry}
-use Rattle.st_params.specs.Limits.{Limits}
-use Rattle.st_base.proofs.Lists.{next_item}
-use Rattle.st_observer.specs.Kept.{IsKept, StatesAgree, WaitsAgree, bound_at, unknown}
-use Rattle.st_observer.specs.Observed.{Observed, arrived, known_of}
-use Rattle.st_observer.specs.Steps.{IsGoing, IsSettled, Settles, is_among}
-use Rattle.st_observer.specs.Waiting.{TurnsTo, is_waiting}
-use Rattle.st_observer.specs.Wanted.{misses, one_misses}
+use Rattle.st_hash.proofs.HashLemmas.{same_hash-itself}
+use Rattle.st_ledger.specs.declared.ledger.Entry.{Entry}
+use Rattle.st_params.specs.ParamsValue.{ParamsValue}
+use Rattle.st_base.proofs.ListLemmas.{next_item}
+use Rattle.st_observer.specs.Work.{IsKept, OperationsAgree, WaitsAgree, bound_at, unknown}
+use Rattle.st_observer.specs.Observed.{Observed, arrived, known_of, is_waiting, misses, one_misses}
+use Rattle.st_observer.specs.inside.Steps.{IsGoing, IsSettled, Settles, is_among}
+use Rattle.st_observer.specs.inside.Waiting.{TurnsTo}
 use Rattle.st_observer.specs.declared.kept.Kept.{Kept}
-use Rattle.st_observer.proofs.BoundsLemmas.{Becomes, adds-nothing, becomes-set}
-use Rattle.st_observer.proofs.OperationsLemmas.{agree-settled}
-use Rattle.st_observer.proofs.WaitsLemmas.{waits-turned}
+use Rattle.st_observer.proofs.OperationsLemmas.{Becomes, adds-nothing, becomes-set, agree-settled}
+use Rattle.st_observer.proofs.WaitingLemmas.{waits-turned}
 
 -- ---- how many entries
 
@@ -49,7 +48,7 @@ none-each test [] none = tt
 none-each test (state ∷ states) none = let parts = or_parts (test state) (list_any test states) none in (parts.0, none-each test states parts.1)
 
 -- a file that is missing for no role of an entry
-pub unmissed : (uri : HashValue) (bound : Known) → one_misses uri (role_states bound) ≡ false → IsUnmissed uri bound
+pub unmissed : (uri : HashValue) (bound : BoundValue) → one_misses uri (role_states bound) ≡ false → IsUnmissed uri bound
 unmissed uri bound none =
     let each = none-each (misses uri) (role_states bound) none in
     λ role. elim role as (λ role. role_state role bound ≡ Missing uri → ⊥) [
@@ -62,12 +61,12 @@ unmissed uri bound none =
 
 -- ---- more files
 
-known-later : (files later : Files) → Extends files later → (limits : Limits) (text : List ℕ)
+known-later : (files later : Files) → Extends files later → (limits : ParamsValue) (text : List ℕ)
     → known_from later (known files limits text) ≡ known later limits text
 unfolding known
 known-later files later extends limits text = known_from-again files later extends (known_of_text limits text)
 
-known-unmissed : (file : List ℕ) (files : Files) (limits : Limits) (text : List ℕ) → IsUnmissed (uri_of file) (known files limits text)
+known-unmissed : (file : List ℕ) (files : Files) (limits : ParamsValue) (text : List ℕ) → IsUnmissed (uri_of file) (known files limits text)
     → known (with_file file files) limits text ≡ known files limits text
 unfolding known
 known-unmissed file files limits text none = known_from-unmissed file files (known_of_text limits text) none
@@ -120,7 +119,7 @@ kept-settled observed kept n is = elim (cases_lt n (length kept.bounds.items)) [
 start-settled : (file : List ℕ) (observed : Observed) (kept : Kept) (n : ℕ) → IsKept observed kept → is_waiting (uri_of file) n kept.waiting ≡ false
     → IsSettled (with_file file observed.files) kept.bounds.items n
 start-settled file observed kept n is none =
-    let bound : Known = bound_at n kept.bounds.items in
+    let bound : BoundValue = bound_at n kept.bounds.items in
     let same : known_from observed.files bound ≡ bound = kept-settled observed kept n is in
     let unasked : one_misses (uri_of file) (role_states (known_from observed.files bound)) ≡ false =
     ap (λ b. one_misses (uri_of file) (role_states b)) same ∙ sym (is.waits.each (uri_of file) n) ∙ none in
@@ -139,11 +138,11 @@ going-start file observed kept is = record {
 
 -- ---- one entry
 
-pub known_from-twice : (files : Files) (bound : Known) → known_from files (known_from files bound) ≡ known_from files bound
+pub known_from-twice : (files : Files) (bound : BoundValue) → known_from files (known_from files bound) ≡ known_from files bound
 known_from-twice files bound = known_from-again files files (record { kept = λ uri file is. is }) bound
 
 -- the files add the same to it before and after an entry is checked
-pub map-settled : (files : Files) (bounds : List Known) (n : ℕ)
+pub map-settled : (files : Files) (bounds : List BoundValue) (n : ℕ)
     → map (known_from files) (set bounds n (known_from files (bound_at n bounds))) ≡ map (known_from files) bounds
 map-settled files bounds n =
     map-set (known_from files) bounds n (known_from files (bound_at n bounds))
@@ -152,10 +151,10 @@ map-settled files bounds n =
     ∙ ap (map (known_from files)) (set-get_or bounds n unknown)
 
 -- and the entry is settled, as those that were
-settled-next : (files : Files) (bounds : List Known) (n m : ℕ) (still : Bool) → n < length bounds → (still ≡ false → IsSettled files bounds m)
+settled-next : (files : Files) (bounds : List BoundValue) (n m : ℕ) (still : Bool) → n < length bounds → (still ≡ false → IsSettled files bounds m)
     → (still ≡ false) ⊎ (m ≡ n) → IsSettled files (set bounds n (known_from files (bound_at n bounds))) m
 settled-next files bounds n m still inside settled left =
-    let more : Known = known_from files (bound_at n bounds) in
+    let more : BoundValue = known_from files (bound_at n bounds) in
     let becomes : Becomes n more bounds (set bounds n more) = becomes-set bounds more n inside in
     elim (cases_eq m n) [
       | inl here ↦
@@ -189,8 +188,8 @@ module _ {observed : Observed} {still : ℕ → Bool} {kept : Kept} (going : IsG
       → ((m : ℕ) → next m ≡ false → (still m ≡ false) ⊎ (m ≡ n))
       → IsGoing observed next after
   going-settled n entry {after} step inside is left =
-      let bounds : List Known = kept.bounds.items in
-      let more : Known = known_from observed.files (bound_at n bounds) in
+      let bounds : List BoundValue = kept.bounds.items in
+      let more : BoundValue = known_from observed.files (bound_at n bounds) in
       let becomes : Becomes n more bounds (set bounds n more) = becomes-set bounds more n inside in
       record {
         same = ap (map (known_from observed.files)) step.bounds ∙ map-settled observed.files bounds n ∙ going.same;
@@ -200,10 +199,10 @@ module _ {observed : Observed} {still : ℕ → Bool} {kept : Kept} (going : IsG
         waits =
             subst (λ xs. WaitsAgree xs after.waiting) (sym step.bounds)
             (waits-turned becomes.others
-            (subst (λ (b : Known). TurnsTo n (role_states b) kept.waiting after.waiting) (sym becomes.own) step.waits) going.waits);
+            (subst (λ (b : BoundValue). TurnsTo n (role_states b) kept.waiting after.waiting) (sym becomes.own) step.waits) going.waits);
         schedule = step.states.schedule ∙ going.schedule;
         states =
-            subst (λ xs. StatesAgree observed.ledger xs after.index) (sym step.bounds)
+            subst (λ xs. OperationsAgree observed.ledger xs after.index) (sym step.bounds)
             (agree-settled entry n more kept.index after.index step.states observed.ledger bounds observed.files refl going-length inside is going.states);
       }
 

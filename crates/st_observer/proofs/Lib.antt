@@ -1,21 +1,12 @@
 -- Private: lemmas for the observer's calls.
 mod WaitingLemmas
 mod WantedLemmas
-mod StatesLemmas
-mod BoundsLemmas
+mod StoredLemmas
 mod OperationsLemmas
-mod WaitsLemmas
 mod GoingLemmas
-mod WorkLemmas
-mod CostLemmas
-mod NamesLemmas
+pub mod WorkLemmas
 mod LookingLemmas
-mod AskedLemmas
-mod IsolationLemmas
-mod KeptLemmas
-mod AppendLemmas
-mod ArriveLemmas
-mod CutLemmas
+mod ObserverLemmas
+
 -- For the crates above.
 -- no count fell
-pub mod FellLemmas

@@ -7,21 +7,19 @@ use Rattle.std.proofs.lemmas.Bool.{eq-eqb, false≢true, or_cases, or_left, or_r
 use Rattle.std.proofs.lemmas.List.{get_or-map, get_or_default, length-map}
 use Rattle.std.proofs.lemmas.Option.{get_or_from_slice_get, slice_get_within}
 use Rattle.std.proofs.lemmas.List.Folds.{list_any_more}
-use Rattle.st_anchor.specs.Coming.{newly_decided, newly_opened}
-use Rattle.st_anchor.specs.Gives.{given, suffixes_given}
-use Rattle.st_anchor.specs.Known.{Known, known_from}
-use Rattle.st_base.specs.Work.{Counts}
+use Rattle.st_anchor.specs.Gives.{newly_decided, newly_opened, given, suffixes_given}
+use Rattle.st_anchor.specs.BoundValue.{BoundValue, known_from}
+use Rattle.st_base.specs.Work.{WorkValue}
 use Rattle.st_hash.specs.Hash.{HashValue, hash_cmp}
-use Rattle.st_ledger.specs.declared.entry.Entry.{Entry}
+use Rattle.st_ledger.specs.declared.ledger.Entry.{Entry}
 use Rattle.st_observer.specs.Observed.{Observed, known_of}
-use Rattle.st_observer.specs.Kept.{bound_at, unknown}
-use Rattle.st_observer.specs.Steps.{CoversWhere, GrewOver, IsGoing, Settles, is_among}
-use Rattle.st_observer.specs.Work.{GrewAtMost, ReadExactly}
+use Rattle.st_observer.specs.Work.{bound_at, unknown, GrewAtMost, ReadExactly}
+use Rattle.st_observer.specs.inside.Steps.{CoversWhere, GrewOver, IsGoing, Settles, is_among}
 use Rattle.st_observer.specs.declared.kept.Kept.{Kept}
 use Rattle.st_observer.proofs.GoingLemmas.{among-left, going-length, going-settled, going-skipped}
-use Rattle.st_observer.proofs.StatesLemmas.{covers-put}
+use Rattle.st_observer.proofs.StoredLemmas.{covers-put}
 use Rattle.st_observer.proofs.WorkLemmas.{Reading, reading-few, reading-settled, reading-wanting}
-use Rattle.st_opindex.specs.ByKey.{Covers}
+use Rattle.st_opindex.specs.Items.{Covers}
 
 -- ---- as the code finds the numbers and their entries
 
@@ -43,14 +41,14 @@ entry-past (entry ∷ ledger) (suc n) none = let rest : length ledger ≤ n = en
 
 -- This many of the entries with these numbers have been checked. Nothing is applied yet, and names that cover the
 -- operations of all of them cover the changes.
-pub record Looking (observed : Observed) (entries : List ℕ) (at : ℕ) (start now : Kept) (old new : Counts) : Type 0 where
+pub record Looking (observed : Observed) (entries : List ℕ) (at : ℕ) (start now : Kept) (old new : WorkValue) : Type 0 where
   pub going : IsGoing observed (is_among (drop at entries)) now
   pub same : map (known_from observed.files) now.bounds.items ≡ map (known_from observed.files) start.bounds.items
   pub reading : Reading start.bounds.items now.bounds.items old new
   pub covers : (names : List (HashValue × ℕ)) → CoversWhere (is_among entries) observed names → AllByRecursion (Covers hash_cmp names) now.index.changes
 
 -- more is known about an entry that was checked again
-more-known : (observed : Observed) (bounds : List Known) (entry : Entry) (n : ℕ)
+more-known : (observed : Observed) (bounds : List BoundValue) (entry : Entry) (n : ℕ)
     → map (known_from observed.files) bounds ≡ map (known_of observed.schedule observed.files) observed.ledger
     → n < length bounds → get_or observed.ledger n entry ≡ entry
     → known_from observed.files (bound_at n bounds) ≡ known_of observed.schedule observed.files entry
@@ -78,12 +76,12 @@ module _ (entries : List ℕ) (at n : ℕ) (inside : at < length entries) (is : 
   all-among : is_among entries n ≡ true
   all-among = among-taken entries (at + 1) n (more-among n ∙ or_right (is_among (take at entries) n) (n == n) (eq-eqb n n refl))
 
-  module _ {observed : Observed} {start now : Kept} {old mid : Counts} (looking : Looking observed entries at start now old mid) where
+  module _ {observed : Observed} {start now : Kept} {old mid : WorkValue} (looking : Looking observed entries at start now old mid) where
     pub looking-inside : n < length observed.ledger → n < length now.bounds.items
     looking-inside within = omega (arith, within, going-length looking.going)
 
     -- the entry with this number is checked again
-    pub looking-next : (entry : Entry) {after : Kept} {new : Counts} → Some entry ≡ slice_get observed.ledger n
+    pub looking-next : (entry : Entry) {after : Kept} {new : WorkValue} → Some entry ≡ slice_get observed.ledger n
         → Settles observed.files n entry.height now after
         → ReadExactly (newly_decided observed.files (bound_at n now.bounds.items)) (newly_opened observed.files (bound_at n now.bounds.items)) mid new
         → GrewAtMost (newly_decided observed.files (bound_at n now.bounds.items)) (newly_opened observed.files (bound_at n now.bounds.items)) 0 mid new
@@ -102,7 +100,7 @@ module _ (entries : List ℕ) (at n : ℕ) (inside : at < length entries) (is : 
           covers = λ names where_given.
               subst (AllByRecursion (Covers hash_cmp names)) (sym step.states.changes)
               (covers-put n names now.index.changes _ (looking.covers names where_given)
-              (subst (λ (b : Known). AllByRecursion (λ suffix. Covers hash_cmp names (suffix, n)) (suffixes_given (given b)))
+              (subst (λ (b : BoundValue). AllByRecursion (λ suffix. Covers hash_cmp names (suffix, n)) (suffixes_given (given b)))
               (sym (more-known observed now.bounds.items entry n looking.going.same room there))
               (where_given n entry found all-among)));
         }
@@ -116,7 +114,7 @@ module _ (entries : List ℕ) (at n : ℕ) (inside : at < length entries) (is : 
     }
 
     -- memory ran out at this entry
-    pub looking-wanting : (entry : Entry) {new : Counts} → Some entry ≡ slice_get observed.ledger n
+    pub looking-wanting : (entry : Entry) {new : WorkValue} → Some entry ≡ slice_get observed.ledger n
         → GrewAtMost (newly_decided observed.files (bound_at n now.bounds.items)) (newly_opened observed.files (bound_at n now.bounds.items)) 0 mid new
         → GrewOver observed.files start.bounds.items 0 old new
     looking-wanting entry found grew =
@@ -124,6 +122,6 @@ module _ (entries : List ℕ) (at n : ℕ) (inside : at < length entries) (is : 
 
 -- ---- at the end
 
-pub looking-few : {observed : Observed} {entries : List ℕ} {at : ℕ} {start now : Kept} {old new : Counts}
+pub looking-few : {observed : Observed} {entries : List ℕ} {at : ℕ} {start now : Kept} {old new : WorkValue}
     → Looking observed entries at start now old new → GrewOver observed.files start.bounds.items 0 old new
 looking-few {observed} looking = reading-few observed.files looking.reading looking.same

@@ -1,26 +1,78 @@
--- The operations that entries give for a suffix.
+-- What is known about entries, by their numbers.
+--     Becomes                                       something else is known about one of them
+--     becomes-pushed, becomes-set, becomes-taken    an entry is appended, checked again, or removed
+--     needs_none, gives-nothing, adds-nothing       an entry that does not exist
+use Rattle.std.proofs.Common.{◌≡◌, ◌≢◌, ◌∙◌, inl, inr, ℕ, ◌+◌, ◌<◌, List, [], ◌∷◌, ◌++◌, length, set, take, refl, sym, arith, zero, suc, ◌≤◌, Bool, true, false, nat_lt, filter, map, get_or, Option, Some, None, is_some, option_map, ap, subst}
+use Rattle.std.proofs.lemmas.Bool.{cases_lt, false≢true, le-ltb, lt-ltb}
+use Rattle.std.proofs.lemmas.List.{get_or-set_other, get_or-set_same, get_or-take, get_or_append_left, get_or_past, get_or_push, length-take-le, length_push, get_or-map}
+use Rattle.std.proofs.lemmas.Map.Made.{is_some-lookup}
+use Rattle.std.specs.List.{cons_option}
+use Rattle.st_hash.specs.Hash.{HashValue, same_hash}
+use Rattle.st_ops.specs.Operation.{PlainOperation}
+use Rattle.st_ledger.specs.declared.ledger.Entry.{Entry}
+use Rattle.st_content.specs.Files.{Files}
+use Rattle.st_anchor.proofs.GivesLemmas.{given-kept}
+use Rattle.st_anchor.specs.BoundValue.{BoundValue, known_from}
+use Rattle.st_anchor.specs.Gives.{given}
+use Rattle.st_anchor.specs.States.{role_state, role_states}
+use Rattle.st_apply.specs.Laws.{Anchored, given_from}
+use Rattle.st_observer.specs.Work.{bound_at, unknown, IsKept, OperationsAgree, anchored_in, operations_from, Operations, operations_in}
+use Rattle.st_observer.specs.Observed.{Observed, anchored_by, anchored_for, given_for, known_of, operations}
+use Rattle.st_observer.specs.declared.kept.Kept.{Kept}
+use Rattle.st_observer.specs.inside.Steps.{no_needs, PutsGiven, after_place, before_place, with_given}
+
+-- this is known about the entry with this number, and all else stays
+pub record Becomes (n : ℕ) (bound : BoundValue) (before after : List BoundValue) : Type 0 where
+  pub own : bound_at n after ≡ bound
+  pub others : (m : ℕ) → m ≢ n → bound_at m after ≡ bound_at m before
+
+pub becomes-pushed : (bounds : List BoundValue) (bound : BoundValue) (n : ℕ) → n ≡ length bounds → Becomes n bound bounds (bounds ++ bound ∷ [])
+becomes-pushed bounds bound n number = record {
+  own = get_or_push bounds bound unknown n (sym number);
+  others = λ m other. elim (cases_lt m n) [
+    | inl before ↦ get_or_append_left bounds (bound ∷ []) unknown m (omega (arith, before, number))
+    | inr behind ↦
+        let past : n < m = omega (arith, behind, other) in
+        get_or_past (bounds ++ bound ∷ []) m unknown (omega (arith, past, number, length_push bounds bound))
+        ∙ sym (get_or_past bounds m unknown (omega (arith, past, number)))
+  ];
+}
+
+pub becomes-set : (bounds : List BoundValue) (bound : BoundValue) (n : ℕ) → n < length bounds → Becomes n bound bounds (set bounds n bound)
+becomes-set bounds bound n inside = record {
+  own = get_or-set_same bounds n bound unknown inside;
+  others = λ m other. get_or-set_other bounds n m bound unknown other;
+}
+
+pub becomes-taken : (bounds : List BoundValue) (n : ℕ) → n + 1 ≡ length bounds → Becomes n unknown bounds (take n bounds)
+becomes-taken bounds n last = record {
+  own = get_or_past (take n bounds) n unknown (omega (arith, length-take-le n bounds (omega (arith, last))));
+  others = λ m other. elim (cases_lt m n) [
+    | inl before ↦ get_or-take n bounds m unknown before
+    | inr behind ↦
+        let past : n < m = omega (arith, behind, other) in
+        get_or_past (take n bounds) m unknown (omega (arith, past, length-take-le n bounds (omega (arith, last))))
+        ∙ sym (get_or_past bounds m unknown (omega (arith, past, last)))
+  ];
+}
+
+-- ---- an entry that does not exist
+
+pub needs_none : role_states unknown ≡ no_needs
+unfolding role_state
+needs_none = refl
+
+pub gives-nothing : given unknown ≡ []
+unfolding given
+gives-nothing = refl
+
+pub adds-nothing : (files : Files) → known_from files unknown ≡ unknown
+unfolding known_from
+adds-nothing files = refl
+
+-- ---- The operations that entries give for a suffix.
 --     kept-operations      what is known about each entry is what the files give
 --     agree-pushed, agree-settled, agree-cut    after an entry is appended or checked again, and after entries are cut
-use Rattle.std.proofs.Common.{◌≡◌, ◌∙◌, ℕ, zero, suc, ◌+◌, ◌<◌, ◌≤◌, Bool, true, false, nat_lt, List, [], ◌∷◌, ◌++◌, length, filter, map, take, set, get_or, Option, Some, None, is_some, option_map, refl, sym, ap, subst, arith}
-use Rattle.std.specs.List.{cons_option}
-use Rattle.std.proofs.lemmas.Bool.{false≢true, le-ltb, lt-ltb}
-use Rattle.std.proofs.lemmas.List.{get_or-map, get_or-take, get_or_past, get_or_push, length-take-le, length_push}
-use Rattle.std.proofs.lemmas.Map.Made.{is_some-lookup}
-use Rattle.st_anchor.specs.Gives.{given}
-use Rattle.st_anchor.specs.Known.{Known, known_from}
-use Rattle.st_anchor.proofs.OnceLemmas.{given-kept}
-use Rattle.st_apply.specs.Anchored.{Anchored}
-use Rattle.st_apply.specs.Numbered.{given_from}
-use Rattle.st_content.specs.Files.{Files}
-use Rattle.st_hash.specs.Hash.{HashValue, same_hash}
-use Rattle.st_ledger.specs.declared.entry.Entry.{Entry}
-use Rattle.st_ops.specs.Operation.{PlainOperation}
-use Rattle.st_observer.specs.Kept.{IsKept, StatesAgree, anchored_in, bound_at, operations_from, unknown}
-use Rattle.st_observer.specs.Observed.{Observed, anchored_by, anchored_for, given_for, known_of, operations}
-use Rattle.st_observer.specs.States.{Operations, after_place, before_place, operations_in, with_given}
-use Rattle.st_observer.specs.Steps.{PutsGiven}
-use Rattle.st_observer.specs.declared.kept.Kept.{Kept}
-use Rattle.st_observer.proofs.BoundsLemmas.{Becomes, becomes-pushed, becomes-set, gives-nothing}
 
 -- ---- the operation of one entry, before others
 
@@ -57,7 +109,7 @@ module _ (n : ℕ) (entry : Entry) where
 
 -- ---- the operations of entries
 
-module _ (suffix : HashValue) (bounds : List Known) where
+module _ (suffix : HashValue) (bounds : List BoundValue) where
   module _ (test : Anchored → Bool) where
     -- all pass, if all from the first number on do,
     all-pass : (number : ℕ) (entries : List Entry) → ((item : Anchored) → number ≤ item.place → test item ≡ true)
@@ -108,11 +160,11 @@ alike give other number (entry ∷ entries) same = λ i.
     (λ place at later here inside is. same place (suc at) later (omega (arith, here)) (omega (arith, inside)) is) i)
 
 -- the operation of an entry that gives the same
-abbrev one_known : HashValue → ℕ → Entry → Known → Option Anchored
+abbrev one_known : HashValue → ℕ → Entry → BoundValue → Option Anchored
 one_known suffix number entry bound = option_map (anchored_by number entry) (given_for suffix (given bound))
 
 -- Something else is known about the entry with this number, and it still gives an operation for the suffix if it gave one.
-module _ (suffix : HashValue) {n : ℕ} {bound : Known} {before after : List Known} (becomes : Becomes n bound before after)
+module _ (suffix : HashValue) {n : ℕ} {bound : BoundValue} {before after : List BoundValue} (becomes : Becomes n bound before after)
     (stays : given_for suffix (given bound) ≡ None → given_for suffix (given (bound_at n before)) ≡ None) where
   put-first : (entry : Entry) (entries : List Entry)
       → with_given n entry.height (given_for suffix (given bound)) (operations_from suffix before n (entry ∷ entries))
@@ -147,7 +199,7 @@ pub kept-operations : (suffix : HashValue) (observed : Observed) (kept : Kept) �
     → operations_in suffix kept.index ≡ operations suffix observed
 unfolding operations
 kept-operations suffix observed kept is =
-    let knows : Entry → Known = known_of observed.schedule observed.files in
+    let knows : Entry → BoundValue = known_of observed.schedule observed.files in
     is.states.each suffix ∙ ap (λ bounds. operations_from suffix bounds 0 observed.ledger) is.same
     ∙ alike (anchored_in suffix (map knows observed.ledger)) (anchored_for suffix observed.schedule observed.files) 0 observed.ledger
     (λ place at entry here inside same.
@@ -161,10 +213,10 @@ none_or : {X : Type 0} (found later : Option X) → (is_some found ≡ true → 
 none_or None later grows none = refl
 none_or (Some x) later grows none = absurd (false≢true (sym (ap is_some none) ∙ grows refl))
 
-module _ (entry : Entry) (n : ℕ) (bound : Known) (old new : Operations) (puts : PutsGiven n entry.height (given bound) old new) where
-  agree-put : {before after : List Known} (entries : List Entry) → Becomes n bound before after → n < length entries → get_or entries n entry ≡ entry
+module _ (entry : Entry) (n : ℕ) (bound : BoundValue) (old new : Operations) (puts : PutsGiven n entry.height (given bound) old new) where
+  agree-put : {before after : List BoundValue} (entries : List Entry) → Becomes n bound before after → n < length entries → get_or entries n entry ≡ entry
       → ((suffix : HashValue) → given_for suffix (given bound) ≡ None → given_for suffix (given (bound_at n before)) ≡ None)
-      → StatesAgree entries before old → StatesAgree entries after new
+      → OperationsAgree entries before old → OperationsAgree entries after new
   agree-put entries becomes inside is stays agree = record {
     each = λ suffix.
         puts.operations suffix ∙ ap (with_given n entry.height (given_for suffix (given bound))) (agree.each suffix)
@@ -172,8 +224,8 @@ module _ (entry : Entry) (n : ℕ) (bound : Known) (old new : Operations) (puts 
   }
 
   -- an entry is appended
-  pub agree-pushed : (entries : List Entry) (bounds : List Known) → length bounds ≡ length entries → n ≡ length bounds → StatesAgree entries bounds old
-      → StatesAgree (entries ++ entry ∷ []) (bounds ++ bound ∷ []) new
+  pub agree-pushed : (entries : List Entry) (bounds : List BoundValue) → length bounds ≡ length entries → n ≡ length bounds → OperationsAgree entries bounds old
+      → OperationsAgree (entries ++ entry ∷ []) (bounds ++ bound ∷ []) new
   agree-pushed entries bounds many number agree =
       let none : (suffix : HashValue) → given_for suffix (given (bound_at n bounds)) ≡ None =
       λ suffix. ap (given_for suffix) (ap given (get_or_past bounds n unknown (omega (arith, number))) ∙ gives-nothing) in
@@ -186,11 +238,11 @@ module _ (entry : Entry) (n : ℕ) (bound : Known) (old new : Operations) (puts 
       })
 
   -- more is known about the entry over more files
-  pub agree-settled : (entries : List Entry) (bounds : List Known) (files : Files)
+  pub agree-settled : (entries : List Entry) (bounds : List BoundValue) (files : Files)
       → bound ≡ known_from files (bound_at n bounds)
       → length bounds ≡ length entries → n < length bounds → get_or entries n entry ≡ entry
-      → StatesAgree entries bounds old
-      → StatesAgree entries (set bounds n bound) new
+      → OperationsAgree entries bounds old
+      → OperationsAgree entries (set bounds n bound) new
   agree-settled entries bounds files more many inside is agree =
       agree-put entries (becomes-set bounds bound n inside) (omega (arith, inside, many)) is
       (λ suffix none. none_or (given_for suffix (given (bound_at n bounds))) (given_for suffix (given (known_from files (bound_at n bounds))))
@@ -200,9 +252,9 @@ module _ (entry : Entry) (n : ℕ) (bound : Known) (old new : Operations) (puts 
       agree
 
 -- only the first entries
-pub agree-cut : (entries : List Entry) (bounds : List Known) (n : ℕ) (old new : Operations) → n ≤ length entries → StatesAgree entries bounds old
+pub agree-cut : (entries : List Entry) (bounds : List BoundValue) (n : ℕ) (old new : Operations) → n ≤ length entries → OperationsAgree entries bounds old
     → ((suffix : HashValue) → operations_in suffix new ≡ before_place n (operations_in suffix old))
-    → StatesAgree (take n entries) (take n bounds) new
+    → OperationsAgree (take n entries) (take n bounds) new
 agree-cut entries bounds n old new within agree before = record {
   each = λ suffix.
       before suffix ∙ ap (before_place n) (agree.each suffix) ∙ before-first suffix bounds n 0 n entries (omega arith)

@@ -1,10 +1,7 @@
--- The entries that wait for a file, after the row of a URI was changed.
---     text-same, at-same        texts distinguish hashes that are read from them
---     rows-insert, rows-remove  the rows stay valid
---     sets-gone, sets-back      how a change of one row changes who waits
---     row-waited, rows-read     the row of a URI, and that it is read from its text
-use Rattle.std.proofs.Common.{◌≡◌, ◌∙◌, ◌⊎◌, ℕ, ◌≤◌, ◌↔◌, eqb, Bool, true, false, cond, ◌&&◌, ◌||◌, List, [], ◌∷◌, length, Option, Some, None, is_some, unwrap_or, option_map, Ordering, Less, Equal, Greater, nat_cmp, is_eq, inl, inr, ⊎_elim, refl, sym, ap, subst, arith}
-use Rattle.std.proofs.lemmas.Bool.{eq-eqb, false_from_ne_true, or_cases, true≢false}
+-- Entries wait by what is known about them.
+--     waits-turned    something else is known about one of them
+use Rattle.std.proofs.Common.{◌≡◌, ◌≢◌, ◌∙◌, inl, inr, ℕ, List, sym, ap, ◌⊎◌, ◌≤◌, ◌↔◌, eqb, Bool, true, false, cond, ◌&&◌, ◌||◌, [], ◌∷◌, length, Option, Some, None, is_some, unwrap_or, option_map, Ordering, Less, Equal, Greater, nat_cmp, is_eq, ⊎_elim, refl, subst, arith}
+use Rattle.std.proofs.lemmas.Bool.{cases_eq, eq-eqb, false_from_ne_true, or_cases, true≢false}
 use Rattle.std.proofs.lemmas.Map.Lookups.{exact_bytes}
 use Rattle.std.proofs.lemmas.Map.Made.{is_some-lookup, lookup-map_values}
 use Rattle.std.specs.BTreeMap.{insert_entry, is_at}
@@ -14,12 +11,31 @@ use Rattle.std.specs.List.{list_any}
 use Rattle.std.specs.List.Sorted.{IsStrictlySortedBy}
 use Rattle.std.specs.Map.{keys_of, lookup, remove_entry}
 use Rattle.std.specs.Ordering.{match_ordering}
-use Rattle.st_anchor.specs.declared.role_state.RoleState.TheVariants.{Missing}
-use Rattle.st_hash.specs.Hash.{HashValue, hash_of_text_at, hash_text, same_hash}
-use Rattle.st_hash.specs.Order.{same_hash-equivalence}
-use Rattle.st_hash.proofs.SameHash.{same_hash-is, same_hash-itself}
-use Rattle.st_observer.specs.Waiting.{AreRead, AreRows, IsRead, IsRow, IsWaitedFor, SetsMissed, is_waiting, seen, text_cmp-total, waiting_for}
-use Rattle.st_observer.specs.Wanted.{one_misses, text_cmp}
+use Rattle.st_hash.proofs.HashLemmas.{same_hash-is, same_hash-itself}
+use Rattle.st_hash.specs.Hash.{HashValue, hash_of_text_at, hash_text, same_hash, same_hash-equivalence}
+use Rattle.st_anchor.specs.BoundValue.{BoundValue}
+use Rattle.st_anchor.specs.States.{role_states}
+use Rattle.st_anchor.specs.declared.part.RoleState.TheVariants.{Missing}
+use Rattle.st_observer.specs.Work.{WaitsAgree, bound_at, roles_at}
+use Rattle.st_observer.specs.Observed.{Waits, is_waiting, waiting_for, one_misses, text_cmp}
+use Rattle.st_observer.specs.inside.Waiting.{TurnsTo, AreRead, AreRows, IsRead, IsRow, IsWaitedFor, SetsMissed, seen, text_cmp-total}
+
+pub waits-turned : {n : ℕ} {before after : List BoundValue} {old new : Waits}
+    → ((m : ℕ) → m ≢ n → bound_at m after ≡ bound_at m before)
+    → TurnsTo n (roles_at n after) old new → WaitsAgree before old → WaitsAgree after new
+waits-turned {n} {after = after} {new = new} others turns agree = record {
+  each = λ uri m. elim (cases_eq m n) [
+    | inl here ↦ ap (λ k. is_waiting uri k new) here ∙ turns.own uri ∙ ap (λ k. one_misses uri (roles_at k after)) (sym here)
+    | inr other ↦
+        turns.others uri m other ∙ agree.each uri m ∙ ap (λ bound. one_misses uri (role_states bound)) (sym (others m other))
+  ];
+}
+
+-- ---- The entries that wait for a file, after the row of a URI was changed.
+--     text-same, at-same        texts distinguish hashes that are read from them
+--     rows-insert, rows-remove  the rows stay valid
+--     sets-gone, sets-back      how a change of one row changes who waits
+--     row-waited, rows-read     the row of a URI, and that it is read from its text
 
 -- ---- different hashes have different texts
 

@@ -1,21 +1,31 @@
 -- Ascending lists, and which of them `ascending_once` is.
 --     ascending_once-is        an ascending list with the same hashes is it
 --     ascending_once-has       its hashes
-use Rattle.std.proofs.Common.{◌≡◌, ◌∙◌, Bool, true, false, List, [], ◌∷◌, Ordering, Less, Equal, Greater, is_eq, ⊎_elim, refl, sym, ap, subst}
-use Rattle.std.proofs.lemmas.Bool.{or_left, or_right, or_cases, true≢false}
+use Rattle.std.proofs.Common.{◌≡◌, ◌∙◌, Bool, true, false, List, [], ◌∷◌, Ordering, Less, Equal, Greater, is_eq, ⊎_elim, refl, sym, ap, subst, ℕ, ◌<◌, ◌≤◌, ◌↔◌, ◌||◌, length, map, get_or, slice_get, Some, option_map, arith}
+use Rattle.std.proofs.lemmas.Bool.{or_left, or_right, or_cases, true≢false, cases_lt, false≢true}
+use Rattle.std.proofs.lemmas.List.{get_or-map, get_or_past, length-map}
+use Rattle.std.proofs.lemmas.List.Folds.{Any-from_list_any, list_any-append, list_any_at}
 use Rattle.std.proofs.lemmas.Map.Lookups.{exact_bytes}
+use Rattle.std.proofs.lemmas.Option.{get_or_from_slice_get, slice_get-get_or, slice_get-map, slice_get_within}
 use Rattle.std.specs.BTreeMap.{is_at}
 use Rattle.std.specs.BTreeSet.{insert_key}
 use Rattle.std.specs.Cmp.{Equal-is, IsTotalOrder, both_ways, tied_back, tied_itself}
-use Rattle.std.specs.List.{AllByRecursion, fold, list_any}
+use Rattle.std.specs.List.{AllByRecursion, fold, list_any, flat_map}
 use Rattle.std.specs.List.Sorted.{IsStrictlySortedBy}
 use Rattle.std.specs.Ordering.{is_lt, match_ordering, ordering_reverse}
-use Rattle.st_base.proofs.Quantifiers.{each-weaker, each-both}
+use Rattle.st_base.proofs.ListLemmas.{each-weaker, each-both}
+use Rattle.st_hash.proofs.HashLemmas.{same_hash-is, same_hash-itself}
 use Rattle.st_hash.specs.Hash.{HashValue, hash_text, same_hash}
-use Rattle.st_hash.proofs.SameHash.{same_hash-is, same_hash-itself}
-use Rattle.st_observer.specs.Waiting.{text_cmp-total}
-use Rattle.st_observer.specs.Wanted.{ascending_once, text_cmp}
-use Rattle.st_observer.proofs.WaitingLemmas.{ascends-none}
+use Rattle.st_ledger.specs.declared.ledger.Entry.{Entry}
+use Rattle.st_anchor.specs.States.{role_states}
+use Rattle.st_observer.proofs.OperationsLemmas.{needs_none}
+use Rattle.st_observer.proofs.GoingLemmas.{bound-is, kept-length}
+use Rattle.st_observer.proofs.WaitingLemmas.{ascends-none, text-same}
+use Rattle.st_observer.specs.Work.{IsKept, unknown}
+use Rattle.st_observer.specs.Observed.{Observed, role_states_on, is_waiting, ascending_once, text_cmp, IsMissed, is_wanted, missed_files, missed_in, one_misses, wanted}
+use Rattle.st_observer.specs.declared.kept.Kept.{Kept}
+use Rattle.st_observer.specs.inside.Steps.{no_needs}
+use Rattle.st_observer.specs.inside.Waiting.{text_cmp-total, AreRead, IsWaitedFor}
 
 -- ---- keys that are inserted one by one
 
@@ -240,3 +250,127 @@ ascending_once-has uris tells uri =
     (once-among same_hash-is same_hash-itself text_cmp-total uris) there)
     (λ there. once-has same_hash-is same_hash-itself text_cmp-total uris
     (λ first second one two equal. tells first second one two (exact_bytes (hash_text first) (hash_text second) equal)) uri there)
+
+-- ---- A file is missing if and only if some entry waits for it.
+--     asked-missed      the missing files are those that entries wait for
+--     asked-by          and those in the reports of entries
+--     asked-wanted, asked-wants     all wanted files, and whether one is
+
+-- one of the items in a list of lists
+any-flat : {X Y : Type 0} (test : Y → Bool) (part : X → List Y) (xs : List X) → list_any test (flat_map part xs) ≡ list_any (λ x. list_any test (part x)) xs
+any-flat test part [] = refl
+any-flat test part (x ∷ xs) =
+    list_any-append test (part x) (flat_map part xs) ∙ ap (λ rest. list_any test (part x) || rest) (any-flat test part xs)
+
+any-alike : {X : Type 0} (test other : X → Bool) → ((x : X) → test x ≡ other x) → (xs : List X) → list_any test xs ≡ list_any other xs
+any-alike test other alike [] = refl
+any-alike test other alike (x ∷ xs) = ap (λ here. here || list_any test xs) (alike x) ∙ ap (λ rest. other x || rest) (any-alike test other alike xs)
+
+-- it is missing for some role of the entry
+abbrev pub asks : HashValue → Observed → Entry → Bool
+asks uri observed entry = one_misses uri (role_states_on observed.schedule observed.files entry)
+
+-- a file is missing if it is missing for some role of some entry
+missed-asked : (uri : HashValue) (observed : Observed) → list_any (same_hash uri) (missed_files observed) ≡ list_any (asks uri observed) observed.ledger
+missed-asked uri observed =
+    any-flat (same_hash uri) (λ entry. flat_map missed_in (role_states_on observed.schedule observed.files entry)) observed.ledger
+    ∙ any-alike (λ entry. list_any (same_hash uri) (flat_map missed_in (role_states_on observed.schedule observed.files entry))) (asks uri observed)
+    (λ entry. any-flat (same_hash uri) missed_in (role_states_on observed.schedule observed.files entry)) observed.ledger
+
+-- whether the entry with this number waits
+pub waits-asked : (uri : HashValue) (observed : Observed) (kept : Kept) (n : ℕ) (d : Entry) → IsKept observed kept → n < length observed.ledger
+    → is_waiting uri n kept.waiting ≡ asks uri observed (get_or observed.ledger n d)
+waits-asked uri observed kept n d is inside =
+    is.waits.each uri n
+    ∙ ap (λ bound. one_misses uri (role_states bound)) (bound-is observed kept n d is (omega (arith, inside, kept-length observed kept is)))
+
+waits-past : (uri : HashValue) (observed : Observed) (kept : Kept) (n : ℕ) → IsKept observed kept → length observed.ledger ≤ n
+    → is_waiting uri n kept.waiting ≡ false
+waits-past uri observed kept n is past =
+    is.waits.each uri n
+    ∙ ap (λ bound. one_misses uri (role_states bound)) (get_or_past kept.bounds.items n unknown (omega (arith, past, kept-length observed kept is)))
+    ∙ ap (one_misses uri) needs_none
+
+waited-asked : (uri : HashValue) (observed : Observed) (kept : Kept) → IsKept observed kept → IsWaitedFor uri kept.waiting
+    → list_any (asks uri observed) observed.ledger ≡ true
+waited-asked uri observed kept is waited =
+    let d : Entry = record { height = 0; text = [] } in
+    ⊎_elim
+    (λ (inside : waited.0 < length observed.ledger).
+    list_any_at (asks uri observed) observed.ledger waited.0 d inside (sym (waits-asked uri observed kept waited.0 d is inside) ∙ waited.1))
+    (λ (past : length observed.ledger ≤ waited.0). absurd (false≢true (sym (waits-past uri observed kept waited.0 is past) ∙ waited.1)))
+    (cases_lt waited.0 (length observed.ledger))
+
+asked-waited : (uri : HashValue) (observed : Observed) (kept : Kept) → IsKept observed kept → list_any (asks uri observed) observed.ledger ≡ true
+    → IsWaitedFor uri kept.waiting
+asked-waited uri observed kept is asked =
+    let found = Any-from_list_any (asks uri observed) observed.ledger asked in
+    (found.0, waits-asked uri observed kept found.0 found.1 is found.2 ∙ ap (asks uri observed) found.3 ∙ found.4)
+
+-- The files that entries wait for are the missing ones.
+pub asked-missed : (observed : Observed) (kept : Kept) (uris : List HashValue) → IsKept observed kept
+    → ((uri : HashValue) → list_any (same_hash uri) uris ≡ true → IsWaitedFor uri kept.waiting)
+    → ((uri : HashValue) → IsWaitedFor uri kept.waiting → list_any (same_hash uri) uris ≡ true)
+    → (uri : HashValue) → list_any (same_hash uri) uris ≡ list_any (same_hash uri) (missed_files observed)
+asked-missed observed kept uris is waited all uri =
+    both_ways (list_any (same_hash uri) uris) (list_any (asks uri observed) observed.ledger)
+    (λ there. waited-asked uri observed kept is (waited uri there))
+    (λ asked. all uri (asked-waited uri observed kept is asked))
+    ∙ sym (missed-asked uri observed)
+
+-- by the reports of entries
+asked-said : (uri : HashValue) (observed : Observed) → list_any (asks uri observed) observed.ledger ≡ true → IsMissed uri observed
+asked-said uri observed asked =
+    let found = Any-from_list_any (asks uri observed) observed.ledger asked in
+    record {
+      number = found.0;
+      states = role_states_on observed.schedule observed.files found.1;
+      there = ap (option_map (role_states_on observed.schedule observed.files))
+          (slice_get-get_or observed.ledger found.0 found.1 found.2 ∙ ap (λ entry. Some entry) found.3);
+      missed = found.4;
+    }
+
+said-asked : (uri : HashValue) (observed : Observed) → IsMissed uri observed → list_any (asks uri observed) observed.ledger ≡ true
+said-asked uri observed missed =
+    let d : Entry = record { height = 0; text = [] } in
+    let mapped : slice_get (map (role_states_on observed.schedule observed.files) observed.ledger) missed.number ≡ Some missed.states =
+    slice_get-map (role_states_on observed.schedule observed.files) observed.ledger missed.number ∙ missed.there in
+    let inside : missed.number < length observed.ledger =
+    omega (
+      arith,
+      slice_get_within (map (role_states_on observed.schedule observed.files) observed.ledger) missed.number missed.states mapped,
+      length-map
+          observed.ledger (role_states_on observed.schedule observed.files),
+    ) in
+    let at : role_states_on observed.schedule observed.files (get_or observed.ledger missed.number d) ≡ missed.states =
+    sym (get_or-map (role_states_on observed.schedule observed.files) observed.ledger missed.number d no_needs inside)
+    ∙ get_or_from_slice_get (map (role_states_on observed.schedule observed.files) observed.ledger) missed.number missed.states no_needs mapped in
+    list_any_at (asks uri observed) observed.ledger missed.number d inside (ap (one_misses uri) at ∙ missed.missed)
+
+pub asked-by : (observed : Observed) (uri : HashValue) (uris : List HashValue)
+    → list_any (same_hash uri) uris ≡ list_any (same_hash uri) (missed_files observed)
+    → (list_any (same_hash uri) uris ≡ true) ↔ IsMissed uri observed
+asked-by observed uri uris same =
+    let alike : list_any (same_hash uri) uris ≡ list_any (asks uri observed) observed.ledger = same ∙ missed-asked uri observed in
+    ((λ there. asked-said uri observed (sym alike ∙ there)), (λ missed. alike ∙ said-asked uri observed missed))
+
+-- So they are the wanted ones, if they ascend by their texts.
+pub asked-wanted : (observed : Observed) (kept : Kept) (uris : List HashValue) → IsKept observed kept → IsStrictlySortedBy text_cmp uris
+    → ((uri : HashValue) → list_any (same_hash uri) uris ≡ true → IsWaitedFor uri kept.waiting)
+    → ((uri : HashValue) → IsWaitedFor uri kept.waiting → list_any (same_hash uri) uris ≡ true)
+    → uris ≡ wanted observed
+unfolding wanted
+asked-wanted observed kept uris is sorted waited all =
+    ascending_once-is uris (missed_files observed) sorted (asked-missed observed kept uris is waited all)
+
+-- And a file is wanted if some entry waits for it.
+pub asked-wants : (observed : Observed) (kept : Kept) (uri : HashValue) (found : Bool) → IsKept observed kept → AreRead kept.waiting
+    → (found ≡ true) ↔ IsWaitedFor uri kept.waiting → found ≡ is_wanted uri observed
+unfolding wanted
+asked-wants observed kept uri found is read waits =
+    let waited : (other : HashValue) → list_any (same_hash other) (missed_files observed) ≡ true → IsWaitedFor other kept.waiting =
+    λ other there. asked-waited other observed kept is (sym (missed-asked other observed) ∙ there) in
+    both_ways found (list_any (same_hash uri) (missed_files observed))
+    (λ there. missed-asked uri observed ∙ waited-asked uri observed kept is (waits.0 there)) (λ there. waits.1 (waited uri there))
+    ∙ sym (ascending_once-has (missed_files observed)
+    (λ first second one two same. text-same first second (read first (waited first one)) (read second (waited second two)) same) uri)

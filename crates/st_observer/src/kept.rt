@@ -1,18 +1,15 @@
 ghost use Rattle.std.specs.Prelude.{◌≡◌, ℕ, ◌<◌, List, length, slice_set, IfOk, OnOk};
 ghost use Rattle.std.specs.List.{AllByRecursion};
-ghost use Rattle.st_anchor.specs.Coming.{newly_decided, newly_opened};
-ghost use Rattle.st_anchor.specs.Gives.{given};
+ghost use Rattle.st_anchor.specs.Gives.{newly_decided, newly_opened, given};
 ghost use Rattle.st_base.specs.Work.{AppliesAtMost};
 ghost use Rattle.st_hash.specs.Hash.{HashValue, hash_cmp};
-ghost use Rattle.st_observer.specs.Kept.{IsObserved, WaitsAgree, bound_at};
+ghost use Rattle.st_observer.specs.Work.{IsObserved, WaitsAgree, bound_at, GrewAtMost, ReadExactly};
 ghost use Rattle.st_observer.specs.Observed.{nothing_yet};
-ghost use Rattle.st_observer.specs.Steps.{Folds, Pushes, PutsGiven, Settles};
-ghost use Rattle.st_observer.specs.Work.{GrewAtMost, ReadExactly, ReadsNothing};
-ghost use Rattle.st_opindex.specs.ByKey.{Covers, cover_cost};
+ghost use Rattle.st_observer.specs.inside.Steps.{Folds, Pushes, PutsGiven, Settles, ReadsNothing};
+ghost use Rattle.st_opindex.specs.Items.{Covers, cover_cost};
 
-use crate::stands::{no_roles, roles_of};
-use crate::states::put_all;
-use crate::steps::Steps;
+use crate::held::{Steps, put_all};
+use crate::observer::{no_roles, roles_of};
 use crate::waiting::Waiting;
 use st_anchor::Bound;
 use st_base::{Boxed, WantOfMemory, Work};
@@ -91,7 +88,7 @@ impl Kept {
             (newly_decided content.now (bound_at n self.bounds.items))
             (newly_opened content.now (bound_at n self.bounds.items))
             work.old work.new) }
-        ensures bound { GrewAtMost
+        ensures few { GrewAtMost
             (newly_decided content.now (bound_at n self.bounds.items))
             (newly_opened content.now (bound_at n self.bounds.items))
             0 work.old work.new }
@@ -120,7 +117,7 @@ impl Kept {
     // node moves it several times.
     pub fn fold(self, alloc: Global, work: &mut Work) -> Result<Boxed<Kept>, WantOfMemory>
         ensures step { IfOk result (Folds self) }
-        ensures bound { (names : List (HashValue × ℕ)) → AllByRecursion (Covers hash_cmp names) self.index.changes
+        ensures few { (names : List (HashValue × ℕ)) → AllByRecursion (Covers hash_cmp names) self.index.changes
             → AppliesAtMost (cover_cost hash_cmp self.index.items names) work.old work.new }
         ensures reads { ReadsNothing work.old work.new }
     {
@@ -129,7 +126,7 @@ impl Kept {
             waiting,
             index,
         } = self;
-        let index = index.settle(alloc, work)?;
+        let index = index.fold(alloc, work)?;
         let kept = Kept {
             bounds,
             waiting,

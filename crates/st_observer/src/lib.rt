@@ -4,16 +4,11 @@
 //! before the place that changed.
 #![tactic(auto)]
 
-mod arriving;
-mod cutting;
+mod changes;
+mod held;
 mod kept;
-mod laws;
 mod observer;
-mod stands;
-mod states;
-mod steps;
 mod waiting;
 
-pub use laws::isolation_law;
-pub use observer::Observer;
-pub use states::Held;
+pub use held::Held;
+pub use observer::{Observer, isolation_law};

@@ -1,29 +1,27 @@
-ghost use Rattle.std.specs.Prelude.{◌≡◌, ◌≤◌, ◌-◌, ◌*◌, ◌↔◌, length, map, IfOk, IsOk, IsSome, IsTrue, OnOk};
 ghost use Rattle.std.specs.List.{list_any};
 ghost use Rattle.std.specs.List.Sorted.{IsStrictlySortedBy};
-ghost use Rattle.st_anchor.specs.Coming.{newly_decided, newly_opened};
-ghost use Rattle.st_anchor.specs.Known.{known_of_text};
-ghost use Rattle.st_anchor.specs.States.{decided_roles, opened_proofs};
-ghost use Rattle.st_apply.specs.Anchored.{place_of};
-ghost use Rattle.st_apply.specs.Laws.{PlacesAscend};
+ghost use Rattle.std.specs.Prelude.{◌≡◌, ◌≤◌, ◌-◌, ◌*◌, ◌↔◌, length, map, IfOk, IsOk, IsSome, IsTrue, OnOk};
 ghost use Rattle.st_base.specs.Work.{AppliesAtMost};
-ghost use Rattle.st_content.specs.Files.{file_at};
 ghost use Rattle.st_hash.specs.Hash.{HashValue, same_hash, uri_of};
+ghost use Rattle.st_params.specs.ParamsValue.{params_at};
 ghost use Rattle.st_ledger.specs.Ledger.{admitted};
-ghost use Rattle.st_params.specs.Schedule.{params_at};
-ghost use Rattle.st_observer.specs.Observed.{appended, arrived, cut_to, known_of, nothing_yet, operations, report, state_of};
-ghost use Rattle.st_observer.specs.States.{plain_held};
-ghost use Rattle.st_observer.specs.Wanted.{IsMissed, is_wanted, text_cmp, wanted};
-ghost use Rattle.st_observer.specs.Work.{GrewAtMost, ReadExactly, arrival_cost, decided_in, entry_cost, losing, opened_in};
+ghost use Rattle.st_content.specs.Files.{file_at};
+ghost use Rattle.st_anchor.specs.BoundValue.{known_of_text};
+ghost use Rattle.st_anchor.specs.Gives.{newly_decided, newly_opened};
+ghost use Rattle.st_anchor.specs.States.{decided_roles, opened_proofs, role_states};
+ghost use Rattle.st_apply.specs.Laws.{place_of, PlacesAscend};
+ghost use Rattle.st_observer.specs.Observed.{appended, arrived, cut_to, known_of, nothing_yet, operations, report, state_of, IsMissed, is_wanted, text_cmp, wanted};
+ghost use Rattle.st_observer.specs.Work.{AppendLeaves, ArrivalLeaves, CutLeaves, OperationsDecide, plain_held, GrewAtMost, ReadExactly, arrival_cost, decided_in, entry_cost, losing, opened_in};
+ghost use Rattle.st_observer.specs.inside.Steps.{no_needs};
 
-use crate::arriving::settle_waiting;
+use crate::changes::settle_waiting;
+use crate::held::{Held, copy_items};
 use crate::kept::Kept;
-use crate::stands::roles_of;
-use crate::states::{Held, copy_items};
 use st_anchor::{Bound, RoleState};
 use st_apply::DidState;
 use st_base::{Boxed, Bytes, List, WantOfMemory, Work};
 use st_content::{Content, Put};
+use st_datafiles::Role;
 use st_hash::{Hash, uri_of};
 use st_ledger::{Entry, Ledger};
 use st_params::Schedule;
@@ -42,7 +40,7 @@ pub struct Observer {
 }
 
 impl Model for Observer {
-    ghost use Rattle.st_observer.specs.Kept.{IsObserved};
+    ghost use Rattle.st_observer.specs.Work.{IsObserved};
     ghost use Rattle.st_observer.specs.Observed.{Observed};
 
     ghost Value = { Observed };
@@ -107,7 +105,7 @@ impl Observer {
             (newly_decided self.files (known_of_text (params_at self.schedule entry.height) entry.text))
             (newly_opened self.files (known_of_text (params_at self.schedule entry.height) entry.text))
             work.old work.new) }
-        ensures bound { GrewAtMost
+        ensures few { GrewAtMost
             (decided_roles (known_of self.schedule self.files entry))
             (opened_proofs (known_of self.schedule self.files entry))
             (entry_cost (length self.ledger) entry (appended entry self))
@@ -145,7 +143,7 @@ impl Observer {
         requires { n ≤ length self.ledger }
         ensures state { IfOk result (λ done. done.0 ≡ cut_to n self) }
         ensures removed { IfOk result (λ done. done.1 ≡ length self.ledger - n) }
-        ensures bound { AppliesAtMost (7 * length (losing n self)) work.old work.new }
+        ensures few { AppliesAtMost (7 * length (losing n self)) work.old work.new }
     {
         let Observer {
             schedule,
@@ -186,7 +184,7 @@ impl Observer {
             (decided_in (arrived bytes self) - decided_in self)
             (opened_in (arrived bytes self) - opened_in self)
             work.old work.new) }
-        ensures bound { GrewAtMost
+        ensures few { GrewAtMost
             (decided_in (arrived bytes self) - decided_in self)
             (opened_in (arrived bytes self) - opened_in self)
             (arrival_cost bytes self)
@@ -212,7 +210,7 @@ impl Observer {
             (decided_in (arrived bytes self) - decided_in self)
             (opened_in (arrived bytes self) - opened_in self)
             work.old work.new) }
-        ensures bound { GrewAtMost
+        ensures few { GrewAtMost
             (decided_in (arrived bytes self) - decided_in self)
             (opened_in (arrived bytes self) - opened_in self)
             (arrival_cost bytes self)
@@ -260,7 +258,8 @@ impl Observer {
         ensures value { IfOk result (λ uris. uris ≡ wanted self.now) }
         ensures ordered { IfOk result (IsStrictlySortedBy text_cmp) }
         // A URI is among them if and only if its file is missing for some role of some entry.
-        ensures missed { IfOk result (λ uris. (uri : HashValue) → IsTrue (list_any (same_hash uri) uris) ↔ IsMissed uri self.now) }
+        ensures missed { IfOk result (λ uris. (uri : HashValue)
+            → IsTrue (list_any (same_hash uri) uris) ↔ IsMissed uri self.now) }
     {
         let uris = self.kept.get().waiting.uris(alloc)?;
         Ok(uris)
@@ -285,3 +284,38 @@ impl Observer {
         }
     }
 }
+
+// The states of the five roles of an entry, in their order.
+pub fn roles_of(bound: &Bound) -> [RoleState; 5]
+    ensures { result ≡ role_states bound.now }
+{
+    [
+        bound.state(Role::Core),
+        bound.state(Role::CoreProof),
+        bound.state(Role::Provisional),
+        bound.state(Role::ProvisionalProof),
+        bound.state(Role::Chunk),
+    ]
+}
+
+// The states of the roles if there is no entry.
+pub fn no_roles() -> [RoleState; 5]
+    ensures { result ≡ no_needs }
+{
+    [
+        RoleState::Unneeded,
+        RoleState::Unneeded,
+        RoleState::Unneeded,
+        RoleState::Unneeded,
+        RoleState::Unneeded,
+    ]
+}
+
+/// An identifier depends only on its own operations. Appending or cutting an entry that gives no
+/// operation for it, and a file that is missing for no entry, change no answer about it.
+pub fn isolation_law()
+    ensures operations_decide { OperationsDecide }
+    ensures append_leaves { AppendLeaves }
+    ensures cut_leaves { CutLeaves }
+    ensures arrival_leaves { ArrivalLeaves }
+{}

@@ -6,8 +6,8 @@ ghost use Rattle.std.specs.List.Sorted.{IsStrictlySortedBy};
 ghost use Rattle.std.specs.Map.{keys_of};
 ghost use Rattle.std.specs.Ordering.{as_partial_cmp, nat_cmp};
 ghost use Rattle.st_hash.specs.Hash.{HashValue, hash_text, same_hash};
-ghost use Rattle.st_observer.specs.Waiting.{AreRead, AreRows, IsRead, IsWaitedFor, SetsMissed, TurnsTo, WaitsBy, is_waiting, same_text, same_text-equivalence, same_text-ties, seen, text_cmp-partial, text_cmp-total};
-ghost use Rattle.st_observer.specs.Wanted.{text_cmp};
+ghost use Rattle.st_observer.specs.Observed.{is_waiting, text_cmp};
+ghost use Rattle.st_observer.specs.inside.Waiting.{AreRead, AreRows, IsRead, IsWaitedFor, SetsMissed, TurnsTo, WaitsBy, same_text, same_text-equivalence, same_text-ties, seen, text_cmp-partial, text_cmp-total};
 
 use st_anchor::RoleState;
 use st_base::{List, Text, WantOfMemory};
@@ -27,7 +27,8 @@ pub struct Waiting {
 type Files = BTreeMap<ByText, BTreeSet<u32>>;
 
 impl Model for Waiting {
-    ghost use Rattle.st_observer.specs.Waiting.{AreRows, Waits, seen};
+    ghost use Rattle.st_observer.specs.Observed.{Waits};
+    ghost use Rattle.st_observer.specs.inside.Waiting.{AreRows, seen};
 
     ghost Value = { Waits };
 
@@ -87,8 +88,10 @@ impl Waiting {
     /// The URIs of the files that some entry waits for, ascending by the bytes of their texts.
     pub fn uris(&self, alloc: Global) -> Result<List<Hash>, WantOfMemory>
         ensures ordered { IfOk result (IsStrictlySortedBy text_cmp) }
-        ensures waited { IfOk result (λ uris. (uri : HashValue) → list_any (same_hash uri) uris ≡ true → IsWaitedFor uri self.now) }
-        ensures all { IfOk result (λ uris. (uri : HashValue) → IsWaitedFor uri self.now → list_any (same_hash uri) uris ≡ true) }
+        ensures waited { IfOk result (λ uris. (uri : HashValue) → list_any (same_hash uri) uris
+            ≡ true → IsWaitedFor uri self.now) }
+        ensures all { IfOk result (λ uris. (uri : HashValue) → IsWaitedFor uri self.now
+            → list_any (same_hash uri) uris ≡ true) }
     {
         Ok(uris_of(alloc, &self.files)?)
     }
@@ -141,7 +144,8 @@ fn set(
 ) -> Result<(), WantOfMemory>
     requires { AreRows files.old.entries }
     ensures rows { AreRows files.new.entries }
-    ensures sets { OnOk result (SetsMissed (RoleState.Missing uri.now ∷ []) n waits (seen files.old.entries) (seen files.new.entries)) }
+    ensures sets { OnOk result (SetsMissed (RoleState.Missing uri.now ∷ []) n waits
+        (seen files.old.entries) (seen files.new.entries)) }
 {
     let key = ByText::new(alloc, uri)?;
     let entries = files.remove(&key).unwrap_or(BTreeSet::new(alloc));

@@ -1,9 +1,4 @@
-mod Ascending
-mod Cutting
-mod Folding
-mod Kept
-mod Keyed
-mod Owing
-mod Placed
-mod Splits
-pub mod WithItem
+mod KeyLemmas
+mod RowLemmas
+mod FoldLemmas
+pub mod Placed

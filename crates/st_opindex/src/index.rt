@@ -1,19 +1,53 @@
-ghost use Rattle.std.specs.Prelude.{◌≡◌, ℕ, ◌++◌, List, [], ◌∷◌, IfOk};
 ghost use Rattle.std.specs.List.{AllByRecursion};
-ghost use Rattle.st_base.specs.Work.{AppliesAtMost};
-ghost use Rattle.st_opindex.specs.Items.{folded, with_item, before, Ascend};
-ghost use Rattle.st_opindex.specs.ByKey.{ChangesAt, Covers, CoversLosing, cover_cost, items_at};
+ghost use Rattle.std.specs.Prelude.{◌≡◌, IfOk, OnOk, OnErr, ℕ, ◌++◌, List, [], ◌∷◌};
+ghost use Rattle.st_base.specs.Work.{one_apply, AppliesAtMost};
+ghost use Rattle.st_opindex.specs.Items.{ChangesAt, Covers, CoversLosing, cover_cost, items_at, folded, with_item, before, Ascend};
 
-use crate::folder::Folder;
-use crate::places::take_late;
+use crate::row::take_late;
 use crate::rows::{Rows, cut_keys, fold_keys, put_item};
 use st_base::{WantOfMemory, Work};
 use std::alloc::Global;
 use std::collections::{BTreeMap, BTreeSet};
 use std::marker::Model;
 
+/// A fold of items into a state, one step per item.
+pub trait Folder: Drop {
+    /// What is folded.
+    type Item: Drop;
+
+    /// What items are folded into.
+    type State: Drop;
+
+    // The state before any item.
+    ghost first: { Self → Self.State };
+
+    // The state after one more item.
+    ghost next: { Self → Self.State → Self.Item → Self.State };
+
+    /// The state before any item, the same at each call.
+    fn start(&self, alloc: Global) -> Result<Self::State, WantOfMemory>
+        ensures { IfOk result (λ state. state ≡ first self.now) };
+
+    /// The state after one more item, a function of the state and the item. One operation is
+    /// counted; if it runs out of memory, at most one.
+    fn step(
+        &self,
+        alloc: Global,
+        state: &Self::State,
+        item: &Self::Item,
+        work: &mut Work,
+    ) -> Result<Self::State, WantOfMemory>
+        ensures value { IfOk result (λ after. after ≡ next self.now state.now item.now) }
+        ensures ok { OnOk result (work.new ≡ one_apply work.old) }
+        ensures err { OnErr result (AppliesAtMost 1 work.old work.new) };
+
+    /// An equal state.
+    fn copy_state(&self, alloc: Global, state: &Self::State) -> Result<Self::State, WantOfMemory>
+        ensures { IfOk result (λ copied. copied ≡ state.now) };
+}
+
 /// Items by key and place, at most one at each place of a key, and for each key the state that its
-/// items fold to. Changes are pending until they are settled: `settle` then folds the items of each
+/// items fold to. Changes are pending until `fold` folds the items of each
 /// changed key once. Contracts see the folder, the items and the pending changes.
 #[derive(Drop)]
 pub struct Index<K: Copy + Ord, F: Folder> {
@@ -32,8 +66,7 @@ pub struct Index<K: Copy + Ord, F: Folder> {
 }
 
 impl<K: Copy + Ord, F: Folder> Model for Index<K, F> {
-    ghost use Rattle.st_opindex.specs.ByKey.{Indexed};
-    ghost use Rattle.st_opindex.specs.Seen.{IsIndex, seen_items};
+    ghost use Rattle.st_opindex.specs.Items.{Indexed, IsIndex, seen_items};
 
     ghost Value = { Indexed K F F.Item };
 
@@ -126,11 +159,11 @@ impl<K: Copy + Ord, F: Folder> Index<K, F> {
     /// a key and a place, such that each pending change has a name with its key and its place or an
     /// earlier one. Each name costs at most 7 applied operations, and one for each of its key's
     /// items at its place or later.
-    pub fn settle(self, alloc: Global, work: &mut Work) -> Result<Index<K, F>, WantOfMemory>
+    pub fn fold(self, alloc: Global, work: &mut Work) -> Result<Index<K, F>, WantOfMemory>
         ensures folder { IfOk result (λ index. index.folder ≡ self.folder) }
         ensures items { IfOk result (λ index. (key : K) → items_at K.cmp key index.items ≡ items_at K.cmp key self.items) }
         ensures changes { IfOk result (λ index. index.changes ≡ []) }
-        ensures bound { (names : List (K × ℕ)) → AllByRecursion (Covers K.cmp names) self.changes
+        ensures few { (names : List (K × ℕ)) → AllByRecursion (Covers K.cmp names) self.changes
             → AppliesAtMost (cover_cost K.cmp self.items names) work.old work.new }
     {
         let Index {

@@ -1,11 +1,36 @@
-ghost use Rattle.std.specs.Prelude.{◌≡◌, ◌+◌, ◌-◌, ◌≤◌, ◌<◌, ◌⊎◌, true, false, length, slice_index_or, IfOk, IsTrue, OnOk, []};
+ghost use Rattle.std.specs.BTreeMap.{is_at};
+ghost use Rattle.std.specs.List.{list_any};
+ghost use Rattle.std.specs.Prelude.{◌<◌, ◌≤◌, ℕ, IfOk, OnOk, IsTrue, ◌≡◌, ◌+◌, ◌-◌, ◌⊎◌, true, false, length, slice_index_or, []};
 ghost use Rattle.st_base.specs.Work.{AppliesAtMost};
-ghost use Rattle.st_opindex.specs.Items.{Ascend, SplitsAt, before, with_item, reaches};
-ghost use Rattle.st_opindex.specs.Kept.{IsRow, IsRowUpTo, LeavesOf, left_of};
+ghost use Rattle.st_opindex.specs.Items.{Ascend, SplitsAt, before, with_item, reaches, IsRow, IsRowUpTo, LeavesOf, left_of, IsPlaced};
 
-use crate::folder::Folder;
+use crate::index::Folder;
 use st_base::{WantOfMemory, Work};
 use std::alloc::Global;
+use std::collections::BTreeSet;
+
+// Removes the entries at this place or later, and returns their keys.
+pub fn take_late<K: Copy + Ord>(
+    alloc: Global,
+    placed: &mut BTreeSet<(u32, K)>,
+    place: u32,
+) -> Result<Vec<K>, WantOfMemory>
+    ensures late { IfOk result (λ late. (at : ℕ) (key : K) → place ≤ at → IsPlaced K.cmp placed.old.keys at key
+        → IsTrue (list_any (λ taken. is_at (K.cmp taken) key) late.items)) }
+    ensures rest { OnOk result ((at : ℕ) (key : K) → at < place → IsPlaced K.cmp placed.old.keys at key
+        → IsPlaced K.cmp placed.new.keys at key) }
+{
+    let mut late = Vec::new(alloc);
+    'late: while let Some(last) = placed.last() {
+        let (at, key) = *last;
+        if at < place {
+            return Ok(late);
+        }
+        late.push(key)?;
+        placed.remove(&(at, key));
+    }
+    Ok(late)
+}
 
 // A state is stored after each run of this many items.
 const STRIDE: usize = 8;
@@ -156,7 +181,7 @@ pub fn fold_row<F: Folder>(
     ensures items { OnOk result (row.new.items.items ≡ row.old.items.items) }
     ensures row { OnOk result (IsRow (F.next folder.now) (F.first folder.now) row.new) }
     ensures none { OnOk result (left_of row.new ≡ 0) }
-    ensures bound { AppliesAtMost (left_of row.old) work.old work.new }
+    ensures few { AppliesAtMost (left_of row.old) work.old work.new }
 {
     for at in row.done..row.items.len() {
         row.last = folder.step(alloc, &row.last, &row.items[at].1, work)?;

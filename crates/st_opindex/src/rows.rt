@@ -1,12 +1,9 @@
 ghost use Rattle.std.specs.Prelude.{◌≡◌, ℕ, List, [], true, false, IfOk, IsTrue, OnOk};
 ghost use Rattle.std.specs.List.{AllByRecursion};
 ghost use Rattle.st_base.specs.Work.{AppliesAtMost};
-ghost use Rattle.st_opindex.specs.Items.{with_item, before, reaches};
-ghost use Rattle.st_opindex.specs.ByKey.{AreCut, ChangesAt, Covers, CoversLosing, cover_cost, items_at};
-ghost use Rattle.st_opindex.specs.Kept.{IsRow};
-ghost use Rattle.st_opindex.specs.Seen.{AreOwed, AreRows, FoldsKey, LeavesMore, LeavesNoMore, left_at, seen_items};
+ghost use Rattle.st_opindex.specs.Items.{with_item, before, reaches, AreCut, ChangesAt, Covers, CoversLosing, cover_cost, items_at, IsRow, AreOwed, AreRows, FoldsKey, LeavesMore, LeavesNoMore, left_at, seen_items};
 
-use crate::folder::Folder;
+use crate::index::Folder;
 use crate::row::{Row, cut_row, empty_row, fold_row, put_row};
 use st_base::{Boxed, WantOfMemory, Work};
 use std::alloc::Global;
@@ -73,7 +70,7 @@ pub fn fold_keys<K: Copy + Ord, F: Folder>(
     ensures rows { OnOk result (AreRows K.cmp (F.next folder.now) (F.first folder.now) rows.new.entries) }
     ensures owed { OnOk result (AreOwed K.cmp [] rows.new.entries) }
     ensures items { OnOk result ((key : K) → items_at K.cmp key (seen_items rows.new.entries) ≡ items_at K.cmp key (seen_items rows.old.entries)) }
-    ensures bound { (names : List (K × ℕ)) → AllByRecursion (Covers K.cmp names) changes.now
+    ensures few { (names : List (K × ℕ)) → AllByRecursion (Covers K.cmp names) changes.now
         → AppliesAtMost (cover_cost K.cmp (seen_items rows.old.entries) names) work.old work.new }
 {
     'changes: for change in changes {
@@ -94,7 +91,7 @@ fn fold_key<K: Copy + Ord, F: Folder>(
     ensures rows { OnOk result (AreRows K.cmp (F.next folder.now) (F.first folder.now) rows.new.entries) }
     ensures items { OnOk result (ChangesAt K.cmp key (λ items. items) (seen_items rows.old.entries) (seen_items rows.new.entries)) }
     ensures folds { OnOk result (FoldsKey K.cmp key rows.old.entries rows.new.entries) }
-    ensures bound { AppliesAtMost (left_at K.cmp key rows.old.entries) work.old work.new }
+    ensures few { AppliesAtMost (left_at K.cmp key rows.old.entries) work.old work.new }
 {
     let Some(row) = rows.get_mut(&key) else {
         return Ok(());

@@ -1,9 +1,4 @@
 pub mod Claim
-pub mod Codes
-pub mod Counting
-pub mod KnownHashes
 pub mod Operation
 pub mod Request
-pub mod RequestForm
-pub mod RequestText
-pub mod SignedPart
+pub mod inside

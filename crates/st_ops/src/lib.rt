@@ -3,17 +3,12 @@
 #![tactic(auto)]
 
 mod claim;
-mod claiming;
-mod form;
+mod forms;
 mod operation;
-mod reading;
-mod refused;
-mod signed;
+mod request;
 mod writing;
 
-pub use claim::Claim;
-pub use claiming::claim_of;
+pub use claim::{Claim, claim_of};
 pub use operation::{Operation, suffix};
-pub use reading::read_request;
-pub use refused::RequestRefused;
+pub use request::{RequestRefused, read_request};
 pub use writing::{know_hashes, write_request};

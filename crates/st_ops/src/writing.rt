@@ -4,11 +4,9 @@ ghost use Rattle.st_plain.specs.Objects.{some_listed};
 ghost use Rattle.st_plain.specs.Plain.{object, text};
 ghost use Rattle.st_canon.specs.View.{plain, plain_members};
 ghost use Rattle.st_hash.specs.Hash.{IsHash};
-ghost use Rattle.st_ops.specs.KnownHashes.{HasHashes};
-ghost use Rattle.st_ops.specs.Operation.{creating, plain_operation, plain_proof};
-ghost use Rattle.st_ops.specs.Request.{request_of, IsComplete};
-ghost use Rattle.st_ops.specs.RequestText.{named_members, proof_json, request_json, request_text, signed_json, IsDeltaWithin};
-ghost use Rattle.st_params.specs.Limits.{Limits};
+ghost use Rattle.st_ops.specs.Operation.{HasHashes, creating, plain_operation, plain_proof};
+ghost use Rattle.st_ops.specs.Request.{request_of, IsComplete, named_members, proof_json, request_json, request_text, signed_json, IsDeltaWithin};
+ghost use Rattle.st_params.specs.ParamsValue.{ParamsValue};
 
 use crate::operation::Operation;
 use st_base::{Bytes, Shared, Text, WantOfMemory};
@@ -24,7 +22,7 @@ pub fn write_request(alloc: Global, operation: &Operation) -> Result<Bytes, Want
     requires { IsComplete (plain_operation operation.now) }
     ensures text { IfOk result (λ text. text ≡ request_text (plain_operation operation.now)) }
     // All limits that accept the operation read it again, if its delta does not nest too deep.
-    ensures read { IfOk result (λ text. (limits : Limits) (bytes : List ℕ)
+    ensures read { IfOk result (λ text. (limits : ParamsValue) (bytes : List ℕ)
         → request_of limits bytes ≡ Ok (plain_operation operation.now)
         → IsDeltaWithin 125 (plain_operation operation.now)
         → request_of limits text ≡ Ok (plain_operation operation.now)) }
@@ -140,7 +138,8 @@ fn named_members(
     suffix: &Hash,
     reveal: &Hash,
 ) -> Result<Object, WantOfMemory>
-    ensures { IfOk result (λ members. plain_members members ≡ some_listed (named_members kind.now (record { suffix = suffix.now; reveal = reveal.now }))) }
+    ensures { IfOk result (λ members. plain_members members
+        ≡ some_listed (named_members kind.now (record { suffix = suffix.now; reveal = reveal.now }))) }
 {
     let mut members = Object::new(alloc);
     let kind = text_json(alloc, kind)?;

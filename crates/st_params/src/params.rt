@@ -1,5 +1,5 @@
 ghost use Rattle.std.specs.Prelude.{◌≡◌, ◌≤◌};
-ghost use Rattle.st_params.specs.Limits.{limits_of};
+ghost use Rattle.st_params.specs.ParamsValue.{params_of};
 
 use st_base::{Copied, WantOfMemory};
 use std::alloc::Global;
@@ -14,11 +14,11 @@ pub struct Params {
 
 impl Model for Params {
     ghost use Rattle.std.specs.Prelude.{◌≤◌};
-    ghost use Rattle.st_params.specs.Limits.{Limits, limits_of};
+    ghost use Rattle.st_params.specs.ParamsValue.{ParamsValue, params_of};
 
-    ghost Value = { Limits };
+    ghost Value = { ParamsValue };
 
-    ghost view = { λ p. limits_of p.version };
+    ghost view = { λ p. params_of p.version };
 
     ghost invariant = { λ p. (1 ≤ p.version) × (p.version ≤ 2) };
 
@@ -29,7 +29,7 @@ impl Params {
     pub(crate) fn of_version(version: u8) -> Params
         requires first { 1 ≤ version }
         requires last { version ≤ 2 }
-        ensures { result ≡ limits_of version }
+        ensures { result ≡ params_of version }
     {
         Params { version }
     }
@@ -39,7 +39,7 @@ impl Params {
         ensures value { result ≡ self.now.version }
         ensures first { 1 ≤ result }
         ensures last { result ≤ 2 }
-        ensures limits { self.now ≡ limits_of result }
+        ensures limits { self.now ≡ params_of result }
     {
         self.version
     }

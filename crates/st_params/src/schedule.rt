@@ -1,5 +1,5 @@
 ghost use Rattle.std.specs.Prelude.{◌≡◌, Some, None};
-ghost use Rattle.st_params.specs.Schedule.{params_at, newest_of};
+ghost use Rattle.st_params.specs.ParamsValue.{params_at, newest_of};
 
 use crate::params::Params;
 use st_base::{Copied, WantOfMemory};

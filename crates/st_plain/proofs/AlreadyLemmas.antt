@@ -1,29 +1,25 @@
 -- A text that is already canonical, scanned from the front.
-use Rattle.std.proofs.Common.{◌≡◌, ◌∙◌, ℕ, ◌-◌, ◌<◌, ◌≤◌, Bool, true, List, [], ◌∷◌, ◌++◌, Option, Some, None, option_map, is_some, Ok, IfSome, refl, sym, ap, arith}
-use Rattle.std.proofs.Common.{append_assoc, subst}
+use Rattle.std.proofs.Common.{◌≡◌, ◌∙◌, ℕ, ◌-◌, ◌<◌, ◌≤◌, Bool, true, List, [], ◌∷◌, ◌++◌, Option, Some, None, option_map, is_some, Ok, IfSome, refl, sym, ap, arith, append_assoc, subst, codes}
 use Rattle.std.specs.List.{flat_map}
 use Rattle.std.specs.Prelude.{ℤ, false, nat_lt}
 use Rattle.std.specs.Str.{IsUtf8}
 use Rattle.std.specs.declared.cmp.Ordering.TheVariants.{Less}
 use Rattle.std.specs.Fmt.{signed_decimal}
-use Rattle.std.proofs.Common.{codes}
 use Rattle.std.proofs.lemmas.Bool.Decides.{nat_tests}
 use Rattle.std.proofs.lemmas.List.{append-nil}
 use Rattle.std.proofs.lemmas.List.Concat.{flat_map-append}
 use Rattle.std.proofs.lemmas.Str.{IsUtf8-append, IsUtf8-nil}
 use Rattle.json.proofs.Printed.Utf8.{IsUtf8-are_ascii}
-use Rattle.st_plain.specs.Canonical.{canonical, canonical_items, canonical_members, comma, escape, quoted}
-use Rattle.st_plain.specs.Depth.{items_nest, members_nest}
-use Rattle.st_plain.specs.Held.{ranks_cmp}
-use Rattle.st_plain.specs.InFront.{IsEscapeInFront, IsInFront, IsTextInFront, ItemsAreInFront, MembersAreInFront, name_of}
+use Rattle.st_plain.specs.Plain.{canonical, canonical_items, canonical_members, comma, escape, quoted, IsWhole, null, boolean, whole, text, list, object, Items, no_items, item, Members, no_members, member, AllAbove, ItemsAreProper, MembersAreProper}
+use Rattle.st_plain.specs.Measures.{items_nest, members_nest}
+use Rattle.st_plain.specs.inside.Objects.{ranks_cmp}
+use Rattle.st_plain.specs.inside.Walk.{IsEscapeInFront, IsInFront, IsTextInFront, ItemsAreInFront, MembersAreInFront, name_of}
 use Rattle.st_plain.specs.Names.{name_cmp}
-use Rattle.st_plain.specs.Plain.{IsWhole, null, boolean, whole, text, list, object, Items, no_items, item, Members, no_members, member}
-use Rattle.st_plain.specs.Proper.{AllAbove, ItemsAreProper, MembersAreProper}
 use Rattle.st_plain.specs.ReadAgain.{IsReadAgain}
-use Rattle.st_plain.specs.Reading.{json_of}
+use Rattle.st_plain.specs.Shapes.{json_of}
 use Rattle.st_plain.proofs.HeldLemmas.{name_is}
-use Rattle.st_plain.proofs.NestsLemmas.{back_within}
-use Rattle.st_plain.proofs.Order.{name_total}
+use Rattle.st_plain.proofs.WalkLemmas.{back_within}
+use Rattle.st_plain.proofs.NameLemmas.{name_total}
 use Rattle.st_plain.proofs.RankLemmas.{names_ranked}
 
 -- ---- all of a text
@@ -68,14 +64,14 @@ pub record TextGoesOn (bytes rest : List ℕ) : Type 0 where
 pub text_begins : (bytes rest : List ℕ) → bytes ≡ 34 ∷ rest → TextGoesOn bytes rest
 text_begins bytes rest is = record { word = []; utf8 = IsUtf8-nil; spelled = is }
 
-pub one_run_more : (bytes rest run behind : List ℕ) → TextGoesOn bytes rest → flat_map escape run ≡ run → rest ≡ run ++ behind → IsUtf8 run
+pub one_span_more : (bytes rest span behind : List ℕ) → TextGoesOn bytes rest → flat_map escape span ≡ span → rest ≡ span ++ behind → IsUtf8 span
     → TextGoesOn bytes behind
-one_run_more bytes rest run behind go plain parted utf8 = record {
-  word = go.word ++ run;
-  utf8 = IsUtf8-append go.word run go.utf8 utf8;
+one_span_more bytes rest span behind go plain parted utf8 = record {
+  word = go.word ++ span;
+  utf8 = IsUtf8-append go.word span go.utf8 utf8;
   spelled = go.spelled ∙ ap (λ them. 34 ∷ (flat_map escape go.word ++ them)) (parted ∙ ap (λ them. them ++ behind) (sym plain))
-      ∙ ap (λ them. 34 ∷ them) (sym (append_assoc (flat_map escape go.word) (flat_map escape run) behind)
-      ∙ ap (λ them. them ++ behind) (sym (flat_map-append escape go.word run)));
+      ∙ ap (λ them. 34 ∷ them) (sym (append_assoc (flat_map escape go.word) (flat_map escape span) behind)
+      ∙ ap (λ them. them ++ behind) (sym (flat_map-append escape go.word span)));
 }
 
 one_byte : (b : ℕ) → flat_map escape (b ∷ []) ≡ escape b

@@ -1,6 +1,5 @@
 -- Members collected by name, in any order and with repeats.
-use Rattle.std.proofs.Common.{◌≡◌, ℕ, List, [], ◌∷◌, ◌++◌, length, map, Bool, true, false, Option, Some, None, option_map, option_and_then}
-use Rattle.std.proofs.Common.{Ordering, Less, Equal, Greater, nat_cmp, is_eq, IfSome, refl, sym, ap, ap₂, ◌∙◌, subst, append_assoc, length-append}
+use Rattle.std.proofs.Common.{◌≡◌, ℕ, List, [], ◌∷◌, ◌++◌, length, map, Bool, true, false, Option, Some, None, option_map, option_and_then, Ordering, Less, Equal, Greater, nat_cmp, is_eq, IfSome, refl, sym, ap, ap₂, ◌∙◌, subst, append_assoc, length-append}
 use Rattle.std.specs.Prelude.{⊤, ◌&&◌, is_some, reverse, take}
 use Rattle.std.proofs.lemmas.Bool.{and_parts}
 use Rattle.std.specs.Cmp.Lexicographic.{slice_cmp, nat_list_cmp_total}
@@ -14,19 +13,16 @@ use Rattle.std.proofs.lemmas.List.{append-nil, reverse-append, take_at}
 use Rattle.std.proofs.lemmas.Map.Text.{is_eq-slice_cmp}
 use Rattle.std.proofs.lemmas.Slice.Eq.{bytes_eq-Decides}
 use Rattle.serde_json.specs.Data as data'
-use Rattle.st_plain.specs.Canonical.{canonical, canonical_members, comma, quoted}
-use Rattle.st_plain.specs.Find.{put}
-use Rattle.st_plain.specs.Held.{IsHeld, entries_in, entry_at, joined}
-use Rattle.st_plain.specs.InOrder.{in_order, placed}
-use Rattle.st_plain.specs.Names.{name_cmp, NamesAscend}
-use Rattle.st_plain.specs.Plain.{Plain, Members, no_members, member}
-use Rattle.st_plain.specs.Proper.{AllAbove, IsProper, MembersAreProper}
-use Rattle.st_plain.specs.Reading.{whole_value, whole_members}
-use Rattle.st_plain.specs.Respelled.{IsWritten, Spells}
+use Rattle.st_plain.specs.Plain.{canonical, canonical_members, comma, quoted, Plain, Members, no_members, member, AllAbove, IsProper, MembersAreProper}
+use Rattle.st_plain.specs.Objects.{put}
+use Rattle.st_plain.specs.inside.Objects.{IsHeld, entries_in, entry_at, joined, in_order, placed, NamesAscend}
+use Rattle.st_plain.specs.Names.{name_cmp}
+use Rattle.st_plain.specs.Shapes.{whole_value, whole_members}
+use Rattle.st_plain.specs.inside.Respelled.{IsWritten, Spells}
 use Rattle.st_plain.proofs.HeldLemmas.{all_stay, entries_stay, entry_held, has_no_left, has_no_right}
-use Rattle.st_plain.proofs.Order.{above_both, around, at_first, at_second, below_both, between, by_order, greater_from_less, less_from_greater, name_total, same_from_tied}
-use Rattle.st_plain.proofs.RewritingLemmas.{IsLast, after, after_more, after_true, next_last, placed_last}
-use Rattle.st_plain.proofs.Sorting.{all_placed, ascend_placed}
+use Rattle.st_plain.proofs.NameLemmas.{above_both, around, at_first, at_second, below_both, between, by_order, greater_from_less, less_from_greater, name_total, same_from_tied}
+use Rattle.st_plain.proofs.RespellingLemmas.{IsLast, after, after_more, after_true, next_last, placed_last}
+use Rattle.st_plain.proofs.SortLemmas.{all_placed, ascend_placed}
 
 -- ---- a name inserted among others
 
@@ -252,8 +248,8 @@ abbrev pub texts_of : Coming → List (List ℕ)
 texts_of es = map (λ e. e.1.1) es
 
 -- in the order of their names, only the last of several with one name
-abbrev pub settled : Coming → Coming
-settled come = in_order (reverse come)
+abbrev pub ordered : Coming → Coming
+ordered come = in_order (reverse come)
 
 abbrev pub IsSpelled : List ℕ × (Option Plain × List ℕ) → Type 0
 IsSpelled e = IsUtf8 e.0 × (t : List ℕ) × (e.1.1 ≡ quoted e.0 ++ (58 ∷ t)) × Spells IsProper canonical e.1.0 t
@@ -296,15 +292,15 @@ with_proper proper text (Some q) t p h = (p, h.1)
 
 -- the last name is above all others if names ascend, and they are sorted
 abbrev pub AreUp : Option (List ℕ) → Coming → Type 0
-AreUp last come = IsLast last come × (settled come ≡ come)
+AreUp last come = IsLast last come × (ordered come ≡ come)
 
 pub record IsGathered (ds : data'.Members) (front text : List ℕ) (places : List (ℕ × ℕ)) (up : Bool) (last : Option (List ℕ)) : Type 0 where
   pub come : Coming
   pub is : text ≡ front ++ joined false (texts_of come)
-  pub outcomes_are : outcomes ds ≡ map outcome_of (settled come)
+  pub outcomes_are : outcomes ds ≡ map outcome_of (ordered come)
   pub entries_are : map (entry_at text) (reverse places) ≡ map spelled_of (reverse come)
   pub held : AllByRecursion (IsHeld text) (reverse places)
-  pub spelled : AllByRecursion IsSpelled (settled come)
+  pub spelled : AllByRecursion IsSpelled (ordered come)
   pub ascend : BytesAscend ds
   pub utf8 : AreUtf8 ds
   pub rising : up ≡ true → AreUp last come
@@ -350,7 +346,7 @@ both_up : (s t : Bool) → (s && t) ≡ true → (s ≡ true) × (t ≡ true)
 both_up s t e = and_parts s t e
 
 up_more : (last : Option (List ℕ)) (come : Coming) (k : List ℕ) (x : Option Plain × List ℕ) → AreUp last come → IfSome last (λ l. name_cmp l k ≡ Less)
-    → settled (come ++ (k, x) ∷ []) ≡ placed (k, x) (settled come) → AreUp (Some k) (come ++ (k, x) ∷ [])
+    → ordered (come ++ (k, x) ∷ []) ≡ placed (k, x) (ordered come) → AreUp (Some k) (come ++ (k, x) ∷ [])
 up_more last come k x up above one =
     let below = up.0 k above in
     (next_last k x come below, one ∙ ap (placed (k, x)) up.1 ∙ placed_last k x come below)
@@ -398,7 +394,7 @@ module _ (ds : data'.Members) (front old : List ℕ) (places : List (ℕ × ℕ)
   one_more =
       let come = are.come in
       let back : reverse (come ++ one ∷ []) ≡ one ∷ reverse come = reverse-append come (one ∷ []) in
-      let settles : settled (come ++ one ∷ []) ≡ placed one (settled come) = ap in_order back in
+      let orders : ordered (come ++ one ∷ []) ≡ placed one (ordered come) = ap in_order back in
       let all : reverse news ≡ (place, length new) ∷ reverse places = ap reverse among ∙ reverse-append places ((place, length new) ∷ []) in
       record {
         come = come ++ one ∷ [];
@@ -407,25 +403,25 @@ module _ (ds : data'.Members) (front old : List ℕ) (places : List (ℕ × ℕ)
             ∙ ap (λ c. front ++ (joined false (texts_of come) ++ (comma c ++ one.1.1))) (are.some ∙ sym (after_texts come))
             ∙ ap (λ l. front ++ l) (sym (joined_more false (texts_of come) one.1.1) ∙ ap (joined false) (sym (texts_more come one)));
         outcomes_are = outcomes_put k d ds u are.utf8 ∙ ap (with_name k (whole_value d)) are.outcomes_are
-            ∙ sym (values_with (λ x. x.0) k one.1 (settled come)) ∙ ap (map outcome_of) (sym settles);
+            ∙ sym (values_with (λ x. x.0) k one.1 (ordered come)) ∙ ap (map outcome_of) (sym orders);
         entries_are = ap (map (entry_at new)) all
             ∙ ap₂ (λ e es. e ∷ es) (entry_held new (place, length new) held_new)
             (entries_stay old new (comma (is_some last) ++ (quoted k ++ inside)) grown (reverse places) are.held ∙ are.entries_are)
             ∙ ap (map spelled_of) (sym back);
         held = subst (AllByRecursion (IsHeld new)) (sym all)
             (held_new, all_stay old new (comma (is_some last) ++ (quoted k ++ inside)) grown (reverse places) are.held);
-        spelled = subst (AllByRecursion IsSpelled) (sym settles) (all_placed_too IsSpelled one (settled come) (u, t, refl, written.2) are.spelled);
+        spelled = subst (AllByRecursion IsSpelled) (sym orders) (all_placed_too IsSpelled one (ordered come) (u, t, refl, written.2) are.spelled);
         ascend = ascend_put k d ds are.ascend;
         utf8 = utf8_put k d ds u are.utf8;
-        rising = λ e. let both = both_up up above e in up_more last come k one.1 (are.rising both.0) (higher both.1) settles;
+        rising = λ e. let both = both_up up above e in up_more last come k one.1 (are.rising both.0) (higher both.1) orders;
         some = after_more come one;
       }
 
 -- ---- all of them
 
-settled_spelled : (es : Coming) → in_order (map spelled_of es) ≡ map spelled_of (in_order es)
-settled_spelled [] = refl
-settled_spelled (e ∷ es) = ap (placed (spelled_of e)) (settled_spelled es) ∙ sym (values_with (λ x. x.1) e.0 e.1 (in_order es))
+ordered_spelled : (es : Coming) → in_order (map spelled_of es) ≡ map spelled_of (in_order es)
+ordered_spelled [] = refl
+ordered_spelled (e ∷ es) = ap (placed (spelled_of e)) (ordered_spelled es) ∙ sym (values_with (λ x. x.1) e.0 e.1 (in_order es))
 
 texts_spelled : (es : Coming) → map (λ e. e.1) (map spelled_of es) ≡ texts_of es
 texts_spelled [] = refl
@@ -433,10 +429,10 @@ texts_spelled (e ∷ es) = ap (λ l. e.1.1 ∷ l) (texts_spelled es)
 
 module _ (ds : data'.Members) (front text : List ℕ) (places : List (ℕ × ℕ)) (up : Bool) (last : Option (List ℕ))
     (are : IsGathered ds front text places up last) where
-  went_out : (out : List ℕ) → out ≡ front ++ joined false (texts_of (settled are.come))
+  went_out : (out : List ℕ) → out ≡ front ++ joined false (texts_of (ordered are.come))
       → IsWritten MembersAreProper (canonical_members false) (whole_members ds) front out
   went_out out is =
-      let es = settled are.come in
+      let es = ordered are.come in
       let all : whole_members ds ≡ all_whole (map outcome_of es) = whole_members_are ds are.utf8 are.ascend ∙ ap all_whole are.outcomes_are in
       let proper : IfSome (all_whole (map outcome_of es)) MembersAreProper =
       all_proper (map outcome_of es) (subst (λ l. IsStrictlySortedBy name_cmp (keys_of l)) are.outcomes_are (ascend_outcomes ds)) (proper_spelled es are.spelled) in
@@ -457,5 +453,5 @@ module _ (ds : data'.Members) (front text : List ℕ) (places : List (ℕ × ℕ
       → IsWritten MembersAreProper (canonical_members false) (whole_members ds) front out
   were_put out from at is =
       let begins = ap (take from) are.is ∙ take_at front (joined false (texts_of are.come)) from (sym at) in
-      let texts = ap (λ es. map (λ e. e.1) (in_order es)) are.entries_are ∙ ap (map (λ e. e.1)) (settled_spelled (reverse are.come)) ∙ texts_spelled (settled are.come) in
+      let texts = ap (λ es. map (λ e. e.1) (in_order es)) are.entries_are ∙ ap (map (λ e. e.1)) (ordered_spelled (reverse are.come)) ∙ texts_spelled (ordered are.come) in
       went_out out (is ∙ ap₂ (λ x ts. x ++ joined false ts) begins texts)

@@ -1,17 +1,16 @@
 -- Members in a text: their names, their order, and that both stay while the text grows.
-use Rattle.std.proofs.Common.{◌≡◌, ℕ, ◌+◌, ◌-◌, ◌*◌, ◌/◌, ◌%◌, ◌<◌, ◌≤◌, ◌==◌, ◌⊎◌, inl, inr, nat_lt, cond, Bool, true, false, List, [], ◌∷◌, ◌++◌, drop, length, map}
-use Rattle.std.proofs.Common.{Some, None, is_eq, refl, sym, ap, ap₂, ◌∙◌, subst, arith, append_assoc}
+use Rattle.std.proofs.Common.{◌≡◌, ℕ, ◌+◌, ◌-◌, ◌*◌, ◌/◌, ◌%◌, ◌<◌, ◌≤◌, ◌==◌, ◌⊎◌, inl, inr, nat_lt, cond, Bool, true, false, List, [], ◌∷◌, ◌++◌, drop, length, map, Some, None, is_eq, refl, sym, ap, ap₂, ◌∙◌, subst, arith, append_assoc}
 use Rattle.std.specs.Prelude.{take}
 use Rattle.std.specs.List.{AllByRecursion, flat_map}
 use Rattle.std.specs.Str.{IsUtf8}
 use Rattle.std.proofs.lemmas.Bool.{and_parts, false_from_ne_true, eqb-true}
 use Rattle.std.proofs.lemmas.Bool.Decides.{nat_tests}
 use Rattle.std.proofs.lemmas.List.{drop_at, take_at}
-use Rattle.st_plain.specs.Canonical.{escape, hex_digit, quoted}
-use Rattle.st_plain.specs.Held.{IsHeld, between, digit_of, entry_at, is_again, name_at, name_in, once, ranks_cmp}
-use Rattle.st_plain.specs.InOrder.{firsts, is_same}
+use Rattle.st_plain.specs.Plain.{escape, hex_digit, quoted}
+use Rattle.st_plain.specs.Objects.{digit_of, name_in}
+use Rattle.st_plain.specs.inside.Objects.{IsHeld, between, entry_at, is_again, name_at, once, ranks_cmp, firsts, is_same}
 use Rattle.st_plain.specs.Names.{name_cmp}
-use Rattle.st_plain.specs.Respelled.{HasNoMark, mark}
+use Rattle.st_plain.specs.inside.Respelled.{HasNoMark, mark}
 use Rattle.st_plain.proofs.RankLemmas.{names_ranked}
 use Rattle.st_plain.proofs.WalkLemmas.{either_way}
 use lib.Utf8.{encode, encodes, next, scalar, scalars, scalar_cases}

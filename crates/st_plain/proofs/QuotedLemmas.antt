@@ -6,10 +6,9 @@ use Rattle.std.specs.Str.{IsUtf8}
 use Rattle.std.proofs.lemmas.List.{append_cancel_left, take-append-drop}
 use Rattle.std.proofs.Math.Seq.{take-append_seam}
 use Rattle.std.proofs.lemmas.Slice.Eq.{bytes_eq-Decides}
-use Rattle.st_plain.specs.Canonical.{escape, quoted}
+use Rattle.st_plain.specs.Plain.{escape, quoted, text}
 use Rattle.st_plain.specs.Names.{is_name}
-use Rattle.st_plain.specs.Plain.{text}
-use Rattle.st_plain.proofs.Back.{same_value}
+use Rattle.st_plain.proofs.ReadableLemmas.{same_value}
 
 -- ---- a prefix
 
@@ -45,13 +44,13 @@ module _ (all : Type 0) (rest behind word : List ℕ) (b : ℕ) (words : List �
   )
 
 -- the bytes before the first escaped one are skipped at once
-pub first_run : (bytes run rest word others : List ℕ) → bytes ≡ 34 ∷ (run ++ rest)
-    → flat_map escape word ≡ run ++ flat_map escape others → (bytes ≡ quoted word) ↔ IsRest rest others
-first_run bytes run rest word others parts escaped =
-    let whole : flat_map escape word ++ 34 ∷ [] ≡ run ++ (flat_map escape others ++ 34 ∷ []) =
-    ap (λ front. front ++ 34 ∷ []) escaped ∙ append_assoc run (flat_map escape others) (34 ∷ []) in (
-      λ it. append_cancel_left run rest (flat_map escape others ++ 34 ∷ []) (ap (drop 1) (sym parts ∙ it) ∙ whole),
-      λ same. parts ∙ ap (λ front. 34 ∷ front) (ap (λ behind. run ++ behind) same ∙ sym whole),
+pub first_span : (bytes span rest word others : List ℕ) → bytes ≡ 34 ∷ (span ++ rest)
+    → flat_map escape word ≡ span ++ flat_map escape others → (bytes ≡ quoted word) ↔ IsRest rest others
+first_span bytes span rest word others parts escaped =
+    let whole : flat_map escape word ++ 34 ∷ [] ≡ span ++ (flat_map escape others ++ 34 ∷ []) =
+    ap (λ front. front ++ 34 ∷ []) escaped ∙ append_assoc span (flat_map escape others) (34 ∷ []) in (
+      λ it. append_cancel_left span rest (flat_map escape others ++ 34 ∷ []) (ap (drop 1) (sym parts ∙ it) ∙ whole),
+      λ same. parts ∙ ap (λ front. 34 ∷ front) (ap (λ behind. span ++ behind) same ∙ sym whole),
     )
 
 pub at_the_end : (all : Type 0) (rest words : List ℕ) (same : Bool) → words ≡ [] → IsTrue same ↔ (rest ≡ 34 ∷ []) → (all ↔ IsRest rest words)
@@ -65,11 +64,11 @@ at_the_end all rest words same none test so_far =
 same_word : (n word : List ℕ) → IsUtf8 n → IsUtf8 word → quoted n ≡ quoted word → n ≡ word
 same_word n word first second same = let both = same_value (text n) (text word) first second same in cc
 
-pub named : (found : Bool) (bytes n word : List ℕ) → IsUtf8 n → IsUtf8 word → bytes ≡ quoted word → (IsTrue found ↔ (bytes ≡ quoted n))
+pub named_quoted : (found : Bool) (bytes n word : List ℕ) → IsUtf8 n → IsUtf8 word → bytes ≡ quoted word → (IsTrue found ↔ (bytes ≡ quoted n))
     → found ≡ is_name n word
-named true bytes n word first second is tells =
+named_quoted true bytes n word first second is tells =
     sym ((bytes_eq-Decides n word).1 (same_word n word first second (sym (tells.0 refl) ∙ is)))
-named false bytes n word first second is tells = by (is_name n word) refl
+named_quoted false bytes n word first second is tells = by (is_name n word) refl
   where
     by : (t : Bool) → is_name n word ≡ t → false ≡ is_name n word
     by true same = let wrong : false ≡ true = tells.1 (is ∙ ap quoted (sym ((bytes_eq-Decides n word).0 same))) in cc

@@ -1,31 +1,80 @@
--- Data that is read from its tokens, and its canonical text, written an item at a time.
-use Rattle.std.proofs.Common.{◌≡◌, ℕ, ℤ, zero, suc, ◌-◌, ◌<◌, ◌≤◌, List, [], ◌∷◌, ◌++◌, length, Bool, true, false, Option, Some, None, option_map}
-use Rattle.std.proofs.Common.{option_and_then, IfErr, Result, Ok, Err, refl, sym, ap, ap₂, ◌∙◌, subst, append_assoc}
+-- Canonical text that is written an item or a member at a time, each after those before it.
+use Rattle.std.proofs.Common.{◌≡◌, ℕ, List, [], ◌∷◌, ◌++◌, Bool, true, false, Option, Some, None, option_map, Less, IfSome, refl, ap, ◌∙◌, ℤ, zero, suc, ◌-◌, ◌<◌, ◌≤◌, length, option_and_then, IfErr, Result, Ok, Err, sym, ap₂, subst}
+use Rattle.std.proofs.lemmas.List.{append_assoc, append-nil}
+use Rattle.std.specs.List.{AllByRecursion}
+use Rattle.std.specs.Map.{keys_of}
 use Rattle.std.specs.Prelude.{ok_or, unwrap_or}
 use Rattle.std.specs.Str.{IsUtf8}
-use Rattle.std.proofs.lemmas.List.{append-nil}
-use Rattle.json.specs.Json as json
+use Rattle.json.proofs.Grammar.{value_is, value-begin_array, value-begin_object, items_end, items_more, members_end, members_more, members_no_key}
 use Rattle.json.specs.Json.{Parse, parse_map, after_end_array, read_key, items_step, items, members, value}
+use Rattle.json.specs.Json as json
 use Rattle.json.specs.Lex.{tokens}
 use Rattle.json.specs.Token.{Token}
-use Rattle.json.proofs.Grammar.{value_is, value-begin_array, value-begin_object, items_end, items_more, members_end, members_more, members_no_key}
-use Rattle.serde_json.specs.Data as data'
 use Rattle.serde_json.specs.Data.{Data, Num}
+use Rattle.serde_json.specs.Data as data'
 use Rattle.serde_json.specs.Read.{converted, number_of, of_json, of_items, of_members, read}
-use Rattle.st_plain.specs.Canonical.{canonical, canonical_items, canonical_members, comma}
-use Rattle.st_plain.specs.Entries.{items_of}
-use Rattle.st_plain.specs.Plain.{Plain, IsWhole, whole, list, object, Items, item, Members}
-use Rattle.st_plain.specs.Proper.{IsProper, ItemsAreProper, MembersAreProper}
-use Rattle.st_plain.specs.ReadAgain.{IsReadAgain, value_read}
-use Rattle.st_plain.specs.Reading.{json_of, json_of_data, whole_items, whole_value}
-use Rattle.st_plain.specs.Respelled.{HasNoMark, IsNoJson, IsWritten, Spells}
-use Rattle.st_plain.specs.declared.refused.ReadRefused.{ReadRefused}
-use Rattle.st_plain.specs.declared.refused.ReadRefused.TheVariants.{NotJson, NotWhole, WantOfMemory}
 use Rattle.st_plain.proofs.HeldLemmas.{has_no_left, has_no_right, no_mark}
-use Rattle.st_plain.proofs.NestsLemmas.{read_again}
-use Rattle.st_plain.proofs.Outcomes.{json_of-utf8}
-use Rattle.st_plain.proofs.RewritingLemmas.{after, after_more, after_true, in_brackets}
-use Rattle.st_plain.proofs.Texts.{IsUtf8-canonical}
+use Rattle.st_plain.proofs.WalkLemmas.{read_again}
+use Rattle.st_plain.proofs.NameLemmas.{greater_from_less, name_total}
+use Rattle.st_plain.proofs.ReadableLemmas.{json_of-utf8}
+use Rattle.st_plain.proofs.Compact.{IsUtf8-canonical}
+use Rattle.st_plain.specs.Plain.{canonical, canonical_items, canonical_members, comma, Plain, IsWhole, whole, list, object, Items, item, Members, IsProper, ItemsAreProper, MembersAreProper}
+use Rattle.st_plain.specs.Names.{name_cmp}
+use Rattle.st_plain.specs.Objects.{items_of}
+use Rattle.st_plain.specs.ReadAgain.{IsReadAgain, value_read}
+use Rattle.st_plain.specs.Shapes.{json_of, json_of_data, whole_items, whole_value}
+use Rattle.st_plain.specs.declared.respelling.ReadRefused.{ReadRefused}
+use Rattle.st_plain.specs.declared.respelling.ReadRefused.TheVariants.{NotJson, NotWhole, WantOfMemory}
+use Rattle.st_plain.specs.inside.Objects.{placed}
+use Rattle.st_plain.specs.inside.Respelled.{HasNoMark, IsNoJson, IsWritten, Spells}
+
+-- whether a comma precedes the element after these, if one precedes the first of them
+abbrev pub after : {X : Type 0} → Bool → List X → Bool
+after b [] = b
+after b (x ∷ xs) = true
+
+pub after_true : {X : Type 0} (xs : List X) → after true xs ≡ true
+after_true [] = refl
+after_true (x ∷ xs) = refl
+
+pub after_more : {X : Type 0} (xs : List X) (x : X) → true ≡ after false (xs ++ x ∷ [])
+after_more [] x = refl
+after_more (y ∷ xs) x = refl
+
+pub mapped : {A B : Type 0} (f : A → B) (P : B → Type 0) (there : Option A) → IfSome there (λ a. P (f a)) → IfSome (option_map f there) P
+mapped f P None holds = holds
+mapped f P (Some a) holds = holds
+
+-- a text between brackets
+pub in_brackets : (before inside one two : List ℕ) (left right : ℕ) → one ≡ before ++ left ∷ []
+    → two ≡ one ++ inside → two ++ right ∷ [] ≡ before ++ (left ∷ (inside ++ right ∷ []))
+in_brackets before inside one two left right first second =
+    ap (λ text. text ++ right ∷ []) (second ∙ ap (λ text. text ++ inside) first)
+    ∙ append_assoc (before ++ left ∷ []) inside (right ∷ []) ∙ append_assoc before (left ∷ []) (inside ++ right ∷ [])
+
+-- ---- names that ascend
+
+-- all names are below this one
+abbrev pub AreBelow : {X : Type 0} → List ℕ → List (List ℕ × X) → Type 0
+AreBelow k pairs = AllByRecursion (λ n. name_cmp n k ≡ Less) (keys_of pairs)
+
+-- a name above the last one, if any, is above all
+abbrev pub IsLast : {X : Type 0} → Option (List ℕ) → List (List ℕ × X) → Type 0
+IsLast last pairs = (k : List ℕ) → IfSome last (λ name. name_cmp name k ≡ Less) → AreBelow k pairs
+
+pub next_last : {X : Type 0} (name : List ℕ) (x : X) (pairs : List (List ℕ × X)) → AreBelow name pairs
+    → IsLast (Some name) (pairs ++ (name, x) ∷ [])
+next_last name x [] all = λ k less. (less, tt)
+next_last name x (e ∷ pairs) all =
+    λ k less. (name_total.trans e.0 name k all.0 less, next_last name x pairs all.1 k less)
+
+pub placed_last : {X : Type 0} (k : List ℕ) (x : X) (pairs : List (List ℕ × X)) → AreBelow k pairs
+    → placed (k, x) pairs ≡ pairs ++ (k, x) ∷ []
+placed_last k x [] all = refl
+placed_last k x (e ∷ pairs) all =
+    rw (greater_from_less e.0 k all.0) (ap (λ rest. e ∷ rest) (placed_last k x pairs all.1))
+
+-- ---- Data that is read from its tokens, and its canonical text, written an item at a time.
 
 abbrev Tokens : Type 0
 Tokens = List Token

@@ -1,6 +1,5 @@
 -- Numbers and literals end before a byte that may follow a value, and contain no mark.
-use Rattle.std.proofs.Common.{◌≡◌, ◌∙◌, ℕ, suc, ◌+◌, ◌<◌, ◌≤◌, ◌/◌, ◌%◌, ◌^◌, Bool, true, false, not, List, [], ◌∷◌, ◌++◌, length, codes, refl, arith}
-use Rattle.std.proofs.Common.{length-append}
+use Rattle.std.proofs.Common.{◌≡◌, ◌∙◌, ℕ, suc, ◌+◌, ◌<◌, ◌≤◌, ◌/◌, ◌%◌, ◌^◌, Bool, true, false, not, List, [], ◌∷◌, ◌++◌, length, codes, refl, arith, length-append}
 use Rattle.std.specs.Prelude.{ℤ, pos, negsuc, ◌&&◌, ◌==◌}
 use Rattle.std.specs.Fmt.{decimal, signed_decimal}
 use Rattle.std.specs.List.{list_all}
@@ -10,7 +9,8 @@ use Rattle.std.proofs.lemmas.Fmt.{decimal_by_steps}
 use Rattle.std.proofs.lemmas.Int.{ints}
 use Rattle.std.proofs.lemmas.List.Folds.{list_all-append}
 use Rattle.st_plain.specs.Plain.{IsWhole}
-use Rattle.st_plain.specs.Walk.{outside, opens, closes, follows, can_follow, behind_brackets, behind_scalar, behind_value}
+use Rattle.st_plain.specs.ReadAgain.{opens, closes, follows, can_follow}
+use Rattle.st_plain.specs.inside.Walk.{outside, behind_brackets, behind_scalar, behind_value}
 
 -- neither a mark nor a byte that may follow a value
 abbrev pub is_inner : ℕ → Bool

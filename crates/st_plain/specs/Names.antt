@@ -3,8 +3,6 @@ use Rattle.std.specs.Prelude.{ℕ, List, Bool, bytes_eq}
 use Rattle.std.specs.Char.Escape.{encode_utf16}
 use Rattle.std.specs.Cmp.Lexicographic.{slice_cmp}
 use Rattle.std.specs.List.{flat_map}
-use Rattle.std.specs.List.Sorted.{IsStrictlySortedBy}
-use Rattle.std.specs.Map.{keys_of}
 use Rattle.std.specs.Ordering.{nat_cmp}
 use Rattle.std.specs.Str.{chars}
 use Rattle.std.specs.declared.cmp.Ordering.{Ordering}
@@ -20,7 +18,3 @@ name_cmp first second = slice_cmp nat_cmp (utf16_units first) (utf16_units secon
 -- the same name
 abbrev pub is_name : List ℕ → List ℕ → Bool
 is_name name other = bytes_eq name other
-
--- each name is below those after it
-abbrev pub NamesAscend : {X : Type 0} → List (List ℕ × X) → Type 0
-NamesAscend pairs = IsStrictlySortedBy name_cmp (keys_of pairs)

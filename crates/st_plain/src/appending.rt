@@ -1,8 +1,10 @@
-ghost use Rattle.std.specs.Prelude.{◌≡◌, ◌++◌, OnErr, OnOk};
-ghost use Rattle.st_plain.specs.Canonical.{canonical, comma as comma_text};
-ghost use Rattle.st_plain.specs.Plain.{IsWhole, boolean, whole as whole_number};
+ghost use Rattle.std.specs.List.{flat_map};
+ghost use Rattle.std.specs.Prelude.{◌≡◌, ◌++◌, OnErr, OnOk, ◌<◌};
+ghost use Rattle.std.specs.Str.{IsUtf8};
+ghost use Rattle.st_plain.specs.Plain.{canonical, comma as comma_text, escape, quoted, hex_digit, IsWhole, boolean, whole as whole_number};
 
-use crate::whole::Whole;
+use crate::numbers::Whole;
+use crate::spans::split_span;
 use itoa::Buffer;
 use std::alloc::AllocError;
 
@@ -35,4 +37,71 @@ pub(crate) fn append_whole(out: &mut Vec<u8>, whole: Whole) -> Result<(), AllocE
     ensures proper { OnOk result (IsWhole whole) }
 {
     push_all(out, Buffer::new().format(whole.value()).as_bytes())
+}
+
+/// Appends the text as a JSON string: escaped, between quotes.
+pub fn append_text(out: &mut Vec<u8>, text: &str) -> Result<(), AllocError>
+    ensures text { OnOk result (out.new.items ≡ out.old.items ++ quoted text.now) }
+    ensures utf8 { OnOk result (IsUtf8 text.now) }
+{
+    push_all(out, b"\"")?;
+    append_escaped(out, text.as_bytes())?;
+    push_all(out, b"\"")
+}
+
+/// Appends the inside of a JSON string. The bytes between two escaped ones are copied at once.
+pub fn append_escaped(out: &mut Vec<u8>, bytes: &[u8]) -> Result<(), AllocError>
+    ensures { OnOk result (out.new.items ≡ out.old.items ++ flat_map escape bytes.now) }
+{
+    let (span, mut rest) = split_span(bytes);
+    append_span(out, span)?;
+    while let Some((byte, behind)) = rest.split_first() {
+        let (span, after) = split_span(behind);
+        append_byte(out, *byte)?;
+        append_span(out, span)?;
+        rest = after;
+    }
+    Ok(())
+}
+
+// Two escaped bytes are often adjacent.
+fn append_span(out: &mut Vec<u8>, span: &[u8]) -> Result<(), AllocError>
+    ensures { OnOk result (out.new.items ≡ out.old.items ++ span.now) }
+{
+    if span.is_empty() {
+        Ok(())
+    } else {
+        push_all(out, span)
+    }
+}
+
+#[tactic(auto, unfolding(crate::specs::Plain::escape))]
+fn append_byte(out: &mut Vec<u8>, byte: u8) -> Result<(), AllocError>
+    ensures { OnOk result (out.new.items ≡ out.old.items ++ escape byte) }
+{
+    match byte {
+        b'"' => push_all(out, b"\\\""),
+        b'\\' => push_all(out, b"\\\\"),
+        0x08 => push_all(out, b"\\b"),
+        b'\t' => push_all(out, b"\\t"),
+        b'\n' => push_all(out, b"\\n"),
+        0x0c => push_all(out, b"\\f"),
+        b'\r' => push_all(out, b"\\r"),
+        0..=31 => push_all(
+            out,
+            &[b'\\', b'u', b'0', b'0', hex(byte / 16), hex(byte % 16)],
+        ),
+        _ => push_all(out, &[byte]),
+    }
+}
+
+fn hex(digit: u8) -> u8
+    requires { digit < 16 }
+    ensures { result ≡ hex_digit digit }
+{
+    if digit < 10 {
+        b'0' + digit
+    } else {
+        b'a' + (digit - 10)
+    }
 }

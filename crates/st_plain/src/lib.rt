@@ -2,30 +2,20 @@
 //! spelling, and split where a value ends.
 #![tactic(auto)]
 
-mod already;
 mod appending;
-mod escape;
-mod front;
-mod lanes;
-mod marks;
+mod canonical;
 mod names;
 mod numbers;
-mod ordering;
+mod objects;
 mod quoted;
-mod ranks;
-mod refused;
 mod respelling;
-mod runs;
-mod walk;
-mod whole;
+mod spans;
+mod values;
 
-pub use escape::{append_escaped, append_text};
-pub use front::{behind_first, opened, starts};
-pub use names::compare;
+pub use appending::{append_escaped, append_text};
+pub use names::{compare, next_byte};
+pub use numbers::Whole;
 pub use quoted::{is_named, is_quoted};
-pub use ranks::next_byte;
-pub use refused::ReadRefused;
-pub use respelling::canonical_text;
-pub use runs::split_run;
-pub use walk::split_value;
-pub use whole::Whole;
+pub use respelling::{ReadRefused, canonical_text};
+pub use spans::split_span;
+pub use values::{behind_first, opened, split_value, starts};

@@ -1,10 +1,10 @@
 ghost use Rattle.std.specs.Prelude.{◌≡◌, ◌≢◌, ◌↔◌, ◌++◌, ◌∷◌, [], ◌<◌, ℕ, List, IfNone, IfSome, IsTrue};
 ghost use Rattle.std.specs.Str.{IsUtf8};
-ghost use Rattle.st_plain.specs.Canonical.{escape, hex_digit, quoted};
+ghost use Rattle.st_plain.specs.Plain.{escape, hex_digit, quoted};
 ghost use Rattle.st_plain.specs.Names.{is_name};
 
-use crate::front::opened;
-use crate::runs::split_run;
+use crate::spans::split_span;
+use crate::values::opened;
 
 /// Whether the canonical text of a name is that of this one.
 pub fn is_named(text: &[u8], name: &str) -> bool
@@ -22,8 +22,8 @@ pub fn is_quoted(text: &[u8], word: &[u8]) -> bool
     let Some(inside) = opened(text, b'"') else {
         return false;
     };
-    let (run, others) = split_run(word);
-    let Some(mut rest) = strip(inside, run) else {
+    let (span, others) = split_span(word);
+    let Some(mut rest) = strip(inside, span) else {
         return false;
     };
     'bytes: for byte in others {
@@ -42,7 +42,7 @@ fn is_closing(text: &[u8]) -> bool
 }
 
 // The text after this byte in its escaped form, if that is its prefix.
-#[tactic(auto, unfolding(crate::specs::Canonical::escape))]
+#[tactic(auto, unfolding(crate::specs::Plain::escape))]
 pub(crate) fn strip_escaped(text: &[u8], byte: u8) -> Option<&[u8]>
     ensures some { IfSome result (λ behind. text.now ≡ escape byte ++ behind.now) }
     ensures none { IfNone result ((behind : List ℕ) → text.now ≢ escape byte ++ behind) }

@@ -1,24 +1,60 @@
-ghost use Rattle.std.specs.Prelude.{◌≡◌, true, ◌<◌, length, Err, Ok, None, IfErr, IfOk, IfSome, IsTrue, OnOk, false};
 ghost use Rattle.std.specs.Cow.{cow_slice_items};
+ghost use Rattle.std.specs.Prelude.{◌≡◌, true, ◌<◌, length, Err, Ok, None, IfErr, IfOk, IfSome, IsTrue, OnOk, false};
 ghost use Rattle.json.specs.Json.{items, members, value};
 ghost use Rattle.serde_json.specs.Data.{no_members};
 ghost use Rattle.serde_json.specs.Read.{converted, number_of, of_items, of_json, of_members};
 ghost use Rattle.st_plain.specs.ReadAgain.{IsReadAgain, value_read};
-ghost use Rattle.st_plain.specs.Reading.{Refuses, json_of};
-ghost use Rattle.st_plain.specs.Respelled.{IsNoJson, IsNumberWritten, HasNoMark, IsRespelled, ItemsAreRespelled, MembersAreRespelled};
-ghost use Rattle.st_plain.specs.declared.refused.ReadRefused.TheVariants.{NotJson};
+ghost use Rattle.st_plain.specs.Shapes.{Refuses, json_of};
+ghost use Rattle.st_plain.specs.declared.respelling.ReadRefused.TheVariants.{NotJson};
+ghost use Rattle.st_plain.specs.inside.Respelled.{IsNoJson, IsNumberWritten, HasNoMark, IsRespelled, ItemsAreRespelled, MembersAreRespelled};
 
-use crate::already::is_canonical;
-use crate::appending::{append_bool, append_comma, append_whole, push_all};
-use crate::escape::append_text;
+use crate::appending::{append_bool, append_comma, append_text, append_whole, push_all};
+use crate::canonical::is_canonical;
 use crate::names::is_above;
 use crate::numbers::number_in;
-use crate::ordering::{begin, end, put_in_order};
-use crate::refused::ReadRefused;
+use crate::objects::{begin, end, put_in_order};
 use json::{Reader, Scratch, Token};
 use memchr::memchr;
-use std::alloc::Global;
+use std::alloc::{AllocError, AllocFailed, Global};
 use std::borrow::CowSlice;
+use thiserror::Error;
+
+/// Why bytes are not read as JSON.
+#[derive(Clone, Copy, Debug, Drop, Error, PartialEq, Eq)]
+pub enum ReadRefused {
+    /// The bytes are not a JSON text in UTF-8 (RFC 8259), nest deeper than 127 lists and objects,
+    /// or have a number that is too large for a double.
+    #[error("not JSON")]
+    NotJson,
+    /// The bytes are JSON, with a number that has a fraction or an exponent, is `-0`, or is outside
+    /// -(2^53 - 1) to 2^53 - 1.
+    #[error("a number that is not whole")]
+    NotWhole,
+    #[error("out of memory")]
+    WantOfMemory,
+}
+
+impl From<AllocError> for ReadRefused {
+    ghost use Rattle.std.specs.Prelude.{◌≡◌};
+    ghost use Rattle.st_plain.specs.declared.respelling.ReadRefused.TheVariants.{WantOfMemory};
+
+    ghost from_gives = { λ _ refused. refused ≡ WantOfMemory };
+
+    fn from(_error: AllocError) -> ReadRefused {
+        ReadRefused::WantOfMemory
+    }
+}
+
+impl<T: Drop> From<AllocFailed<T>> for ReadRefused {
+    ghost use Rattle.std.specs.Prelude.{◌≡◌};
+    ghost use Rattle.st_plain.specs.declared.respelling.ReadRefused.TheVariants.{WantOfMemory};
+
+    ghost from_gives = { λ _ refused. refused ≡ WantOfMemory };
+
+    fn from(_error: AllocFailed<T>) -> ReadRefused {
+        ReadRefused::WantOfMemory
+    }
+}
 
 // How deep lists and objects may nest in the input, as in `serde_json`.
 pub(crate) const MAX_DEPTH: usize = 127;

@@ -1,4 +1,2 @@
-mod LongLemmas
-mod ObjectTexts
-mod OpenedLemmas
+mod ResultLemmas
 mod SpellingLemmas

@@ -1,18 +1,39 @@
-ghost use Rattle.std.specs.Prelude.{◌≡◌, ◌++◌, ◌∷◌, [], OnOk, false, is_some, map, true};
-ghost use Rattle.st_plain.specs.Canonical.{canonical, canonical_items};
-ghost use Rattle.st_plain.specs.Objects.{some_list};
-ghost use Rattle.st_plain.specs.Entries.{items_of};
+ghost use Rattle.std.specs.Prelude.{◌≡◌, ◌++◌, OnOk, codes, ◌∷◌, [], false, is_some, map, true};
+ghost use Rattle.st_plain.specs.Plain.{quoted, canonical, canonical_items};
+ghost use Rattle.st_plain.specs.Objects.{text_there, some_list, items_of};
 ghost use Rattle.st_canon.specs.View.{plain};
-ghost use Rattle.st_plain.specs.Listed.{text_there};
 ghost use Rattle.st_doc.specs.Alike.{is_among};
-ghost use Rattle.st_doc.specs.Entries.{texts_of};
-ghost use Rattle.st_resolve.specs.Keys.{controller_of, has_purpose, method_of, references_for};
-ghost use Rattle.st_resolve.specs.Texts.{method_text, references_text, value_text};
+ghost use Rattle.st_doc.specs.Document.{id_of, texts_of};
+ghost use Rattle.st_resolve.specs.Result.{reference_to, controller_of, has_purpose, method_of, references_for};
+ghost use Rattle.st_resolve.specs.inside.Texts.{method_text, references_text, value_text};
 
-use crate::entries::append_reference;
 use st_base::{Bytes, WantOfMemory};
-use st_canon::{Json, append, append_comma, append_text, append_there, entries_in};
+use st_canon::{Json, append, append_comma, append_escaped, append_text, append_there, entries_in};
 use std::alloc::Global;
+
+/// Appends the reference to a key or a service: `#` and its id, between quotes.
+#[tactic(auto, unfolding(st_plain::specs::Plain::escape))]
+pub(crate) fn append_reference(
+    alloc: Global,
+    out: &mut Bytes,
+    entry: &Json,
+) -> Result<(), WantOfMemory>
+    ensures { OnOk result (out.new ≡ out.old ++ quoted (reference_to (plain entry.now))) }
+{
+    out.push_all(alloc, b"\"#")?;
+    append_escaped(alloc, out, id_of(entry).as_bytes())?;
+    out.push_all(alloc, b"\"")
+}
+
+// The id of a key or a service, or the empty text if it has none.
+fn id_of(entry: &Json) -> &str
+    ensures { result.now ≡ id_of (plain entry.now) }
+{
+    match entry.member("id") {
+        Some(Json::Text(id)) => id.as_str(),
+        _ => "",
+    }
+}
 
 /// Appends the list of the keys as verification methods after this prefix, or nothing if there is
 /// none.
@@ -24,7 +45,8 @@ pub(crate) fn append_methods(
     did: &str,
     keys: &[Json],
 ) -> Result<(), WantOfMemory>
-    ensures { OnOk result (out.new ≡ out.old ++ text_there front.now (some_list (map (method_of did.now) (map plain keys.now))) []) }
+    ensures { OnOk result (out.new ≡ out.old ++ text_there front.now
+        (some_list (map (method_of did.now) (map plain keys.now))) []) }
 {
     if keys.is_empty() {
         return Ok(());
@@ -41,7 +63,8 @@ fn append_each_method(
     did: &str,
     keys: &[Json],
 ) -> Result<(), WantOfMemory>
-    ensures { OnOk result (out.new ≡ out.old ++ canonical_items false (items_of (map (method_of did.now) (map plain keys.now)))) }
+    ensures { OnOk result (out.new ≡ out.old ++ canonical_items false
+        (items_of (map (method_of did.now) (map plain keys.now)))) }
 {
     let mut comma = false;
     for key in keys {
@@ -59,7 +82,7 @@ fn append_method(alloc: Global, out: &mut Bytes, did: &str, key: &Json) -> Resul
     Ok(())
 }
 
-#[tactic(auto, unfolding(crate::specs::Texts::method_text))]
+#[tactic(auto, unfolding(crate::specs::inside::Texts::method_text))]
 fn append_method_parts(
     alloc: Global,
     out: &mut Bytes,
@@ -81,7 +104,7 @@ fn append_method_parts(
 }
 
 // The controller of the key: the one that it names, or else the identifier.
-#[tactic(auto, unfolding(crate::specs::Texts::value_text))]
+#[tactic(auto, unfolding(crate::specs::inside::Texts::value_text))]
 fn append_controller(
     alloc: Global,
     out: &mut Bytes,
@@ -98,7 +121,7 @@ fn append_controller(
 
 /// Appends the list of references to the keys that serve this purpose between these texts, or
 /// nothing if there is none.
-#[tactic(auto, using(crate::proofs::ObjectTexts::none_there))]
+#[tactic(auto, using(crate::proofs::ResultLemmas::none_there))]
 pub(crate) fn append_references(
     alloc: Global,
     out: &mut Bytes,
@@ -151,7 +174,8 @@ fn append_list(
     keys: &[Json],
     back: &[u8],
 ) -> Result<(), WantOfMemory>
-    ensures { OnOk result (out.new ≡ out.old ++ (front.now ++ (91 ∷ (canonical_items false (items_of (references_for purpose.now (map plain keys.now))) ++ 93 ∷ back.now)))) }
+    ensures { OnOk result (out.new ≡ out.old ++ (front.now ++ (91 ∷ (canonical_items false
+        (items_of (references_for purpose.now (map plain keys.now))) ++ 93 ∷ back.now)))) }
 {
     out.push_all(alloc, front)?;
     out.push_all(alloc, b"[")?;
@@ -166,7 +190,8 @@ fn append_each_reference(
     purpose: &str,
     keys: &[Json],
 ) -> Result<(), WantOfMemory>
-    ensures { OnOk result (out.new ≡ out.old ++ canonical_items false (items_of (references_for purpose.now (map plain keys.now)))) }
+    ensures { OnOk result (out.new ≡ out.old ++ canonical_items false
+        (items_of (references_for purpose.now (map plain keys.now)))) }
 {
     let mut comma = false;
     for key in keys {

@@ -1,9 +1,4 @@
 -- Private: lemmas that this crate's proofs cite.
-mod BareLemmas
-mod BracketLemmas
+mod TextLemmas
 mod ContentLemmas
 mod EntryLemmas
-mod FrontLemmas
-mod KindLemmas
-mod MemberLemmas
-mod ReadLemmas

@@ -1,3 +1,3 @@
-pub mod ObjectsOfLists
 pub mod Standing
 pub mod Texts
+pub mod inside

@@ -1,14 +1,23 @@
--- The value that a canonical text represents, and the entries or members that remain for a cursor over it.
-use Rattle.std.specs.Prelude.{◌≡◌, ℕ, ◌≤◌, ◌<◌, List, ◌∷◌, length, Some, unwrap_or}
-use Rattle.std.specs.Str.{IsUtf8}
-use Rattle.st_plain.specs.Canonical.{canonical, quoted}
-use Rattle.st_plain.specs.Depth.{nests}
-use Rattle.st_plain.specs.Entries.{members_in}
-use Rattle.st_plain.specs.Plain.{Plain, Members, no_members, member}
-use Rattle.st_plain.specs.Proper.{IsProper}
+-- Objects whose members are lists. `None` is a missing value.
+use Rattle.std.specs.List.{list_all}
+use Rattle.std.specs.Prelude.{ℕ, Bool, true, ◌&&◌, List, Option, Some, None, ◌≡◌, ◌≤◌, ◌∷◌, unwrap_or}
+use Rattle.st_plain.specs.Plain.{canonical, Plain, Members, no_members, IsProper}
+use Rattle.st_plain.specs.Measures.{nests}
+use Rattle.st_plain.specs.Objects.{members_in}
 use Rattle.st_plain.specs.ReadAgain.{value_read}
-use Rattle.st_plain.specs.Reading.{json_of}
-use Rattle.st_plain.specs.Shapes.{entries_in}
+use Rattle.st_plain.specs.Shapes.{json_of, is_list_if_there, is_object_of, member_in, entries_in}
+
+-- an object whose members all have one of these names and are lists
+abbrev pub is_object_of_lists : List (List ℕ) → Option Plain → Bool
+is_object_of_lists names there =
+    is_object_of names there && list_all (λ name. is_list_if_there (member_in name there)) names
+
+-- the same, or no value
+abbrev pub is_object_of_lists_if_there : List (List ℕ) → Option Plain → Bool
+is_object_of_lists_if_there names None = true
+is_object_of_lists_if_there names (Some value) = is_object_of_lists names (Some value)
+
+-- ---- The value that a canonical text represents, and the entries or members that remain for a cursor over it.
 
 -- the value of the text
 unfoldable pub value_of : List ℕ → Plain
@@ -31,20 +40,3 @@ entries_left left = entries_in (Some (value_of (91 ∷ left)))
 -- the members of the object that these bytes are with a brace in front
 unfoldable pub members_left : List ℕ → Members
 members_left left = unwrap_or (members_in (value_of (123 ∷ left))) no_members
-
--- the text of the first remaining entry, and the rest after it
-pub record IsNextEntry (left entry rest : List ℕ) : Type 0 where
-  pub first : IsText entry
-  pub others : IsText (91 ∷ rest)
-  pub listed : entries_left left ≡ value_of entry ∷ entries_left rest
-  pub shorter : length rest < length left
-
--- the texts of the name and of the value of the first remaining member, and the rest after it
-pub record IsNextMember (left name value rest : List ℕ) : Type 0 where
-  pub word : List ℕ
-  pub utf8 : IsUtf8 word
-  pub named : name ≡ quoted word
-  pub first : IsText value
-  pub others : IsText (123 ∷ rest)
-  pub listed : members_left left ≡ member word (value_of value) (members_left rest)
-  pub shorter : length rest < length left

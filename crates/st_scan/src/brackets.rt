@@ -1,8 +1,8 @@
 ghost use Rattle.std.specs.Prelude.{◌≡◌, ◌+◌, ◌≤◌, drop, length};
 ghost use Rattle.std.specs.List.{count_by};
-ghost use Rattle.st_plain.specs.Canonical.{canonical};
-ghost use Rattle.st_plain.specs.Depth.{depth_of, opening_count};
-ghost use Rattle.st_plain.specs.Walk.{opens};
+ghost use Rattle.st_plain.specs.Plain.{canonical};
+ghost use Rattle.st_plain.specs.Measures.{depth_of, opening_count};
+ghost use Rattle.st_plain.specs.ReadAgain.{opens};
 ghost use Rattle.st_scan.specs.Standing.{IsText, value_of};
 
 use std::simd::prelude::*;

@@ -2,23 +2,14 @@
 //! building a tree. A reader of a file or of a request needs no memory but the text.
 #![tactic(auto)]
 
-mod bare;
 mod brackets;
-mod content;
-mod cursor;
 mod entries;
-mod items;
-mod kind;
 mod members;
-mod members_left;
-mod object;
 mod root;
 mod scanned;
-mod spelled;
-mod there;
+mod texts;
 
 pub use entries::{Entries, entries_in, only_of};
-pub use members_left::Members;
+pub use members::Members;
 pub use root::CanonicalText;
-pub use scanned::Scanned;
-pub use there::is_object_of_lists_if_there;
+pub use scanned::{Scanned, is_object_of_lists_if_there};

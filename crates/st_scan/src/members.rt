@@ -1,13 +1,15 @@
-ghost use Rattle.std.specs.Prelude.{◌≡◌, ◌∷◌, ℕ, List, IfNone, IfSome, None, Some, map};
 ghost use Rattle.std.specs.List.{list_any};
+ghost use Rattle.std.specs.Prelude.{◌≡◌, ◌∷◌, ℕ, List, IfNone, IfSome, None, Some, map, ◌≢◌, ◌↔◌, IsTrue};
 ghost use Rattle.std.specs.Str.{IsUtf8};
-ghost use Rattle.st_plain.specs.Canonical.{quoted};
-ghost use Rattle.st_plain.specs.Find.{has_only, member_at};
+ghost use Rattle.st_plain.specs.Plain.{quoted, Plain, Members, no_members, member};
+ghost use Rattle.st_plain.specs.Objects.{has_only, member_at};
 ghost use Rattle.st_plain.specs.Names.{is_name};
 ghost use Rattle.st_scan.specs.Standing.{IsText, members_left, value_of};
 
-use crate::cursor::next_member;
-use st_plain::is_named;
+use crate::entries::next_member;
+use crate::scanned::Scanned;
+use st_plain::{is_named, starts};
+use std::marker::Model;
 
 // The value of the member of this name, if it is among the remaining ones.
 pub(crate) fn find<'a>(left: &'a [u8], name: &str) -> Option<&'a [u8]>
@@ -50,4 +52,53 @@ fn is_among(key: &[u8], names: &[&str]) -> bool
         }
     }
     false
+}
+
+/// A cursor over the members of an object in its canonical text, in the order of their names (RFC
+/// 8785, section 3.2.3). Contracts see the remaining members.
+#[derive(Drop)]
+pub struct Members<'a> {
+    // The text after the bracket of the object or after a comma: with a bracket in front it is the
+    // canonical text of the object of the remaining members.
+    pub(crate) left: &'a [u8],
+}
+
+impl<'a> Model for Members<'a> {
+    ghost use Rattle.std.specs.Prelude.{◌∷◌};
+    ghost use Rattle.st_plain.specs.Plain.{Members, coded_members};
+    ghost use Rattle.st_scan.specs.Standing.{IsText, members_left};
+
+    ghost Value = { Members };
+
+    ghost coded = { coded_members };
+
+    ghost view = { λ members. members_left members.left.now };
+
+    ghost invariant = { λ members. IsText (123 ∷ members.left.now) };
+}
+
+impl<'a> Members<'a> {
+    /// The value of the next member, if that has this name; the cursor then moves past it. If it
+    /// has another name, or no member remains, nothing changes.
+    pub fn next_named(&mut self, name: &str) -> Option<Scanned<'a>>
+        ensures some { IfSome result (λ value. self.old ≡ member name.now value self.new) }
+        ensures none { IfNone result ((value : Plain) → (others : Members) → self.old ≢ member name.now value others) }
+        ensures stay { IfNone result (self.new ≡ self.old) }
+    {
+        let Some((key, text, others)) = next_member(self.left) else {
+            return None;
+        };
+        if !is_named(key, name) {
+            return None;
+        }
+        self.left = others;
+        Some(Scanned { text })
+    }
+
+    /// Whether no member remains.
+    pub fn is_empty(&self) -> bool
+        ensures { IsTrue result ↔ (self.now ≡ no_members) }
+    {
+        starts(self.left, b'}')
+    }
 }

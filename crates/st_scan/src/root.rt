@@ -1,15 +1,14 @@
+ghost use Rattle.std.specs.Cow.{cow_slice_items};
 ghost use Rattle.std.specs.Prelude.{◌≡◌, IfOk};
 ghost use Rattle.st_base.specs.Answers.{GivesAs};
-ghost use Rattle.st_plain.specs.Canonical.{canonical};
-ghost use Rattle.st_plain.specs.Proper.{IsProper};
+ghost use Rattle.st_plain.specs.Plain.{canonical, IsProper};
 ghost use Rattle.st_plain.specs.ReadAgain.{IsReadAgain, value_read};
-ghost use Rattle.st_plain.specs.Reading.{json_of, refusal_of};
-ghost use Rattle.st_plain.specs.Shapes.{json_in};
+ghost use Rattle.st_plain.specs.Shapes.{json_of, refusal_of, json_in};
+ghost use Rattle.st_scan.specs.Standing.{IsText, value_of};
 
 use crate::scanned::Scanned;
-use crate::spelled::text_of;
 use st_base::{Bytes, WantOfMemory};
-use st_plain::ReadRefused;
+use st_plain::{ReadRefused, canonical_text};
 use std::alloc::Global;
 use std::borrow::CowSlice;
 use std::marker::Model;
@@ -23,8 +22,7 @@ pub struct CanonicalText<'a> {
 
 impl<'a> Model for CanonicalText<'a> {
     ghost use Rattle.std.specs.Cow.{cow_slice_items};
-    ghost use Rattle.st_plain.specs.Plain.{Plain};
-    ghost use Rattle.st_plain.specs.PlainCodes.{coded_plain};
+    ghost use Rattle.st_plain.specs.Plain.{Plain, coded_plain};
     ghost use Rattle.st_scan.specs.Standing.{IsText, value_of};
 
     ghost Value = { Plain };
@@ -65,7 +63,7 @@ impl<'a> CanonicalText<'a> {
     }
 
     /// The value with this canonical text.
-    #[tactic(auto, unfolding(crate::specs::Standing::value_of), using(crate::proofs::ReadLemmas::text_from_read))]
+    #[tactic(auto, unfolding(crate::specs::Standing::value_of), using(crate::proofs::TextLemmas::text_from_read))]
     pub fn again(text: Bytes) -> CanonicalText<'a>
         requires { IsReadAgain text }
         ensures { result ≡ value_read (json_of text) }
@@ -89,5 +87,17 @@ impl<'a> CanonicalText<'a> {
         Scanned {
             text: self.text.as_slice(),
         }
+    }
+}
+
+// The canonical text of JSON of any spelling.
+#[tactic(auto, unfolding(crate::specs::Standing::value_of), using(crate::proofs::TextLemmas::text_from_read))]
+pub(crate) fn text_of(alloc: Global, bytes: &[u8]) -> Result<CowSlice<'_, u8>, ReadRefused>
+    ensures value { GivesAs (λ text. value_of (cow_slice_items text)) refusal_of (json_of bytes.now) result }
+    ensures text { IfOk result (λ text. IsText (cow_slice_items text)) }
+{
+    match canonical_text(alloc, bytes) {
+        Ok(text) => Ok(text),
+        Err(refused) => Err(refused),
     }
 }

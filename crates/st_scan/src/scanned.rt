@@ -1,21 +1,93 @@
-ghost use Rattle.std.specs.Prelude.{◌≡◌, ◌≢◌, ◌+◌, ◌≤◌, ℕ, List, IfOk, IfSome, IfNone, Some, is_some, map};
 ghost use Rattle.std.specs.List.{flat_map, list_all};
-ghost use Rattle.st_plain.specs.Canonical.{canonical, escape};
-ghost use Rattle.st_plain.specs.Depth.{depth_of, opening_count};
-ghost use Rattle.st_plain.specs.Entries.{items_in, members_in, text_in};
-ghost use Rattle.st_plain.specs.Measure.{size_of};
-ghost use Rattle.st_plain.specs.Plain.{text};
+ghost use Rattle.std.specs.Prelude.{◌≡◌, is_some, ◌∷◌, IfSome, Some, map, option_map, ◌≢◌, ◌+◌, ◌≤◌, ℕ, List, IfOk, IfNone};
+ghost use Rattle.st_plain.specs.Plain.{canonical, escape, text};
+ghost use Rattle.st_plain.specs.Measures.{depth_of, opening_count, size_of};
+ghost use Rattle.st_plain.specs.Objects.{items_in, members_in, text_in};
 ghost use Rattle.st_plain.specs.ReadAgain.{IsReadAgain, value_read};
-ghost use Rattle.st_plain.specs.Reading.{json_of};
-ghost use Rattle.st_plain.specs.Shapes.{both_members, is_list_if_there, is_object_of, member_in, only_member};
-ghost use Rattle.st_scan.specs.ObjectsOfLists.{is_object_of_lists};
+ghost use Rattle.st_plain.specs.Shapes.{json_of, is_object_of, member_in, both_members, is_list_if_there, only_member};
+ghost use Rattle.st_scan.specs.Standing.{is_object_of_lists_if_there, is_object_of_lists, IsText, value_of, members_left};
 ghost use Rattle.st_scan.specs.Texts.{is_text_of};
 
-use crate::members_left::Members;
-use crate::{brackets, content, kind, object};
+use crate::members::{Members, find, have_only};
+use crate::{brackets, texts};
 use st_base::{Bytes, KeptText, Shared, Text, WantOfMemory};
+use st_plain::{opened, starts};
 use std::alloc::Global;
 use std::marker::Model;
+
+// The first byte of a canonical text determines its kind.
+
+#[tactic(auto, using(crate::proofs::ContentLemmas::text_kind))]
+pub(crate) fn is_text(text: &[u8]) -> bool
+    requires { IsText text.now }
+    ensures { result ≡ is_some (text_in (value_of text.now)) }
+{
+    starts(text, b'"')
+}
+
+#[tactic(auto, using(crate::proofs::ContentLemmas::list_kind))]
+pub(crate) fn is_list(text: &[u8]) -> bool
+    requires { IsText text.now }
+    ensures { result ≡ is_some (items_in (value_of text.now)) }
+{
+    starts(text, b'[')
+}
+
+#[tactic(auto, using(crate::proofs::ContentLemmas::object_kind))]
+pub(crate) fn is_object(text: &[u8]) -> bool
+    requires { IsText text.now }
+    ensures { result ≡ is_some (members_in (value_of text.now)) }
+{
+    starts(text, b'{')
+}
+
+// The text after the bracket of an object, if the text is one.
+pub(crate) fn members(text: &[u8]) -> Option<&[u8]>
+    requires { IsText text.now }
+    ensures value { option_map (λ left. members_left left.now) result ≡ members_in (value_of text.now) }
+    ensures text { IfSome result (λ left. IsText (123 ∷ left.now)) }
+{
+    match opened(text, b'{') {
+        Some(left) => Some(left),
+        None => None,
+    }
+}
+
+// The text of the value of the member of this name, if the text is an object that has one.
+pub(crate) fn member<'a>(text: &'a [u8], name: &str) -> Option<&'a [u8]>
+    requires { IsText text.now }
+    ensures value { option_map (λ found. value_of found.now) result ≡ member_in name.now (Some (value_of text.now)) }
+    ensures text { IfSome result (λ found. IsText found.now) }
+{
+    let Some(left) = opened(text, b'{') else {
+        return None;
+    };
+    match find(left, name) {
+        Some(value) => Some(value),
+        None => None,
+    }
+}
+
+pub(crate) fn is_object_of(text: &[u8], names: &[&str]) -> bool
+    requires { IsText text.now }
+    ensures { result ≡ is_object_of (map (λ n. n.now) names.now) (Some (value_of text.now)) }
+{
+    match opened(text, b'{') {
+        Some(left) => have_only(left, names),
+        None => false,
+    }
+}
+
+/// Whether the value is missing, or an object whose members all have one of these names and are
+/// lists.
+pub fn is_object_of_lists_if_there(there: Option<Scanned<'_>>, names: &[&str]) -> bool
+    ensures { result ≡ is_object_of_lists_if_there (map (λ n. n.now) names.now) there.entry }
+{
+    match there {
+        None => true,
+        Some(value) => value.is_object_of_lists(names),
+    }
+}
 
 /// A JSON value in its canonical text (RFC 8785). Contracts see the plain value.
 #[derive(Drop)]
@@ -24,8 +96,7 @@ pub struct Scanned<'a> {
 }
 
 impl<'a> Model for Scanned<'a> {
-    ghost use Rattle.st_plain.specs.Plain.{Plain};
-    ghost use Rattle.st_plain.specs.PlainCodes.{coded_plain};
+    ghost use Rattle.st_plain.specs.Plain.{Plain, coded_plain};
     ghost use Rattle.st_scan.specs.Standing.{IsText, value_of};
 
     ghost Value = { Plain };
@@ -39,7 +110,7 @@ impl<'a> Model for Scanned<'a> {
 
 impl<'a> Scanned<'a> {
     /// The value with this canonical text.
-    #[tactic(auto, unfolding(crate::specs::Standing::value_of), using(crate::proofs::ReadLemmas::text_from_read))]
+    #[tactic(auto, unfolding(crate::specs::Standing::value_of), using(crate::proofs::TextLemmas::text_from_read))]
     pub fn again(text: &'a [u8]) -> Scanned<'a>
         requires { IsReadAgain text.now }
         ensures { result ≡ value_read (json_of text.now) }
@@ -51,28 +122,28 @@ impl<'a> Scanned<'a> {
     pub fn is_text(&self) -> bool
         ensures { result ≡ is_some (text_in self.now) }
     {
-        kind::is_text(self.text)
+        is_text(self.text)
     }
 
     /// Whether it is a list.
     pub fn is_list(&self) -> bool
         ensures { result ≡ is_some (items_in self.now) }
     {
-        kind::is_list(self.text)
+        is_list(self.text)
     }
 
     /// Whether it is an object.
     pub fn is_object(&self) -> bool
         ensures { result ≡ is_some (members_in self.now) }
     {
-        kind::is_object(self.text)
+        is_object(self.text)
     }
 
     /// The text, if it is one.
     pub fn text(&self, alloc: Global) -> Result<Option<Text>, WantOfMemory>
         ensures { IfOk result (λ found. found ≡ text_in self.now) }
     {
-        Ok(content::text_of(alloc, self.text)?)
+        Ok(texts::text_of(alloc, self.text)?)
     }
 
     /// The text, if it is one. If JSON escapes none of its bytes and the file has them at this
@@ -85,7 +156,7 @@ impl<'a> Scanned<'a> {
     ) -> Result<Option<KeptText>, WantOfMemory>
         ensures { IfOk result (λ found. found ≡ text_in self.now) }
     {
-        Ok(content::text_within(alloc, self.text, file, at)?)
+        Ok(texts::text_within(alloc, self.text, file, at)?)
     }
 
     /// The bytes of the text, if it is one and JSON escapes none of them.
@@ -93,7 +164,7 @@ impl<'a> Scanned<'a> {
         ensures some { IfSome result (λ bytes. self.now ≡ text bytes.now) }
         ensures none { IfNone result ((bytes : List ℕ) → self.now ≡ text bytes → flat_map escape bytes ≢ bytes) }
     {
-        match content::bare_text(self.text) {
+        match texts::bare_text(self.text) {
             Some(bytes) => Some(bytes),
             None => None,
         }
@@ -103,14 +174,14 @@ impl<'a> Scanned<'a> {
     pub fn is_text_of(&self, word: &str) -> bool
         ensures { result ≡ is_text_of word.now self.now }
     {
-        content::is_text_of(self.text, word)
+        texts::is_text_of(self.text, word)
     }
 
     /// Its members, if it is an object.
     pub fn members(&self) -> Option<Members<'a>>
         ensures { result ≡ members_in self.now }
     {
-        match object::members(self.text) {
+        match members(self.text) {
             Some(left) => Some(Members { left }),
             None => None,
         }
@@ -120,7 +191,7 @@ impl<'a> Scanned<'a> {
     pub fn member(&self, name: &str) -> Option<Scanned<'a>>
         ensures { result ≡ member_in name.now (Some self.now) }
     {
-        match object::member(self.text, name) {
+        match member(self.text, name) {
             Some(text) => Some(Scanned { text }),
             None => None,
         }
@@ -152,7 +223,7 @@ impl<'a> Scanned<'a> {
     pub fn is_object_of(&self, names: &[&str]) -> bool
         ensures { result ≡ is_object_of (map (λ n. n.now) names.now) (Some self.now) }
     {
-        object::is_object_of(self.text, names)
+        is_object_of(self.text, names)
     }
 
     /// Whether it is an object whose members all have one of these names and are lists.
@@ -166,7 +237,7 @@ impl<'a> Scanned<'a> {
     pub fn size(&self) -> usize
         ensures { result ≡ size_of self.now }
     {
-        content::size(self.text)
+        texts::size(self.text)
     }
 
     /// An upper bound of its depth, by the brackets in its text; a scalar, an empty list and an
@@ -183,7 +254,7 @@ impl<'a> Scanned<'a> {
         ensures again { IsReadAgain result.now }
         ensures value { value_read (json_of result.now) ≡ self.now }
     {
-        content::as_slice(self.text)
+        texts::as_slice(self.text)
     }
 }
 

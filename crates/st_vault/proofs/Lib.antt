@@ -1,12 +1,5 @@
-mod HeaderLemmas
-mod ImageLemmas
-mod MapLemmas
+pub mod ImageLemmas
 mod SpentLemmas
-mod OpeningLemmas
-mod ReserveLemmas
-mod FormatLemmas
-mod TornLemmas
-mod BlankLemmas
-pub mod VaultLemmas
+pub mod OpeningLemmas
 pub mod RunLemmas
-pub mod ChildLemmas
+mod FormatLemmas

@@ -1,18 +1,19 @@
 -- The result of opening an image, by its kind.
-use Rattle.std.proofs.Common.{◌≡◌, ◌≢◌, ◌∙◌, ℕ, ◌+◌, ◌≤◌, ◌<◌, false, List, length, get_or, drop, take, IfSome, Result, Ok, Err, ap, refl, sym, subst, arith}
+use Rattle.std.proofs.Common.{◌≡◌, ◌≢◌, ◌∙◌, ℕ, ◌+◌, ◌≤◌, ◌<◌, false, List, length, get_or, drop, take, IfSome, Result, Ok, Err, ap, refl, sym, subst, arith, not}
 use Rattle.std.proofs.lemmas.Bool.{false_from_ne_true}
 use Rattle.std.proofs.lemmas.List.{drop-take, get_or-take, take-take}
-use Rattle.st_base.specs.Answers.{◌>>=◌}
-use Rattle.st_lms.specs.Keys.{SecretKey}
-use Rattle.st_vault.proofs.HeaderLemmas.{key_of_header-take}
-use Rattle.st_vault.proofs.ImageLemmas.{IsOpen, IsVault, Parts, formatted-open, kind-blank, kind-damaged, kind-whole, unformatted-short, unformatted-shut, vault-whole, whole-kind}
-use Rattle.st_vault.proofs.SpentLemmas.{spent-whole}
-use Rattle.st_vault.specs.Image.{Kind, is_whole, key_in, key_of_header, kind_of, map_in, next_counter, nonzero_from, one_past, open_gate}
+use Rattle.st_base.specs.Answers.{◌>>=◌, ◌>>◌, holds_or}
+use Rattle.st_io.specs.Past.{Past, KeepsSpent, SpentInAll, Storage}
+use Rattle.st_lms.specs.Tree.{SecretKey}
+use Rattle.st_vault.proofs.ImageLemmas.{key_of_header-take, IsOpen, IsVault, Parts, formatted-open, kind-blank, kind-damaged, kind-whole, unformatted-short, unformatted-shut, vault-whole, whole-kind, blank-unformatted, one_past-above}
+use Rattle.st_vault.proofs.SpentLemmas.{spent-whole, marked}
+use Rattle.st_vault.specs.Formatting.{formatted}
+use Rattle.st_vault.specs.Image.{Kind, is_whole, key_in, key_of_header, kind_of, map_in, next_counter, nonzero_from, one_past, open_gate, IsSpent, spent, VaultValue, count_of, new_vault}
 use Rattle.st_vault.specs.Image.Kind.{Blank, Damaged, Whole}
-use Rattle.st_vault.specs.Opening.{key_by_kind, key_of, opened, refusal_of}
-use Rattle.st_vault.specs.Values.{VaultValue, count_of}
-use Rattle.st_vault.specs.declared.refused.OpenRefused.{OpenRefused}
-use Rattle.st_vault.specs.declared.refused.OpenRefused.TheVariants as refused
+use Rattle.st_vault.specs.Vault.{key_by_kind, key_of, opened, refusal_of, HasSpent, MaySpend}
+use Rattle.st_vault.specs.declared.formatting.FormatRefused.TheVariants.{Formatted}
+use Rattle.st_vault.specs.declared.opening.OpenRefused.{OpenRefused}
+use Rattle.st_vault.specs.declared.opening.OpenRefused.TheVariants as refused
 
 -- ---- the key
 
@@ -134,3 +135,75 @@ pub err-opened : (image : List ℕ) (error : OpenRefused) → IfSome (refusal_of
 err-opened image refused.Blank none = opened-err image refused.Blank none
 err-opened image refused.Damaged none = opened-err image refused.Damaged none
 err-opened image refused.DiskFault none = tt
+
+-- ---- For crates above: spent counters over several calls, which they are, and the kind of an image from the result of
+-- opening it.
+
+-- a counter spent in every image is spent in every image after a run that keeps it
+pub still_spent : (a b : Past) (q : ℕ) → KeepsSpent IsSpent a b → SpentInAll IsSpent a q → SpentInAll IsSpent b q
+still_spent a b q keeps all x image = keeps.stays q all x (b.earlier a.now b.now x keeps.goes.later image)
+
+-- what a call may spend or has spent, of an equal vault
+module _ {own vault : VaultValue} {disk : Storage} (is : own ≡ vault) where
+  pub may_as : MaySpend own disk → MaySpend vault disk
+  may_as = subst (λ (v : VaultValue). MaySpend v disk) is
+
+  pub spent_as : {given : VaultValue} → HasSpent own given disk → HasSpent vault given disk
+  spent_as {given} = subst (λ (v : VaultValue). HasSpent v given disk) is
+
+-- ---- which counters are spent
+
+-- spent counters are below the next counter
+pub spent_below : (image : List ℕ) (q : ℕ) → IsSpent image q → q < next_counter image
+unfolding next_counter
+spent_below image q there = one_past-above (spent image) q there
+
+-- which is that of the vault in the image
+pub next_opened : (image : List ℕ) (vault : VaultValue) → opened image ≡ Ok vault → next_counter image ≡ vault.next
+next_opened image vault is = (opens_as image vault is).next_is
+
+-- an image that does not open has no spent counter
+pub none_spent : (image : List ℕ) (q : ℕ) (refusal : OpenRefused) → opened image ≡ Err refusal → IsSpent image q → ⊥
+none_spent image q refusal none there =
+    let vault : VaultValue = record { key = key_in image; next = next_counter image } in
+    let is : opened image ≡ Ok vault = opened-parts image vault (record { parts = (marked image q there).parts; key_is = refl; next_is = refl }) in
+    cc
+
+-- ---- the kind of an image
+
+-- the result of opening an image of this kind
+abbrev opened_kind : List ℕ → Kind → Result VaultValue OpenRefused
+opened_kind image kind = do
+  key ← key_by_kind kind
+  let vault : VaultValue = record { key = key; next = next_counter image }
+  Ok vault
+
+opened-by : (image : List ℕ) → opened image ≡ opened_kind image (kind_of image)
+unfolding opened key_of
+opened-by image = refl
+
+pub opened-blank : (image : List ℕ) → opened image ≡ Err refused.Blank → kind_of image ≡ Blank
+opened-blank image is = by_kind (kind_of image) refl (sym (opened-by image) ∙ is)
+  where
+    by_kind : (kind : Kind) → kind_of image ≡ kind → opened_kind image kind ≡ Err refused.Blank → kind_of image ≡ Blank
+    by_kind Blank blank same = blank
+    by_kind Damaged damaged same = absurd (cc)
+    by_kind (Whole key map) whole same = absurd (cc)
+
+-- opening an image never gives a fault
+pub never_faulty : (image : List ℕ) → opened image ≡ Err refused.DiskFault → ⊥
+never_faulty image is = by_kind (kind_of image) (sym (opened-by image) ∙ is)
+  where
+    by_kind : (kind : Kind) → opened_kind image kind ≡ Err refused.DiskFault → ⊥
+    by_kind Blank same = absurd (cc)
+    by_kind Damaged same = absurd (cc)
+    by_kind (Whole key map) same = absurd (cc)
+
+pub blank-opened : (image : List ℕ) → kind_of image ≡ Blank → opened image ≡ Err refused.Blank
+unfolding key_of
+blank-opened image blank = opened-err image refused.Blank (ap key_by_kind blank)
+
+-- a disk that opens as blank may be formatted
+pub formatted-blank : (key : SecretKey) (image : List ℕ) → opened image ≡ Err refused.Blank → formatted key image ≡ Ok (new_vault key)
+formatted-blank key image is =
+    ap (λ test. holds_or (not test) Formatted >> Ok (new_vault key)) (blank-unformatted image (opened-blank image is))

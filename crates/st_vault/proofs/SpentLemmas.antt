@@ -2,13 +2,10 @@
 use Rattle.std.proofs.Common.{◌≡◌, ◌≢◌, ◌∙◌, ℕ, ◌+◌, ◌<◌, ◌≤◌, List, length, get_or, take, drop, ap, refl, sym, subst, arith}
 use Rattle.std.proofs.lemmas.List.{get_or-drop, get_or-take, length-drop, length-take, take-take}
 use Rattle.std.specs.List.{Contains}
-use Rattle.st_io.specs.Tears.{Torn}
-use Rattle.st_vault.proofs.HeaderLemmas.{same_key}
-use Rattle.st_vault.proofs.ImageLemmas.{IsVault, Parts, kind-whole, whole-kind}
-use Rattle.st_vault.proofs.MapLemmas.{none_in, nonzero-marked, marked-nonzero}
-use Rattle.st_vault.specs.Image.{IsSpent, Kind, key_in, kind_of, map_in, nonzero_from, spent, spent_by_kind}
+use Rattle.st_io.specs.Histories.{Torn}
+use Rattle.st_vault.proofs.ImageLemmas.{same_key, IsVault, Parts, kind-whole, whole-kind, none_in, nonzero-marked, marked-nonzero}
+use Rattle.st_vault.specs.Image.{IsSpent, Kind, key_in, kind_of, map_in, nonzero_from, spent, spent_by_kind, count_of}
 use Rattle.st_vault.specs.Image.Kind.{Blank, Damaged, Whole}
-use Rattle.st_vault.specs.Values.{count_of}
 
 -- the spent counters of a vault
 pub spent-whole : (image : List ℕ) → Parts image → spent image ≡ nonzero_from 0 (map_in (count_of (key_in image)) image)

@@ -1,14 +1,13 @@
 -- Formatting a disk: the gate is shut, everything after it is written, the gate is opened.
-use Rattle.std.specs.Prelude.{◌≡◌, ◌≢◌, ◌⊎◌, ℕ, ◌+◌, ◌≤◌, not, List, [], ◌∷◌, ◌++◌, length, drop, replicate, slice_index, Option, Some, None, Result, Ok, Err}
+use Rattle.std.specs.Prelude.{◌≡◌, ◌⊎◌, ℕ, ◌+◌, not, List, [], ◌∷◌, ◌++◌, drop, replicate, Option, Some, None, Result, Ok, Err}
 use Rattle.st_base.specs.Answers.{◌>>◌, holds_or}
-use Rattle.st_lms.specs.Keys.{SecretKey, IsSecretKey}
-use Rattle.st_vault.specs.Image.{header_of, kind_of, is_formatted, open_gate, key_in, map_in, spent}
+use Rattle.st_lms.specs.Tree.{SecretKey}
+use Rattle.st_vault.specs.Image.{header_of, kind_of, is_formatted, open_gate, spent, VaultValue, count_of, new_vault}
 use Rattle.st_vault.specs.Image.Kind.{Blank}
-use Rattle.st_vault.specs.Opening.{opened}
-use Rattle.st_vault.specs.Values.{VaultValue, count_of, new_vault}
-use Rattle.st_vault.specs.declared.refused.FormatRefused.{FormatRefused}
-use Rattle.st_vault.specs.declared.refused.FormatRefused.TheVariants.{Formatted, DiskFault}
-use Rattle.st_vault.specs.declared.refused.OpenRefused.TheVariants as open_refused
+use Rattle.st_vault.specs.Vault.{opened}
+use Rattle.st_vault.specs.declared.formatting.FormatRefused.{FormatRefused}
+use Rattle.st_vault.specs.declared.formatting.FormatRefused.TheVariants.{Formatted, DiskFault}
+use Rattle.st_vault.specs.declared.opening.OpenRefused.TheVariants as open_refused
 
 -- a disk may be formatted if it is not yet
 abbrev pub unformatted : List ℕ → Result (Unit {0}) FormatRefused
@@ -54,25 +53,3 @@ IsBlankOrNew key image = (opened image ≡ Err open_refused.Blank) ⊎ (opened i
 -- the possible images after formatting a disk with these contents: the same, or fresh ones if they were blank
 abbrev pub IsOldOrFresh : SecretKey → List ℕ → List ℕ → Type 0
 IsOldOrFresh key old image = (image ≡ old) ⊎ ((kind_of old ≡ Blank) × IsFresh key image)
-
--- ---- between the steps
-
--- the possible images after shutting the gate
-abbrev pub IsOldOrBlank : List ℕ → List ℕ → Type 0
-IsOldOrBlank old image = (image ≡ old) ⊎ ((kind_of old ≡ Blank) × (kind_of image ≡ Blank))
-
--- there is a gate, and it is shut
-pub record IsShut (image : List ℕ) : Type 0 where
-  pub there : 1 ≤ length image
-  pub gate : slice_index image 0 ≢ open_gate
-
--- everything after the gate is that of a new vault
-pub record IsFilled (key : SecretKey) (image : List ℕ) : Type 0 where
-  pub known : IsSecretKey key
-  pub long : 64 + count_of key ≤ length image
-  pub key_is : key_in image ≡ key
-  pub map_is : map_in (count_of key) image ≡ zeros (count_of key)
-
--- opening the gate makes a new vault of the filled image
-abbrev pub OpensTo : List ℕ → List ℕ → Type 0
-OpensTo old image = (key : SecretKey) → IsFilled key old → IsNew key image

@@ -1,11 +1,44 @@
--- The bytes of a disk as a vault's image. The first byte is a gate; a header follows, with the types, the identifier
+-- A vault and a counter as contracts see them.
+use Rattle.std.specs.Prelude.{ℕ, ◌+◌, ◌-◌, ◌^◌, Bool, ◌==◌, ◌&&◌, nat_le, if◌then◌else◌, List, [], ◌∷◌, ◌++◌, length, take, drop, slice_index, max, Contains}
+use Rattle.sha2.specs.Sha256.{sha256}
+use Rattle.st_lms.specs.Signature.{is_one_time_type, is_tree_type}
+use Rattle.st_lms.specs.Tree.{SecretKey}
+use Rattle.st_lms.specs.OneTime.{height}
+use Rattle.st_lms.specs.Strings.{u32str, str_to_u32, u16str}
+
+-- a vault: an LMS secret key, and the next of its counters
+pub record VaultValue : Type 0 where
+  pub key : SecretKey
+  pub next : ℕ
+
+-- a counter: its key and its number
+pub record CounterValue : Type 0 where
+  pub key : SecretKey
+  pub number : ℕ
+
+-- how many counters a key has: one for each leaf of its tree (RFC 8554, section 5)
+abbrev pub count_of : SecretKey → ℕ
+count_of key = 2 ^ height key.tree
+
+-- how many counters of a vault can still be reserved
+abbrev pub left_of : VaultValue → ℕ
+left_of vault = count_of vault.key - vault.next
+
+-- the vault of a key whose first counter is the next
+abbrev pub new_vault : SecretKey → VaultValue
+new_vault key = record { key = key; next = 0 }
+
+-- the vault after its next counter was reserved
+abbrev pub vault_after : VaultValue → VaultValue
+vault_after vault = record { key = vault.key; next = vault.next + 1 }
+
+-- and that counter
+abbrev pub counter_of : VaultValue → CounterValue
+counter_of vault = record { key = vault.key; number = vault.next }
+
+-- ---- The bytes of a disk as a vault's image. The first byte is a gate; a header follows, with the types, the identifier
 -- I and the seed of an LMS key (RFC 8554, appendix A), and zeros up to byte 63, which no one reads; a map from byte
 -- 64 on has a byte for each counter of the key. Bytes after the map are ignored.
-use Rattle.std.specs.Prelude.{ℕ, ◌+◌, Bool, ◌==◌, ◌&&◌, nat_le, if◌then◌else◌, List, [], ◌∷◌, ◌++◌, length, take, drop, slice_index, max, Contains}
-use Rattle.st_lms.specs.Decided.{is_one_time_type, is_tree_type}
-use Rattle.st_lms.specs.Keys.{SecretKey}
-use Rattle.st_lms.specs.Strings.{u32str, str_to_u32}
-use Rattle.st_vault.specs.Values.{count_of}
 
 -- ---- the gate, the header and the map
 
@@ -91,3 +124,27 @@ one_past (n ∷ ns) = max (n + 1) (one_past ns)
 -- the next counter: one more than the greatest spent one, or 0
 unfoldable pub next_counter : List ℕ → ℕ
 next_counter image = one_past (spent image)
+
+-- ---- Child keys of a key: LMS secret keys of their own, derived from it by hashes of the same form as its one-time keys
+-- (RFC 8554, appendix A). The crates above choose their use.
+
+-- separates the hash for a child's identifier
+abbrev pub d_child_id : ℕ
+d_child_id = 0xfff0
+
+-- separates the hash for a child's seed
+abbrev pub d_child_seed : ℕ
+d_child_seed = 0xfff1
+
+-- the hash of a key for its child n, for the purpose d
+unfoldable pub child_hash : SecretKey → ℕ → ℕ → List ℕ
+child_hash key n d = sha256 (key.id ++ u32str n ++ u16str d ++ key.seed)
+
+-- child n of a key: of the same LM-OTS type, and with a tree of height 5, which is LMS type 5
+unfoldable pub child_of : SecretKey → ℕ → SecretKey
+child_of key n = record {
+  ots = key.ots;
+  tree = 5;
+  id = take 16 (child_hash key n d_child_id);
+  seed = child_hash key n d_child_seed;
+}

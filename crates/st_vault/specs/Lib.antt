@@ -1,8 +1,4 @@
-pub mod Values
 pub mod Image
-pub mod Opening
+pub mod Vault
 pub mod Formatting
-pub mod Reserving
-pub mod Start
-pub mod Children
-pub mod Runs
+pub mod inside

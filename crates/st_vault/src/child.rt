@@ -1,9 +1,9 @@
 ghost use Rattle.std.specs.Prelude.{◌≡◌};
-ghost use Rattle.st_lms.specs.Keys.{IsSecretKey};
+ghost use Rattle.st_lms.specs.Tree.{IsSecretKey};
 ghost use Rattle.st_lms.specs.Strings.{u16str};
-ghost use Rattle.st_vault.specs.Children.{child_hash, child_of};
+ghost use Rattle.st_vault.specs.Image.{child_hash, child_of};
 
-use crate::header::{copied, u32str};
+use crate::layout::{copied, u32str};
 use sha2::{Digest, Sha256};
 use st_lms::Secret;
 

@@ -1,6 +1,6 @@
 ghost use Rattle.std.specs.Prelude.{◌≡◌, ◌<◌, IfOk};
 ghost use Rattle.st_lms.specs.Signature.{IsSignature, public_of, signature_of};
-ghost use Rattle.st_vault.specs.Values.{count_of};
+ghost use Rattle.st_vault.specs.Image.{count_of};
 
 use st_base::{Bytes, WantOfMemory};
 use st_lms::{Public, Secret, Signer, sign_at};
@@ -17,7 +17,7 @@ pub struct Counter {
 
 impl Model for Counter {
     ghost use Rattle.std.specs.Prelude.{◌<◌};
-    ghost use Rattle.st_vault.specs.Values.{CounterValue, count_of};
+    ghost use Rattle.st_vault.specs.Image.{CounterValue, count_of};
 
     ghost Value = { CounterValue };
 
@@ -76,7 +76,7 @@ pub struct VaultSigner {
 }
 
 impl Model for VaultSigner {
-    ghost use Rattle.st_lms.specs.Keys.{SecretKey};
+    ghost use Rattle.st_lms.specs.Tree.{SecretKey};
 
     ghost Value = { SecretKey };
 

@@ -1,23 +1,20 @@
 ghost use Rattle.std.specs.Prelude.{◌≡◌, ◌+◌, ◌≤◌, ◌++◌, ◌∷◌, List, ℕ, length, take, drop, IsSome, IfOk, OnOk, IsErrOf, Err};
 ghost use Rattle.st_base.specs.Answers.{Gives};
-ghost use Rattle.st_io.specs.Causes.{FaultHasCause, HasCause};
-ghost use Rattle.st_io.specs.Past.{AddsNoImage, Leaves, LeftSinceSync, Only, StaysAsItWas};
-ghost use Rattle.st_io.specs.Spent.{KeepsSpent};
-ghost use Rattle.st_io.specs.Tears.{IfTold, Turns};
-ghost use Rattle.st_lms.specs.Keys.{SecretKey, IsSecretKey};
-ghost use Rattle.st_vault.specs.Formatting.{formatted, formatted_image, behind_gate, unformatted, refusal_of, zeros, IsBlankOrNew, IsFilled, IsFresh, IsNew, IsOldOrBlank, IsOldOrFresh, IsShut, OpensTo};
-ghost use Rattle.st_vault.specs.Image.{IsSpent, header_of, kind_of, open_gate};
+ghost use Rattle.st_io.specs.Past.{FaultHasCause, HasCause, AddsNoImage, Leaves, LeftSinceSync, Only, StaysAsItWas, KeepsSpent};
+ghost use Rattle.st_io.specs.Histories.{IfTold, Turns};
+ghost use Rattle.st_lms.specs.Tree.{SecretKey, IsSecretKey};
+ghost use Rattle.st_vault.specs.Formatting.{formatted, formatted_image, behind_gate, unformatted, refusal_of, zeros, IsBlankOrNew, IsFresh, IsNew, IsOldOrFresh};
+ghost use Rattle.st_vault.specs.Image.{IsSpent, header_of, kind_of, open_gate, count_of, new_vault};
 ghost use Rattle.st_vault.specs.Image.Kind.{Blank};
-ghost use Rattle.st_vault.specs.Opening.{AllOpenAs, ReadsAs};
-ghost use Rattle.st_vault.specs.Start.{Begins};
-ghost use Rattle.st_vault.specs.Values.{count_of, new_vault};
+ghost use Rattle.st_vault.specs.Vault.{AllOpenAs, ReadsAs};
+ghost use Rattle.st_vault.specs.inside.Formatting.{IsFilled, IsOldOrBlank, IsShut, OpensTo, Begins};
 
-use crate::header::write_header;
-use crate::layout::{HEADER_AT, MAP_AT, MOST_COUNTERS, OPEN_GATE, SHUT_GATE};
-use crate::refused::{FormatRefused, OpenRefused};
+use crate::layout::{HEADER_AT, MAP_AT, MOST_COUNTERS, OPEN_GATE, SHUT_GATE, write_header};
+use crate::opening::OpenRefused;
 use crate::vault::Vault;
 use st_io::{Disk, Failed, write_synced};
 use st_lms::Secret;
+use thiserror::Error;
 
 /// Makes a new vault of a key on a blank disk, and returns it. It allocates nothing, and computes
 /// no key.
@@ -206,4 +203,26 @@ fn open_gate<D: Disk>(disk: &mut D) -> Result<(), Failed>
     ensures cause { HasCause (D.faults disk.old) (D.faults disk.new) result }
 {
     write_synced(disk, 0, &[OPEN_GATE])
+}
+
+/// Why a disk is not formatted.
+#[derive(Clone, Copy, Debug, PartialEq, Eq, Error)]
+pub enum FormatRefused {
+    /// It has at least 64 bytes, and the gate is open.
+    #[error("the disk is formatted")]
+    Formatted,
+    /// The disk failed.
+    #[error("the disk has failed")]
+    DiskFault,
+}
+
+impl From<Failed> for FormatRefused {
+    ghost use Rattle.std.specs.Prelude.{◌≡◌};
+    ghost use Rattle.st_vault.specs.declared.formatting.FormatRefused.TheVariants.{DiskFault};
+
+    ghost from_gives = { λ _ refused. refused ≡ DiskFault };
+
+    fn from(_failed: Failed) -> FormatRefused {
+        FormatRefused::DiskFault
+    }
 }

@@ -5,17 +5,11 @@
 mod child;
 mod counter;
 mod formatting;
-mod header;
-mod laws;
 mod layout;
-mod map;
 mod opening;
-mod refused;
 mod vault;
 
 pub use counter::{Counter, VaultSigner};
-pub use formatting::format_vault;
-pub use laws::no_counter_comes_twice;
-pub use opening::open_vault;
-pub use refused::{FormatRefused, OpenRefused, ReserveRefused};
-pub use vault::Vault;
+pub use formatting::{FormatRefused, format_vault};
+pub use opening::{OpenRefused, open_vault};
+pub use vault::{ReserveRefused, Vault, no_counter_comes_twice};

@@ -1,19 +1,15 @@
 ghost use Rattle.std.specs.Prelude.{◌≡◌, ◌+◌, ◌≤◌, List, ℕ, length, take, IfOk, IsErrOf};
 ghost use Rattle.st_base.specs.Answers.{Gives};
-ghost use Rattle.st_io.specs.Causes.{FaultHasCause, HasCause};
-ghost use Rattle.st_io.specs.Past.{Leaves, LeftSinceSync, Only, StaysAsItWas};
-ghost use Rattle.st_io.specs.Spent.{KeepsSpent};
-ghost use Rattle.st_io.specs.Tears.{IfTold};
+ghost use Rattle.st_io.specs.Past.{FaultHasCause, HasCause, Leaves, LeftSinceSync, Only, StaysAsItWas, KeepsSpent};
+ghost use Rattle.st_io.specs.Histories.{IfTold};
 ghost use Rattle.st_vault.specs.Image.{IsSpent, map_in, nonzero_from, one_past};
-ghost use Rattle.st_vault.specs.Opening.{ReadsAs, key_of, opened, refusal_of};
+ghost use Rattle.st_vault.specs.Vault.{ReadsAs, key_of, opened, refusal_of};
 
-use crate::header::read_header;
-use crate::layout::{MAP_AT, MOST_COUNTERS, OPEN_GATE};
-use crate::map::next_in;
-use crate::refused::OpenRefused;
+use crate::layout::{MAP_AT, MOST_COUNTERS, OPEN_GATE, next_in, read_header};
 use crate::vault::Vault;
 use st_io::{Disk, Failed};
 use st_lms::Secret;
+use thiserror::Error;
 
 /// The vault in a disk's contents after a sync. It allocates nothing, and computes no key.
 ///
@@ -125,4 +121,29 @@ fn next_by<D: Disk>(disk: &mut D, map: &mut [u8]) -> Result<u32, Failed>
 {
     disk.read_at(MAP_AT, map)?;
     Ok(next_in(map))
+}
+
+/// Why a disk is not opened as a vault.
+#[derive(Clone, Copy, Debug, PartialEq, Eq, Error)]
+pub enum OpenRefused {
+    /// It has fewer than 64 bytes, or the gate is shut.
+    #[error("the disk is blank")]
+    Blank,
+    /// The gate is open, and a type is not known or the map is incomplete.
+    #[error("the vault is damaged")]
+    Damaged,
+    /// The disk failed.
+    #[error("the disk has failed")]
+    DiskFault,
+}
+
+impl From<Failed> for OpenRefused {
+    ghost use Rattle.std.specs.Prelude.{◌≡◌};
+    ghost use Rattle.st_vault.specs.declared.opening.OpenRefused.TheVariants.{DiskFault};
+
+    ghost from_gives = { λ _ refused. refused ≡ DiskFault };
+
+    fn from(_failed: Failed) -> OpenRefused {
+        OpenRefused::DiskFault
+    }
 }

@@ -1,23 +1,21 @@
 ghost use Rattle.std.specs.Prelude.{◌≡◌, ◌<◌, ◌≤◌, ◌+◌, [], ◌∷◌, IfOk, OnOk};
-ghost use Rattle.st_io.specs.Past.{Follow};
-ghost use Rattle.st_io.specs.Storage.{storage};
-ghost use Rattle.st_io.specs.Tears.{Holds, Torn, Turns};
-ghost use Rattle.st_lms.specs.Keys.{IsSecretKey};
+ghost use Rattle.st_io.specs.Past.{Follow, storage};
+ghost use Rattle.st_io.specs.Histories.{Holds, Torn, Turns};
+ghost use Rattle.st_lms.specs.Tree.{IsSecretKey};
 ghost use Rattle.st_lms.specs.Signature.{public_of};
-ghost use Rattle.st_vault.specs.Children.{child_of};
-ghost use Rattle.st_vault.specs.Opening.{ReadsAs};
-ghost use Rattle.st_vault.specs.Values.{count_of, left_of, vault_after, counter_of};
+ghost use Rattle.st_vault.specs.Image.{child_of, count_of, left_of, vault_after, counter_of};
+ghost use Rattle.st_vault.specs.Vault.{ReadsAs, NoneTwice};
 
 use crate::child::child_of;
 use crate::counter::{Counter, VaultSigner};
 use crate::layout::{MAP_AT, SPENT};
-use crate::refused::ReserveRefused;
 use st_base::WantOfMemory;
-use st_io::{Disk, write_synced};
+use st_io::{Disk, Failed, write_synced};
 use st_lms::{Public, Secret};
 use std::alloc::Global;
 use std::fmt;
 use std::marker::Model;
+use thiserror::Error;
 
 /// A vault, read from a disk: an LMS secret key, and its next counter.
 ///
@@ -30,7 +28,7 @@ pub struct Vault {
 
 impl Model for Vault {
     ghost use Rattle.std.specs.Prelude.{◌≤◌};
-    ghost use Rattle.st_vault.specs.Values.{VaultValue, count_of};
+    ghost use Rattle.st_vault.specs.Image.{VaultValue, count_of};
 
     ghost Value = { VaultValue };
 
@@ -47,7 +45,7 @@ impl fmt::Debug for Vault {
 }
 
 impl Vault {
-    ghost use Rattle.st_vault.specs.Reserving.{HasSpent, MaySpend, ReserveGives};
+    ghost use Rattle.st_vault.specs.Vault.{HasSpent, MaySpend, ReserveGives};
 
     /// The vault of this key with this next counter.
     pub(crate) fn new(secret: Secret, next: u32) -> Vault
@@ -150,3 +148,32 @@ impl Vault {
         (vault, counter)
     }
 }
+
+/// Why no counter is reserved.
+#[derive(Debug, Drop, Error)]
+pub enum ReserveRefused {
+    /// No counter is left. The vault is returned.
+    #[error("no counter is left")]
+    Exhausted(Vault),
+    /// The disk failed, and the vault is lost: open the disk again.
+    #[error("the disk has failed")]
+    DiskFault,
+}
+
+impl From<Failed> for ReserveRefused {
+    ghost use Rattle.std.specs.Prelude.{◌≡◌};
+    ghost use Rattle.st_vault.specs.declared.vault.ReserveRefused.TheVariants.{DiskFault};
+
+    ghost from_gives = { λ _ refused. refused ≡ DiskFault };
+
+    fn from(_failed: Failed) -> ReserveRefused {
+        ReserveRefused::DiskFault
+    }
+}
+
+/// In any list of runs and stops on one disk no counter is released by two of them, if each run
+/// spends a counter before it releases it, as `Vault::reserve` does, and starts only from what a
+/// stop of the previous run may leave.
+pub fn no_counter_comes_twice<D: Disk>(_disk: &D)
+    ensures { NoneTwice (λ disk. D.past disk) }
+{}

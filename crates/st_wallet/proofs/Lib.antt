@@ -1,3 +1,2 @@
-mod StepLemmas
+pub mod StepLemmas
 pub mod CountersLemmas
-pub mod LineLemmas

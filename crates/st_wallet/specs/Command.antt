@@ -2,16 +2,14 @@
 use Rattle.std.specs.Prelude.{ℕ, nat_le, List, length, bytes_eq, codes, is_none, if◌then◌else◌, Option, Some, None, Result, Ok, Err}
 use Rattle.std.specs.Option.{ok_or}
 use Rattle.st_base.specs.Answers.{◌>>=◌, ◌>>◌, holds_or}
-use Rattle.st_base.specs.Words.{cut_at, first_word, other_words}
-use Rattle.st_hash.specs.Base64url.{bytes_of_text}
-use Rattle.st_lms.specs.Keys.{SecretKey, secret_key}
+use Rattle.st_base.specs.Texts.{cut_at, first_word, other_words}
+use Rattle.st_hash.specs.Hash.{bytes_of_text}
+use Rattle.st_lms.specs.Tree.{SecretKey, secret_key}
 use Rattle.st_wallet.specs.Words.{bytes_of_hex, nonce_of, number_between}
 use Rattle.st_wallet.specs.declared.command.Command.{Command}
 use Rattle.st_wallet.specs.declared.command.Command.TheVariants.{Format, Key, Left, Create, Update, Recover, Deactivate, SignHss}
 use Rattle.st_wallet.specs.declared.command.LineCause.{LineCause}
 use Rattle.st_wallet.specs.declared.command.LineCause.TheVariants as cause
-use Rattle.st_wallet.specs.declared.command.LineRefused.{LineRefused}
-use Rattle.st_wallet.specs.declared.command.LineRefused.TheVariants.{BadLine, WantOfMemory}
 
 -- the largest number of bytes of a line
 abbrev pub longest_line : ℕ
@@ -119,8 +117,3 @@ abbrev pub command_of : List ℕ → Result Command LineCause
 command_of line = do
   holds_or (nat_le (length line) longest_line) cause.Long
   command_of_words (first_word space line) (other_words space line)
-
--- the cause of an error, if it has one
-abbrev pub cause_of : LineRefused → Option LineCause
-cause_of (BadLine cause) = Some cause
-cause_of WantOfMemory = None

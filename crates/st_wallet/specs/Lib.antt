@@ -1,9 +1,5 @@
 pub mod Words
 pub mod Command
 pub mod Drafts
-pub mod Held
-pub mod Found
-pub mod Codes
 pub mod Machine
-pub mod Steps
-pub mod Counters
+pub mod inside

@@ -1,35 +1,36 @@
 -- The reference machine of the wallet: its answer to a line, and the state of its disk afterwards. It has no other
 -- state.
-use Rattle.std.specs.Prelude.{◌≡◌, ◌⊎◌, ⊤, ℕ, ◌==◌, IsSome, nat_le, List, [], ◌∷◌, ◌++◌, codes, if◌then◌else◌, Option, Some, None, Result, Ok, Err}
 use Rattle.std.specs.Fmt.{decimal}
-use Rattle.st_base.specs.Replies.{reply, spaced}
-use Rattle.st_plain.specs.Canonical.{canonical}
-use Rattle.st_hash.specs.Base64url.{base64url}
-use Rattle.st_hash.specs.Hash.{hash_text}
+use Rattle.std.specs.Prelude.{◌≡◌, ◌⊎◌, ℕ, ◌==◌, IsSome, nat_le, List, [], ◌∷◌, ◌++◌, codes, if◌then◌else◌, Option, Some, None, Result, Ok, Err, IfOk, IfSome, ⊤, ◌+◌, ◌≤◌, ◌<◌}
+use Rattle.st_base.specs.Texts.{reply, spaced}
+use Rattle.st_io.specs.Past.{LeftSinceSync, Leaves, Past, StaysAsItWas, KeepsSpent, SpentInAll, Storage}
+use Rattle.st_io.specs.Histories.{IfTold}
+use Rattle.st_plain.specs.Plain.{canonical}
+use Rattle.st_hash.specs.Hash.{base64url, hash_text}
+use Rattle.st_lms.specs.Tree.{PublicKey, SecretKey, public_text}
+use Rattle.st_lms.specs.Signature.{public_of}
+use Rattle.st_vault.specs.Image.{IsSpent, VaultValue, left_of, new_vault, vault_after}
+use Rattle.st_vault.specs.Vault.{AllOpenAs, opened}
 use Rattle.st_hss.specs.Public.{hss_public_text}
 use Rattle.st_hss.specs.Uses.{hss_public_of, hss_signature_of}
 use Rattle.st_hss.specs.declared.public.HssPublic.{HssPublic}
-use Rattle.st_jws.specs.Commitment.{commitment_of, reveal_of}
-use Rattle.st_jws.specs.Jwk.{jwk_json}
+use Rattle.st_jws.specs.Jwk.{commitment_of, reveal_of, jwk_json}
 use Rattle.st_jws.specs.declared.jwk.Jwk.{Jwk}
-use Rattle.st_lms.specs.Keys.{PublicKey, SecretKey, public_text}
-use Rattle.st_lms.specs.Signature.{public_of}
 use Rattle.st_ops.specs.Operation.{PlainOperation, suffix_of}
-use Rattle.st_ops.specs.RequestText.{request_text}
-use Rattle.st_vault.specs.Values.{VaultValue, left_of, new_vault, vault_after}
+use Rattle.st_ops.specs.Request.{request_text}
 use Rattle.st_wallet.specs.Command.{command_of, format_in}
-use Rattle.st_wallet.specs.Drafts.{HasInput, create_asked, deactivate_asked, key_with, recover_asked, signed_by, update_asked}
-use Rattle.st_wallet.specs.Found.{Found}
-use Rattle.st_wallet.specs.Found.Found.{Blank, Damaged, Opened}
+use Rattle.st_wallet.specs.Drafts.{create_asked, deactivate_asked, key_with, recover_asked, signed_by, update_asked, Found, IsFoundOn, opens, found_in}
+use Rattle.st_wallet.specs.Drafts.Found.{Blank, Damaged, Opened}
 use Rattle.st_wallet.specs.declared.command.Command.{Command}
 use Rattle.st_wallet.specs.declared.command.Command.TheVariants.{Format, Key, Left, Create, Update, Recover, Deactivate, SignHss}
 use Rattle.st_wallet.specs.declared.command.LineCause.{LineCause}
 use Rattle.st_wallet.specs.declared.command.LineCause.TheVariants as line_is
-use Rattle.st_wallet.specs.declared.drafting.Draft.{Draft}
+use Rattle.st_wallet.specs.declared.draft.Draft.{Draft}
+use Rattle.st_wallet.specs.declared.draft.DraftRefused.{DraftRefused}
+use Rattle.st_wallet.specs.declared.draft.DraftRefused.TheVariants.{BadHash, NotJson, NotWhole, BadDelta, WantOfMemory}
 use Rattle.st_wallet.specs.declared.planning.Plan.{Plan}
 use Rattle.st_wallet.specs.declared.planning.Plan.TheVariants.{Tell, Sign, SignMessage}
-use Rattle.st_wallet.specs.declared.refused.DraftRefused.{DraftRefused}
-use Rattle.st_wallet.specs.declared.refused.DraftRefused.TheVariants.{BadHash, NotJson, NotWhole, BadDelta, WantOfMemory}
+use Rattle.st_wallet.specs.declared.signing_vault.WalletRefused.{WalletRefused}
 
 -- the state after a line, the reply to it, and the counter that the reply used, if any
 pub record Answered : Type 0 where
@@ -157,12 +158,6 @@ answered_plan vault (Tell text) = replied (Opened vault) text
 answered_plan vault (Sign draft) = answered_draft vault draft
 answered_plan vault (SignMessage message) = answered_hss vault message
 
--- the signed input of an operation is its payload, and two levels require a vault with 1,024 counters
-abbrev pub IsReady : VaultValue → Plan → Type 0
-IsReady vault (Tell text) = ⊤
-IsReady vault (Sign draft) = HasInput draft
-IsReady vault (SignMessage message) = vault.key.tree ≡ 6
-
 -- ---- commands
 
 -- on a blank disk only a `format` is accepted
@@ -197,11 +192,6 @@ abbrev pub counters : Found → List (List ℕ) → List (Option ℕ)
 counters found [] = []
 counters found (line ∷ lines) = (answered found line).counter ∷ counters (answered found line).next lines
 
--- the state after these lines
-abbrev pub after : Found → List (List ℕ) → Found
-after found [] = found
-after found (line ∷ lines) = after (answered found line).next lines
-
 -- The wallet is the one after the answer, and its reply is returned.
 abbrev pub AnswersWith : Answered → Found × List ℕ → Type 0
 AnswersWith answer done = (done.0 ≡ answer.next) × (done.1 ≡ answer.reply)
@@ -220,3 +210,78 @@ AnswersOrRefuses told found asked answer done = AnswersWith answer done ⊎ (IsS
 abbrev pub asked_by : Result Command LineCause → Option SecretKey
 asked_by (Ok command) = format_in command
 asked_by (Err cause) = None
+
+-- ---- The effect of a line on the disk.
+
+-- the counter of a reply, if it has one, is spent in every image
+abbrev pub IsCounterSpent : Option ℕ → Past → Type 0
+IsCounterSpent counter past = IfSome counter (λ q. SpentInAll IsSpent past q)
+
+-- the counter of a reply, if it has one, is not spent in this image
+abbrev pub IsCounterFresh : Option ℕ → List ℕ → Type 0
+IsCounterFresh counter image = IfSome counter (λ q. IsSpent image q → ⊥)
+
+-- each present image has this state
+abbrev pub AllFound : Found → Past → Type 0
+AllFound found past = AllOpenAs (opens found) past
+
+-- an image has the state before a line or after it
+abbrev pub IsBeforeOrAfter : (before after : Found) → List ℕ → Type 0
+IsBeforeOrAfter before after image = (opened image ≡ opens before) ⊎ (opened image ≡ opens after)
+
+-- The opening of a disk as a wallet.
+pub record OpensOn (disk : Storage) (result : Result Found WalletRefused) : Type 0 where
+  -- the state of the wallet is that of the contents, and of every image
+  pub found : IfOk result (IsFoundOn disk.reads)
+  pub found_now : IfOk result (IsFoundOn disk.reads_behind)
+  pub all_found : IfOk result (λ wallet. IfTold disk.reads_behind (λ image. AllFound wallet disk.behind))
+  -- a stop at any moment of the call leaves only what it might have left before
+  pub as_it_was : StaysAsItWas disk.reads disk.reads_behind disk.before disk.behind
+  pub synced : IfTold disk.reads (λ old. (image : List ℕ)
+      → LeftSinceSync disk.behind disk.before.now image → opened image ≡ opened old)
+  pub stays : KeepsSpent IsSpent disk.before disk.behind
+
+-- A line with this answer was carried out on a disk with this state, and this is the state of the returned wallet.
+pub record HasStepped (found : Found) (answer : Answered) (disk : Storage) (next : Found) : Type 0 where
+  -- it is that of the contents
+  pub reads : IsFoundOn disk.reads_behind next
+  pub told : IfTold disk.reads (λ image. IsSome disk.reads_behind)
+  -- the counter of the reply was not spent before, and is spent in every image when the reply is given
+  pub fresh : IfTold disk.reads (λ image. IsCounterFresh answer.counter image)
+  pub spent : IfTold disk.reads (λ image. IsCounterSpent answer.counter disk.behind)
+  -- if a stop before the line leaves the state before it, a stop after the reply leaves only the next one
+  pub all_found : IfTold disk.reads_behind (λ image. AllFound found disk.before → AllFound next disk.behind)
+
+-- The effect of a line with this answer on a disk with this state.
+pub record StepsOn (found : Found) (answer : Answered) (disk : Storage) (result : Result (Found × List ℕ) WalletRefused) : Type 0 where
+  -- a line that leaves the machine unchanged leaves the disk unchanged
+  pub untouched : answer.next ≡ found → disk.kept
+  -- if a stop before the line leaves this state, a stop at any moment of it leaves this state or the next one
+  pub moments : IfTold disk.reads (λ image. AllFound found disk.before
+      → Leaves (IsBeforeOrAfter found answer.next) disk.before disk.behind)
+  -- counters that were spent in every image stay so at each moment of the line
+  pub stays : IfTold disk.reads (λ image. KeepsSpent IsSpent disk.before disk.behind)
+  -- and so it is when the reply is given
+  pub done : IfOk result (λ done. HasStepped found answer disk done.0)
+
+-- ---- The counters that replies to lines use.
+
+-- the next counter, or 0 if there is no vault
+abbrev pub next_in : Found → ℕ
+next_in Blank = 0
+next_in Damaged = 0
+next_in (Opened vault) = vault.next
+
+-- these counters start at the first or later, and each is greater than the previous one
+abbrev pub AscendFrom : ℕ → List (Option ℕ) → Type 0
+AscendFrom first [] = ⊤
+AscendFrom first (None ∷ more) = AscendFrom first more
+AscendFrom first (Some q ∷ more) = (first ≤ q) × AscendFrom (q + 1) more
+
+-- The counters of all replies to a list of lines ascend, from the next counter on: no two are the same.
+abbrev pub CountersAscend : Type 0
+CountersAscend = (found : Found) (lines : List (List ℕ)) → AscendFrom (next_in found) (counters found lines)
+
+-- Counters spent in an image are below them.
+abbrev pub SpentLieBelow : Type 0
+SpentLieBelow = (image : List ℕ) (q : ℕ) → IsSpent image q → q < next_in (found_in image)

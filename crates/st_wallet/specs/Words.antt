@@ -3,7 +3,7 @@ use Rattle.std.specs.Prelude.{ℕ, nat_le, List, bytes_eq, codes, if◌then◌el
 use Rattle.std.specs.Result.{result_ok}
 use Rattle.hex.specs.Hex.{decode_sized}
 use Rattle.st_base.specs.Options.{◌>>=◌, ◌>>◌}
-use Rattle.st_base.specs.Words.{number_of}
+use Rattle.st_base.specs.Texts.{number_of}
 
 -- the number with this decimal text, if it is in this range
 abbrev pub number_between : ℕ → ℕ → List ℕ → Option ℕ

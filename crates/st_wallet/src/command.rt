@@ -1,16 +1,55 @@
-ghost use Rattle.std.specs.Prelude.{◌≡◌};
 ghost use Rattle.std.specs.Option.{option_copied};
+ghost use Rattle.std.specs.Prelude.{◌≡◌, ◌≤◌, IfSome};
 ghost use Rattle.st_base.specs.Answers.{Gives};
-ghost use Rattle.st_lms.specs.Keys.{secret_key};
-ghost use Rattle.st_lms.specs.Parameters.{IsOneTimeType, IsTreeType};
-ghost use Rattle.st_wallet.specs.Command.{cause_of, command_of, command_of_words, create_of, deactivate_of, format_in, format_of, key_of, left_of, recover_of, sign_hss_of, update_of};
+ghost use Rattle.st_lms.specs.Tree.{secret_key};
+ghost use Rattle.st_lms.specs.OneTime.{IsOneTimeType, IsTreeType};
+ghost use Rattle.st_wallet.specs.Command.{command_of, command_of_words, create_of, deactivate_of, format_in, format_of, key_of, left_of, recover_of, sign_hss_of, update_of};
+ghost use Rattle.st_wallet.specs.Words.{number_between, bytes_of_hex, nonce_of};
+ghost use Rattle.st_wallet.specs.inside.Machine.{cause_of};
 
-use crate::hexadecimal::{Nonce, read_hex, read_nonce};
-use crate::words::read_between;
-use st_base::{Bytes, WantOfMemory, cut_at, cut_word};
+use hex::FromHex;
+use st_base::{Bytes, WantOfMemory, cut_at, cut_word, read_number};
 use st_hash::{DecRefused, dec};
 use st_lms::Secret;
 use std::alloc::Global;
+
+/// The number with this decimal text, if it is in this range.
+pub(crate) fn read_between(word: &[u8], least: u32, most: u32) -> Option<u32>
+    ensures value { result ≡ number_between least most word.now }
+    ensures least { IfSome result (λ number. least ≤ number) }
+    ensures most { IfSome result (λ number. number ≤ most) }
+{
+    let number = read_number(word, most)?;
+    if number < least {
+        return None;
+    }
+    Some(number)
+}
+
+/// Distinguishes the JWKs of one public key, if present.
+pub(crate) type Nonce = Option<[u8; 16]>;
+
+const NO_NONCE: &[u8] = b"-";
+
+/// The bytes with these hexadecimal digits, in either case.
+pub(crate) fn read_hex<const N: usize>(word: &[u8]) -> Option<[u8; N]>
+    ensures { result ≡ bytes_of_hex N word.now }
+{
+    <[u8; N] as FromHex>::from_hex(word).ok()
+}
+
+/// The nonce in a word: 32 hexadecimal digits, or `-` for none.
+pub(crate) fn read_nonce(word: &[u8]) -> Option<Nonce>
+    ensures { result ≡ nonce_of word.now }
+{
+    if word == NO_NONCE {
+        return Some(None);
+    }
+    match read_hex::<16>(word) {
+        Some(nonce) => Some(Some(nonce)),
+        None => None,
+    }
+}
 
 /// The largest number of bytes of a line.
 pub const LONGEST_LINE: usize = 24_000_000;

@@ -4,20 +4,13 @@
 #![tactic(auto)]
 
 mod command;
-mod delta;
-mod drafting;
-mod hexadecimal;
-mod laws;
-mod payloads;
+mod draft;
 mod planning;
-mod refused;
 mod replies;
 mod requests;
 mod signing_vault;
 mod wallet;
-mod words;
 
 pub use command::LONGEST_LINE;
-pub use laws::counters_law;
-pub use refused::WalletRefused;
-pub use wallet::Wallet;
+pub use signing_vault::WalletRefused;
+pub use wallet::{Wallet, counters_law};

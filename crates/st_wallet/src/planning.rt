@@ -1,14 +1,13 @@
 ghost use Rattle.std.specs.Prelude.{◌≡◌, Err, IfOk, IsSome, OnOk};
 ghost use Rattle.st_lms.specs.Signature.{public_of};
-ghost use Rattle.st_wallet.specs.Drafts.{deactivate_asked, recover_asked, refusal_of, update_asked};
-ghost use Rattle.st_vault.specs.Values.{VaultValue};
-ghost use Rattle.st_wallet.specs.Drafts.{key_with};
-ghost use Rattle.st_wallet.specs.Machine.{IsReady, create_reply, key_reply, left_reply, plan_of, planned, planned_hss};
+ghost use Rattle.st_wallet.specs.Drafts.{deactivate_asked, recover_asked, update_asked, key_with};
+ghost use Rattle.st_wallet.specs.inside.Drafts.{refusal_of};
+ghost use Rattle.st_vault.specs.Image.{VaultValue};
+ghost use Rattle.st_wallet.specs.Machine.{create_reply, key_reply, left_reply, plan_of, planned, planned_hss};
+ghost use Rattle.st_wallet.specs.inside.Machine.{IsReady};
 
-use crate::command::Command;
-use crate::drafting::{Draft, create, draft_deactivate, draft_recover, draft_update};
-use crate::hexadecimal::Nonce;
-use crate::refused::DraftRefused;
+use crate::command::{Command, Nonce};
+use crate::draft::{Draft, DraftRefused, create, draft_deactivate, draft_recover, draft_update};
 use crate::replies::{tell_key, tell_request};
 use crate::signing_vault::SigningVault;
 use itoa::Buffer;

@@ -1,6 +1,6 @@
 ghost use Rattle.std.specs.Prelude.{◌≡◌, ◌∷◌, [], IfOk};
-ghost use Rattle.st_base.specs.Replies.{reply, spaced};
-ghost use Rattle.st_plain.specs.Canonical.{canonical};
+ghost use Rattle.st_base.specs.Texts.{reply, spaced};
+ghost use Rattle.st_plain.specs.Plain.{canonical};
 ghost use Rattle.st_ops.specs.Operation.{plain_operation};
 ghost use Rattle.st_ops.specs.Request.{IsComplete};
 ghost use Rattle.st_jws.specs.Jwk.{jwk_json};

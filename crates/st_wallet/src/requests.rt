@@ -1,10 +1,11 @@
 ghost use Rattle.std.specs.Prelude.{◌≡◌, IfOk};
 ghost use Rattle.st_ops.specs.Operation.{plain_operation, plain_proof};
 ghost use Rattle.st_ops.specs.Request.{IsComplete};
-ghost use Rattle.st_wallet.specs.Drafts.{HasInput, operation_of, signed_by};
+ghost use Rattle.st_wallet.specs.Drafts.{operation_of, signed_by};
+ghost use Rattle.st_wallet.specs.inside.Drafts.{HasInput};
 ghost use Rattle.st_wallet.specs.Machine.{request_reply};
 
-use crate::drafting::{Change, Draft};
+use crate::draft::{Change, Draft};
 use crate::replies::tell_request;
 use st_base::{Bytes, KeptText, Shared, WantOfMemory};
 use st_indexfiles::Target;

@@ -1,7 +1,7 @@
 ghost use Rattle.std.specs.Prelude.{◌≡◌, IfOk, IfSome};
 ghost use Rattle.st_lms.specs.Signature.{public_of};
-ghost use Rattle.st_vault.specs.Values.{left_of};
-ghost use Rattle.st_wallet.specs.Held.{held_vault};
+ghost use Rattle.st_vault.specs.Image.{left_of};
+ghost use Rattle.st_wallet.specs.inside.Drafts.{vault_of_levels};
 
 use st_base::WantOfMemory;
 use st_hss::HssVault;
@@ -9,63 +9,64 @@ use st_lms::Public;
 use st_vault::{Vault, VaultSigner};
 use std::alloc::Global;
 use std::marker::Model;
+use thiserror::Error;
 
 /// A vault, with the data computed for its keys at the first line that needed them. Later lines
 /// reuse it.
 #[derive(Drop)]
 pub(crate) struct SigningVault {
-    held: Held,
+    levels: VaultLevels,
     /// The vault's own key, with the nodes of its tree.
     signer: Option<VaultSigner>,
 }
 
 /// A vault, alone or with the data stored for signatures of two levels.
 #[derive(Drop)]
-pub(crate) enum Held {
-    Plain(Vault),
+pub(crate) enum VaultLevels {
+    OneLevel(Vault),
     TwoLevels(HssVault),
 }
 
 impl Model for SigningVault {
     ghost use Rattle.std.specs.Prelude.{◌≡◌, IfSome};
-    ghost use Rattle.st_vault.specs.Values.{VaultValue};
-    ghost use Rattle.st_wallet.specs.Held.{held_vault};
+    ghost use Rattle.st_vault.specs.Image.{VaultValue};
+    ghost use Rattle.st_wallet.specs.inside.Drafts.{vault_of_levels};
 
     ghost Value = { VaultValue };
 
-    ghost view = { λ v. held_vault v.held };
+    ghost view = { λ v. vault_of_levels v.levels };
 
-    ghost invariant = { λ v. IfSome v.signer (λ signer. signer ≡ (held_vault v.held).key) };
+    ghost invariant = { λ v. IfSome v.signer (λ signer. signer ≡ (vault_of_levels v.levels).key) };
 }
 
 /// The vault.
-fn vault_in(held: &Held) -> &Vault
-    ensures { result.now ≡ held_vault held.now }
+fn vault_in(levels: &VaultLevels) -> &Vault
+    ensures { result.now ≡ vault_of_levels levels.now }
 {
-    match held {
-        Held::Plain(vault) => vault,
-        Held::TwoLevels(hss) => hss.vault(),
+    match levels {
+        VaultLevels::OneLevel(vault) => vault,
+        VaultLevels::TwoLevels(hss) => hss.vault(),
     }
 }
 
 /// The vault, without the data stored for signatures of two levels.
-fn vault_of(held: Held) -> Vault
-    ensures { result ≡ held_vault held }
+fn vault_of(levels: VaultLevels) -> Vault
+    ensures { result ≡ vault_of_levels levels }
 {
-    match held {
-        Held::Plain(vault) => vault,
-        Held::TwoLevels(hss) => hss.into_vault(),
+    match levels {
+        VaultLevels::OneLevel(vault) => vault,
+        VaultLevels::TwoLevels(hss) => hss.into_vault(),
     }
 }
 
 /// The same, for signatures of two levels.
-fn hss_of(held: Held) -> HssVault
-    requires { (held_vault held).key.tree ≡ 6 }
-    ensures { result ≡ held_vault held }
+fn hss_of(levels: VaultLevels) -> HssVault
+    requires { (vault_of_levels levels).key.tree ≡ 6 }
+    ensures { result ≡ vault_of_levels levels }
 {
-    match held {
-        Held::Plain(vault) => HssVault::new(vault).unwrap(),
-        Held::TwoLevels(hss) => hss,
+    match levels {
+        VaultLevels::OneLevel(vault) => HssVault::new(vault).unwrap(),
+        VaultLevels::TwoLevels(hss) => hss,
     }
 }
 
@@ -75,7 +76,7 @@ impl SigningVault {
         ensures { result ≡ vault }
     {
         SigningVault {
-            held: Held::Plain(vault),
+            levels: VaultLevels::OneLevel(vault),
             signer: None,
         }
     }
@@ -86,7 +87,7 @@ impl SigningVault {
         ensures { result ≡ vault }
     {
         SigningVault {
-            held: Held::Plain(vault),
+            levels: VaultLevels::OneLevel(vault),
             signer: Some(signer),
         }
     }
@@ -97,7 +98,7 @@ impl SigningVault {
         ensures { result ≡ hss }
     {
         SigningVault {
-            held: Held::TwoLevels(hss),
+            levels: VaultLevels::TwoLevels(hss),
             signer,
         }
     }
@@ -106,14 +107,14 @@ impl SigningVault {
     pub(crate) fn left(&self) -> u32
         ensures { result ≡ left_of self.now }
     {
-        vault_in(&self.held).left()
+        vault_in(&self.levels).left()
     }
 
     /// The LMS type of the vault's key: 5 or 6.
     pub(crate) fn tree(&self) -> u32
         ensures { result ≡ self.now.key.tree }
     {
-        vault_in(&self.held).tree()
+        vault_in(&self.levels).tree()
     }
 
     /// The public key of the vault's key. It computes the tree, if no line needed it before.
@@ -124,7 +125,7 @@ impl SigningVault {
         if let Some(signer) = &self.signer {
             return Ok(signer.public());
         }
-        let signer = vault_in(&self.held).signer(alloc)?;
+        let signer = vault_in(&self.levels).signer(alloc)?;
         let public = signer.public();
         self.signer = Some(signer);
         Ok(public)
@@ -136,8 +137,8 @@ impl SigningVault {
         ensures vault { IfOk result (λ parts. parts.0 ≡ self) }
         ensures signer { IfOk result (λ parts. parts.1 ≡ self.key) }
     {
-        let SigningVault { held, signer } = self;
-        let vault = vault_of(held);
+        let SigningVault { levels, signer } = self;
+        let vault = vault_of(levels);
         match signer {
             Some(signer) => Ok((vault, signer)),
             None => {
@@ -153,7 +154,29 @@ impl SigningVault {
         ensures vault { result.0 ≡ self }
         ensures signer { IfSome result.1 (λ signer. signer ≡ self.key) }
     {
-        let SigningVault { held, signer } = self;
-        (hss_of(held), signer)
+        let SigningVault { levels, signer } = self;
+        (hss_of(levels), signer)
+    }
+}
+
+/// Why a wallet gives no reply. The wallet is lost then, and the disk must be opened again.
+#[derive(Clone, Copy, Debug, PartialEq, Eq, Error)]
+pub enum WalletRefused {
+    /// The disk failed.
+    #[error("the disk has failed")]
+    DiskFault,
+    /// Out of memory.
+    #[error("out of memory")]
+    WantOfMemory,
+}
+
+impl From<WantOfMemory> for WalletRefused {
+    ghost use Rattle.std.specs.Prelude.{◌≡◌};
+    ghost use Rattle.st_wallet.specs.declared.signing_vault.WalletRefused.TheVariants.{WantOfMemory};
+
+    ghost from_gives = { λ _ refused. refused ≡ WantOfMemory };
+
+    fn from(_want: WantOfMemory) -> WalletRefused {
+        WalletRefused::WantOfMemory
     }
 }

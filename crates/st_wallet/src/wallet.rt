@@ -1,24 +1,21 @@
-#![tactic(auto, using(crate::proofs::StepLemmas::only_found, crate::proofs::StepLemmas::moments_standing, st_io::proofs::PastLemmas::keeps_standing))]
+#![tactic(auto, using(crate::proofs::StepLemmas::only_found, crate::proofs::StepLemmas::moments_standing, st_io::proofs::HistoryLemmas::keeps_standing))]
 
 ghost use Rattle.std.specs.Prelude.{◌≡◌, IfErr, IfOk, Some};
-ghost use Rattle.st_io.specs.Causes.{FaultHasCause};
-ghost use Rattle.st_io.specs.Storage.{storage};
-ghost use Rattle.st_io.specs.Tears.{IfTold};
-ghost use Rattle.st_vault.specs.Opening.{ReadsAs};
+ghost use Rattle.st_io.specs.Past.{FaultHasCause, storage};
+ghost use Rattle.st_io.specs.Histories.{IfTold};
+ghost use Rattle.st_vault.specs.Vault.{ReadsAs};
 ghost use Rattle.st_wallet.specs.Command.{command_of, format_in};
-ghost use Rattle.st_wallet.specs.Drafts.{HasInput};
-ghost use Rattle.st_wallet.specs.Found.Found.{Blank, Damaged, Opened};
-ghost use Rattle.st_wallet.specs.Found.{IsFoundOn};
-ghost use Rattle.st_wallet.specs.Machine.{AnswersOrRefuses, AnswersWith, answered, answered_blank, answered_command, answered_draft, answered_format, answered_hss, answered_plan, asked_by, plan_of};
-ghost use Rattle.st_wallet.specs.Steps.{OpensOn, StepsOn};
+ghost use Rattle.st_wallet.specs.Machine.{CountersAscend, SpentLieBelow, AnswersOrRefuses, AnswersWith, answered, answered_blank, answered_command, answered_draft, answered_format, answered_hss, answered_plan, asked_by, plan_of, OpensOn, StepsOn};
+ghost use Rattle.st_wallet.specs.Drafts.{IsFoundOn};
+ghost use Rattle.st_wallet.specs.Drafts.Found.{Blank, Damaged, Opened};
+ghost use Rattle.st_wallet.specs.inside.Drafts.{HasInput};
 
 use crate::command::{Command, LineRefused, read_command, secret_in};
-use crate::drafting::Draft;
+use crate::draft::Draft;
 use crate::planning::{Plan, plan_of};
-use crate::refused::WalletRefused;
 use crate::replies::{cause_word, tell_formatted, tell_hss};
 use crate::requests::request_by;
-use crate::signing_vault::SigningVault;
+use crate::signing_vault::{SigningVault, WalletRefused};
 use st_base::{Bytes, reply};
 use st_hss::HssSignRefused;
 use st_io::Disk;
@@ -47,8 +44,7 @@ pub(crate) enum Kept {
 }
 
 impl Model for Wallet {
-    ghost use Rattle.st_wallet.specs.Codes.{coded_found, shown};
-    ghost use Rattle.st_wallet.specs.Found.{Found};
+    ghost use Rattle.st_wallet.specs.Drafts.{coded_found, shown, Found};
 
     ghost Value = { Found };
 
@@ -293,3 +289,10 @@ fn sign_message<D: Disk>(
         Err(HssSignRefused::WantOfMemory) => Err(WalletRefused::WantOfMemory),
     }
 }
+
+/// No counter is used twice: over any lines the counters of the replies ascend, from the next
+/// counter of the image on, and all counters spent in the image are below that.
+pub fn counters_law()
+    ensures ascend { CountersAscend }
+    ensures below { SpentLieBelow }
+{}

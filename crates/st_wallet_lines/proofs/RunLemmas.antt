@@ -5,30 +5,26 @@
 use Rattle.std.proofs.Common.{◌≡◌, ◌∙◌, inl, inr, ◌++◌, ◌≤◌, ℕ, List, [], ◌∷◌, Option, Some, None, Result, Ok, is_some, refl, ap, sym, subst, arith}
 use Rattle.std.proofs.lemmas.Bool.{false≢true}
 use Rattle.std.specs.Prelude.{IsSome}
-use Rattle.st_io.specs.Causes.{Rose}
-use Rattle.st_io.specs.Past.{Past}
-use Rattle.st_io.specs.Storage.{Storage, storage}
-use Rattle.st_drive.specs.Lines.{all_lines}
-use Rattle.st_drive.specs.OnDisk.{AllHold, IsTold, Opens, RunLeaves, Store, disk_meaning, replies}
+use Rattle.st_io.specs.Past.{Rose, Past, Storage, storage}
+use Rattle.st_drive.specs.Lines.{all_lines, Streams, Tells}
+use Rattle.st_drive.specs.OnDisk.{AllHold, IsTold, Store, disk_meaning, replies}
+use Rattle.st_drive.specs.inside.OnDisk.{Opens, RunLeaves}
 use Rattle.st_drive.specs.Runs.{course}
 use Rattle.st_drive.specs.Spending.{EndsOpened, spending}
-use Rattle.st_drive.specs.Streams.{Streams, Tells, Unread}
+use Rattle.st_drive.specs.inside.Parts.{Unread}
 use Rattle.st_drive.specs.Tables.{AnsweredFirst, AnswersLines}
-use Rattle.st_drive.proofs.InputLemmas.{answered_input, answered_source, nothing_written}
+use Rattle.st_drive.proofs.LineLemmas.{answered_input, answered_source, nothing_written}
 use Rattle.st_drive.proofs.OnDiskLemmas.{leaves_on_disk, run_on_disk, run_opens}
-use Rattle.st_drive.proofs.ReleasedLemmas.{none_in}
+use Rattle.st_drive.proofs.RunLemmas.{none_in}
 use Rattle.st_drive.proofs.SpendingLemmas.{all_after, ends_opened, ends_standing, keeps_numbers, keeps_standing, kept_numbers, loses_one, spending_opened, spending_opens, stays_spent}
 use Rattle.st_drive.proofs.TableLemmas.{IsUnread, lines_by, not_begun, rose_before}
-use Rattle.st_vault.specs.Opening.{opened}
+use Rattle.st_vault.specs.Vault.{opened}
 use Rattle.st_wallet.proofs.CountersLemmas.{found_is, found_opens, spent_lie_below}
-use Rattle.st_wallet.specs.Counters.{next_in}
-use Rattle.st_wallet.specs.Found.{Found, IsFoundOn, found_in, opens}
-use Rattle.st_wallet.specs.Machine.{answered, replies as found_replies}
-use Rattle.st_wallet.specs.Steps.{OpensOn}
-use Rattle.st_wallet.specs.declared.refused.WalletRefused.{WalletRefused}
-use Rattle.st_wallet_lines.specs.Run.{KeepsVault, WalletEnds, WalletFrom, WalletRun, found_told, wallet_course}
-use Rattle.st_wallet_lines.specs.Spender.{wallet_spender}
-use Rattle.st_wallet_lines.specs.SpenderLaws.{next_laws, number_laws}
+use Rattle.st_wallet.specs.Machine.{next_in, answered, replies as found_replies, OpensOn}
+use Rattle.st_wallet.specs.Drafts.{Found, IsFoundOn, found_in, opens}
+use Rattle.st_wallet.specs.declared.signing_vault.WalletRefused.{WalletRefused}
+use Rattle.st_wallet_lines.specs.Run.{KeepsVault, WalletEnds, WalletFrom, WalletRun, found_told, wallet_course, wallet_spender}
+use Rattle.st_wallet_lines.specs.inside.Run.{next_laws, number_laws}
 
 pub replies_are : (found : Found) (lines : List (List ℕ)) → replies (spending wallet_spender) found lines ≡ found_replies found lines
 replies_are found [] = refl

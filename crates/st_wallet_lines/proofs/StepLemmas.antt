@@ -3,19 +3,17 @@ use Rattle.std.proofs.Common.{◌≡◌, ◌∙◌, inl, inr, ⊎_elim, ℕ, Lis
 use Rattle.std.specs.Prelude.{IsSome}
 use Rattle.std.proofs.Math.Path.{subst₂}
 use Rattle.std.proofs.lemmas.Bool.{false≢true}
-use Rattle.st_io.specs.Past.{Past, Images, Leaves}
-use Rattle.st_io.specs.Spent.{KeepsSpent, SpentInAll}
-use Rattle.st_io.specs.Storage.{storage}
-use Rattle.st_io.specs.Tears.{IfTold}
+use Rattle.st_io.specs.Past.{Past, Images, Leaves, KeepsSpent, SpentInAll, storage}
+use Rattle.st_io.specs.Histories.{IfTold}
 use Rattle.st_drive.specs.OnDisk.{GaveUpOnDisk, IsTold, RanOnDisk, Store}
-use Rattle.st_drive.specs.Spending.{StandsForEither, spending}
+use Rattle.st_drive.specs.Spending.{spending}
+use Rattle.st_drive.specs.inside.OnDisk.{StandsForEither}
 use Rattle.st_drive.proofs.SpendingLemmas.{gave_up_spending, has_spent}
 use Rattle.st_vault.specs.Image.{IsSpent}
-use Rattle.st_wallet.specs.Found.{Found, IsFoundOn, opens}
-use Rattle.st_wallet.specs.Machine.{answered}
-use Rattle.st_wallet.specs.Steps.{AllFound, HasStepped, IsBeforeOrAfter, IsCounterSpent, StepsOn}
-use Rattle.st_wallet.specs.declared.refused.WalletRefused.{WalletRefused}
-use Rattle.st_wallet_lines.specs.Spender.{wallet_spender}
+use Rattle.st_wallet.specs.Drafts.{Found, IsFoundOn, opens}
+use Rattle.st_wallet.specs.Machine.{answered, AllFound, HasStepped, IsBeforeOrAfter, IsCounterSpent, StepsOn}
+use Rattle.st_wallet.specs.declared.signing_vault.WalletRefused.{WalletRefused}
+use Rattle.st_wallet_lines.specs.Run.{wallet_spender}
 
 -- a fact that does not depend on the contents
 pub told_of : (P : Type 0) (told : Option (List ℕ)) → IsSome told → IfTold told (λ image. P) → P

@@ -1,3 +1,2 @@
-pub mod Spender
-pub mod SpenderLaws
 pub mod Run
+pub mod inside

@@ -1,27 +1,41 @@
--- A run of the wallet over an input: its replies, the counters that it releases, and the vault on the disk
--- afterwards.
-use Rattle.std.specs.Prelude.{◌≡◌, ◌⊎◌, ⊤, ℕ, List, Some, None, IsSome}
+-- The wallet as a machine that spends a number on its disk, the counter, before it releases it with a reply.
+use Rattle.std.proofs.Common.{inl, inr, ap, arith}
+use Rattle.std.specs.Prelude.{◌≡◌, ℕ, ◌+◌, ◌⊎◌, ⊤, List, Some, None, IsSome, ◌++◌, take}
 use Rattle.std.specs.declared.option.Option.{Option}
-use Rattle.st_io.specs.Past.{Images, Only, Past}
-use Rattle.st_io.specs.Spent.{KeepsSpent}
-use Rattle.st_io.specs.Storage.{Storage}
-use Rattle.st_io.specs.Tears.{IfTold}
-use Rattle.st_drive.specs.Lines.{all_lines}
-use Rattle.st_drive.specs.Released.{KeepsNumbers, Run}
-use Rattle.st_drive.specs.Runs.{Course}
-use Rattle.st_drive.specs.Spending.{EndsOpened, EndsStanding, KeepsStanding, KeptNumbers, LosesOne, run_of}
-use Rattle.st_drive.specs.Streams.{Streams, Tells}
-use Rattle.st_drive.specs.Tables.{AnswersLines}
+use Rattle.st_io.specs.Past.{Images, Only, Past, KeepsSpent, Storage}
+use Rattle.st_io.specs.Histories.{IfTold}
 use Rattle.st_vault.specs.Image.{IsSpent}
-use Rattle.st_wallet.specs.Counters.{next_in}
-use Rattle.st_wallet.specs.Found.{Found, found_in}
-use Rattle.st_wallet.specs.Found.Found.{Blank}
-use Rattle.st_wallet.specs.Machine.{replies}
-use Rattle.st_wallet_lines.specs.Spender.{wallet_spender}
+use Rattle.st_vault.specs.Vault.{opened}
+use Rattle.st_wallet.proofs.StepLemmas.{cut_answered}
+use Rattle.st_wallet.specs.Command.{longest_line}
+use Rattle.st_wallet.specs.Machine.{next_in, answered, replies, Answered}
+use Rattle.st_wallet.specs.Drafts.{Found, opens, found_in}
+use Rattle.st_wallet.specs.Drafts.Found.{Blank}
+use Rattle.st_drive.specs.DiskLaws.{disk_laws}
+use Rattle.st_drive.specs.Lines.{all_lines, Laws, Streams, Tells}
+use Rattle.st_drive.specs.OnDisk.{any_effect, RulesLaws, Store, any_effect_laws, disk_meaning}
+use Rattle.st_drive.specs.Tables.{KeepsNumbers, Run, AnswersLines}
+use Rattle.st_drive.specs.Runs.{Course}
+use Rattle.st_drive.specs.Spending.{Spender, EndsOpened, EndsStanding, KeepsStanding, KeptNumbers, LosesOne, run_of, listed, spending}
 
--- the replies of the reference machine to lines
-abbrev pub wallet_replies : (image : List ℕ) → List (List ℕ) → List ℕ
-wallet_replies image lines = replies (found_in image) lines
+-- how many bytes of a line are kept: one more than a line may have, to recognize a longer one
+abbrev pub kept_of_line : ℕ
+kept_of_line = longest_line + 1
+
+-- Its replies, states and counters are those of the reference machine, and an image has the state that it opens as:
+-- blank, damaged, or a vault with its key and its next counter.
+abbrev pub wallet_spender : Spender Found (Unit {0})
+wallet_spender = record {
+  reply = λ found line. (answered found line).reply;
+  next = λ found line. (answered found line).next;
+  number = λ found line. (answered found line).counter;
+  spent = IsSpent;
+  stands = λ found image. opened image ≡ opens found;
+  effect = any_effect;
+}
+
+-- ---- A run of the wallet over an input: its replies, the counters that it releases, and the vault on the disk
+-- afterwards.
 
 -- the state of a disk by its contents; if it doesn't reveal them, nothing is said about replies
 abbrev pub found_told : Option (List ℕ) → Found
@@ -94,3 +108,23 @@ pub record WalletRun (limit : ℕ) (io : Streams) (disk : Storage) (status : ℕ
       ⊎ IfTold disk.reads (λ image. (input written : List ℕ) → Tells io input written
       → EndsOpened wallet_spender (found_in image) (all_lines input) written disk.behind)
   pub from : IfTold disk.reads (λ image. WalletFrom image io disk)
+
+-- ---- The laws of the wallet as a machine on a disk.
+
+cut_kept : (found : Found) (kept : List ℕ ⊎ Found) (line : List ℕ)
+    → (spending wallet_spender).keep found kept (take kept_of_line line) ≡ (spending wallet_spender).keep found kept line
+cut_kept found (inl numbers) line = ap (λ (answer : Answered). inl (numbers ++ listed answer.counter)) (cut_answered found line)
+cut_kept found (inr before) line = ap (λ (answer : Answered). inr answer.next) (cut_answered found line)
+
+wallet_laws : RulesLaws (spending wallet_spender) kept_of_line
+wallet_laws = record {
+  positive = omega arith;
+  cut_reply = λ found line short. ap (λ answer. answer.reply) (cut_answered found line);
+  cut_next = λ found line short. ap (λ answer. answer.next) (cut_answered found line);
+  cut_keep = λ found kept line short. cut_kept found kept line;
+  effect = any_effect_laws kept_of_line;
+}
+
+-- the laws of the machine over any disk
+pub machine_laws : {D : Type 0} (store : Store D) → Laws (disk_meaning (spending wallet_spender) store) kept_of_line
+machine_laws store = disk_laws (spending wallet_spender) store wallet_laws

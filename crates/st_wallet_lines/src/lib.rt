@@ -3,7 +3,5 @@
 #![tactic(auto)]
 
 mod lines;
-mod running;
 
-pub use lines::WalletLines;
-pub use running::run_wallet;
+pub use lines::{WalletLines, run_wallet};

@@ -1,13 +1,14 @@
-ghost use Rattle.std.specs.Prelude.{◌≡◌, refl, true};
+ghost use Rattle.std.specs.Prelude.{◌≡◌, refl, true, ◌<◌, ◌^◌};
+ghost use Rattle.st_io.specs.Past.{storage};
+ghost use Rattle.st_wallet.specs.Drafts.{IsFoundOn};
 ghost use Rattle.st_drive.specs.OnDisk.{disk_meaning};
 ghost use Rattle.st_drive.specs.Spending.{spending};
-ghost use Rattle.st_wallet.specs.Found.{IsFoundOn};
-ghost use Rattle.st_wallet_lines.specs.Spender.{kept_of_line, wallet_spender};
-ghost use Rattle.st_wallet_lines.specs.SpenderLaws.{machine_laws};
+ghost use Rattle.st_drive.specs.Lines.{streams};
+ghost use Rattle.st_wallet_lines.specs.Run.{WalletRun, kept_of_line, wallet_spender, machine_laws};
 
 use st_base::Bytes;
-use st_drive::{Machine, StepError};
-use st_io::Disk;
+use st_drive::{Machine, StepError, run_machine};
+use st_io::{Disk, Sink, Source};
 use st_wallet::{LONGEST_LINE, Wallet, WalletRefused};
 use std::alloc::Global;
 use std::marker::{Model, PhantomData};
@@ -22,8 +23,7 @@ pub struct WalletLines<D> {
 }
 
 impl<D> Model for WalletLines<D> {
-    ghost use Rattle.st_wallet.specs.Codes.{coded_found};
-    ghost use Rattle.st_wallet.specs.Found.{Found};
+    ghost use Rattle.st_wallet.specs.Drafts.{coded_found, Found};
 
     ghost Value = { Found };
 
@@ -82,4 +82,29 @@ impl<D: Disk> Machine for WalletLines<D> {
     ghost prompt = { λ now. refl };
 
     ghost laws = { machine_laws (record { reads = D.reads; past = D.past }) };
+}
+
+/// Opens the wallet of the disk, and answers the lines of a source of at most `limit` bytes.
+///
+/// Each reply is written before the next line is executed. The status is 4 only if the disk's count
+/// of faults rose, and else that of `run_machine`. Clauses about replies and the disk hold if it
+/// reveals its contents.
+pub fn run_wallet<S: Source, K: Sink, D: Disk>(
+    alloc: Global,
+    limit: usize,
+    source: &mut S,
+    sink: &mut K,
+    disk: &mut D,
+) -> u8
+    requires { limit < 2 ^ 62 }
+    ensures { WalletRun limit (streams S.left S.faults source.old source.new K.written K.is_finished K.faults sink.old sink.new)
+        (storage D.reads D.past D.faults disk.old disk.new) result }
+{
+    match Wallet::open(disk) {
+        Ok(wallet) => {
+            let lines = WalletLines::new(wallet);
+            run_machine(alloc, limit, lines, &mut (), disk, source, sink)
+        }
+        Err(_) => 4,
+    }
 }

@@ -1,3 +1,2 @@
 -- Items by number, and the lines of a round.
-pub mod EachLemmas
-mod OrderLemmas
+pub mod OrderLemmas

@@ -1,5 +1,2 @@
-pub mod Each
-pub mod Words
 pub mod Identifier
-pub mod Identity
-pub mod Order
+pub mod inside

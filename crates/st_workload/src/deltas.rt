@@ -2,13 +2,12 @@ ghost use Rattle.std.specs.Prelude.{◌≡◌, ◌≤◌, ◌++◌, ◌∷◌, [
 ghost use Rattle.std.specs.Fmt.{decimal};
 ghost use Rattle.std.specs.Int.{w32, to_be_bytes};
 ghost use Rattle.hex.specs.Hex.{encode_lower};
-ghost use Rattle.st_plain.specs.Canonical.{canonical};
-ghost use Rattle.st_plain.specs.Plain.{object, text};
+ghost use Rattle.st_plain.specs.Plain.{canonical, object, text};
 ghost use Rattle.st_canon.specs.View.{plain, plain_members};
 ghost use Rattle.st_workload.specs.Identifier.{delta, endpoint, patch, service};
 ghost use Rattle.st_hash.specs.Hash.{hash_of};
 
-use crate::words::word;
+use crate::keys::word;
 use itoa::Buffer;
 use st_base::{List, Text, WantOfMemory};
 use st_canon::{Json, Object, write};
@@ -24,7 +23,7 @@ pub(crate) fn delta(alloc: Global, patches: List<Json>, next: &Jwk) -> Result<Js
     Ok(Json::Object(delta_members(alloc, patches, next)?))
 }
 
-#[tactic(auto, unfolding(crate::specs::Identifier::delta, st_plain::proofs::OnLiterals::names_on_literals))]
+#[tactic(auto, unfolding(crate::specs::Identifier::delta, st_plain::proofs::NameLemmas::names_on_literals))]
 fn delta_members(alloc: Global, patches: List<Json>, next: &Jwk) -> Result<Object, WantOfMemory>
     ensures { IfOk result (λ members. object (plain_members members) ≡ delta (map plain patches) next.now) }
 {
@@ -59,7 +58,7 @@ fn patch(alloc: Global, seed: u64, number: u32, round: u32) -> Result<Json, Want
     Ok(Json::Object(patch_members(alloc, seed, number, round)?))
 }
 
-#[tactic(auto, unfolding(crate::specs::Identifier::patch, st_plain::proofs::OnLiterals::names_on_literals))]
+#[tactic(auto, unfolding(crate::specs::Identifier::patch, st_plain::proofs::NameLemmas::names_on_literals))]
 fn patch_members(alloc: Global, seed: u64, number: u32, round: u32) -> Result<Object, WantOfMemory>
     requires { round ≤ 30 }
     ensures { IfOk result (λ members. object (plain_members members) ≡ patch seed number round) }
@@ -89,7 +88,7 @@ fn service(alloc: Global, seed: u64, number: u32, round: u32) -> Result<Json, Wa
     Ok(Json::Object(service_members(alloc, seed, number, round)?))
 }
 
-#[tactic(auto, unfolding(crate::specs::Identifier::service, st_plain::proofs::OnLiterals::names_on_literals))]
+#[tactic(auto, unfolding(crate::specs::Identifier::service, st_plain::proofs::NameLemmas::names_on_literals))]
 fn service_members(
     alloc: Global,
     seed: u64,
@@ -118,7 +117,8 @@ fn id_json(alloc: Global, round: u32) -> Result<Json, WantOfMemory>
 }
 
 fn endpoint_json(alloc: Global, w: u32) -> Result<Json, WantOfMemory>
-    ensures { IfOk result (λ json. plain json ≡ text (codes "https://example.com/" ++ encode_lower (to_be_bytes w32 w))) }
+    ensures { IfOk result (λ json. plain json
+        ≡ text (codes "https://example.com/" ++ encode_lower (to_be_bytes w32 w))) }
 {
     let mut endpoint = String::from_str(alloc, "https://example.com/")?;
     let digits = hex::encode(alloc, w.to_be_bytes())?;

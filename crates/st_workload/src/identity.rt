@@ -1,9 +1,7 @@
 ghost use Rattle.std.specs.Prelude.{◌≡◌, ◌≤◌, ◌+◌, ◌∷◌, [], IfOk, OnOk};
-ghost use Rattle.st_workload.specs.Each.{each};
-ghost use Rattle.st_workload.specs.Identifier.{did_suffix, key, submit_line};
-ghost use Rattle.st_workload.specs.Identity.{identity_of, lines_of};
-ghost use Rattle.st_vault.specs.Opening.{ReadsAs};
-ghost use Rattle.st_vault.specs.Values.{counter_of, new_vault, vault_after};
+ghost use Rattle.st_workload.specs.Identifier.{each, did_suffix, key, submit_line, identity_of, lines_of};
+ghost use Rattle.st_vault.specs.Vault.{ReadsAs};
+ghost use Rattle.st_vault.specs.Image.{counter_of, new_vault, vault_after};
 
 use crate::keys::secret;
 use crate::requests::{create_delta, create_line, suffix_data, update_line};

@@ -8,7 +8,6 @@ mod identity;
 mod keys;
 mod order;
 mod requests;
-mod words;
 
 pub use identity::{Identity, all_identities};
 pub use order::events;

@@ -1,7 +1,7 @@
 ghost use Rattle.std.specs.Prelude.{◌≡◌, ◌<◌, ◌/◌, ◌%◌, ◌++◌, [], length, IsTrue, IfOk, OnOk};
-ghost use Rattle.st_workload.specs.Order.{anchor_fed, anchor_lines, events, feeds_anchor, file_fed, rollback_line, turn};
+ghost use Rattle.st_workload.specs.Identifier.{anchor_fed, anchor_lines, events, feeds_anchor, file_fed, rollback_line, turn};
 
-use crate::words::word;
+use crate::keys::word;
 use itoa::Buffer;
 use st_base::{Bytes, List, WantOfMemory};
 use std::alloc::Global;
@@ -17,7 +17,7 @@ pub struct Feed {
 /// The lines of a second node: these lines of anchors in their order, and these of files in an
 /// order that the words of a stream give them, each once. The anchor of each batch with an odd
 /// number is rolled back at once, and fed again.
-#[tactic(auto, unfolding(crate::specs::Order::events))]
+#[tactic(auto, unfolding(crate::specs::Identifier::events))]
 pub fn events(
     alloc: Global,
     seed: u64,
@@ -42,7 +42,7 @@ pub fn events(
     Ok(lines)
 }
 
-#[tactic(auto, unfolding(crate::specs::Order::turn))]
+#[tactic(auto, unfolding(crate::specs::Identifier::turn))]
 fn turn(alloc: Global, anchors: &[Bytes], w: u32, feed: Feed) -> Result<Feed, WantOfMemory>
     ensures { IfOk result (λ next. next ≡ turn anchors.now w feed) }
 {

@@ -3,8 +3,7 @@ ghost use Rattle.st_plain.specs.Plain.{object};
 ghost use Rattle.st_canon.specs.View.{plain, plain_members};
 ghost use Rattle.st_workload.specs.Identifier.{create, create_delta, key, payload, request, signed, submit_line, did_suffix, did_suffix_data, update, update_delta, update_jwk, updating_with};
 ghost use Rattle.st_ops.specs.Operation.{plain_operation};
-ghost use Rattle.st_ops.specs.Request.{IsComplete};
-ghost use Rattle.st_ops.specs.RequestText.{request_text};
+ghost use Rattle.st_ops.specs.Request.{IsComplete, request_text};
 
 use crate::deltas::{delta, delta_hash, patches};
 use crate::keys::{recovery_jwk, update_jwk};
@@ -147,7 +146,7 @@ fn payload(alloc: Global, revealed: &Jwk, delta: &Json) -> Result<Json, WantOfMe
     Ok(Json::Object(payload_members(alloc, revealed, delta)?))
 }
 
-#[tactic(auto, unfolding(crate::specs::Identifier::payload, st_plain::proofs::OnLiterals::names_on_literals))]
+#[tactic(auto, unfolding(crate::specs::Identifier::payload, st_plain::proofs::NameLemmas::names_on_literals))]
 fn payload_members(alloc: Global, revealed: &Jwk, delta: &Json) -> Result<Object, WantOfMemory>
     ensures { IfOk result (λ members. object (plain_members members) ≡ payload revealed.now (plain delta.now)) }
 {

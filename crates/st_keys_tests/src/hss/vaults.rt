@@ -1,5 +1,5 @@
 ghost use Rattle.std.specs.Prelude.{IfOk};
-ghost use Rattle.st_vault.specs.Opening.{ReadsAs};
+ghost use Rattle.st_vault.specs.Vault.{ReadsAs};
 
 use super::judged;
 use super::vectors::QUICK_PUBLIC;

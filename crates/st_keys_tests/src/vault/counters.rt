@@ -1,4 +1,4 @@
-ghost use Rattle.st_vault.specs.Opening.{ReadsAs};
+ghost use Rattle.st_vault.specs.Vault.{ReadsAs};
 
 use super::{disk_of, is_formatted, key, spend};
 use st_base::WantOfMemory;

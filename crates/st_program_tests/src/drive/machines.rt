@@ -1,6 +1,6 @@
 // The machine of the tests.
 ghost use Rattle.std.specs.Prelude.{◌≡◌, ◌+◌, ◌%◌, ⊤, false, IfOk};
-ghost use Rattle.st_drive.specs.TestMachines.{numbered_reply, numbered_meaning, numbered_laws};
+ghost use Rattle.st_drive.specs.inside.Parts.{numbered_reply, numbered_meaning, numbered_laws};
 
 use st_base::{Bytes, WantOfMemory};
 use st_drive::{Machine, StepError};
@@ -15,7 +15,7 @@ pub struct Allowance {
 }
 
 impl Model for Allowance {
-    ghost use Rattle.st_drive.specs.TestMachines.{Allowance as Allowed};
+    ghost use Rattle.st_drive.specs.inside.Parts.{Allowance as Allowed};
 
     ghost Value = { Allowed };
 

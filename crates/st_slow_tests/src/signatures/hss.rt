@@ -1,4 +1,4 @@
-ghost use Rattle.st_vault.specs.Opening.{ReadsAs};
+ghost use Rattle.st_vault.specs.Vault.{ReadsAs};
 
 use st_base::Bytes;
 use st_hss::HssVault;

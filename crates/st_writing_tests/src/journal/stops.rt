@@ -1,5 +1,5 @@
 ghost use Rattle.std.specs.Prelude.{◌<◌, ◌^◌};
-ghost use Rattle.st_journal.specs.Moments.{IsReady};
+ghost use Rattle.st_journal.specs.Image.{IsReady};
 
 use super::{append_line, disk_of, is_done};
 use st_base::{Bytes, List, WantOfMemory};

@@ -1,10 +1,9 @@
 use Rattle.std.proofs.Common.{◌∙◌, ◌-◌, ap, sym, subst}
-use Rattle.st_anchor.specs.Coming.{IsMissing}
-use Rattle.st_anchor.specs.Counting.{one_file_with}
-use Rattle.st_anchor.specs.Known.{provisional_part_with}
-use Rattle.st_anchor.specs.States.{count_read, opened_in_provisional, provisional_part_state}
-use Rattle.st_anchor.proofs.BindLemmas.{provisional-is, provisional-missing}
-use Rattle.st_anchor.proofs.CountingLemmas.{file-none}
+use Rattle.st_anchor.specs.inside.Coming.{IsMissing}
+use Rattle.st_anchor.specs.States.{one_file_with, count_read, opened_in_provisional, provisional_part_state}
+use Rattle.st_anchor.specs.BoundValue.{provisional_part_with}
+use Rattle.st_anchor.proofs.SettleLemmas.{provisional-is, provisional-missing}
+use Rattle.st_anchor.proofs.CountLemmas.{file-none}
 use Rattle.st_anchor.proofs.binding.bind_provisional.Goals as goal
 
 pub returns-in_ok-branch-in-Is-clause-work : goal.returns-in_ok-branch-in-Is-clause-work

@@ -1,5 +1,5 @@
 use Rattle.std.proofs.Common.{◌<◌, arith}
-use Rattle.st_apply.proofs.LongLemmas.{long_counts_not}
+use Rattle.st_apply.proofs.LawLemmas.{long_counts_not}
 use Rattle.st_apply.proofs.counting.may_count.Goals as goal
 
 pub returns-then-size-max_delta-clause-no : goal.returns-then-size-max_delta-clause-no

@@ -1,8 +1,8 @@
 use Rattle.std.proofs.Common.{◌∙◌, ap, sym}
 use Rattle.std.specs.List.{fold}
-use Rattle.st_apply.proofs.LawLemmas.{seen_resolve}
-use Rattle.st_apply.specs.Seen.{absent}
-use Rattle.st_apply.specs.Step.{step}
+use Rattle.st_apply.proofs.ResolvedLemmas.{seen_resolve}
+use Rattle.st_apply.specs.Codes.{absent}
+use Rattle.st_apply.specs.Applied.{step}
 use Rattle.st_apply.proofs.laws.alike_law.Goals as goal
 
 pub returns : goal.returns

@@ -1,4 +1,4 @@
-use Rattle.st_apply.proofs.LawLemmas.{given_ascend}
+use Rattle.st_apply.proofs.ResolvedLemmas.{given_ascend}
 use Rattle.st_apply.proofs.laws.given_law.Goals as goal
 
 pub returns : goal.returns

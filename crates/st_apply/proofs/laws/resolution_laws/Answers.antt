@@ -1,6 +1,6 @@
-use Rattle.st_apply.proofs.LawLemmas as laws
+use Rattle.st_apply.proofs.ResolvedLemmas as laws
 use Rattle.st_apply.proofs.OneMoreLemmas.{one_more}
-use Rattle.st_apply.proofs.StepLemmas.{leaves_it}
+use Rattle.st_apply.proofs.LawLemmas.{leaves_it}
 use Rattle.st_apply.proofs.laws.resolution_laws.Goals as goal
 
 pub returns-clause-fold_is_walk : goal.returns-clause-fold_is_walk

@@ -1,6 +1,6 @@
 use Rattle.std.proofs.Common.{◌≡◌, drop}
 use Rattle.std.specs.Map.{lookup}
-use Rattle.st_plain.specs.Find.{member_at}
+use Rattle.st_plain.specs.Objects.{member_at}
 use Rattle.st_plain.specs.Names.{is_name}
 use Rattle.st_canon.specs.View.{plain_members}
 use Rattle.st_canon.proofs.object.scanned.Given as goal

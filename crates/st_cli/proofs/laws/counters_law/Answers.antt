@@ -1,4 +1,4 @@
-use Rattle.st_drive.proofs.ReleasedLemmas.{never_twice}
+use Rattle.st_drive.proofs.RunLemmas.{never_twice}
 use Rattle.st_vault.specs.Image.{IsSpent}
 use Rattle.st_cli.proofs.laws.counters_law.Goals as goal
 

@@ -1,7 +1,6 @@
 use Rattle.std.proofs.Common.{refl}
 use Rattle.st_drive.proofs.TableLemmas.{ends_weaker}
-use Rattle.st_cli.proofs.JournalledLemmas.{journal_run}
-use Rattle.st_cli.proofs.RunLemmas.{exchange_run, generate_ends, node_run, promised_of}
+use Rattle.st_cli.proofs.RunLemmas.{journal_run, exchange_run, generate_ends, node_run, promised_of}
 use Rattle.st_cli.proofs.run.run.Goals as goal
 
 pub returns-in-Some-Node-clause-ends : goal.returns-in-Some-Node-clause-ends

@@ -1,6 +1,6 @@
 use Rattle.std.proofs.Common.{◌≡◌, drop}
 use Rattle.std.specs.List.{list_all}
-use Rattle.st_doc.specs.Entries.{is_name}
+use Rattle.st_doc.specs.Document.{is_name}
 use Rattle.st_doc.proofs.check.are_names.Given as goal
 
 abbrev pub invariant-loop-name : goal.invariant-loop-name

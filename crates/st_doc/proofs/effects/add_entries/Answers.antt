@@ -1,6 +1,6 @@
 use Rattle.std.proofs.Common.{map, nat_eq, length, ap, sym, ◌∙◌}
 use Rattle.st_canon.specs.View.{plain}
-use Rattle.st_doc.proofs.EffectLemmas.{added_to_none}
+use Rattle.st_doc.proofs.PatchLemmas.{added_to_none}
 use Rattle.st_doc.proofs.effects.add_entries.Goals as goal
 
 pub returns-then-is_empty : goal.returns-then-is_empty

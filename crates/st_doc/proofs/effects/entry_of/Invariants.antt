@@ -1,6 +1,6 @@
 use Rattle.std.proofs.Common.{◌≡◌, drop, map}
 use Rattle.st_canon.specs.View.{plain}
-use Rattle.st_doc.specs.Effects.{entry_of}
+use Rattle.st_doc.specs.Patch.{entry_of}
 use Rattle.st_doc.proofs.effects.entry_of.Given as goal
 
 abbrev pub invariant-loop-entry : goal.invariant-loop-entry

@@ -1,9 +1,9 @@
 use Rattle.std.proofs.Common.{map, filter, not, ap, ◌∙◌}
 use Rattle.st_canon.specs.View.{plain}
 use Rattle.st_doc.specs.Alike.{is_among}
-use Rattle.st_doc.specs.Effects.{removed}
-use Rattle.st_doc.specs.Entries.{id_of}
-use Rattle.st_doc.proofs.EffectLemmas.{filter-plain}
+use Rattle.st_doc.specs.Patch.{removed}
+use Rattle.st_doc.specs.Document.{id_of}
+use Rattle.st_doc.proofs.PatchLemmas.{filter-plain}
 use Rattle.st_doc.proofs.effects.remove_entries.Goals as goal
 
 pub returns : goal.returns

@@ -1,7 +1,7 @@
 use Rattle.std.proofs.Common.{◌≡◌, ◌++◌, take, drop, map, unwrap_or}
 use Rattle.st_canon.specs.View.{plain}
-use Rattle.st_doc.specs.Effects.{entry_of}
-use Rattle.st_doc.specs.Entries.{id_of}
+use Rattle.st_doc.specs.Patch.{entry_of}
+use Rattle.st_doc.specs.Document.{id_of}
 use Rattle.st_doc.proofs.effects.replace_entries.Given as goal
 
 abbrev pub invariant-loop-entry : goal.invariant-loop-entry

@@ -1,5 +1,5 @@
 use Rattle.std.proofs.Common.{◌≡◌, ◌++◌, length, map}
-use Rattle.st_doc.specs.Entries.{id_of}
+use Rattle.st_doc.specs.Document.{id_of}
 use Rattle.st_doc.proofs.ids.ids_of.Given as goal
 
 abbrev pub invariant-entries : goal.invariant-entries

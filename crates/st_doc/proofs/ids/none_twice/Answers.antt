@@ -1,6 +1,6 @@
 use Rattle.std.proofs.Common.{◌∙◌}
 use Rattle.std.proofs.lemmas.Map.Views.{btree_set_len-from_list}
-use Rattle.st_doc.proofs.TwiceLemmas.{text_cmp-total, none_twice-count}
+use Rattle.st_doc.proofs.PatchLemmas.{text_cmp-total, none_twice-count}
 use Rattle.st_doc.proofs.ids.none_twice.Goals as goal
 
 pub returns : goal.returns

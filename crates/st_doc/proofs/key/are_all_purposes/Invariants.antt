@@ -1,6 +1,6 @@
 use Rattle.std.proofs.Common.{◌≡◌, length}
 use Rattle.std.specs.List.{list_all}
-use Rattle.st_doc.specs.Entries.{is_purpose}
+use Rattle.st_doc.specs.Document.{is_purpose}
 use Rattle.st_doc.proofs.key.are_all_purposes.Given as goal
 
 abbrev pub invariant-purposes : goal.invariant-purposes

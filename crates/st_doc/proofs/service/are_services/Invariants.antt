@@ -1,6 +1,6 @@
 use Rattle.std.proofs.Common.{◌≡◌, length}
 use Rattle.std.specs.List.{list_all}
-use Rattle.st_doc.specs.Entries.{is_service}
+use Rattle.st_doc.specs.Document.{is_service}
 use Rattle.st_doc.proofs.service.are_services.Given as goal
 
 abbrev pub invariant-services : goal.invariant-services

@@ -3,7 +3,7 @@ use Rattle.std.proofs.lemmas.Bool.Decides.{nat_tests}
 use Rattle.std.proofs.lemmas.List.{nil_from_length}
 use Rattle.std.proofs.KnownBytes.{Appends-nil}
 use Rattle.st_drive.specs.Lines.{last_line}
-use Rattle.st_drive.specs.Parts.{Wrote, WroteSome}
+use Rattle.st_drive.specs.Runs.{Wrote, WroteSome}
 use Rattle.st_drive.proofs.LineLemmas.{last_fed}
 use Rattle.st_drive.proofs.RunLemmas.{went_none}
 use Rattle.st_drive.proofs.driver.answer_last.Goals as goal

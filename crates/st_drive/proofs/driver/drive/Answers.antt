@@ -2,7 +2,7 @@ use Rattle.std.proofs.Common.{◌≡◌, ◌∙◌, ◌≤◌, ◌+◌, ◌-◌,
 use Rattle.std.proofs.lemmas.List.{length-take-le, length-drop, take-take}
 use Rattle.std.specs.Io.KnownBytes.{Consumes}
 use Rattle.std.specs.declared.option.Option.{Option}
-use Rattle.st_drive.proofs.Ends.{Read, taken_start, taken_more, table_read_fault, table_cut, table_over, table_of_end, cut_short}
+use Rattle.st_drive.proofs.EndLemmas.{Read, taken_start, taken_more, table_read_fault, table_cut, table_over, table_of_end, cut_short}
 use Rattle.st_drive.proofs.driver.drive.Goals as goal
 
 pub pieces-init : goal.pieces-init

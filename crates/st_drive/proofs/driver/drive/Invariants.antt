@@ -1,6 +1,6 @@
 use Rattle.std.proofs.Common.{vec_len, ◌+◌, ◌≤◌}
-use Rattle.st_io.specs.Sinks.{FinishesNothing}
-use Rattle.st_drive.proofs.Ends.{Taken}
+use Rattle.st_io.specs.Past.{FinishesNothing}
+use Rattle.st_drive.proofs.EndLemmas.{Taken}
 use Rattle.st_drive.proofs.driver.drive.Given as goal
 
 abbrev pub invariant-pieces : goal.invariant-pieces

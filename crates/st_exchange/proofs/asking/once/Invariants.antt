@@ -1,7 +1,7 @@
 use Rattle.std.proofs.Common.{◌≡◌, [], take}
 use Rattle.std.specs.List.{fold}
-use Rattle.st_exchange.specs.Among.{HasThose}
-use Rattle.st_exchange.specs.Answer.{with_one}
+use Rattle.st_exchange.specs.inside.Among.{HasThose}
+use Rattle.st_exchange.specs.Peer.{with_one}
 use Rattle.st_exchange.proofs.asking.once.Given as goal
 
 -- those so far are each there once, and the set has them

@@ -1,7 +1,7 @@
 use Rattle.std.proofs.Common.{List, subst, sym}
 use Rattle.st_hash.specs.Hash.{HashValue}
-use Rattle.st_exchange.proofs.AmongLemmas.{among_pushed}
-use Rattle.st_exchange.specs.Among.{HasThose}
+use Rattle.st_exchange.proofs.AnswerLemmas.{among_pushed}
+use Rattle.st_exchange.specs.inside.Among.{HasThose}
 use Rattle.st_exchange.proofs.asking.put_once.Goals as goal
 
 pub returns-in_ok-push-clause-has : goal.returns-in_ok-push-clause-has

@@ -1,6 +1,6 @@
 use Rattle.std.proofs.Common.{◌≡◌, take}
 use Rattle.std.specs.List.{filter}
-use Rattle.st_exchange.specs.Answer.{is_among}
+use Rattle.st_exchange.specs.Peer.{is_among}
 use Rattle.st_exchange.proofs.asking.wanted_of.Given as goal
 
 -- those so far that are wanted

@@ -1,5 +1,5 @@
 use Rattle.std.proofs.Common.{◌≡◌, ◌∙◌, ap, arith}
-use Rattle.st_generate.proofs.EndLemmas.{ask_next, count_is}
+use Rattle.st_generate.proofs.SummaryLemmas.{ask_next, count_is}
 use Rattle.st_generate.specs.Summary.{all_asked, asked, resolve_line}
 use Rattle.st_generate.specs.declared.ends.Ends.{Ends}
 use Rattle.st_generate.proofs.ends.ask_all.Goals as goal

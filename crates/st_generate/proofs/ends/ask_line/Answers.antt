@@ -1,6 +1,6 @@
 use Rattle.std.proofs.Common.{◌∙◌, ℕ, ◌+◌, List, ap}
 use Rattle.std.specs.Prelude.{bytes_eq, codes}
-use Rattle.st_generate.proofs.EndLemmas.{same_ends}
+use Rattle.st_generate.proofs.SummaryLemmas.{same_ends}
 use Rattle.st_generate.specs.Summary.{asked}
 use Rattle.st_generate.specs.Talk.{begins_with, one_if, reply}
 use Rattle.st_generate.proofs.ends.ask_line.Goals as goal

@@ -1,9 +1,9 @@
 use Rattle.std.proofs.Common.{◌∙◌, map, ap, arith}
-use Rattle.st_generate.proofs.RoundLemmas.{batch_next}
-use Rattle.st_generate.specs.Rounds.{batched}
+use Rattle.st_generate.proofs.SummaryLemmas.{batch_next}
+use Rattle.st_generate.specs.Summary.{batched}
 use Rattle.st_generate.specs.Talk.{told}
 use Rattle.st_generate.specs.declared.rounds.Batches.{Batches}
-use Rattle.st_workload.specs.Identity.{line_of}
+use Rattle.st_workload.specs.inside.Identity.{line_of}
 use Rattle.st_generate.proofs.rounds.all_batches.Goals as goal
 
 pub rounds-preserved : goal.rounds-preserved

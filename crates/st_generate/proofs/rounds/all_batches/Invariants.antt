@@ -1,5 +1,5 @@
 use Rattle.std.proofs.Common.{◌≡◌}
-use Rattle.st_generate.specs.Rounds.{batches_of}
+use Rattle.st_generate.specs.Summary.{batches_of}
 use Rattle.st_generate.proofs.rounds.all_batches.Given as goal
 
 -- the batches of the rounds so far

@@ -1,6 +1,6 @@
 use Rattle.std.proofs.Common.{◌∙◌, ℕ, List, [], ◌∷◌, ◌++◌, ap}
-use Rattle.st_generate.proofs.RoundLemmas.{same_batches}
-use Rattle.st_generate.specs.Rounds.{anchor_in, anchor_line, batched, content_lines, flush_line}
+use Rattle.st_generate.proofs.SummaryLemmas.{same_batches}
+use Rattle.st_generate.specs.Summary.{anchor_in, anchor_line, batched, content_lines, flush_line}
 use Rattle.st_generate.specs.Talk.{TalkValue, reply, tell}
 use Rattle.st_generate.proofs.rounds.batch.Goals as goal
 

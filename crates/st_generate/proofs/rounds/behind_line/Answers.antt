@@ -1,5 +1,5 @@
 use Rattle.std.proofs.Common.{ap, drop, sym}
-use Rattle.st_generate.proofs.LineLemmas.{first_line, no_line}
+use Rattle.st_generate.proofs.SummaryLemmas.{first_line, no_line}
 use Rattle.st_generate.proofs.rounds.behind_line.Goals as goal
 
 pub returns-in-Some : goal.returns-in-Some

@@ -1,7 +1,6 @@
 use Rattle.std.proofs.Common.{◌∙◌, List, [], ◌∷◌, ℕ, ◌++◌, map, append-nil, ap, sym}
-use Rattle.st_generate.proofs.RoundLemmas.{file_next}
-use Rattle.st_generate.proofs.LineLemmas.{no_line}
-use Rattle.st_generate.specs.Rounds.{content_line}
+use Rattle.st_generate.proofs.SummaryLemmas.{file_next, no_line}
+use Rattle.st_generate.specs.Summary.{content_line}
 use Rattle.st_generate.proofs.rounds.push_files.Goals as goal
 
 pub lines-preserved : goal.lines-preserved

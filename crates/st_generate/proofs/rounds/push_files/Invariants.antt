@@ -1,6 +1,6 @@
 use Rattle.std.proofs.Common.{◌≡◌, ◌++◌, map, length}
 use Rattle.st_drive.specs.Lines.{whole_lines}
-use Rattle.st_generate.specs.Rounds.{content_line}
+use Rattle.st_generate.specs.Summary.{content_line}
 use Rattle.st_generate.proofs.rounds.push_files.Given as goal
 
 -- the files so far and those of the remaining lines are all of them

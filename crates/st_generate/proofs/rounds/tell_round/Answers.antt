@@ -1,7 +1,7 @@
 use Rattle.std.proofs.Common.{◌∙◌, ℕ, ◌+◌, List, drop, map, ap, sym}
 use Rattle.std.proofs.lemmas.List.{drop_all}
-use Rattle.st_base.proofs.Lists.{next_item}
-use Rattle.st_workload.specs.Identity.{line_of}
+use Rattle.st_base.proofs.ListLemmas.{next_item}
+use Rattle.st_workload.specs.inside.Identity.{line_of}
 use Rattle.st_generate.specs.Talk.{TalkValue, tell, told}
 use Rattle.st_workload.specs.declared.identity.Identity.{Identity}
 use Rattle.st_generate.proofs.rounds.tell_round.Goals as goal

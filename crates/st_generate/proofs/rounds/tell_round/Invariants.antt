@@ -1,5 +1,5 @@
 use Rattle.std.proofs.Common.{◌≡◌, drop, map}
-use Rattle.st_workload.specs.Identity.{line_of}
+use Rattle.st_workload.specs.inside.Identity.{line_of}
 use Rattle.st_generate.specs.Talk.{told}
 use Rattle.st_generate.proofs.rounds.tell_round.Given as goal
 

@@ -1,6 +1,6 @@
 use Rattle.std.proofs.Common.{◌∙◌, ℕ, ◌+◌, List, drop, ap, sym}
 use Rattle.std.proofs.lemmas.List.{drop_all}
-use Rattle.st_base.proofs.Lists.{next_item}
+use Rattle.st_base.proofs.ListLemmas.{next_item}
 use Rattle.st_generate.specs.Talk.{TalkValue, tell, told}
 use Rattle.st_generate.proofs.talk.tell_all.Goals as goal
 

@@ -1,5 +1,5 @@
 use Rattle.std.proofs.Common.{◌∙◌, ℕ, ◌+◌, ◌*◌, ◌≤◌, List, ap, arith}
-use Rattle.st_generate.specs.Paid.{IsPaid}
+use Rattle.st_generate.specs.inside.Codes.{IsPaid}
 use Rattle.st_generate.specs.Talk.{counted}
 use Rattle.st_generate.specs.declared.talk.Accepted.{Accepted}
 use Rattle.st_generate.proofs.talk.tell_node.Goals as goal

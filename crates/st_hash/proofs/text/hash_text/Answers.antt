@@ -1,7 +1,7 @@
 use Rattle.std.proofs.Common.{◌≡◌, ◌∙◌, ap, arith, length, subst, sym, Some}
 use Rattle.std.proofs.lemmas.Grind.{common_steps}
 use Rattle.st_hash.specs.Hash.{hash_of_text, hash_of_text_at, hash_text}
-use Rattle.st_hash.proofs.HashTexts.{hash_of_text_at-hash_text, hash_of_text-hash_text, length-hash_text}
+use Rattle.st_hash.proofs.HashLemmas.{hash_of_text_at-hash_text, hash_of_text-hash_text, length-hash_text}
 use Rattle.st_hash.proofs.text.hash_text.Goals as goal
 
 pub returns-clause-read : goal.returns-clause-read

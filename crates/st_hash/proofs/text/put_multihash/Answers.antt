@@ -1,5 +1,5 @@
 use Rattle.std.proofs.Common.{length}
-use Rattle.st_hash.proofs.HashTexts.{multihash_put}
+use Rattle.st_hash.proofs.HashLemmas.{multihash_put}
 use Rattle.st_hash.proofs.text.put_multihash.Goals as goal
 
 pub returns : goal.returns

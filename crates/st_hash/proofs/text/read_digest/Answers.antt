@@ -1,8 +1,8 @@
 use Rattle.std.proofs.Common.{◌≡◌, ◌∙◌, ◌+◌, List, Some, sym, ap, arith, length, drop}
 use Rattle.std.proofs.lemmas.List.{length-drop, take_all}
 use Rattle.st_hash.specs.Hash.{HashValue}
-use Rattle.st_hash.proofs.FixedLemmas.{fixed_of_text-length}
-use Rattle.st_hash.proofs.HashTexts.{read-none, read-some, hash_of_multihash-code, hash_of_multihash-size, hash_of_multihash-some}
+use Rattle.st_hash.proofs.Base64Lemmas.{fixed_of_text-length}
+use Rattle.st_hash.proofs.HashLemmas.{read-none, read-some, hash_of_multihash-code, hash_of_multihash-size, hash_of_multihash-some}
 use Rattle.st_hash.proofs.text.read_digest.Goals as goal
 
 pub returns-in-None : goal.returns-in-None

@@ -1,5 +1,5 @@
 use Rattle.std.proofs.Common.{rules, arith}
-use Rattle.st_hash.proofs.HashTexts.{hash_of_text_with-spelled, hash_of_text_with-none}
+use Rattle.st_hash.proofs.HashLemmas.{hash_of_text_with-spelled, hash_of_text_with-none}
 use Rattle.st_hash.proofs.text.read_hash.Goals as goal
 
 pub returns-in-Some-clause-spelled : goal.returns-in-Some-clause-spelled

@@ -1,5 +1,5 @@
 use Rattle.std.proofs.Common.{arith}
-use Rattle.st_hss.proofs.KeyLemmas.{leaf_of_child}
+use Rattle.st_hss.proofs.VaultLemmas.{leaf_of_child}
 use Rattle.st_hss.specs.Uses.{head_of}
 use Rattle.st_hss.proofs.trees.new_head.Goals as goal
 

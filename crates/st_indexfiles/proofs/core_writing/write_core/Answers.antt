@@ -1,14 +1,13 @@
 use Rattle.std.proofs.Common.{◌≡◌, ◌∙◌, ◌++◌, Some, true, ap, sym}
-use Rattle.st_base.proofs.RuleLemmas.{none_fails, passes}
-use Rattle.st_plain.specs.Canonical.{canonical}
+use Rattle.st_base.proofs.ListLemmas.{none_fails, passes}
+use Rattle.st_plain.specs.Plain.{canonical}
 use Rattle.st_plain.specs.Shapes.{json_in}
 use Rattle.st_plain.proofs.ReadableLemmas.{json_again}
-use Rattle.st_indexfiles.specs.CoreIndex.{core_index_of, core_json}
-use Rattle.st_indexfiles.specs.CoreRules.{core_rules, has_core_entries, has_core_members}
-use Rattle.st_indexfiles.specs.Written.{IsCoreReadAgain}
+use Rattle.st_indexfiles.specs.CoreIndex.{core_index_of, core_json, core_rules, has_core_entries, has_core_members}
+use Rattle.st_indexfiles.specs.inside.CoreParts.{IsCoreReadAgain}
 use Rattle.st_indexfiles.proofs.CoreLemmas.{core_parts, core_says}
 use Rattle.st_indexfiles.proofs.MemberLemmas.{core_text, joined}
-use Rattle.st_indexfiles.proofs.ReadableLemmas.{core_readable}
+use Rattle.st_indexfiles.proofs.WrittenLemmas.{core_readable}
 use Rattle.st_indexfiles.proofs.core_writing.write_core.Goals as goal
 
 text_is : (c : goal.In_ok-push_all-2) → c.push_all-2.new.self ≡ canonical (core_json c.args.index.now)

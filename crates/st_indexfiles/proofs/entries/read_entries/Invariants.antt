@@ -1,6 +1,6 @@
 use Rattle.std.proofs.Common.{◌≡◌, length}
-use Rattle.st_base.specs.Each.{each_of}
-use Rattle.st_base.proofs.EachLemmas.{after}
+use Rattle.st_base.specs.Lists.{each_of}
+use Rattle.st_base.proofs.ListLemmas.{after}
 use Rattle.st_indexfiles.proofs.entries.read_entries.Given as goal
 
 abbrev pub invariant-entries : goal.invariant-entries

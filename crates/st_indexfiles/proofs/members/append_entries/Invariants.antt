@@ -1,7 +1,7 @@
 use Rattle.std.proofs.Common.{◌≡◌, ◌++◌, drop, false, map, take}
-use Rattle.st_plain.specs.Canonical.{canonical_items}
-use Rattle.st_plain.specs.Entries.{items_of}
-use Rattle.st_indexfiles.specs.Written.{AreReadAgain}
+use Rattle.st_plain.specs.Plain.{canonical_items}
+use Rattle.st_plain.specs.Objects.{items_of}
+use Rattle.st_indexfiles.specs.inside.CoreParts.{AreReadAgain}
 use Rattle.st_indexfiles.proofs.members.append_entries.Given as goal
 
 abbrev pub invariant-entries : goal.invariant-entries

@@ -1,6 +1,6 @@
 use Rattle.std.proofs.Common.{map, arith}
 use Rattle.st_plain.specs.Plain.{list}
-use Rattle.st_plain.specs.Entries.{items_of}
+use Rattle.st_plain.specs.Objects.{items_of}
 use Rattle.st_indexfiles.proofs.MemberLemmas.{joined, none_said, nothing_there, now_due, some_said, something_there, still_due}
 use Rattle.st_indexfiles.proofs.members.append_list.Goals as goal
 

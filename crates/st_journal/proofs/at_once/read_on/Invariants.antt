@@ -1,7 +1,7 @@
 use Rattle.std.proofs.Common.{◌≡◌, ◌<◌, ◌≤◌}
 use Rattle.st_io.specs.Past.{StaysAsItWas}
-use Rattle.st_io.specs.Tears.{IfTold}
-use Rattle.st_journal.specs.Coming.{IsReading, coming, left_of, put_before}
+use Rattle.st_io.specs.Histories.{IfTold}
+use Rattle.st_journal.specs.Opening.{IsReading, coming, left_of, put_before}
 use Rattle.st_journal.proofs.at_once.read_on.Given as goal
 
 -- the records so far were read

@@ -1,13 +1,10 @@
 use Rattle.std.proofs.Common.{◌≡◌, ◌+◌, ◌≤◌, [], ◌∷◌, length, option_map, ap, subst, arith}
 use Rattle.std.proofs.lemmas.Result.{on_ok_weaker}
-use Rattle.st_io.proofs.TearLemmas.{length_overwritten}
-use Rattle.st_io.specs.Tears.{Holds, Torn}
-use Rattle.st_journal.proofs.AppendLemmas.{both, fits}
-use Rattle.st_io.proofs.MomentLemmas.{over, then_on, turns_on, turns_weaker, weaker}
-use Rattle.st_journal.proofs.WriteLemmas.{alike, first_moments, second_moments, written}
-use Rattle.st_journal.specs.Image.{found, open_gate, records}
-use Rattle.st_journal.specs.Moments.{IsBeforeOrAfter}
-use Rattle.st_journal.specs.Rows.{put_last, row_of}
+use Rattle.st_io.proofs.HistoryLemmas.{length_overwritten, over, then_on, turns_on, turns_weaker, weaker}
+use Rattle.st_io.specs.Histories.{Holds, Torn}
+use Rattle.st_journal.proofs.AppendLemmas.{both, fits, alike, first_moments, second_moments, written}
+use Rattle.st_journal.specs.Image.{found, open_gate, records, IsBeforeOrAfter, row_of}
+use Rattle.st_journal.specs.inside.Heads.{put_last}
 use Rattle.st_journal.proofs.journal.write_record.Goals as goal
 
 pub write_synced-requires : goal.write_synced-requires

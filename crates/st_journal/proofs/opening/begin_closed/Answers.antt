@@ -1,13 +1,11 @@
 use Rattle.std.proofs.Common.{◌≡◌, [], ◌∷◌, refl}
 use Rattle.std.specs.Option.{ok_or}
-use Rattle.st_io.specs.Tears.{Holds}
-use Rattle.st_io.proofs.MomentLemmas.{turns_weaker}
-use Rattle.st_journal.proofs.ComingLemmas.{opened_short}
-use Rattle.st_journal.proofs.OpeningLemmas.{begin_closed_gate, begin_moments, begun-short, begun_same, closed_at}
-use Rattle.st_journal.specs.Coming.{records_from}
+use Rattle.st_io.specs.Histories.{Holds}
+use Rattle.st_io.proofs.HistoryLemmas.{turns_weaker}
+use Rattle.st_journal.proofs.OpeningLemmas.{opened_short, begin_closed_gate, begin_moments, begun-short, begun_same, closed_at}
+use Rattle.st_journal.specs.Opening.{records_from, begun, opened}
 use Rattle.st_journal.specs.Image.{records}
-use Rattle.st_journal.specs.Opening.{begun, opened}
-use Rattle.st_journal.specs.declared.refused.JournalRefused.TheVariants.{Damaged}
+use Rattle.st_journal.specs.declared.journal.JournalRefused.TheVariants.{Damaged}
 use Rattle.st_journal.proofs.opening.begin_closed.Goals as goal
 
 pub returns-in_err-write_synced-clause-moments : goal.returns-in_err-write_synced-clause-moments

@@ -1,12 +1,10 @@
 use Rattle.std.proofs.Common.{◌≡◌, ◌∙◌, refl, sym, arith}
 use Rattle.std.specs.Option.{ok_or}
-use Rattle.st_io.proofs.MomentLemmas.{only_after, then_on, turns_same}
-use Rattle.st_journal.proofs.ComingLemmas.{closed_begun, opened_long}
-use Rattle.st_journal.proofs.OpeningLemmas.{begun-long, read_moments}
-use Rattle.st_journal.specs.Coming.{records_from}
+use Rattle.st_io.proofs.HistoryLemmas.{only_after, then_on, turns_same}
+use Rattle.st_journal.proofs.OpeningLemmas.{closed_begun, opened_long, begun-long, read_moments}
+use Rattle.st_journal.specs.Opening.{records_from, begun, opened}
 use Rattle.st_journal.specs.Image.{records}
-use Rattle.st_journal.specs.Opening.{begun, opened}
-use Rattle.st_journal.specs.declared.refused.JournalRefused.TheVariants.{Damaged}
+use Rattle.st_journal.specs.declared.journal.JournalRefused.TheVariants.{Damaged}
 use Rattle.st_journal.proofs.opening.begin_synced.Goals as goal
 
 pub returns-then-len-lt2-clause-moments : goal.returns-then-len-lt2-clause-moments

@@ -1,7 +1,7 @@
 use Rattle.std.proofs.Common.{◌∙◌, ap}
 use Rattle.st_plain.specs.Plain.{object}
 use Rattle.st_jws.specs.Jwk.{jwk_of}
-use Rattle.st_jws.proofs.JwkJson.{jwk_of-jwk_json}
+use Rattle.st_jws.proofs.KeyLemmas.{jwk_of-jwk_json}
 use Rattle.st_jws.proofs.jwk.all_members.Goals as goal
 
 pub returns-clause-read : goal.returns-clause-read

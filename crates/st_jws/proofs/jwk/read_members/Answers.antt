@@ -1,5 +1,5 @@
 use Rattle.st_canon.specs.View.{plain_members}
-use Rattle.st_jws.proofs.WrittenKeys.{members-written}
+use Rattle.st_jws.proofs.KeyLemmas.{members-written}
 use Rattle.st_jws.proofs.jwk.read_members.Goals as goal
 
 pub returns-clause-written : goal.returns-clause-written

@@ -1,7 +1,7 @@
 use Rattle.std.proofs.Common.{◌≡◌}
 use Rattle.std.specs.Str.{IsUtf8, IsValidUpTo, valid_up_to}
 use Rattle.std.proofs.lemmas.Str.{IsUtf8-from_ascii}
-use Rattle.st_jws.proofs.Joining.{decodes}
+use Rattle.st_jws.proofs.SignedLemmas.{decodes}
 use Rattle.st_jws.proofs.signing.ascii_text.Goals as goal
 
 pub unwrap-requires : goal.unwrap-requires

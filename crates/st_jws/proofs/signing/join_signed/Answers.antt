@@ -1,8 +1,7 @@
 use Rattle.std.proofs.Common.{◌≡◌, ◌∙◌, ◌≤◌, length, ap, subst, refl, arith}
 use Rattle.base64.specs.GeneralPurpose.{IsBytes}
-use Rattle.st_jws.specs.Opening.{opened}
-use Rattle.st_jws.specs.Signing.{signing_input, join_signed}
-use Rattle.st_jws.proofs.Opens.{opened-joined}
+use Rattle.st_jws.specs.Signing.{opened, signing_input, join_signed}
+use Rattle.st_jws.proofs.SignedLemmas.{opened-joined}
 use Rattle.st_jws.proofs.signing.join_signed.Goals as goal
 
 pub returns-clause-value : goal.returns-clause-value

@@ -1,10 +1,10 @@
 use Rattle.std.proofs.Common.{◌≡◌, ◌∙◌, refl, sym, ap, subst}
 use Rattle.std.specs.Str.{IsAscii}
-use Rattle.st_plain.specs.Canonical.{canonical}
+use Rattle.st_plain.specs.Plain.{canonical}
 use Rattle.st_canon.specs.View.{plain}
-use Rattle.st_hash.specs.Base64url.{base64url}
+use Rattle.st_hash.specs.Hash.{base64url}
 use Rattle.st_jws.specs.Signing.{header_text}
-use Rattle.st_jws.proofs.Joining.{IsAscii-signing_input}
+use Rattle.st_jws.proofs.SignedLemmas.{IsAscii-signing_input}
 use Rattle.st_jws.proofs.signing.signing_input.Goals as goal
 
 pub returns-clause-value : goal.returns-clause-value

@@ -1,4 +1,4 @@
-use Rattle.st_vault.specs.Opening.{ReadsAs}
+use Rattle.st_vault.specs.Vault.{ReadsAs}
 use Rattle.st_keys_tests.proofs.vault.spend.Given as goal
 
 abbrev pub invariant-spent : goal.invariant-spent

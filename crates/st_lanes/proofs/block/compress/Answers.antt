@@ -1,9 +1,8 @@
 use Rattle.std.proofs.Common.{◌≡◌, ℕ, ◌<◌, ◌*◌, slice_index, length, refl, ap, sym, subst, ◌∙◌}
 use Rattle.sha2.specs.Sha256.{add_state, compress, rounds, word_at}
 use Rattle.sha2.proofs.Schedule256.{IsWindow_first, length-first_words, slice_index-first_words}
-use Rattle.st_lanes.specs.Lanes.{lane}
-use Rattle.st_lanes.specs.Links.{AreWords}
-use Rattle.st_lanes.proofs.Links.{add_state_words}
+use Rattle.st_lanes.specs.inside.Lanes.{lane, AreWords}
+use Rattle.st_lanes.proofs.LinkLemmas.{add_state_words}
 use Rattle.st_lanes.proofs.block.compress.Goals as goal
 
 pub returns-clause-value : goal.returns-clause-value

@@ -1,6 +1,6 @@
 use Rattle.std.proofs.Common.{refl, sym}
 use Rattle.sha2.proofs.Schedule256.{rounds_first}
-use Rattle.st_lanes.specs.Lanes.{lane}
+use Rattle.st_lanes.specs.inside.Lanes.{lane}
 use Rattle.st_lanes.proofs.Lanes.{lane_at}
 use Rattle.st_lanes.proofs.block.first_step.Goals as goal
 

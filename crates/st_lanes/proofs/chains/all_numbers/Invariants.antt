@@ -1,4 +1,4 @@
-use Rattle.st_lanes.proofs.Values.{IsFilled}
+use Rattle.st_lanes.proofs.Lanes.{IsFilled}
 use Rattle.st_lanes.proofs.chains.all_numbers.Given as goal
 
 abbrev pub invariant-numbers : goal.invariant-numbers

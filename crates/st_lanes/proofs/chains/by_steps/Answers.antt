@@ -1,7 +1,7 @@
 use Rattle.std.proofs.Common.{◌≡◌, ◌<◌, ◌∙◌, ◌++◌, All, Contains, ap, arith, drop, length, subst, sym, take}
 use Rattle.std.proofs.lemmas.List.{length-take-le, take_at}
 use Rattle.std.proofs.lemmas.List.Sorted.{All-permutation, Contains-permutation}
-use Rattle.st_lanes.proofs.Walking.{numbered}
+use Rattle.st_lanes.proofs.LinkLemmas.{numbered}
 use Rattle.st_lanes.proofs.chains.by_steps.Goals as goal
 
 size : (c : goal.After-numbers-2-1) → length c.sort_unstable_by_key.new.self ≡ c.args.count

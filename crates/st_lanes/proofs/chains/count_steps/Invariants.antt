@@ -1,5 +1,5 @@
 use Rattle.std.proofs.Common.{◌-◌, slice_index}
-use Rattle.st_lanes.proofs.Values.{IsFilled}
+use Rattle.st_lanes.proofs.Lanes.{IsFilled}
 use Rattle.st_lanes.proofs.chains.count_steps.Given as goal
 
 abbrev pub invariant-lanes : goal.invariant-lanes

@@ -1,5 +1,5 @@
 use Rattle.std.proofs.Common.{◌≤◌, slice_index, arith}
-use Rattle.st_lanes.proofs.Values.{one_more}
+use Rattle.st_lanes.proofs.Lanes.{one_more}
 use Rattle.st_lanes.proofs.chains.most.Goals as goal
 
 pub lanes-init : goal.lanes-init

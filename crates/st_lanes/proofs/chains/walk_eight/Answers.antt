@@ -1,9 +1,9 @@
 use Rattle.std.proofs.Common.{◌∙◌, ◌+◌, ◌<◌, ◌++◌, ℕ, arith, inl, inr, refl, slice_index, sym}
 use Rattle.std.proofs.lemmas.Bool.{cases_lt}
 use Rattle.std.specs.Int.{to_be_bytes, w16}
-use Rattle.st_lanes.specs.Chains.{HoldEnds, end_of, value_at}
-use Rattle.st_lanes.specs.Lanes.{lane}
-use Rattle.st_lanes.proofs.Walking.{at_end, at_next, at_start}
+use Rattle.st_lanes.specs.Chains.{end_of, value_at}
+use Rattle.st_lanes.specs.inside.Lanes.{HoldEnds, lane}
+use Rattle.st_lanes.proofs.LinkLemmas.{at_end, at_next, at_start}
 use Rattle.st_lanes.proofs.chains.walk_eight.Goals as goal
 
 pub steps-init : goal.steps-init

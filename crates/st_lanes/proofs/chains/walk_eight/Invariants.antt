@@ -1,7 +1,7 @@
 use Rattle.std.proofs.Common.{◌≡◌, ℕ, ◌<◌, ◌≤◌, ◌++◌, slice_index}
 use Rattle.std.specs.Int.{to_be_bytes, w16}
-use Rattle.st_lanes.specs.Chains.{IsAt, end_of, value_at}
-use Rattle.st_lanes.specs.Lanes.{lane}
+use Rattle.st_lanes.specs.Chains.{end_of, value_at}
+use Rattle.st_lanes.specs.inside.Lanes.{IsAt, lane}
 use Rattle.st_lanes.proofs.chains.walk_eight.Given as goal
 
 abbrev pub invariant-steps : goal.invariant-steps

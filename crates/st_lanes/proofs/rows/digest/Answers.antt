@@ -4,7 +4,7 @@ use Rattle.std.proofs.lemmas.Slice.{overwrites}
 use Rattle.std.specs.Int.{to_be_bytes, w32}
 use Rattle.sha2.specs.Sha256.{digest_bytes}
 use Rattle.sha2.proofs.Absorbing256.{digest_more}
-use Rattle.st_lanes.specs.Lanes.{lane}
+use Rattle.st_lanes.specs.inside.Lanes.{lane}
 use Rattle.st_lanes.proofs.Lanes.{lane_at}
 use Rattle.st_lanes.proofs.rows.digest.Goals as goal
 

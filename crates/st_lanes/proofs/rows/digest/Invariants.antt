@@ -1,6 +1,6 @@
 use Rattle.std.proofs.Common.{◌≡◌, ◌*◌, length, take}
 use Rattle.sha2.specs.Sha256.{digest_bytes}
-use Rattle.st_lanes.specs.Lanes.{lane}
+use Rattle.st_lanes.specs.inside.Lanes.{lane}
 use Rattle.st_lanes.proofs.rows.digest.Given as goal
 
 abbrev pub invariant-words : goal.invariant-words

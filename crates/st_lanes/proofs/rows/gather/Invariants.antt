@@ -1,6 +1,6 @@
 use Rattle.std.proofs.Common.{◌+◌, ◌*◌, slice_index}
 use Rattle.sha2.specs.Sha256.{word_at}
-use Rattle.st_lanes.proofs.Values.{IsFilled}
+use Rattle.st_lanes.proofs.Lanes.{IsFilled}
 use Rattle.st_lanes.proofs.rows.gather.Given as goal
 
 abbrev pub invariant-lanes : goal.invariant-lanes

@@ -1,6 +1,5 @@
 use Rattle.std.proofs.Common.{slice_index, arith}
-use Rattle.st_lanes.proofs.Lanes.{splat_at}
-use Rattle.st_lanes.proofs.Values.{head_is}
+use Rattle.st_lanes.proofs.Lanes.{splat_at, head_is}
 use Rattle.st_lanes.proofs.rows.heads.Goals as goal
 
 pub returns : goal.returns

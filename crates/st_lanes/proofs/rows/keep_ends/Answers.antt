@@ -1,6 +1,6 @@
 use Rattle.std.proofs.Common.{◌≡◌, ◌∙◌, slice_index, arith}
 use Rattle.st_lanes.specs.Chains.{value_at}
-use Rattle.st_lanes.proofs.Values.{one_more}
+use Rattle.st_lanes.proofs.Lanes.{one_more}
 use Rattle.st_lanes.proofs.rows.keep_ends.Goals as goal
 
 pub lanes-init : goal.lanes-init

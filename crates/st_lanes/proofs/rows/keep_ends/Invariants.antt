@@ -1,5 +1,6 @@
 use Rattle.std.proofs.Common.{◌≡◌, ℕ, ◌<◌, List, slice_index}
-use Rattle.st_lanes.specs.Chains.{HoldEnds, value_at}
+use Rattle.st_lanes.specs.Chains.{value_at}
+use Rattle.st_lanes.specs.inside.Lanes.{HoldEnds}
 use Rattle.st_lanes.proofs.rows.keep_ends.Given as goal
 
 abbrev pub invariant-lanes : goal.invariant-lanes

@@ -1,5 +1,5 @@
 use Rattle.std.proofs.Common.{◌∙◌, ap, arith, length}
-use Rattle.st_lanes.proofs.Values.{put_value}
+use Rattle.st_lanes.proofs.Lanes.{put_value}
 use Rattle.st_lanes.proofs.rows.put.Goals as goal
 
 pub returns-clause-value : goal.returns-clause-value

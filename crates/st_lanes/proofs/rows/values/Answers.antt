@@ -1,7 +1,6 @@
 use Rattle.std.proofs.Common.{◌≡◌, ℕ, ◌+◌, ◌*◌, List, ◌∷◌, [], slice_index, arith, refl}
 use Rattle.sha2.specs.Sha256.{word_at}
-use Rattle.st_lanes.proofs.Lanes.{below_eight}
-use Rattle.st_lanes.proofs.Values.{AreBytes, value_from_words, words_fit}
+use Rattle.st_lanes.proofs.Lanes.{below_eight, AreBytes, value_from_words, words_fit}
 use Rattle.st_lanes.proofs.rows.values.Goals as goal
 
 pub returns-clause-words : goal.returns-clause-words

@@ -1,10 +1,8 @@
 use Rattle.std.proofs.Common.{◌≡◌, ◌∙◌, ◌++◌, length, take, sym, arith}
 use Rattle.std.proofs.lemmas.List.{take_all}
-use Rattle.st_lms.specs.OneTime.{checked, checksum}
+use Rattle.st_lms.specs.OneTime.{checked, checksum, one_time_number}
 use Rattle.st_lms.specs.Strings.{u16str}
-use Rattle.st_lms.specs.TypeNumbers.{one_time_number}
-use Rattle.st_lms.proofs.StringLemmas.{length-u16str}
-use Rattle.st_lms.proofs.Texts.{written}
+use Rattle.st_lms.proofs.KeyLemmas.{length-u16str, written}
 use Rattle.st_lms.proofs.digits.checked.Goals as goal
 
 pub returns : goal.returns

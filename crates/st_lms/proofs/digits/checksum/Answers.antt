@@ -1,8 +1,6 @@
 use Rattle.std.proofs.Common.{◌≡◌, ◌+◌, ◌≤◌, ◌/◌, ◌∙◌, ap, sym, arith}
-use Rattle.st_lms.specs.OneTime.{shortfall}
-use Rattle.st_lms.specs.TypeNumbers.{one_time_number}
-use Rattle.st_lms.proofs.DigitLemmas.{coef-greatest, shortfall-more, shortfall-none, shortfall_fits, shifted-checksum, sized}
-use Rattle.st_lms.proofs.Widths.{fits_byte}
+use Rattle.st_lms.specs.OneTime.{shortfall, one_time_number}
+use Rattle.st_lms.proofs.ChainLemmas.{coef-greatest, shortfall-more, shortfall-none, shortfall_fits, shifted-checksum, sized, fits_byte}
 use Rattle.st_lms.proofs.digits.checksum.Goals as goal
 
 pub nonzero_div-count : goal.nonzero_div-count

@@ -1,6 +1,5 @@
 use Rattle.std.proofs.Common.{◌≡◌}
-use Rattle.st_lms.specs.OneTime.{shortfall}
-use Rattle.st_lms.specs.TypeNumbers.{one_time_number}
+use Rattle.st_lms.specs.OneTime.{shortfall, one_time_number}
 use Rattle.st_lms.proofs.digits.checksum.Given as goal
 
 abbrev pub invariant-digits : goal.invariant-digits

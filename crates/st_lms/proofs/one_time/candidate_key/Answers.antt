@@ -1,10 +1,7 @@
 use Rattle.std.proofs.Common.{◌∙◌, ◌<◌, arith}
-use Rattle.st_lms.specs.OneTime.{candidate_key, end_of_value}
-use Rattle.st_lms.specs.Parameters.{greatest_digit, width}
+use Rattle.st_lms.specs.OneTime.{candidate_key, end_of_value, greatest_digit, width, one_time_number}
 use Rattle.st_lms.specs.Strings.{coef, value_at}
-use Rattle.st_lms.specs.TypeNumbers.{one_time_number}
-use Rattle.st_lms.proofs.Chains.{walk_of_value}
-use Rattle.st_lms.proofs.DigitLemmas.{coef-greatest, sized}
+use Rattle.st_lms.proofs.ChainLemmas.{walk_of_value, coef-greatest, sized}
 use Rattle.st_lms.proofs.one_time.candidate_key.Goals as goal
 
 pub walk-ends-requires : goal.walk-ends-requires
@@ -24,5 +21,5 @@ returns c =
     let chain : i < c.parameters.result.chains = omega (arith, lt, c.parameters.ensures.chains) in
     let last = c.last_places.ensures i (omega (arith, lt, sizes.chain_count)) in
     c.walk-ends.ensures.ends i chain ∙ rw (c.head.ensures, c.digit_places.ensures i lt, last) (
-      walk_of_value c.args.id.now c.args.q i (coef digits i (width t)) (greatest_digit t) (value_at c.args.values.now i) (coef-greatest digits i t)
-          (omega (arith, sizes.greatest))))
+    walk_of_value c.args.id.now c.args.q i (coef digits i (width t)) (greatest_digit t) (value_at c.args.values.now i) (coef-greatest digits i t)
+    (omega (arith, sizes.greatest))))

@@ -1,11 +1,8 @@
 use Rattle.std.proofs.Common.{◌∙◌, ◌++◌, ◌*◌, ap, arith, take}
 use Rattle.sha2.specs.Sha256.{sha256}
-use Rattle.st_lms.specs.OneTime.{d_pblc, key_of_ends}
-use Rattle.st_lms.specs.Parameters.{chains}
+use Rattle.st_lms.specs.OneTime.{d_pblc, key_of_ends, chains, one_time_number}
 use Rattle.st_lms.specs.Strings.{u16str, u32str}
-use Rattle.st_lms.specs.TypeNumbers.{one_time_number}
-use Rattle.st_lms.proofs.Chains.{row_joined}
-use Rattle.st_lms.proofs.DigitLemmas.{sized}
+use Rattle.st_lms.proofs.ChainLemmas.{row_joined, sized}
 use Rattle.st_lms.proofs.one_time.key_of_ends.Goals as goal
 
 pub shared_ref_as_front-update : goal.shared_ref_as_front-update

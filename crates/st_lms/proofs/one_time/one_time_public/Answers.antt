@@ -1,9 +1,7 @@
 use Rattle.std.proofs.Common.{arith}
-use Rattle.st_lms.specs.OneTime.{end_of_secret, one_time_public}
-use Rattle.st_lms.specs.Parameters.{greatest_digit}
-use Rattle.st_lms.specs.TypeNumbers.{one_time_number}
-use Rattle.st_lms.proofs.DigitLemmas.{sized}
-use Rattle.st_lms.proofs.TypeLemmas.{one_time_known}
+use Rattle.st_lms.specs.OneTime.{end_of_secret, one_time_public, greatest_digit, one_time_number}
+use Rattle.st_lms.proofs.ChainLemmas.{sized}
+use Rattle.st_lms.proofs.KeyLemmas.{one_time_known}
 use Rattle.st_lms.proofs.one_time.one_time_public.Goals as goal
 
 pub returns : goal.returns

@@ -1,11 +1,8 @@
 use Rattle.std.proofs.Common.{arith}
-use Rattle.st_lms.specs.OneTime.{signed_value, signed_values}
-use Rattle.st_lms.specs.Parameters.{chains, width}
+use Rattle.st_lms.specs.OneTime.{signed_value, signed_values, chains, width, one_time_number}
 use Rattle.st_lms.specs.Strings.{coef}
-use Rattle.st_lms.specs.TypeNumbers.{one_time_number}
-use Rattle.st_lms.proofs.Chains.{row_joined}
-use Rattle.st_lms.proofs.DigitLemmas.{coef-greatest, sized}
-use Rattle.st_lms.proofs.TypeLemmas.{one_time_known}
+use Rattle.st_lms.proofs.ChainLemmas.{row_joined, coef-greatest, sized}
+use Rattle.st_lms.proofs.KeyLemmas.{one_time_known}
 use Rattle.st_lms.proofs.one_time.signed_values.Goals as goal
 
 pub returns-clause-long : goal.returns-clause-long

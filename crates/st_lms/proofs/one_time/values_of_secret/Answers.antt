@@ -1,8 +1,7 @@
 use Rattle.std.proofs.Common.{◌∙◌, ℕ, ◌<◌, arith}
 use Rattle.std.proofs.lemmas.List.{get_or-replicate}
-use Rattle.st_lms.specs.TypeNumbers.{one_time_number}
-use Rattle.st_lms.proofs.Chains.{walk_of_seed}
-use Rattle.st_lms.proofs.DigitLemmas.{sized}
+use Rattle.st_lms.specs.OneTime.{one_time_number}
+use Rattle.st_lms.proofs.ChainLemmas.{walk_of_seed, sized}
 use Rattle.st_lms.proofs.one_time.values_of_secret.Goals as goal
 
 pub repeated-starts-requires : goal.repeated-starts-requires

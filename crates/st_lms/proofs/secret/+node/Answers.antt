@@ -1,5 +1,5 @@
 use Rattle.std.proofs.Common.{◌<◌, ap, arith}
-use Rattle.st_lms.proofs.Nodes.{left_node, right_node, node_small, node-level}
+use Rattle.st_lms.proofs.TreeLemmas.{left_node, right_node, node_small, node-level}
 use Rattle.st_lms.proofs.secret.+node.Goals as goal
 
 pub overflow_mul-r : goal.overflow_mul-r

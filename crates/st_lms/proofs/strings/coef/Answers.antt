@@ -1,7 +1,7 @@
 use Rattle.std.proofs.Common.{arith}
-use Rattle.st_lms.specs.Parameters.{greatest_digit}
-use Rattle.st_lms.proofs.StringLemmas.{shifted-coef}
-use Rattle.st_lms.proofs.Widths.{fits_byte, place_fits}
+use Rattle.st_lms.specs.OneTime.{greatest_digit}
+use Rattle.st_lms.proofs.KeyLemmas.{shifted-coef}
+use Rattle.st_lms.proofs.ChainLemmas.{fits_byte, place_fits}
 use Rattle.st_lms.proofs.strings.coef.Goals as goal
 
 pub nonzero_div-below : goal.nonzero_div-below

@@ -1,5 +1,5 @@
 use Rattle.std.proofs.Common.{◌≡◌, ◌∙◌, ◌+◌, ◌-◌, ◌*◌, drop, arith}
-use Rattle.st_lms.proofs.PathLemmas.{node_above-level, node_above-none}
+use Rattle.st_lms.proofs.TreeLemmas.{node_above-level, node_above-none}
 use Rattle.st_lms.proofs.tree.node_above.Goals as goal
 
 pub levels-init : goal.levels-init

@@ -1,8 +1,8 @@
 use Rattle.std.proofs.Common.{◌∙◌, ◌*◌, false, sym, arith}
-use Rattle.st_lms.specs.Parameters.{chains}
-use Rattle.st_lms.specs.PartsOf.{parts_seen}
-use Rattle.st_lms.proofs.Decided.{decided}
-use Rattle.st_lms.proofs.PartLemmas.{IsCut, length-signature, parts_hold_of, signature_of_parts}
+use Rattle.st_lms.specs.OneTime.{chains}
+use Rattle.st_lms.specs.inside.Parts.{parts_seen}
+use Rattle.st_lms.proofs.LawLemmas.{decided}
+use Rattle.st_lms.proofs.KeyLemmas.{IsCut, length-signature, parts_hold_of, signature_of_parts}
 use Rattle.st_lms.proofs.verification.verify.Goals as goal
 use Rattle.st_lms.proofs.verification.verify.Goals.{After-parts_hold}
 

@@ -2,8 +2,8 @@ use Rattle.std.proofs.Common.{◌≡◌, ◌∙◌, ◌++◌, [], append-nil, ma
 use Rattle.std.proofs.lemmas.List.{nil_from_length}
 use Rattle.std.specs.Vec.Iter.{into_iter_items}
 use Rattle.st_cert.specs.Certificate.{anchored_items}
-use Rattle.st_observer.specs.States.{plain_held}
-use Rattle.st_node.proofs.ExplainLemmas.{one_made}
+use Rattle.st_observer.specs.Work.{plain_held}
+use Rattle.st_node.proofs.ReplyLemmas.{one_made}
 use Rattle.st_node.proofs.explaining.cert_items.Goals as goal
 
 pub loop-kept-init : goal.loop-kept-init

@@ -1,6 +1,6 @@
 use Rattle.std.proofs.Common.{◌≡◌, ◌∙◌, IfOk, List, ℕ, subst}
 use Rattle.st_observer.specs.Observed.{operations}
-use Rattle.st_node.proofs.ExplainLemmas.{each_told, told}
+use Rattle.st_node.proofs.ReplyLemmas.{each_told, told}
 use Rattle.st_node.proofs.explaining.explain_suffix.Goals as goal
 
 pub tell_items-requires : goal.tell_items-requires

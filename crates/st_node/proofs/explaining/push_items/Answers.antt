@@ -1,8 +1,8 @@
 use Rattle.std.proofs.Common.{◌∙◌, ◌<◌, length, get_or, sym, arith}
 use Rattle.std.proofs.lemmas.List.{get_or_default}
-use Rattle.st_base.proofs.Lists.{next_item}
+use Rattle.st_base.proofs.ListLemmas.{next_item}
 use Rattle.st_cert.specs.declared.verdict.Verdict.TheVariants.{Before}
-use Rattle.st_node.proofs.ExplainLemmas.{last_line, next_line}
+use Rattle.st_node.proofs.ReplyLemmas.{last_line, next_line}
 use Rattle.st_node.proofs.explaining.push_items.Goals as goal
 
 pub loop-at-preserved : goal.loop-at-preserved

@@ -1,7 +1,7 @@
 use Rattle.std.proofs.Common.{◌≡◌, ◌++◌}
 use Rattle.st_cert.specs.Certificate.{anchored_items}
 use Rattle.st_node.specs.Machine.{item_lines}
-use Rattle.st_node.proofs.ExplainLemmas.{with_lines}
+use Rattle.st_node.proofs.ReplyLemmas.{with_lines}
 use Rattle.st_node.proofs.explaining.push_items.Given as goal
 
 -- the text and the lines of the remaining items are all of it

@@ -1,5 +1,5 @@
 use Rattle.std.proofs.Common.{take}
-use Rattle.st_observer.specs.Waiting.{AreRows, SetsMissed, seen}
+use Rattle.st_observer.specs.inside.Waiting.{AreRows, SetsMissed, seen}
 use Rattle.st_observer.proofs.waiting.set_missed.Given as goal
 
 abbrev pub invariant-states : goal.invariant-states

@@ -1,7 +1,7 @@
 use Rattle.std.proofs.Common.{ltb, rules}
 use Rattle.std.proofs.lemmas.List.Sorted.{IsPartitionPoint-from_clause, IsPartitionedBy-ltb}
-use Rattle.st_base.proofs.Counted.{count_passing}
-use Rattle.st_opindex.proofs.Ascending.{Ascend-rises}
+use Rattle.st_base.proofs.ListLemmas.{count_passing}
+use Rattle.st_opindex.proofs.KeyLemmas.{Ascend-rises}
 use Rattle.st_opindex.proofs.row.count_before.Goals as goal
 
 pub returns : goal.returns

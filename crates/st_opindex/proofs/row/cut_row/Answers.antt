@@ -1,8 +1,8 @@
 use Rattle.std.proofs.Common.{◌∙◌, length, take, ap, arith, inl, inr, length-take}
 use Rattle.std.proofs.lemmas.List.{take-take}
-use Rattle.st_opindex.proofs.Ascending.{Ascend-take}
-use Rattle.st_opindex.proofs.Splits.{split-within, split-front, split-all, split-reaches}
-use Rattle.st_opindex.proofs.Kept.{kept_before, row_alike}
+use Rattle.st_opindex.proofs.KeyLemmas.{Ascend-take}
+use Rattle.st_opindex.proofs.Placed.{split-within, split-front, split-all, split-reaches}
+use Rattle.st_opindex.proofs.RowLemmas.{kept_before, row_alike}
 use Rattle.st_opindex.proofs.row.cut_row.Goals as goal
 
 pub count_before-at-requires : goal.count_before-at-requires

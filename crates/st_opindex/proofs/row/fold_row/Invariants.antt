@@ -1,6 +1,6 @@
 use Rattle.std.proofs.Common.{◌≡◌, ◌-◌, ◌≤◌, length}
 use Rattle.st_base.specs.Work.{AppliesAtMost}
-use Rattle.st_opindex.specs.Kept.{Reached}
+use Rattle.st_opindex.specs.Items.{Reached}
 use Rattle.st_opindex.proofs.row.fold_row.Given as goal
 
 abbrev pub invariant-loop-at : goal.invariant-loop-at

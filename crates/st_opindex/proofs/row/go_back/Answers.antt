@@ -1,5 +1,5 @@
 use Rattle.std.proofs.Common.{◌∙◌, arith}
-use Rattle.st_opindex.proofs.Kept.{reached_before}
+use Rattle.st_opindex.proofs.RowLemmas.{reached_before}
 use Rattle.st_opindex.proofs.row.go_back.Goals as goal
 
 pub returns-then-row-at-clause-row : goal.returns-then-row-at-clause-row

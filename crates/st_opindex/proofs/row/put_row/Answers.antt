@@ -1,8 +1,7 @@
 use Rattle.std.proofs.Common.{◌∙◌, length, ap, arith, inl, inr}
 use Rattle.st_opindex.specs.Items.{from, with_item}
-use Rattle.st_opindex.proofs.WithItem.{Ascend-with_item}
-use Rattle.st_opindex.proofs.Splits.{split-alike, split-length}
-use Rattle.st_opindex.proofs.Kept.{row_alike, kept_before}
+use Rattle.st_opindex.proofs.Placed.{Ascend-with_item, split-alike, split-length}
+use Rattle.st_opindex.proofs.RowLemmas.{row_alike, kept_before}
 use Rattle.st_opindex.proofs.row.put_row.Goals as goal
 
 pub set_item-requires : goal.set_item-requires

@@ -1,6 +1,6 @@
 use Rattle.std.proofs.Common.{arith, rules, ◌∙◌, sym, ap}
 use Rattle.std.proofs.lemmas.List.{get_or_default}
-use Rattle.st_opindex.proofs.Splits.{split-within, split-set, split-insert}
+use Rattle.st_opindex.proofs.Placed.{split-within, split-set, split-insert}
 use Rattle.st_opindex.proofs.row.set_item.Goals as goal
 use Rattle.st_opindex.proofs.row.set_item.Goals.{else-at-len-via-then-at-len+else-index-place, else-at-len-via-else-at-len}
 

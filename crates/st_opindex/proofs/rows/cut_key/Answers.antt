@@ -2,7 +2,7 @@ use Rattle.std.proofs.Common.{◌≡◌, ◌∙◌, length, sym, ap, refl, Some,
 use Rattle.std.proofs.lemmas.Bool.{eqb-true}
 use Rattle.std.proofs.lemmas.List.{nil_from_length}
 use Rattle.st_opindex.specs.Items.{before}
-use Rattle.st_opindex.proofs.Keyed.{IsUpdated, left_more, left_none, row_found, rows_updated, seen_changed, seen_found, updated_by_itself, updated_twice}
+use Rattle.st_opindex.proofs.KeyLemmas.{IsUpdated, left_more, left_none, row_found, rows_updated, seen_changed, seen_found, updated_by_itself, updated_twice}
 use Rattle.st_opindex.proofs.rows.cut_key.Goals as goal
 
 pub returns-in_default : goal.returns-in_default

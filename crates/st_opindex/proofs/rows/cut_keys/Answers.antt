@@ -1,11 +1,9 @@
 use Rattle.std.proofs.Common.{◌≡◌, ◌∙◌, ◌+◌, ◌∷◌, [], ◌++◌, take, sym, ap}
 use Rattle.std.proofs.lemmas.List.{take_more}
-use Rattle.st_base.proofs.Quantifiers.{each-append}
-use Rattle.st_opindex.specs.ByKey.{Covers}
-use Rattle.st_opindex.specs.Items.{before}
-use Rattle.st_opindex.specs.Seen.{seen_items}
-use Rattle.st_opindex.proofs.Cutting.{cut_more, reached_first}
-use Rattle.st_opindex.proofs.Owing.{cut_counts, owed_more, owed_same}
+use Rattle.st_base.proofs.ListLemmas.{each-append}
+use Rattle.st_opindex.specs.Items.{Covers, before, seen_items}
+use Rattle.st_opindex.proofs.RowLemmas.{cut_more, reached_first}
+use Rattle.st_opindex.proofs.FoldLemmas.{cut_counts, owed_more, owed_same}
 use Rattle.st_opindex.proofs.rows.cut_keys.Goals as goal
 use Rattle.st_opindex.proofs.rows.cut_keys.Goals.{then-branch+in_ok-push, else-branch}
 

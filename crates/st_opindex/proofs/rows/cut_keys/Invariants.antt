@@ -1,7 +1,6 @@
 use Rattle.std.proofs.Common.{List, ℕ, take}
 use Rattle.std.specs.List.{AllByRecursion}
-use Rattle.st_opindex.specs.ByKey.{AreCut, Covers, CoversLosing}
-use Rattle.st_opindex.specs.Seen.{AreOwed, AreRows, seen_items}
+use Rattle.st_opindex.specs.Items.{AreCut, Covers, CoversLosing, AreOwed, AreRows, seen_items}
 use Rattle.st_opindex.proofs.rows.cut_keys.Given as goal
 
 abbrev pub invariant-keys : goal.invariant-keys

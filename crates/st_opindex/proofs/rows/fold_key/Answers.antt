@@ -1,5 +1,5 @@
 use Rattle.std.proofs.Common.{◌∙◌, ap, Some, refl, rules}
-use Rattle.st_opindex.proofs.Keyed.{IsUpdated, left_folded, row_found, rows_updated, seen_changed, updated_by_itself}
+use Rattle.st_opindex.proofs.KeyLemmas.{IsUpdated, left_folded, row_found, rows_updated, seen_changed, updated_by_itself}
 use Rattle.st_opindex.proofs.rows.fold_key.Goals as goal
 
 pub returns-in_default-clause-rows : goal.returns-in_default-clause-rows
@@ -18,10 +18,10 @@ returns-in_default-clause-folds g c =
 pub fold_row-requires : goal.fold_row-requires
 fold_row-requires g c = row_found c.requires c.args.key c.get_mut-2.result.now (ap Some c.get_mut-2.ensures.value ∙ c.in-Some.ensures.value)
 
-pub returns-in_err-fold_row-clause-bound : goal.returns-in_err-fold_row-clause-bound
-returns-in_err-fold_row-clause-bound g c =
+pub returns-in_err-fold_row-clause-few : goal.returns-in_err-fold_row-clause-few
+returns-in_err-fold_row-clause-few g c =
     let found = ap Some c.get_mut-2.ensures.value ∙ c.in-Some.ensures.value in
-    rw (← found) c.fold_row.ensures.bound
+    rw (← found) c.fold_row.ensures.few
 
 pub returns : goal.returns
 returns g c =
@@ -33,5 +33,5 @@ returns g c =
       rows = rows_updated c.requires updates c.in_ok-fold_row.ensures.row;
       items = seen_changed updates g.met.K.Ord.total (λ items. items) found c.in_ok-fold_row.ensures.items;
       folds = left_folded updates c.in_ok-fold_row.ensures.none;
-      bound = rw (← found) c.fold_row.ensures.bound;
+      few = rw (← found) c.fold_row.ensures.few;
     }

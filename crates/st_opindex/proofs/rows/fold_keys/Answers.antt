@@ -1,6 +1,6 @@
 use Rattle.std.proofs.Common.{◌≡◌, ◌∙◌, ◌+◌, ◌∷◌, [], ◌++◌, take, sym, ap}
 use Rattle.std.proofs.lemmas.List.{take_all, take_more}
-use Rattle.st_opindex.proofs.Folding.{fold_paid, fold_stopped, folding_more, folding_start, none_left, nothing_owed, paid_folded, paid_start}
+use Rattle.st_opindex.proofs.FoldLemmas.{fold_paid, fold_stopped, folding_more, folding_start, none_left, nothing_owed, paid_folded, paid_start}
 use Rattle.st_opindex.proofs.rows.fold_keys.Goals as goal
 
 pub changes-init : goal.changes-init
@@ -10,10 +10,10 @@ changes-init g c = record {
   paid = λ names named. paid_start names c.args.rows.now.entries c.args.work.now;
 }
 
-pub returns-in_err-fold_key-clause-bound : goal.returns-in_err-fold_key-clause-bound
-returns-in_err-fold_key-clause-bound g c = λ names named.
+pub returns-in_err-fold_key-clause-few : goal.returns-in_err-fold_key-clause-few
+returns-in_err-fold_key-clause-few g c = λ names named.
     fold_stopped g.met.K.Ord.total c.changes.invariant.folding c.change-item.result.0 c.requires.owed names named
-    (c.changes.invariant.paid names named) c.fold_key.ensures.bound
+    (c.changes.invariant.paid names named) c.fold_key.ensures.few
 
 pub changes-preserved : goal.changes-preserved
 changes-preserved g c =
@@ -27,7 +27,7 @@ changes-preserved g c =
       folding = rw more (folding_more order c.changes.invariant.folding change.0 change.1 c.fold_key.new.rows.entries
           c.in_ok-fold_key.ensures.folds c.in_ok-fold_key.ensures.items);
       paid = λ names named.
-          fold_paid order c.changes.invariant.folding change.0 c.requires.owed names named (c.changes.invariant.paid names named) c.fold_key.ensures.bound
+          fold_paid order c.changes.invariant.folding change.0 c.requires.owed names named (c.changes.invariant.paid names named) c.fold_key.ensures.few
           c.fold_key.new.rows.entries c.in_ok-fold_key.ensures.folds;
     }
 
@@ -39,5 +39,5 @@ returns-clause-owed g c =
 pub returns-clause-items : goal.returns-clause-items
 returns-clause-items g c = c.changes.invariant.folding.items
 
-pub returns-clause-bound : goal.returns-clause-bound
-returns-clause-bound g c = λ names named. paid_folded (c.changes.invariant.paid names named)
+pub returns-clause-few : goal.returns-clause-few
+returns-clause-few g c = λ names named. paid_folded (c.changes.invariant.paid names named)

@@ -1,8 +1,7 @@
 use Rattle.std.proofs.Common.{List, take, ℕ}
 use Rattle.std.specs.List.{AllByRecursion}
-use Rattle.st_opindex.specs.ByKey.{Covers}
-use Rattle.st_opindex.specs.Seen.{AreRows}
-use Rattle.st_opindex.proofs.Folding.{HasPaid, IsFolding}
+use Rattle.st_opindex.specs.Items.{Covers, AreRows}
+use Rattle.st_opindex.proofs.FoldLemmas.{HasPaid, IsFolding}
 use Rattle.st_opindex.proofs.rows.fold_keys.Given as goal
 
 abbrev pub invariant-changes : goal.invariant-changes

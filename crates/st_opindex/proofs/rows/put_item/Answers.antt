@@ -3,7 +3,7 @@ use Rattle.std.specs.BTreeMap.{is_at}
 use Rattle.std.specs.BTreeMap.Entry.{map_with_value}
 use Rattle.std.specs.Map.{lookup}
 use Rattle.st_opindex.specs.Items.{with_item}
-use Rattle.st_opindex.proofs.Keyed.{IsUpdated, left_more, row_found, rows_updated, seen_changed, updated_as}
+use Rattle.st_opindex.proofs.KeyLemmas.{IsUpdated, left_more, row_found, rows_updated, seen_changed, updated_as}
 use Rattle.st_opindex.proofs.rows.put_item.Goals as goal
 
 pub put_row-requires : goal.put_row-requires

@@ -1,11 +1,9 @@
 -- If any bytes are a request for the operation, its own text is.
 use Rattle.std.proofs.Common.{◌∙◌, ap, subst}
-use Rattle.st_plain.specs.Canonical.{canonical}
-use Rattle.st_plain.specs.Proper.{IsProper}
+use Rattle.st_plain.specs.Plain.{canonical, IsProper}
 use Rattle.st_ops.specs.Operation.{plain_operation}
 use Rattle.st_ops.specs.Request.{request_of}
-use Rattle.st_ops.proofs.AcceptedLemmas.{accepted}
-use Rattle.st_ops.proofs.AgainLemmas.{accepted_again}
+use Rattle.st_ops.proofs.AgainLemmas.{accepted, accepted_again}
 use Rattle.st_ops.proofs.writing.write_request.Goals as goal
 
 pub returns-clause-read : goal.returns-clause-read

@@ -1,6 +1,6 @@
 use Rattle.std.proofs.Common.{◌≡◌, sym, ◌∙◌, rules}
-use Rattle.st_plain.specs.Held.{ranks_cmp}
-use Rattle.st_plain.proofs.Order.{same_from_tied}
+use Rattle.st_plain.specs.inside.Objects.{ranks_cmp}
+use Rattle.st_plain.proofs.NameLemmas.{same_from_tied}
 use Rattle.st_plain.proofs.RankLemmas.{names_ranked}
 use Rattle.st_plain.proofs.names.compare.Goals as goal
 

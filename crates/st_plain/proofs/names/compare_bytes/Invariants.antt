@@ -1,5 +1,5 @@
 use Rattle.std.proofs.Common.{◌≡◌, length}
-use Rattle.st_plain.specs.Held.{ranks_cmp}
+use Rattle.st_plain.specs.inside.Objects.{ranks_cmp}
 use Rattle.st_plain.proofs.names.compare_bytes.Given as goal
 
 abbrev pub invariant-bytes : goal.invariant-bytes

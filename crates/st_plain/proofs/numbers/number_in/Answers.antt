@@ -1,7 +1,7 @@
 use Rattle.std.proofs.Common.{◌≡◌, drop, get_or, true, false, ◌==◌, option_map, sym, ap, ◌∙◌, arith, take_all, length-drop}
 use Rattle.fast_float.specs.Text.{scan}
 use Rattle.serde_json.specs.Read.{number_of, number_from}
-use Rattle.st_plain.specs.Reading.{whole_number}
+use Rattle.st_plain.specs.Shapes.{whole_number}
 use Rattle.st_plain.proofs.numbers.number_in.Goals as goal
 
 pub returns-then-has_minus : goal.returns-then-has_minus

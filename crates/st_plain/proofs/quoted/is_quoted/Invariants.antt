@@ -1,6 +1,6 @@
 use Rattle.std.proofs.Common.{◌≡◌, ◌↔◌, ◌++◌, ◌∷◌, [], drop}
 use Rattle.std.specs.List.{flat_map}
-use Rattle.st_plain.specs.Canonical.{escape, quoted}
+use Rattle.st_plain.specs.Plain.{escape, quoted}
 use Rattle.st_plain.proofs.quoted.is_quoted.Given as goal
 
 abbrev pub invariant-bytes : goal.invariant-bytes

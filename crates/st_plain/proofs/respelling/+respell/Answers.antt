@@ -6,11 +6,7 @@ use Rattle.serde_json.specs.Data as data'
 use Rattle.serde_json.specs.Read.{converted, of_json}
 use Rattle.st_plain.specs.Names.{name_cmp}
 use Rattle.st_plain.proofs.GatheredLemmas.{came_up, none_gathered, one_more, were_put}
-use Rattle.st_plain.proofs.RespellingLemmas.{array_data, boolean_data, handed_on, item_refused, items_before, items_data_over, items_written}
-use Rattle.st_plain.proofs.RespellingLemmas.{items_written_more, key_refused, list_written, member_refused, members_data_over, next_item_data}
-use Rattle.st_plain.proofs.RespellingLemmas.{next_member_data, no_tokens, none_before, null_data, number_data, number_written, object_data}
-use Rattle.st_plain.proofs.RespellingLemmas.{object_written, string_data, too_deep_array, too_deep_object}
-use Rattle.st_plain.proofs.RewritingLemmas.{mapped}
+use Rattle.st_plain.proofs.RespellingLemmas.{array_data, boolean_data, handed_on, item_refused, items_before, items_data_over, items_written, items_written_more, key_refused, list_written, member_refused, members_data_over, next_item_data, next_member_data, no_tokens, none_before, null_data, number_data, number_written, object_data, object_written, string_data, too_deep_array, too_deep_object, mapped}
 use Rattle.st_plain.proofs.respelling.+respell.Goals as goal
 
 -- ---- a value

@@ -2,7 +2,7 @@ use Rattle.std.proofs.Common.{◌≡◌, ℕ, ◌+◌, ◌*◌, ◌≤◌, List,
 use Rattle.json.specs.Json.{items, members, value, parse_map}
 use Rattle.serde_json.specs.Data.{Data, Members, no_members}
 use Rattle.serde_json.specs.Read.{converted, of_items, of_members}
-use Rattle.st_plain.specs.Respelled.{IsWritten}
+use Rattle.st_plain.specs.inside.Respelled.{IsWritten}
 use Rattle.st_plain.proofs.GatheredLemmas.{IsGathered}
 use Rattle.st_plain.proofs.RespellingLemmas.{ItemsStand, items_before, items_text, wholes}
 use Rattle.st_plain.proofs.respelling.+respell.Given as goal

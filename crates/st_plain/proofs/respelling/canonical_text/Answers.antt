@@ -1,4 +1,4 @@
-use Rattle.st_plain.proofs.Outcomes.{refused}
+use Rattle.st_plain.proofs.ReadableLemmas.{refused}
 use Rattle.st_plain.proofs.respelling.canonical_text.Goals as goal
 
 pub returns-in_default-clause-refusal : goal.returns-in_default-clause-refusal

@@ -1,5 +1,5 @@
 use Rattle.std.proofs.Common.{◌≡◌, [], rules}
-use Rattle.st_plain.specs.Reading.{whole_value}
+use Rattle.st_plain.specs.Shapes.{whole_value}
 use Rattle.st_plain.proofs.RespellingLemmas.{text_is_data, text_is_not_whole, text_is_whole}
 use Rattle.st_plain.proofs.respelling.respell_text.Goals as goal
 

@@ -1,8 +1,8 @@
 use Rattle.std.proofs.Common.{◌≡◌, ◌++◌, drop, false, map}
-use Rattle.st_plain.specs.Canonical.{canonical_items}
-use Rattle.st_plain.specs.Entries.{items_of}
+use Rattle.st_plain.specs.Plain.{canonical_items}
+use Rattle.st_plain.specs.Objects.{items_of}
 use Rattle.st_canon.specs.View.{plain}
-use Rattle.st_resolve.specs.Keys.{method_of}
+use Rattle.st_resolve.specs.Result.{method_of}
 use Rattle.st_resolve.proofs.keys.append_each_method.Given as goal
 
 abbrev pub invariant-loop-key : goal.invariant-loop-key

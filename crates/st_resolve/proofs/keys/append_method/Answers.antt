@@ -1,6 +1,6 @@
 use Rattle.std.proofs.Common.{◌∙◌, ◌++◌, ap, sym}
 use Rattle.st_canon.specs.View.{plain}
-use Rattle.st_resolve.proofs.ObjectTexts.{canonical_method}
+use Rattle.st_resolve.proofs.ResultLemmas.{canonical_method}
 use Rattle.st_resolve.proofs.keys.append_method.Goals as goal
 
 pub returns : goal.returns

@@ -1,5 +1,5 @@
 use Rattle.std.proofs.Common.{◌∙◌, refl, append_assoc}
-use Rattle.st_resolve.specs.Texts.{method_text}
+use Rattle.st_resolve.specs.inside.Texts.{method_text}
 use Rattle.st_resolve.proofs.keys.append_method_parts.Goals as goal
 
 pub returns : goal.returns

@@ -1,7 +1,7 @@
 use Rattle.std.proofs.Common.{◌∙◌, ◌++◌, ap, sym, map}
 use Rattle.st_canon.specs.View.{plain}
-use Rattle.st_resolve.specs.Keys.{references_for}
-use Rattle.st_resolve.proofs.ObjectTexts.{list_there}
+use Rattle.st_resolve.specs.Result.{references_for}
+use Rattle.st_resolve.proofs.ResultLemmas.{list_there}
 use Rattle.st_resolve.proofs.keys.append_some_references.Goals as goal
 
 pub returns : goal.returns

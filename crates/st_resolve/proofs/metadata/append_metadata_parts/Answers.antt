@@ -1,5 +1,5 @@
 use Rattle.std.proofs.Common.{◌∙◌, refl, append_assoc}
-use Rattle.st_resolve.specs.Texts.{metadata_text}
+use Rattle.st_resolve.specs.inside.Texts.{metadata_text}
 use Rattle.st_resolve.proofs.metadata.append_metadata_parts.Goals as goal
 
 pub returns : goal.returns

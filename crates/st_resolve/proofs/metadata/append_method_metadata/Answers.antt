@@ -1,7 +1,7 @@
 use Rattle.std.proofs.Common.{◌∙◌, ◌++◌, ap, sym}
-use Rattle.st_apply.specs.Shown.{opened}
-use Rattle.st_resolve.proofs.ObjectTexts.{canonical_method_metadata}
-use Rattle.st_resolve.specs.Texts.{value_text}
+use Rattle.st_apply.specs.Laws.{opened}
+use Rattle.st_resolve.proofs.ResultLemmas.{canonical_method_metadata}
+use Rattle.st_resolve.specs.inside.Texts.{value_text}
 use Rattle.st_resolve.proofs.metadata.append_method_metadata.Goals as goal
 
 pub returns : goal.returns

@@ -1,8 +1,8 @@
 use Rattle.std.proofs.Common.{arith, sym}
 use Rattle.std.proofs.lemmas.Grind.{common_steps}
 use Rattle.std.proofs.lemmas.List.Sums.{count_by-le-length}
-use Rattle.st_plain.specs.Walk.{opens}
-use Rattle.st_scan.proofs.BracketLemmas.{depth_within}
+use Rattle.st_plain.specs.ReadAgain.{opens}
+use Rattle.st_scan.proofs.ContentLemmas.{depth_within}
 use Rattle.st_scan.proofs.brackets.depth_bound.Goals as goal
 
 pub returns-clause-depth : goal.returns-clause-depth

@@ -2,9 +2,9 @@ use Rattle.std.proofs.Common.{◌+◌, ◌∙◌, ap, drop, arith}
 use Rattle.std.proofs.lemmas.List.Sums.{count_by-le-length}
 use Rattle.std.proofs.lemmas.Simd.{length-chunk}
 use lib.Lanes.{chunk}
-use Rattle.st_plain.specs.Depth.{opening_count}
-use Rattle.st_plain.specs.Walk.{opens}
-use Rattle.st_scan.proofs.BracketLemmas.{counted_near}
+use Rattle.st_plain.specs.Measures.{opening_count}
+use Rattle.st_plain.specs.ReadAgain.{opens}
+use Rattle.st_scan.proofs.ContentLemmas.{counted_near}
 use Rattle.st_scan.proofs.brackets.near_count.Goals as goal
 
 pub returns-clause-value : goal.returns-clause-value

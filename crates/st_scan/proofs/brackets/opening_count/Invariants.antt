@@ -1,5 +1,5 @@
 use Rattle.std.proofs.Common.{◌≡◌, ◌+◌, ◌≤◌, length}
-use Rattle.st_plain.specs.Depth.{opening_count}
+use Rattle.st_plain.specs.Measures.{opening_count}
 use Rattle.st_scan.proofs.brackets.opening_count.Given as goal
 
 abbrev pub invariant-steps : goal.invariant-steps

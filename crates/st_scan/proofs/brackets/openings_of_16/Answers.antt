@@ -1,7 +1,7 @@
 use Rattle.std.proofs.Common.{ap, ◌∙◌, arith, count_ones}
 use Rattle.std.proofs.lemmas.Simd.{ones-mask_l}
-use Rattle.st_plain.specs.Walk.{opens}
-use Rattle.st_plain.proofs.MarkLanes.{lanes_marked}
+use Rattle.st_plain.specs.ReadAgain.{opens}
+use Rattle.st_plain.proofs.MarkLemmas.{lanes_marked}
 use Rattle.st_scan.proofs.brackets.openings_of_16.Goals as goal
 
 pub returns : goal.returns

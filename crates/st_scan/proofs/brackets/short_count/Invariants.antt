@@ -1,5 +1,5 @@
 use Rattle.std.proofs.Common.{◌≡◌, take, count_by}
-use Rattle.st_plain.specs.Walk.{opens}
+use Rattle.st_plain.specs.ReadAgain.{opens}
 use Rattle.st_scan.proofs.brackets.short_count.Given as goal
 
 abbrev pub invariant-loop-byte : goal.invariant-loop-byte

@@ -1,5 +1,5 @@
 use Rattle.std.proofs.Common.{◌≡◌, ◌∷◌, length}
-use Rattle.st_plain.specs.Find.{member_at}
+use Rattle.st_plain.specs.Objects.{member_at}
 use Rattle.st_scan.specs.Standing.{IsText, members_left}
 use Rattle.st_scan.proofs.members.find.Given as goal
 

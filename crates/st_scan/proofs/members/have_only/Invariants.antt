@@ -1,5 +1,5 @@
 use Rattle.std.proofs.Common.{◌≡◌, ◌∷◌, length, map}
-use Rattle.st_plain.specs.Find.{has_only}
+use Rattle.st_plain.specs.Objects.{has_only}
 use Rattle.st_scan.specs.Standing.{IsText, members_left}
 use Rattle.st_scan.proofs.members.have_only.Given as goal
 

@@ -1,7 +1,7 @@
 use Rattle.std.proofs.Common.{◌≡◌, ℕ, List, drop, map}
 use Rattle.std.specs.List.{list_any}
 use Rattle.std.specs.Str.{IsUtf8}
-use Rattle.st_plain.specs.Canonical.{quoted}
+use Rattle.st_plain.specs.Plain.{quoted}
 use Rattle.st_plain.specs.Names.{is_name}
 use Rattle.st_scan.proofs.members.is_among.Given as goal
 

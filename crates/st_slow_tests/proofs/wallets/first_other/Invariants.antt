@@ -1,4 +1,4 @@
-use Rattle.st_wallet.specs.Found.{IsFoundOn}
+use Rattle.st_wallet.specs.Drafts.{IsFoundOn}
 use Rattle.st_slow_tests.proofs.wallets.first_other.Given as goal
 
 abbrev pub invariant-lines : goal.invariant-lines

@@ -1,4 +1,4 @@
-use Rattle.st_vault.specs.Children.{child_hash}
+use Rattle.st_vault.specs.Image.{child_hash}
 use Rattle.st_vault.proofs.child.child_hash.Goals as goal
 
 pub returns : goal.returns

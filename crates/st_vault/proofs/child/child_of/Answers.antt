@@ -1,4 +1,4 @@
-use Rattle.st_vault.specs.Children.{child_of}
+use Rattle.st_vault.specs.Image.{child_of}
 use Rattle.st_vault.proofs.child.child_of.Goals as goal
 
 pub returns-clause-value : goal.returns-clause-value

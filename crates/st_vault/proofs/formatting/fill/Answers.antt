@@ -1,9 +1,10 @@
 use Rattle.std.proofs.Common.{◌≡◌, drop, take, subst}
 use Rattle.std.proofs.lemmas.Result.{on_ok_weaker}
-use Rattle.st_io.specs.Tears.{Holds, Torn}
+use Rattle.st_io.specs.Histories.{Holds, Torn}
 use Rattle.st_vault.proofs.FormatLemmas.{filled, filled_behind, filling}
-use Rattle.st_io.proofs.MomentLemmas.{over, turns_weaker, weaker}
-use Rattle.st_vault.specs.Formatting.{IsFilled, behind_gate}
+use Rattle.st_io.proofs.HistoryLemmas.{over, turns_weaker, weaker}
+use Rattle.st_vault.specs.Formatting.{behind_gate}
+use Rattle.st_vault.specs.inside.Formatting.{IsFilled}
 use Rattle.st_vault.specs.Image.{kind_of}
 use Rattle.st_vault.specs.Image.Kind.{Blank}
 use Rattle.st_vault.proofs.formatting.fill.Goals as goal

@@ -1,9 +1,8 @@
 use Rattle.std.proofs.Common.{◌≡◌, ◌∙◌, ◌+◌, ◌++◌, ◌≤◌, length, take, drop, ap, arith}
 use Rattle.st_vault.proofs.FormatLemmas.{row_is}
-use Rattle.st_vault.proofs.HeaderLemmas.{length-header_of}
+use Rattle.st_vault.proofs.ImageLemmas.{length-header_of}
 use Rattle.st_vault.specs.Formatting.{zeros}
-use Rattle.st_vault.specs.Image.{header_of}
-use Rattle.st_vault.specs.Values.{count_of}
+use Rattle.st_vault.specs.Image.{header_of, count_of}
 use Rattle.st_vault.proofs.formatting.fill_row.Goals as goal
 
 pub returns-clause-bytes : goal.returns-clause-bytes

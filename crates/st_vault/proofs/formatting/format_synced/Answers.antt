@@ -1,5 +1,5 @@
 use Rattle.std.proofs.Common.{◌≡◌, drop}
-use Rattle.st_io.proofs.MomentLemmas.{turns_on, turns_weaker}
+use Rattle.st_io.proofs.HistoryLemmas.{turns_on, turns_weaker}
 use Rattle.st_vault.proofs.FormatLemmas.{formatted_bytes, made_moments, ok_blank}
 use Rattle.st_vault.specs.Formatting.{formatted_image}
 use Rattle.st_vault.proofs.formatting.format_synced.Goals as goal

@@ -1,6 +1,5 @@
 use Rattle.std.proofs.Common.{◌∙◌}
-use Rattle.st_vault.proofs.BlankLemmas.{blank_or_new, blank_stays}
-use Rattle.st_vault.proofs.FormatLemmas.{formatting_keeps}
+use Rattle.st_vault.proofs.FormatLemmas.{blank_or_new, blank_stays, formatting_keeps}
 use Rattle.st_vault.proofs.formatting.format_vault.Goals as goal
 
 pub returns-in_err-format_synced-clause-stays : goal.returns-in_err-format_synced-clause-stays

@@ -1,6 +1,6 @@
 use Rattle.std.proofs.Common.{◌≡◌, ◌∷◌, drop}
 use Rattle.std.proofs.lemmas.Result.{on_ok_weaker}
-use Rattle.st_io.proofs.MomentLemmas.{turns_on, turns_weaker}
+use Rattle.st_io.proofs.HistoryLemmas.{turns_on, turns_weaker}
 use Rattle.st_vault.proofs.FormatLemmas.{made_bytes}
 use Rattle.st_vault.specs.Formatting.{behind_gate, formatted_image}
 use Rattle.st_vault.specs.Image.{open_gate}

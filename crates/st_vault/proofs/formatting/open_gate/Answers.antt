@@ -1,9 +1,10 @@
 use Rattle.std.proofs.Common.{◌≡◌, [], ◌∷◌, drop}
 use Rattle.std.proofs.lemmas.Result.{on_ok_weaker}
-use Rattle.st_io.specs.Tears.{Holds, Torn}
+use Rattle.st_io.specs.Histories.{Holds, Torn}
 use Rattle.st_vault.proofs.FormatLemmas.{opening, opened_by}
-use Rattle.st_io.proofs.MomentLemmas.{over, turns_weaker, weaker}
-use Rattle.st_vault.specs.Formatting.{IsFresh, OpensTo}
+use Rattle.st_io.proofs.HistoryLemmas.{over, turns_weaker, weaker}
+use Rattle.st_vault.specs.Formatting.{IsFresh}
+use Rattle.st_vault.specs.inside.Formatting.{OpensTo}
 use Rattle.st_vault.specs.Image.{open_gate}
 use Rattle.st_vault.proofs.formatting.open_gate.Goals as goal
 

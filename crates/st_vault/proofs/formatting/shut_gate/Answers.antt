@@ -1,8 +1,7 @@
 use Rattle.std.proofs.Common.{◌≡◌, subst}
 use Rattle.st_vault.proofs.FormatLemmas.{short-ok, shut-ok, shut_moments, unformatted-not}
-use Rattle.st_io.proofs.MomentLemmas.{stays_only, turns_same}
-use Rattle.st_vault.specs.Formatting.{IsShut}
-use Rattle.st_vault.specs.Start.{Begins}
+use Rattle.st_io.proofs.HistoryLemmas.{stays_only, turns_same}
+use Rattle.st_vault.specs.inside.Formatting.{IsShut, Begins}
 use Rattle.st_vault.proofs.formatting.shut_gate.Goals as goal
 
 pub returns-in_err-write_synced-in-Short-clause-moments : goal.returns-in_err-write_synced-in-Short-clause-moments

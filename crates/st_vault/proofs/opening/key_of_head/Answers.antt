@@ -1,11 +1,10 @@
 use Rattle.std.proofs.Common.{◌≡◌, ◌∙◌, ◌+◌, ◌≤◌, length, drop, Ok, ap, sym, subst, arith}
 use Rattle.std.proofs.lemmas.Bool.{false≢true}
 use Rattle.std.proofs.lemmas.List.{take_rest}
-use Rattle.st_lms.specs.Parameters.{IsOneTimeType, IsTreeType}
+use Rattle.st_lms.specs.OneTime.{IsOneTimeType, IsTreeType}
 use Rattle.st_vault.proofs.ImageLemmas.{IsVault}
 use Rattle.st_vault.proofs.OpeningLemmas.{IsHead, key-damaged, key-shut, key-whole}
-use Rattle.st_vault.specs.Image.{key_of_header}
-use Rattle.st_vault.specs.Values.{count_of}
+use Rattle.st_vault.specs.Image.{key_of_header, count_of}
 use Rattle.st_vault.proofs.opening.key_of_head.Goals as goal
 
 pub returns-then-head-clause-gives : goal.returns-then-head-clause-gives

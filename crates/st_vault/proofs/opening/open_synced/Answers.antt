@@ -1,8 +1,7 @@
 use Rattle.std.proofs.Common.{◌≡◌, ◌∙◌, ◌+◌, ◌≤◌, length, Ok, ap, sym, arith}
 use Rattle.std.proofs.lemmas.Result.{err_from_is_err_and}
 use Rattle.st_vault.proofs.OpeningLemmas.{err-opened, long_enough, opened-map}
-use Rattle.st_vault.specs.Image.{map_in, nonzero_from, one_past}
-use Rattle.st_vault.specs.Values.{count_of}
+use Rattle.st_vault.specs.Image.{map_in, nonzero_from, one_past, count_of}
 use Rattle.st_vault.proofs.opening.open_synced.Goals as goal
 
 pub returns-in_err-secret-clause-gives : goal.returns-in_err-secret-clause-gives

@@ -1,5 +1,5 @@
 use Rattle.std.proofs.Common.{◌≡◌, ◌∙◌, take, ap, sym, arith}
-use Rattle.st_io.proofs.MomentLemmas.{still_as_it_was}
+use Rattle.st_io.proofs.HistoryLemmas.{still_as_it_was}
 use Rattle.st_vault.proofs.OpeningLemmas.{key-short}
 use Rattle.st_vault.proofs.opening.read_key.Goals as goal
 

@@ -1,6 +1,6 @@
 use Rattle.std.proofs.Common.{sym, subst}
 use Rattle.std.specs.Str.{IsAscii}
-use Rattle.st_jws.proofs.Joining.{IsAscii-signing_input}
+use Rattle.st_jws.proofs.SignedLemmas.{IsAscii-signing_input}
 use Rattle.st_wallet.proofs.requests.sign.Goals as goal
 
 pub join_signed-requires : goal.join_signed-requires

@@ -1,7 +1,7 @@
 use Rattle.std.proofs.Common.{◌∙◌, inr, refl, sym, ap}
-use Rattle.st_vault.specs.Opening.{opened}
-use Rattle.st_wallet.specs.Found.{opens}
-use Rattle.st_wallet.specs.Found.Found.{Opened}
+use Rattle.st_vault.specs.Vault.{opened}
+use Rattle.st_wallet.specs.Drafts.{opens}
+use Rattle.st_wallet.specs.Drafts.Found.{Opened}
 use Rattle.st_wallet.proofs.StepLemmas.{not_formatted, untold_if}
 use Rattle.st_wallet.proofs.wallet.format.Goals as goal
 

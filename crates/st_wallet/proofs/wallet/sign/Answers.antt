@@ -1,6 +1,6 @@
 use Rattle.std.proofs.Common.{◌∙◌, Err, ap, refl, rules, subst}
-use Rattle.st_vault.specs.Reserving.{ReserveGives}
-use Rattle.st_wallet.specs.Found.Found.{Opened}
+use Rattle.st_vault.specs.Vault.{ReserveGives}
+use Rattle.st_wallet.specs.Drafts.Found.{Opened}
 use Rattle.st_wallet.proofs.StepLemmas.{signed, unsigned}
 use Rattle.st_wallet.proofs.wallet.sign.Goals as goal
 

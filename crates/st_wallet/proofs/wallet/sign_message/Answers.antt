@@ -1,6 +1,6 @@
 use Rattle.std.proofs.Common.{◌∙◌, Err, ap, refl, rules, subst}
-use Rattle.st_hss.specs.Signing.{SignGives}
-use Rattle.st_wallet.specs.Found.Found.{Opened}
+use Rattle.st_hss.specs.Public.{SignGives}
+use Rattle.st_wallet.specs.Drafts.Found.{Opened}
 use Rattle.st_wallet.proofs.StepLemmas.{signed, unsigned}
 use Rattle.st_wallet.proofs.wallet.sign_message.Goals as goal
 

@@ -1,6 +1,6 @@
 use Rattle.std.proofs.Common.{rules}
-use Rattle.st_workload.proofs.EachLemmas.{each_more}
-use Rattle.st_workload.specs.Identity.{identity_of}
+use Rattle.st_workload.proofs.OrderLemmas.{each_more}
+use Rattle.st_workload.specs.Identifier.{identity_of}
 use Rattle.st_workload.proofs.identity.all_identities.Goals as goal
 
 pub identities-preserved : goal.identities-preserved

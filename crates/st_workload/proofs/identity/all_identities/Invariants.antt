@@ -1,6 +1,5 @@
 use Rattle.std.proofs.Common.{◌≡◌}
-use Rattle.st_workload.specs.Each.{each}
-use Rattle.st_workload.specs.Identity.{identity_of}
+use Rattle.st_workload.specs.Identifier.{each, identity_of}
 use Rattle.st_workload.proofs.identity.all_identities.Given as goal
 
 -- the identifiers so far

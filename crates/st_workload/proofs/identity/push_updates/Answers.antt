@@ -1,7 +1,7 @@
 use Rattle.std.proofs.Common.{◌∙◌, ◌+◌, ap, rules}
-use Rattle.st_workload.proofs.EachLemmas.{each_more}
+use Rattle.st_workload.proofs.OrderLemmas.{each_more}
 use Rattle.st_workload.specs.Identifier.{submit_line}
-use Rattle.st_vault.specs.Values.{vault_after}
+use Rattle.st_vault.specs.Image.{vault_after}
 use Rattle.st_workload.proofs.identity.push_updates.Goals as goal
 
 pub rounds-preserved : goal.rounds-preserved

@@ -1,7 +1,6 @@
 use Rattle.std.proofs.Common.{◌≡◌, ◌+◌}
-use Rattle.st_workload.specs.Each.{each}
-use Rattle.st_workload.specs.Identifier.{key, submit_line}
-use Rattle.st_vault.specs.Opening.{ReadsAs}
+use Rattle.st_workload.specs.Identifier.{each, key, submit_line}
+use Rattle.st_vault.specs.Vault.{ReadsAs}
 use Rattle.st_workload.proofs.identity.push_updates.Given as goal
 
 -- the lines up to this round; the vault has spent a counter for each update

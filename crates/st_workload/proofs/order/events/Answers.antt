@@ -1,7 +1,6 @@
 use Rattle.std.proofs.Common.{◌≡◌, ◌∙◌, ℕ, ◌+◌, List, length, ap, arith, sym}
 use Rattle.st_workload.proofs.OrderLemmas.{more_turns}
-use Rattle.st_workload.specs.Order.{all_left, events, turn, turns}
-use Rattle.st_workload.specs.Words.{word}
+use Rattle.st_workload.specs.Identifier.{all_left, events, turn, turns, word}
 use Rattle.st_workload.specs.declared.order.Feed.{Feed}
 use Rattle.st_workload.proofs.order.events.Goals as goal
 

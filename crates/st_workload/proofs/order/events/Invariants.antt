@@ -1,5 +1,5 @@
 use Rattle.std.proofs.Common.{◌≡◌}
-use Rattle.st_workload.specs.Order.{all_left, turns}
+use Rattle.st_workload.specs.Identifier.{all_left, turns}
 use Rattle.st_workload.proofs.order.events.Given as goal
 
 -- the turns so far

@@ -1,6 +1,6 @@
 use Rattle.std.proofs.Common.{◌∙◌, ◌/◌, ◌%◌, ap}
 use Rattle.st_workload.proofs.OrderLemmas.{file_fed_is}
-use Rattle.st_workload.specs.Order.{file_fed}
+use Rattle.st_workload.specs.Identifier.{file_fed}
 use Rattle.st_workload.proofs.order.feed_file.Goals as goal
 
 pub returns : goal.returns

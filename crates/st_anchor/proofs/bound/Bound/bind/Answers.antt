@@ -1,14 +1,12 @@
 use Rattle.std.proofs.Common.{◌≡◌, ◌∙◌, ap, sym, subst}
 use Rattle.st_hash.specs.Hash.{uri_of}
-use Rattle.st_anchor.specs.Coming.{opened_by}
-use Rattle.st_anchor.specs.Counting.{WorkedAtMost, one_file_with}
-use Rattle.st_anchor.specs.Known.{bound_with}
-use Rattle.st_anchor.specs.Sound.{Holds, IsSoundCore}
-use Rattle.st_anchor.specs.States.{role_state}
+use Rattle.st_anchor.specs.Gives.{opened_by}
+use Rattle.st_anchor.specs.States.{WorkedAtMost, one_file_with, Holds, IsSoundCore, role_state}
+use Rattle.st_anchor.specs.BoundValue.{bound_with}
 use Rattle.st_anchor.specs.declared.part.Part.TheVariants.{Is}
-use Rattle.st_anchor.specs.declared.role_state.RoleState.TheVariants.{Missing}
-use Rattle.st_anchor.proofs.BindLemmas.{bound_with-is, missing-is, opened_by-is, opened_by-missing}
-use Rattle.st_anchor.proofs.CountingLemmas.{file-none}
+use Rattle.st_anchor.specs.declared.part.RoleState.TheVariants.{Missing}
+use Rattle.st_anchor.proofs.SettleLemmas.{bound_with-is, missing-is, opened_by-is, opened_by-missing}
+use Rattle.st_anchor.proofs.CountLemmas.{file-none}
 use Rattle.st_anchor.proofs.SoundLemmas.{sound-core_in, sound-core_with}
 use Rattle.st_anchor.proofs.bound.Bound.bind.Goals as goal
 

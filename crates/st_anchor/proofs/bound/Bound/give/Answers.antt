@@ -1,8 +1,8 @@
 use Rattle.std.proofs.Common.{◌≡◌, false, subst}
-use Rattle.st_base.specs.Twice.{has_twice}
+use Rattle.st_base.specs.Lists.{has_twice}
 use Rattle.st_hash.specs.Hash.{same_hash}
 use Rattle.st_anchor.specs.Gives.{given, suffixes_given}
-use Rattle.st_anchor.proofs.OnceLemmas.{given-once}
+use Rattle.st_anchor.proofs.GivesLemmas.{given-once}
 use Rattle.st_anchor.proofs.bound.Bound.give.Goals as goal
 
 pub returns-in_err-give_below-in-Is-clause-once : goal.returns-in_err-give_below-in-Is-clause-once

@@ -1,5 +1,5 @@
 use Rattle.std.proofs.Common.{subst}
-use Rattle.st_batch.specs.Kept.{AreDifferent}
+use Rattle.st_batch.specs.Queue.{AreDifferent}
 use Rattle.st_batch.proofs.QueueLemmas.{different}
 use Rattle.st_batch.proofs.queue.Queue.len.Goals as goal
 

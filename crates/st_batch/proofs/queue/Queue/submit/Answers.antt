@@ -1,4 +1,4 @@
-use Rattle.st_batch.proofs.CountedLemmas.{counts_asking}
+use Rattle.st_batch.proofs.QueueLemmas.{counts_asking}
 use Rattle.st_batch.proofs.queue.Queue.submit.Goals as goal
 
 pub returns-clause-exact : goal.returns-clause-exact

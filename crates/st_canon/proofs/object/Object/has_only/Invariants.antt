@@ -1,5 +1,5 @@
 use Rattle.std.proofs.Common.{◌≡◌, drop, map}
-use Rattle.st_plain.specs.Find.{has_only}
+use Rattle.st_plain.specs.Objects.{has_only}
 use Rattle.st_canon.specs.View.{plain_members}
 use Rattle.st_canon.proofs.object.Object.has_only.Given as goal
 

@@ -1,6 +1,6 @@
-use Rattle.st_plain.proofs.Named.{member_at-put_same, others_stay_put}
+use Rattle.st_plain.proofs.NameLemmas.{member_at-put_same, others_stay_put}
 use Rattle.st_canon.specs.View.{plain, plain_members}
-use Rattle.st_canon.proofs.Places.{plain_members-placed}
+use Rattle.st_canon.proofs.MemberLemmas.{plain_members-placed}
 use Rattle.st_canon.proofs.object.Object.insert.Goals as goal
 
 pub returns-in-Ok-clause-ok : goal.returns-in-Ok-clause-ok

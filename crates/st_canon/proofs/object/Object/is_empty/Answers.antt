@@ -1,5 +1,5 @@
 use Rattle.std.proofs.Common.{ap, ◌∙◌, length, nat_eq}
-use Rattle.st_canon.proofs.Places.{is_empty-length}
+use Rattle.st_canon.proofs.MemberLemmas.{is_empty-length}
 use Rattle.st_canon.proofs.object.Object.is_empty.Goals as goal
 
 pub returns : goal.returns

@@ -1,10 +1,10 @@
 use Rattle.std.proofs.Common.{ap, sym, subst, ◌∙◌, Some}
-use Rattle.st_plain.specs.Find.{OthersStay, member_at}
-use Rattle.st_plain.specs.Names.{NamesAscend}
-use Rattle.st_plain.proofs.Named.{member_at-without_same, others_stay_without}
-use Rattle.st_canon.specs.Place.{IsPlaceOf, IsGapFor}
+use Rattle.st_plain.specs.Objects.{OthersStay, member_at}
+use Rattle.st_plain.specs.inside.Objects.{NamesAscend}
+use Rattle.st_plain.proofs.NameLemmas.{member_at-without_same, others_stay_without}
+use Rattle.st_canon.specs.inside.Place.{IsPlaceOf, IsGapFor}
 use Rattle.st_canon.specs.View.{plain, plain_members}
-use Rattle.st_canon.proofs.Places.{ascend_removed, value_at_place, removed_at_place, no_value_at_gap, kept_at_gap}
+use Rattle.st_canon.proofs.MemberLemmas.{ascend_removed, value_at_place, removed_at_place, no_value_at_gap, kept_at_gap}
 use Rattle.st_canon.proofs.object.Object.remove.Goals as goal
 
 pub invariant_of-self : goal.invariant_of-self

@@ -1,7 +1,7 @@
 use Rattle.std.proofs.Common.{ap, sym, subst, ◌∙◌, Some}
-use Rattle.st_canon.specs.Place.{IsPlaceOf, IsGapFor}
+use Rattle.st_canon.specs.inside.Place.{IsPlaceOf, IsGapFor}
 use Rattle.st_canon.specs.View.{plain}
-use Rattle.st_canon.proofs.Places.{found_at_place, none_at_gap, value_at_place, no_value_at_gap}
+use Rattle.st_canon.proofs.MemberLemmas.{found_at_place, none_at_gap, value_at_place, no_value_at_gap}
 use Rattle.st_canon.proofs.object.Object.searched.Goals as goal
 
 pub returns-in-Ok-clause-value : goal.returns-in-Ok-clause-value

@@ -1,5 +1,6 @@
 use Rattle.std.proofs.Common.{◌≡◌, ◌∙◌, ap, sym, subst, IsSome}
-use Rattle.st_content.specs.Files.{AreNamed, file_at, files_of, with_entry, with_file}
+use Rattle.st_content.specs.Files.{AreNamed, file_at, files_of, with_file}
+use Rattle.st_content.specs.inside.Files.{with_entry}
 use Rattle.st_content.proofs.FileLemmas.{AreNamed-with_file, IsPut, after, before, is_put}
 use Rattle.st_content.proofs.content.Content.put_under.Goals as goal
 

@@ -1,8 +1,8 @@
 use Rattle.std.proofs.Common.{◌≡◌, ◌∙◌, ◌+◌, ◌++◌, [], ◌∷◌, vec_len, length, length-append, take, rules, ap, sym, subst, arith}
-use Rattle.st_base.specs.Words.{HasNo}
-use Rattle.st_drive.specs.Parts.{Gathered, outlet}
+use Rattle.st_base.specs.Texts.{HasNo}
+use Rattle.st_drive.specs.inside.Parts.{Gathered, outlet}
 use Rattle.st_drive.proofs.LineLemmas.{open_append}
-use Rattle.st_drive.proofs.Fed.{no_pieces, one_more, all_pieces, gathered_none, gathered_more, gathered_less, gathered_some, some_of_all}
+use Rattle.st_drive.proofs.FedLemmas.{no_pieces, one_more, all_pieces, gathered_none, gathered_more, gathered_less, gathered_some, some_of_all}
 use Rattle.st_drive.proofs.progress.Progress.answer_lines.Goals as goal
 
 pub lines-init : goal.lines-init

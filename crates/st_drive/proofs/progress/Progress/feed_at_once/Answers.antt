@@ -1,6 +1,6 @@
 use Rattle.std.proofs.Common.{[], rules, append-nil}
 use Rattle.std.specs.Io.KnownBytes.{Appends}
-use Rattle.st_drive.proofs.Fed.{either_way, gathered_some, wrote_some}
+use Rattle.st_drive.proofs.FedLemmas.{either_way, gathered_some, wrote_some}
 use Rattle.st_drive.proofs.progress.Progress.feed_at_once.Goals as goal
 
 pub returns-then-is_err-clause-writes : goal.returns-then-is_err-clause-writes

@@ -1,9 +1,8 @@
 use Rattle.std.proofs.Common.{[], ◌+◌, ◌++◌, List, vec_len, length, length-append, ap, sym, subst, arith}
 use Rattle.std.proofs.KnownBytes.{Appends-nil}
 use Rattle.st_drive.specs.Lines.{capped}
-use Rattle.st_drive.proofs.Ends.{wrote_more}
-use Rattle.st_drive.proofs.Fed.{Pieces, no_pieces}
-use Rattle.st_drive.proofs.PromptLemmas.{fed_all, fed_line, fed_some, one_line_few, open_few, pieces_more}
+use Rattle.st_drive.proofs.EndLemmas.{wrote_more}
+use Rattle.st_drive.proofs.FedLemmas.{Pieces, no_pieces, fed_all, fed_line, fed_some, one_line_few, open_few, pieces_more}
 use Rattle.st_drive.proofs.RunLemmas.{went_none}
 use Rattle.st_drive.proofs.progress.Progress.feed_promptly.Goals as goal
 

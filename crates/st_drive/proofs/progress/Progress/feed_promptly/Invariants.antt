@@ -1,7 +1,7 @@
 use Rattle.std.proofs.Common.{◌≤◌, ◌+◌, ◌++◌, List, ℕ, length, vec_len}
-use Rattle.st_io.specs.Sinks.{FinishesNothing}
-use Rattle.st_drive.specs.Parts.{Wrote}
-use Rattle.st_drive.proofs.Fed.{Pieces}
+use Rattle.st_io.specs.Past.{FinishesNothing}
+use Rattle.st_drive.specs.Runs.{Wrote}
+use Rattle.st_drive.proofs.FedLemmas.{Pieces}
 use Rattle.st_drive.proofs.progress.Progress.feed_promptly.Given as goal
 
 -- the lines so far were answered and their replies are written, and the others are those of the line and the rest

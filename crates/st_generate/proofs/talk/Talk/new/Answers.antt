@@ -1,5 +1,5 @@
 use Rattle.std.proofs.Common.{◌∙◌, ap}
-use Rattle.st_generate.proofs.TalkLemmas.{none_read}
+use Rattle.st_generate.proofs.SummaryLemmas.{none_read}
 use Rattle.st_generate.proofs.talk.Talk.new.Goals as goal
 
 pub invariant_of-talk : goal.invariant_of-talk

@@ -1,5 +1,5 @@
 use Rattle.std.proofs.Common.{◌∙◌, ap}
-use Rattle.st_generate.proofs.TalkLemmas.{reply_is, tell_is}
+use Rattle.st_generate.proofs.SummaryLemmas.{reply_is, tell_is}
 use Rattle.st_generate.specs.Talk.{TalkValue, reply, tell}
 use Rattle.st_generate.proofs.talk.Talk.tell.Goals as goal
 

@@ -1,4 +1,4 @@
-use Rattle.st_generate.proofs.TalkLemmas.{within}
+use Rattle.st_generate.proofs.SummaryLemmas.{within}
 use Rattle.st_generate.proofs.talk.Talk.within_line.Goals as goal
 
 pub returns : goal.returns

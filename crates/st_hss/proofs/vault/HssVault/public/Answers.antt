@@ -1,8 +1,7 @@
 use Rattle.std.proofs.Common.{◌∙◌, ap, subst}
-use Rattle.st_lms.specs.Keys.{PublicKey}
+use Rattle.st_lms.specs.Tree.{PublicKey}
 use Rattle.st_lms.specs.Signature.{public_of}
-use Rattle.st_vault.specs.Children.{child_of}
-use Rattle.st_vault.specs.Values.{VaultValue}
+use Rattle.st_vault.specs.Image.{child_of, VaultValue}
 use Rattle.st_hss.specs.Trees.{IfKept}
 use Rattle.st_hss.specs.Uses.{hss_public_of}
 use Rattle.st_hss.specs.declared.public.HssPublic.{HssPublic}

@@ -1,6 +1,6 @@
 use Rattle.std.proofs.Common.{◌∙◌, ◌/◌, sym, ap}
-use Rattle.st_vault.proofs.VaultLemmas.{may_as, spent_as}
-use Rattle.st_vault.specs.Values.{CounterValue}
+use Rattle.st_vault.proofs.OpeningLemmas.{may_as, spent_as}
+use Rattle.st_vault.specs.Image.{CounterValue}
 use Rattle.st_hss.proofs.VaultLemmas.{next_of_left}
 use Rattle.st_hss.proofs.vault.HssVault.sign.Goals as goal
 

@@ -1,5 +1,5 @@
 use Rattle.std.proofs.Common.{◌∙◌, ◌++◌, ap, sym}
-use Rattle.st_plain.proofs.OnLiterals.{names_on_literals}
+use Rattle.st_plain.proofs.NameLemmas.{names_on_literals}
 use Rattle.st_hash.specs.Hash.{HashValue}
 use Rattle.st_indexfiles.specs.declared.suffix_data.SuffixData.{SuffixData}
 use Rattle.st_indexfiles.proofs.MemberLemmas.{create_text, joined}

@@ -1,4 +1,4 @@
-use Rattle.st_io.proofs.TearLemmas.{torn_same}
+use Rattle.st_io.proofs.HistoryLemmas.{torn_same}
 use Rattle.st_io.proofs.file_disk.FileDiskDisk.write_at.Goals as goal
 
 pub returns-in-Ok-clause-images : goal.returns-in-Ok-clause-images

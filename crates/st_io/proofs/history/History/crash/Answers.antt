@@ -1,6 +1,6 @@
 use Rattle.std.proofs.Common.{◌≡◌, ◌∙◌, ap, subst, rules}
-use Rattle.st_io.specs.Crashes.{crashed}
-use Rattle.st_io.specs.Histories.{DiskHistory, AllBeganWithin}
+use Rattle.st_io.specs.Histories.{crashed, DiskHistory}
+use Rattle.st_io.specs.inside.Histories.{AllBeganWithin}
 use Rattle.st_io.proofs.CrashLemmas.{is_image_of, newest_crash}
 use Rattle.st_io.proofs.history.History.crash.Goals as goal
 

@@ -1,6 +1,5 @@
 use Rattle.std.proofs.Common.{◌∙◌, ap}
-use Rattle.st_io.specs.Histories.{with_step}
-use Rattle.st_io.specs.Scripts.{DiskScript}
+use Rattle.st_io.specs.Histories.{with_step, DiskScript}
 use Rattle.st_io.specs.declared.history.Step.TheVariants.{Synced}
 use Rattle.st_io.proofs.HistoryLemmas.{adds_none_by_sync, one_sync}
 use Rattle.st_io.proofs.script_disk.ScriptDiskDisk.sync.Goals as goal

@@ -1,6 +1,5 @@
 use Rattle.std.proofs.Common.{refl, ◌∙◌, ap}
-use Rattle.st_io.specs.Histories.{with_write}
-use Rattle.st_io.specs.Scripts.{DiskScript}
+use Rattle.st_io.specs.Histories.{with_write, DiskScript}
 use Rattle.st_io.proofs.HistoryLemmas.{follows_write}
 use Rattle.st_io.proofs.script_disk.ScriptDiskDisk.write_at.Goals as goal
 

@@ -1,10 +1,8 @@
 use Rattle.std.proofs.Common.{◌≡◌, ◌∙◌, option_map, inl, ap}
-use Rattle.st_io.proofs.PastLemmas.{stands}
-use Rattle.st_io.proofs.MomentLemmas.{turns_weaker}
-use Rattle.st_journal.proofs.WriteLemmas.{alike, records_more}
-use Rattle.st_journal.specs.Image.{found, records}
-use Rattle.st_journal.specs.Moments.{with_record}
-use Rattle.st_journal.specs.Rows.{put_last}
+use Rattle.st_io.proofs.HistoryLemmas.{stands, turns_weaker}
+use Rattle.st_journal.proofs.AppendLemmas.{alike, records_more}
+use Rattle.st_journal.specs.Image.{found, records, with_record}
+use Rattle.st_journal.specs.inside.Heads.{put_last}
 use Rattle.st_journal.proofs.journal.Journal.append.Goals as goal
 
 pub returns-in_err-row-clause-moments : goal.returns-in_err-row-clause-moments

@@ -1,9 +1,8 @@
 use Rattle.std.proofs.Common.{◌∙◌, ◌+◌, ◌<◌, [], ◌∷◌, length, Some, Err, ap, sym, subst, arith}
 use Rattle.std.specs.Prelude.{IfSome}
-use Rattle.st_journal.proofs.ComingLemmas.{closed_none, comes_by, records_next, records_none}
-use Rattle.st_journal.proofs.OpeningLemmas.{reading_on, ready_behind}
-use Rattle.st_journal.proofs.WriteLemmas.{ready_only}
-use Rattle.st_journal.specs.Coming.{put_before, records_from}
+use Rattle.st_journal.proofs.OpeningLemmas.{closed_none, comes_by, records_next, records_none, reading_on, ready_behind}
+use Rattle.st_journal.proofs.AppendLemmas.{ready_only}
+use Rattle.st_journal.specs.Opening.{put_before, records_from}
 use Rattle.st_journal.proofs.opening.Opening.next.Goals as goal
 
 pub returns-then-self-clause-comes : goal.returns-then-self-clause-comes

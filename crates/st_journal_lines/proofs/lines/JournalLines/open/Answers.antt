@@ -4,18 +4,14 @@ use Rattle.std.specs.Option.{ok_or}
 use Rattle.std.specs.Prelude.{OnErr}
 use Rattle.st_base.specs.Answers.{GivesAs}
 use Rattle.st_drive.proofs.TableLemmas.{rose_before}
-use Rattle.st_io.proofs.MomentLemmas.{still_as_it_was}
-use Rattle.st_io.proofs.PastLemmas.{more}
-use Rattle.st_io.specs.Tears.{Turns}
+use Rattle.st_io.proofs.HistoryLemmas.{still_as_it_was, more}
+use Rattle.st_io.specs.Histories.{Turns}
 use Rattle.st_journal.proofs.OpeningLemmas.{synced_on}
-use Rattle.st_journal.specs.Coming.{coming}
-use Rattle.st_journal.specs.Image.{records}
-use Rattle.st_journal.specs.Moments.{IsOldOrHas}
-use Rattle.st_journal.specs.Opening.{opened, refusal_of}
-use Rattle.st_journal.specs.declared.refused.JournalRefused.TheVariants.{Damaged}
+use Rattle.st_journal.specs.Opening.{coming, opened, refusal_of}
+use Rattle.st_journal.specs.Image.{records, IsOldOrHas}
+use Rattle.st_journal.specs.declared.journal.JournalRefused.TheVariants.{Damaged}
 use Rattle.st_journal_lines.specs.Answering.{StayedOrWent, WentOverFrom, behind_opened}
-use Rattle.st_journal_lines.proofs.OpenedLemmas.{ok_some, on_ok, refused_by, same_error, some_left, stays_unopened}
-use Rattle.st_journal_lines.proofs.ReplayLemmas.{if_left, not_long}
+use Rattle.st_journal_lines.proofs.ReplayLemmas.{ok_some, on_ok, refused_by, same_error, some_left, stays_unopened, if_left, not_long}
 use Rattle.st_journal_lines.proofs.lines.JournalLines.open.Goals as goal
 
 pub returns-in-Ok-start-clause-opens : goal.returns-in-Ok-start-clause-opens

@@ -1,11 +1,9 @@
 use Rattle.std.proofs.Common.{◌≡◌, ◌∙◌, sym, ap, refl, take, drop, Ok, Some, arith}
-use Rattle.st_lms.specs.Keys.{PublicKey, public_text, tree_type_in, one_time_type_in}
-use Rattle.st_lms.specs.Parameters.{IsOneTimeType, IsTreeType}
+use Rattle.st_lms.specs.Tree.{PublicKey, public_text, tree_type_in, one_time_type_in}
+use Rattle.st_lms.specs.OneTime.{IsOneTimeType, IsTreeType, one_time_number, tree_number}
 use Rattle.st_lms.specs.Strings.{str_to_u32}
-use Rattle.st_lms.specs.TypeNumbers.{one_time_number, tree_number}
-use Rattle.st_lms.proofs.PublicTexts.{key_in, public_text-key_in, shows_key, same_key}
-use Rattle.st_lms.proofs.Decided.{public_in-known, public_in-none}
-use Rattle.st_lms.proofs.TypeLemmas.{one_time_known, tree_known}
+use Rattle.st_lms.proofs.KeyLemmas.{key_in, public_text-key_in, shows_key, same_key, one_time_known, tree_known}
+use Rattle.st_lms.proofs.LawLemmas.{public_in-known, public_in-none}
 use Rattle.st_lms.proofs.public.Public.read.Goals as goal
 use Rattle.st_lms.proofs.public.Public.read.Goals.{In_default, In_default-read, After-copied-2}
 

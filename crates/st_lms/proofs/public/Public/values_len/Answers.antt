@@ -1,6 +1,6 @@
 use Rattle.std.proofs.Common.{arith}
-use Rattle.st_lms.specs.TypeNumbers.{one_time_number}
-use Rattle.st_lms.proofs.DigitLemmas.{sized}
+use Rattle.st_lms.specs.OneTime.{one_time_number}
+use Rattle.st_lms.proofs.ChainLemmas.{sized}
 use Rattle.st_lms.proofs.public.Public.values_len.Goals as goal
 
 pub returns-clause-small : goal.returns-clause-small

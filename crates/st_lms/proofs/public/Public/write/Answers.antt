@@ -1,11 +1,9 @@
 use Rattle.std.proofs.Common.{◌≡◌, ◌∙◌, ◌++◌, length, take, sym, ap, arith}
 use Rattle.std.proofs.lemmas.List.{take_all}
-use Rattle.st_lms.specs.Keys.{public_text}
+use Rattle.st_lms.specs.Tree.{public_text}
 use Rattle.st_lms.specs.Strings.{u32str}
-use Rattle.st_lms.specs.TypeNumbers.{one_time_number, tree_number}
-use Rattle.st_lms.proofs.StringLemmas.{length-u32str}
-use Rattle.st_lms.proofs.Texts.{written}
-use Rattle.st_lms.proofs.TypeLemmas.{one_time_known, tree_known}
+use Rattle.st_lms.specs.OneTime.{one_time_number, tree_number}
+use Rattle.st_lms.proofs.KeyLemmas.{length-u32str, written, one_time_known, tree_known}
 use Rattle.st_lms.proofs.public.Public.write.Goals as goal
 
 pub returns-clause-text : goal.returns-clause-text

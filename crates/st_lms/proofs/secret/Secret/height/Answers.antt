@@ -1,7 +1,7 @@
 use Rattle.std.proofs.Common.{arith}
-use Rattle.st_lms.specs.TypeNumbers.{tree_number}
-use Rattle.st_lms.proofs.Nodes.{height-small}
-use Rattle.st_lms.proofs.TypeLemmas.{tree_known}
+use Rattle.st_lms.specs.OneTime.{tree_number}
+use Rattle.st_lms.proofs.TreeLemmas.{height-small}
+use Rattle.st_lms.proofs.KeyLemmas.{tree_known}
 use Rattle.st_lms.proofs.secret.Secret.height.Goals as goal
 
 pub returns-clause-small : goal.returns-clause-small

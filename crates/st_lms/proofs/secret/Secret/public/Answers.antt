@@ -1,9 +1,8 @@
 use Rattle.std.proofs.Common.{ap}
-use Rattle.st_lms.specs.Keys.{PublicKey, SecretKey}
-use Rattle.st_lms.specs.Parameters.{height}
-use Rattle.st_lms.specs.Tree.{node}
+use Rattle.st_lms.specs.Tree.{PublicKey, SecretKey, node}
+use Rattle.st_lms.specs.OneTime.{height}
 use Rattle.st_lms.specs.Signature.{public_of}
-use Rattle.st_lms.proofs.Nodes.{root_node}
+use Rattle.st_lms.proofs.TreeLemmas.{root_node}
 use Rattle.st_lms.proofs.secret.Secret.public.Goals as goal
 
 pub node-root-requires : goal.node-root-requires

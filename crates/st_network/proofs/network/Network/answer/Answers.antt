@@ -1,5 +1,5 @@
 use Rattle.std.proofs.Common.{[], ◌∷◌}
-use Rattle.st_network.proofs.WorkLemmas.{none_over}
+use Rattle.st_network.proofs.NetworkLemmas.{none_over}
 use Rattle.st_network.proofs.network.Network.answer.Goals as goal
 
 pub returns-in_err-text-in-Err-Refused-clause-within : goal.returns-in_err-text-in-Err-Refused-clause-within

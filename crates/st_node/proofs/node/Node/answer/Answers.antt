@@ -1,4 +1,4 @@
-use Rattle.st_node.proofs.DueLemmas.{line_due, none_counted}
+use Rattle.st_node.proofs.WorkLemmas.{line_due, none_counted}
 use Rattle.st_node.specs.Command.{command_of}
 use Rattle.st_node.proofs.node.Node.answer.Goals as goal
 

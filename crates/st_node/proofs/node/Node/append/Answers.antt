@@ -1,5 +1,5 @@
 use Rattle.std.specs.Prelude.{Ok}
-use Rattle.st_node.proofs.DueLemmas.{none_counted}
+use Rattle.st_node.proofs.WorkLemmas.{none_counted}
 use Rattle.st_node.specs.declared.command.Command.TheVariants.{Anchor}
 use Rattle.st_node.proofs.node.Node.append.Goals as goal
 

@@ -1,4 +1,4 @@
-use Rattle.st_node.proofs.FlushLemmas.{flush_answer, flush_counts}
+use Rattle.st_node.proofs.ReplyLemmas.{flush_answer, flush_counts}
 use Rattle.st_node.proofs.node.Node.flush.Goals as goal
 
 pub returns-in_err-observer-in-Ok-clause-counts : goal.returns-in_err-observer-in-Ok-clause-counts

@@ -1,5 +1,5 @@
 use Rattle.st_node.proofs.ChangedLemmas.{command_tells, tells_as}
-use Rattle.st_node.proofs.DueLemmas.{command_due}
+use Rattle.st_node.proofs.WorkLemmas.{command_due}
 use Rattle.st_node.specs.Machine.{answered_command}
 use Rattle.st_node.proofs.node.Node.step.Goals as goal
 

@@ -1,4 +1,4 @@
-use Rattle.st_node.proofs.PaidLemmas.{line_within}
+use Rattle.st_node.proofs.WorkLemmas.{line_within}
 use Rattle.st_node.proofs.peer.NodePeer.answer.Goals as goal
 
 pub returns-clause-due : goal.returns-clause-due

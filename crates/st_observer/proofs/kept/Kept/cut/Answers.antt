@@ -1,6 +1,6 @@
 use Rattle.std.proofs.Common.{ap}
-use Rattle.st_observer.specs.declared.steps.Steps.{Steps}
-use Rattle.st_observer.proofs.StatesLemmas.{cut_operations}
+use Rattle.st_observer.specs.declared.held.Steps.{Steps}
+use Rattle.st_observer.proofs.StoredLemmas.{cut_operations}
 use Rattle.st_observer.proofs.kept.Kept.cut.Goals as goal
 
 pub returns : goal.returns

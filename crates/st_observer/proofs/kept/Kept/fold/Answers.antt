@@ -1,8 +1,8 @@
 use Rattle.std.proofs.Common.{ap, refl, subst, sym}
-use Rattle.st_observer.specs.Steps.{Folds}
+use Rattle.st_observer.specs.inside.Steps.{Folds}
 use Rattle.st_observer.specs.declared.kept.Kept.{Kept}
-use Rattle.st_observer.specs.declared.steps.Steps.{Steps}
-use Rattle.st_observer.proofs.StatesLemmas.{covers-itself, same_operations}
+use Rattle.st_observer.specs.declared.held.Steps.{Steps}
+use Rattle.st_observer.proofs.StoredLemmas.{covers-itself, same_operations}
 use Rattle.st_observer.proofs.kept.Kept.fold.Goals as goal
 
 pub returns-clause-step : goal.returns-clause-step
@@ -17,15 +17,15 @@ returns-clause-step c =
 
 pub returns-clause-reads : goal.returns-clause-reads
 returns-clause-reads c =
-    let bound = c.settle.ensures.bound c.args.self.index.changes (covers-itself c.args.self.index.changes) in
+    let bound = c.fold.ensures.few c.args.self.index.changes (covers-itself c.args.self.index.changes) in
     record { least = bound.least; read = bound.files; opened = bound.proofs }
 
 pub returns-in_err-new-clause-reads : goal.returns-in_err-new-clause-reads
 returns-in_err-new-clause-reads c =
-    let bound = c.settle.ensures.bound c.args.self.index.changes (covers-itself c.args.self.index.changes) in
+    let bound = c.fold.ensures.few c.args.self.index.changes (covers-itself c.args.self.index.changes) in
     record { least = bound.least; read = bound.files; opened = bound.proofs }
 
 pub returns-in_err-index-clause-reads : goal.returns-in_err-index-clause-reads
 returns-in_err-index-clause-reads c =
-    let bound = c.settle.ensures.bound c.args.self.index.changes (covers-itself c.args.self.index.changes) in
+    let bound = c.fold.ensures.few c.args.self.index.changes (covers-itself c.args.self.index.changes) in
     record { least = bound.least; read = bound.files; opened = bound.proofs }

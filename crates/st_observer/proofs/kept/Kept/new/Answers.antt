@@ -1,9 +1,8 @@
 use Rattle.std.proofs.Common.{◌≡◌, ◌∙◌, [], ap, refl, rules, sym}
 use Rattle.st_hash.specs.Hash.{HashValue}
-use Rattle.st_observer.specs.Kept.{roles_at}
-use Rattle.st_observer.specs.States.{Operations, operations_at}
-use Rattle.st_observer.specs.Wanted.{one_misses}
-use Rattle.st_observer.proofs.BoundsLemmas.{needs_none}
+use Rattle.st_observer.specs.Work.{roles_at, Operations, operations_at}
+use Rattle.st_observer.specs.Observed.{one_misses}
+use Rattle.st_observer.proofs.OperationsLemmas.{needs_none}
 use Rattle.st_observer.proofs.kept.Kept.new.Goals as goal
 
 -- an identifier without items has no operations

@@ -1,9 +1,9 @@
 use Rattle.std.proofs.Common.{◌∙◌, ap, arith, sym}
 use Rattle.std.proofs.lemmas.List.{get_or_past}
 use Rattle.st_anchor.specs.States.{role_states}
-use Rattle.st_observer.specs.Kept.{unknown}
-use Rattle.st_observer.specs.Wanted.{one_misses}
-use Rattle.st_observer.proofs.BoundsLemmas.{needs_none}
+use Rattle.st_observer.specs.Work.{unknown}
+use Rattle.st_observer.specs.Observed.{one_misses}
+use Rattle.st_observer.proofs.OperationsLemmas.{needs_none}
 use Rattle.st_observer.proofs.kept.Kept.push.Goals as goal
 
 pub turn-requires : goal.turn-requires

@@ -1,12 +1,11 @@
 use Rattle.std.proofs.Common.{◌∙◌, ap, map, subst, sym}
 use Rattle.st_observer.specs.Observed.{operations}
-use Rattle.st_observer.specs.Kept.{IsObserved}
-use Rattle.st_observer.specs.States.{anchored_item}
-use Rattle.st_observer.specs.Steps.{over}
+use Rattle.st_observer.specs.Work.{IsObserved, anchored_item}
+use Rattle.st_observer.specs.inside.Steps.{over}
 use Rattle.st_observer.specs.declared.kept.Kept.{Kept}
-use Rattle.st_observer.proofs.KeptLemmas.{operations-ascend}
+use Rattle.st_observer.proofs.ObserverLemmas.{operations-ascend}
 use Rattle.st_observer.proofs.OperationsLemmas.{kept-operations}
-use Rattle.st_observer.proofs.StatesLemmas.{kept_operations}
+use Rattle.st_observer.proofs.StoredLemmas.{kept_operations}
 use Rattle.st_observer.proofs.observer.Observer.items.Goals as goal
 
 pub returns-clause-items : goal.returns-clause-items

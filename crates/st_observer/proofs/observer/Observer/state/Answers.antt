@@ -1,9 +1,9 @@
 use Rattle.std.proofs.Common.{◌∙◌, ap, subst, sym}
 use Rattle.st_observer.specs.Observed.{state_of}
-use Rattle.st_observer.specs.Kept.{IsObserved}
-use Rattle.st_observer.specs.Steps.{over}
+use Rattle.st_observer.specs.Work.{IsObserved}
+use Rattle.st_observer.specs.inside.Steps.{over}
 use Rattle.st_observer.specs.declared.kept.Kept.{Kept}
-use Rattle.st_observer.proofs.KeptLemmas.{kept-state}
+use Rattle.st_observer.proofs.ObserverLemmas.{kept-state}
 use Rattle.st_observer.proofs.observer.Observer.state.Goals as goal
 
 pub state-requires : goal.state-requires

@@ -1,12 +1,11 @@
 use Rattle.std.proofs.Common.{◌∙◌, ◌↔◌, IsTrue, ap, subst, sym}
 use Rattle.std.specs.List.{list_any}
 use Rattle.st_hash.specs.Hash.{same_hash}
-use Rattle.st_observer.specs.Observed.{Observed}
-use Rattle.st_observer.specs.Kept.{IsKept}
-use Rattle.st_observer.specs.Steps.{over}
+use Rattle.st_observer.specs.Observed.{Observed, IsMissed, wanted}
+use Rattle.st_observer.specs.Work.{IsKept}
+use Rattle.st_observer.specs.inside.Steps.{over}
 use Rattle.st_observer.specs.declared.kept.Kept.{Kept}
-use Rattle.st_observer.specs.Wanted.{IsMissed, wanted}
-use Rattle.st_observer.proofs.AskedLemmas.{asked-by, asked-missed, asked-wanted}
+use Rattle.st_observer.proofs.WantedLemmas.{asked-by, asked-missed, asked-wanted}
 use Rattle.st_observer.proofs.observer.Observer.wanted.Goals as goal
 
 pub returns-clause-value : goal.returns-clause-value

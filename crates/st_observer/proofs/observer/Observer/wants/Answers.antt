@@ -1,9 +1,9 @@
 use Rattle.std.proofs.Common.{◌∙◌, ap, subst, sym}
-use Rattle.st_observer.specs.Kept.{IsKept}
-use Rattle.st_observer.specs.Steps.{over}
+use Rattle.st_observer.specs.Work.{IsKept}
+use Rattle.st_observer.specs.inside.Steps.{over}
 use Rattle.st_observer.specs.declared.kept.Kept.{Kept}
-use Rattle.st_observer.specs.Wanted.{is_wanted}
-use Rattle.st_observer.proofs.AskedLemmas.{asked-wants}
+use Rattle.st_observer.specs.Observed.{is_wanted}
+use Rattle.st_observer.proofs.WantedLemmas.{asked-wants}
 use Rattle.st_observer.proofs.observer.Observer.wants.Goals as goal
 
 pub returns : goal.returns

@@ -1,6 +1,7 @@
 use Rattle.std.proofs.Common.{◌≡◌, ◌∙◌, eqb, ap, sym}
 use Rattle.std.specs.List.{list_any}
-use Rattle.st_observer.specs.Waiting.{is_waiting, seen, waiting_for}
+use Rattle.st_observer.specs.Observed.{is_waiting, waiting_for}
+use Rattle.st_observer.specs.inside.Waiting.{seen}
 use Rattle.st_observer.proofs.WaitingLemmas.{ascends-none, numbers-found, numbers_in}
 use Rattle.st_observer.proofs.waiting.Waiting.entries.Goals as goal
 

@@ -1,6 +1,7 @@
 use Rattle.std.proofs.Common.{◌≡◌, ◌↔◌, subst, true}
 use Rattle.st_hash.specs.Hash.{HashValue}
-use Rattle.st_observer.specs.Waiting.{AreRead, IsWaitedFor, Waits, seen}
+use Rattle.st_observer.specs.Observed.{Waits}
+use Rattle.st_observer.specs.inside.Waiting.{AreRead, IsWaitedFor, seen}
 use Rattle.st_observer.proofs.WaitingLemmas.{row-waited, rows-read}
 use Rattle.st_observer.proofs.waiting.Waiting.has.Goals as goal
 

@@ -1,7 +1,7 @@
 use Rattle.std.proofs.Common.{◌≡◌, true, subst, sym}
 use Rattle.std.specs.List.{list_any}
 use Rattle.st_hash.specs.Hash.{same_hash}
-use Rattle.st_observer.specs.Waiting.{IsWaitedFor}
+use Rattle.st_observer.specs.inside.Waiting.{IsWaitedFor}
 use Rattle.st_observer.proofs.WaitingLemmas.{all_waited, waited}
 use Rattle.st_observer.proofs.waiting.Waiting.uris.Goals as goal
 

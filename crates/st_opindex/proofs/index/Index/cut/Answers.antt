@@ -1,4 +1,4 @@
-use Rattle.st_opindex.proofs.Cutting.{all_cut, placed_cut}
+use Rattle.st_opindex.proofs.RowLemmas.{all_cut, placed_cut}
 use Rattle.st_opindex.proofs.index.Index.cut.Goals as goal
 
 pub invariant_of-result : goal.invariant_of-result

@@ -1,5 +1,5 @@
 use Rattle.std.proofs.Common.{◌∙◌, ap, sym, Some, None}
-use Rattle.st_opindex.proofs.Keyed.{seen_found, row_found}
+use Rattle.st_opindex.proofs.KeyLemmas.{seen_found, row_found}
 use Rattle.st_opindex.proofs.index.Index.items.Goals as goal
 
 pub returns-in-Some : goal.returns-in-Some

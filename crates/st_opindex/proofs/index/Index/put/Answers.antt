@@ -1,6 +1,5 @@
-use Rattle.st_opindex.specs.Items.{with_item}
-use Rattle.st_opindex.specs.Seen.{seen_items}
-use Rattle.st_opindex.proofs.Owing.{owed_more, put_counts}
+use Rattle.st_opindex.specs.Items.{with_item, seen_items}
+use Rattle.st_opindex.proofs.FoldLemmas.{owed_more, put_counts}
 use Rattle.st_opindex.proofs.Placed.{placed_put}
 use Rattle.st_opindex.proofs.index.Index.put.Goals as goal
 

@@ -1,11 +1,8 @@
 use Rattle.std.proofs.Common.{◌≡◌, ◌∙◌, sym, ap, Some, None, rules}
-use Rattle.st_opindex.specs.Items.{folded}
-use Rattle.st_opindex.specs.ByKey.{items_at}
-use Rattle.st_opindex.specs.Kept.{left_of}
-use Rattle.st_opindex.specs.Seen.{seen_items}
-use Rattle.st_opindex.proofs.Folding.{nothing_left}
-use Rattle.st_opindex.proofs.Keyed.{left_in, seen_found, row_found}
-use Rattle.st_opindex.proofs.Kept.{row_folds}
+use Rattle.st_opindex.specs.Items.{folded, items_at, left_of, seen_items}
+use Rattle.st_opindex.proofs.FoldLemmas.{nothing_left}
+use Rattle.st_opindex.proofs.KeyLemmas.{left_in, seen_found, row_found}
+use Rattle.st_opindex.proofs.RowLemmas.{row_folds}
 use Rattle.st_opindex.proofs.index.Index.state.Goals as goal
 
 pub returns-in-Some : goal.returns-in-Some

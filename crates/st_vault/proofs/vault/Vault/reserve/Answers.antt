@@ -1,10 +1,9 @@
 use Rattle.std.proofs.Common.{◌∙◌, ◌+◌, ◌<◌, Ok, is_some, ap, sym, subst, arith}
 use Rattle.st_io.specs.Past.{Follow}
-use Rattle.st_io.specs.Tears.{Torn}
-use Rattle.st_vault.proofs.TornLemmas.{torn_moments}
-use Rattle.st_vault.proofs.ReserveLemmas.{after_write, fits, unspent, written}
-use Rattle.st_vault.specs.Image.{IsSpent}
-use Rattle.st_vault.specs.Values.{count_of}
+use Rattle.st_io.specs.Histories.{Torn}
+use Rattle.st_vault.proofs.FormatLemmas.{torn_moments}
+use Rattle.st_vault.proofs.RunLemmas.{after_write, fits, unspent, written}
+use Rattle.st_vault.specs.Image.{IsSpent, count_of}
 use Rattle.st_vault.proofs.vault.Vault.reserve.Goals as goal
 
 pub write_synced-requires : goal.write_synced-requires

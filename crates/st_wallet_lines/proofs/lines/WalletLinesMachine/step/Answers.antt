@@ -1,9 +1,9 @@
 use Rattle.std.proofs.Common.{◌∙◌, ap, sym, subst}
 use Rattle.st_drive.proofs.OnDiskLemmas.{replied}
 use Rattle.st_drive.specs.Spending.{spending}
-use Rattle.st_wallet.specs.Found.{Found, IsFoundOn}
+use Rattle.st_wallet.specs.Drafts.{Found, IsFoundOn}
 use Rattle.st_wallet.specs.Machine.{AnswersWith, answered}
-use Rattle.st_wallet_lines.specs.Spender.{wallet_spender}
+use Rattle.st_wallet_lines.specs.Run.{wallet_spender}
 use Rattle.st_wallet_lines.proofs.StepLemmas.{gave_line, ran_line, told_of}
 use Rattle.st_wallet_lines.proofs.lines.WalletLinesMachine.step.Goals as goal
 

@@ -1,5 +1,0 @@
-use Rattle.std.proofs.lemmas.List.{take_rest}
-use Rattle.st_anchor.proofs.deltas.deltas_from.Goals as goal
-
-pub returns-then-at-deltas : goal.returns-then-at-deltas
-returns-then-at-deltas c = take_rest c.args.deltas.now c.args.at

@@ -1,5 +1,0 @@
-use Rattle.st_base.proofs.Cuts.{found-position}
-use Rattle.st_base.proofs.cut.place_of.Goals as goal
-
-pub returns-clause-first : goal.returns-clause-first
-returns-clause-first c = found-position c.args.separator c.args.text.now c.memchr.result c.memchr.ensures

@@ -1,8 +1,0 @@
-use Rattle.std.proofs.Common.{◌≡◌, take}
-use Rattle.st_batch.specs.Grouping.{plain_groups}
-use Rattle.st_batch.specs.Groups.{grouped}
-use Rattle.st_batch.specs.Kept.{operations_of}
-use Rattle.st_batch.proofs.grouping.groups_of.Given as goal
-
-abbrev pub invariant-operations : goal.invariant-operations
-invariant-operations l = plain_groups l.groups ≡ grouped (take l.place (operations_of l.entries.entries))

@@ -1,6 +1,0 @@
-use Rattle.st_cert.specs.Certificate.{anchored_items}
-use Rattle.st_cert.proofs.AscendLemmas.{from_zero}
-use Rattle.st_cert.proofs.places.places_ascend.Goals as goal
-
-pub loop-item-init : goal.loop-item-init
-loop-item-init c = from_zero (anchored_items c.args.items.now)

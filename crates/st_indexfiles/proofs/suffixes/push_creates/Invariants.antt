@@ -1,6 +1,0 @@
-use Rattle.std.proofs.Common.{◌≡◌, ◌++◌, take, map}
-use Rattle.st_indexfiles.specs.SuffixData.{suffix_of}
-use Rattle.st_indexfiles.proofs.suffixes.push_creates.Given as goal
-
-abbrev pub invariant-loop-create : goal.invariant-loop-create
-invariant-loop-create l = l.suffixes ≡ l.fn.suffixes ++ map suffix_of (take l.create-index l.creates)

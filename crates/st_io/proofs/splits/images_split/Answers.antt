@@ -1,5 +1,0 @@
-use Rattle.st_io.proofs.PastLemmas.{split_since_sync}
-use Rattle.st_io.proofs.splits.images_split.Goals as goal
-
-pub returns : goal.returns
-returns g c t = split_since_sync _ _ c.requires t

@@ -1,6 +1,0 @@
-use Rattle.std.proofs.Common.{◌-◌}
-use Rattle.st_lms.specs.KeptNodes.{HoldsFrom, past_last}
-use Rattle.st_lms.proofs.kept.all_nodes.Given as goal
-
-abbrev pub invariant-nodes : goal.invariant-nodes
-invariant-nodes l = HoldsFrom l.secret (past_last l.secret.tree - l.k) l.nodes

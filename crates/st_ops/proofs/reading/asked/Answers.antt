@@ -1,5 +1,0 @@
-use Rattle.st_ops.proofs.AskedLemmas.{no_kind}
-use Rattle.st_ops.proofs.reading.asked.Goals as goal
-
-pub returns-in_default-kind_in-clause-value : goal.returns-in_default-kind_in-clause-value
-returns-in_default-kind_in-clause-value c = no_kind c.args.params.now c.args.request.now c.in_default-kind_in.ensures.none

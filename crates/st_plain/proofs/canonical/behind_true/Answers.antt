@@ -1,0 +1,8 @@
+use Rattle.std.proofs.Common.{◌∷◌, ◌∙◌, ap}
+use Rattle.st_plain.proofs.AlreadyLemmas.{true_in_front}
+use Rattle.st_plain.proofs.canonical.behind_true.Goals as goal
+
+pub returns-clause-value : goal.returns-clause-value
+returns-clause-value c =
+    true_in_front c.args.text.now c.in_ok-behind_byte.field-0.now (c.in_ok-rest.ensures ∙ ap (λ t. 116 ∷ t)
+    (c.in_ok-rest-2.ensures ∙ ap (λ t. 114 ∷ t) (c.in_ok-rest-3.ensures ∙ ap (λ t. 117 ∷ t) c.in_ok-behind_byte.ensures)))

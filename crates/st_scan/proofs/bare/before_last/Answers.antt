@@ -1,5 +1,0 @@
-use Rattle.st_scan.proofs.BareLemmas.{last_dropped}
-use Rattle.st_scan.proofs.bare.before_last.Goals as goal
-
-pub returns : goal.returns
-returns c = λ front b parts. last_dropped c.args.bytes.now front b _ c.saturating_sub.ensures parts

@@ -1,5 +1,0 @@
-use Rattle.st_scan.proofs.MemberLemmas.{at_object_of}
-use Rattle.st_scan.proofs.object.is_object_of.Goals as goal
-
-pub returns-in-Some : goal.returns-in-Some
-returns-in-Some c = at_object_of c.args.text.now c.in-Some.left.now c.requires c.in-Some.ensures.some _ c.have_only.result c.have_only.ensures
