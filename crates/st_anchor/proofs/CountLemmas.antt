@@ -115,19 +115,20 @@ module _ (one : ℕ) (core_proofs : OpenedCore → ℕ) (proofs : List (Option P
 
   -- ---- a missing file is read, which adds what it counts
 
-  module _ (WorkValue : ℕ → Type 0) (of_one : WorkValue one) (of_core : (opened : OpenedCore) → WorkValue (core_proofs opened))
-      (of_proofs : (opened : List (Option Proof)) → WorkValue (proofs opened)) where
+  module _ (IsGain : ℕ → Type 0) (of_one : IsGain one) (of_core : (opened : OpenedCore) → IsGain (core_proofs opened))
+      (of_proofs : (opened : List (Option Proof)) → IsGain (proofs opened)) where
     abbrev Gains : ℕ → ℕ → Type 0
-    Gains before after = (gain : ℕ) × WorkValue gain × (after ≡ before + gain)
+    Gains before after = (gain : ℕ) × IsGain gain × (after ≡ before + gain)
 
-    counts-read : {Says : Type 0} (count : Says → ℕ) (part : Part Says) → WasRead part → ((says : Says) → WorkValue (count says)) → WorkValue (weigh one count part)
+    counts-read : {Says : Type 0} (count : Says → ℕ) (part : Part Says) → WasRead part
+        → ((says : Says) → IsGain (count says)) → IsGain (weigh one count part)
     counts-read count Unneeded was of = absurd was
     counts-read count (Missing uri) was of = absurd was
     counts-read count (Rejected rule) was of = of_one
     counts-read count (Is says) was of = of says
 
     gains-filled : {Says : Type 0} (count : Says → ℕ) (read : List ℕ → Part Says) (part : Part Says) (uri : HashValue) (bytes : List ℕ)
-        → state part ≡ role_is.Missing uri → WorkValue (weigh one count (read bytes)) → Gains (weigh one count part) (weigh one count (filled read bytes part))
+        → state part ≡ role_is.Missing uri → IsGain (weigh one count (read bytes)) → Gains (weigh one count part) (weigh one count (filled read bytes part))
     gains-filled count read Unneeded uri bytes is of = absurd cc
     gains-filled count read (Missing missed) uri bytes is of = (weigh one count (read bytes), of, omega arith)
     gains-filled count read (Rejected rule) uri bytes is of = absurd cc
@@ -165,7 +166,7 @@ module _ (one : ℕ) (core_proofs : OpenedCore → ℕ) (proofs : List (Option P
         (gains.0, gains.1, omega (arith, gains.2))
     core-gains Provisional context branch uri bytes is =
         let gains = gains-filled provisional_weight (provisional_in context branch.says) branch.provisional uri bytes is
-        (subst WorkValue (sym (provisional-in context branch.says bytes)) of_one) in
+        (subst IsGain (sym (provisional-in context branch.says bytes)) of_one) in
         (gains.0, gains.1, omega (arith, gains.2))
     core-gains ProvisionalProof context branch uri bytes is =
         let gains = gains-below provisional_weight
@@ -189,7 +190,7 @@ module _ (one : ℕ) (core_proofs : OpenedCore → ℕ) (proofs : List (Option P
         → Gains (weight bound) (weight (bound_with role bytes bound))
     unfolding role_state bound_with
     known-gains Core bound uri bytes is =
-        gains-filled core_weight (core_in bound.context) bound.core uri bytes is (subst WorkValue (sym (core-in bound.context bytes)) of_one)
+        gains-filled core_weight (core_in bound.context) bound.core uri bytes is (subst IsGain (sym (core-in bound.context bytes)) of_one)
     known-gains CoreProof bound uri bytes is = gains-below_core CoreProof bound uri bytes is
     known-gains Provisional bound uri bytes is = gains-below_core Provisional bound uri bytes is
     known-gains ProvisionalProof bound uri bytes is = gains-below_core ProvisionalProof bound uri bytes is

@@ -193,7 +193,8 @@ once-below context branch sound =
     let deactivates : List HashValue = targeted branch.says.deactivates in
     once-updates context branch.says branch.provisional (creates ++ where_read branch.proofs recovers ++ where_read branch.proofs deactivates)
     (kept_where once (has_twice-front same_hash same_hash-equivalence.symm) branch.proofs creates recovers deactivates sound.once)
-    (λ us apart. kept_where (λ hashes. shares_one same_hash us hashes ≡ false) (shares_one-front same_hash same_hash-equivalence.symm us) branch.proofs creates recovers deactivates apart)
+    (λ us apart. kept_where (λ hashes. shares_one same_hash us hashes ≡ false)
+    (shares_one-front same_hash same_hash-equivalence.symm us) branch.proofs creates recovers deactivates apart)
     sound.provisional
 
 once-part : (context : Context) (part : Part CoreBranch) → Holds (IsSoundCore context) part → once (suffixes_known part)
@@ -255,7 +256,8 @@ grows-below context files branch =
     let updated : List HashValue = suffixes_updated (core_over context files branch).provisional in
     grows-append (creates ++ where_read branch.proofs recovers ++ where_read branch.proofs deactivates) (suffixes_updated branch.provisional)
     (creates ++ where_read later recovers ++ where_read later deactivates) updated
-    (grows-append (creates ++ where_read branch.proofs recovers) (where_read branch.proofs deactivates) (creates ++ where_read later recovers) (where_read later deactivates)
+    (grows-append (creates ++ where_read branch.proofs recovers) (where_read branch.proofs deactivates)
+    (creates ++ where_read later recovers) (where_read later deactivates)
     (grows-append creates (where_read branch.proofs recovers) creates (where_read later recovers) (grows-same creates)
     (grows-read (core_proof_in context branch.says) as_it_is files branch.proofs recovers))
     (grows-read (core_proof_in context branch.says) as_it_is files branch.proofs deactivates))

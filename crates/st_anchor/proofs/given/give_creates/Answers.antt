@@ -22,5 +22,6 @@ creates-preserved c =
 pub returns : goal.returns
 returns c =
     let deltas = c.args.deltas.now in
-    given-all plain_given with_suffix (λ entry. creating entry.0 entry.1) (beside c.args.creates.now deltas) c.creates.at c.creates.list (map plain_given c.args.list.now)
+    given-all plain_given with_suffix (λ entry. creating entry.0 entry.1)
+    (beside c.args.creates.now deltas) c.creates.at c.creates.list (map plain_given c.args.list.now)
     (past-beside c.args.creates.now deltas c.creates.at c.creates-test.false) c.creates.invariant

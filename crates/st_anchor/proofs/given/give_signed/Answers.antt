@@ -30,6 +30,7 @@ pub returns : goal.returns
 returns c =
     let deltas = c.args.deltas.now in
     let signed = beside c.args.targets.now c.args.proofs.now in
-    given-all plain_given with_suffix (λ entry. made c.args.kind entry.0.0 (option_and_then (λ proof. proof) entry.0.1) entry.1) (beside signed deltas) c.targets.at
+    given-all plain_given with_suffix (λ entry. made c.args.kind entry.0.0 (option_and_then (λ proof. proof) entry.0.1) entry.1)
+    (beside signed deltas) c.targets.at
     c.targets.list (map plain_given c.args.list.now)
     (past-beside signed deltas c.targets.at (past-beside c.args.targets.now c.args.proofs.now c.targets.at c.targets-test.false)) c.targets.invariant
