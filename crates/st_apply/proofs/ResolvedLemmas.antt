@@ -79,7 +79,7 @@ module _ {Entry Item : Type 0} (give : ℕ → Entry → Option Item) (place : I
       let rest = each-weaker (λ item. number + 1 ≤ place item) (λ item. number ≤ place item) (λ item late. omega arith)
       (given_from give (number + 1) entries) (not_before (number + 1) entries) in
       (elim (give number entry) as (λ o. give number entry ≡ o
-        → AllByRecursion (λ item. number ≤ place item) (cons_option o (given_from give (number + 1) entries))) [
+      → AllByRecursion (λ item. number ≤ place item) (cons_option o (given_from give (number + 1) entries))) [
         | None ↦ λ is. rest
         | Some item ↦ λ is. ((let here = at number entry item is in omega arith), rest)
       ]) refl
