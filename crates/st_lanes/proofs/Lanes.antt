@@ -2,7 +2,7 @@
 use Rattle.std.proofs.Common.{◌≡◌, ℕ, zero, suc, ◌<◌, ◌-◌, ◌*◌, ◌/◌, ◌%◌, ◌^◌, List, [], ◌∷◌, length, slice_index, slice_index_or, slice_set, bit_or, arith, refl, w32, ◌≢◌, ◌+◌, ◌≤◌, ◌++◌, take, drop, set, length-append, length-drop, length-set, replicate, inl, inr, subst, sym, ap, ◌∙◌}
 use Rattle.std.proofs.Math.ListN.{get_or-map}
 use Rattle.std.proofs.lemmas.Bool.{cases_lt}
-use Rattle.std.proofs.lemmas.List.{map-set, append_assoc, length-replicate, drop-take, drop_at, get_or-append_right, get_or-drop, get_or-set_other, get_or-set_same, get_or-take, get_or_append_left, get_or_past, length-take-le, take_all, take_at, take_more}
+use Rattle.std.proofs.lemmas.List.{map-set, append_assoc, length-replicate, drop-take, drop_at, get_or-append_right, get_or-drop, get_or-set_other, get_or-set_same, get_or-take, get_or_append_left, get_or_past, length-take-le, take_all, take_at, take_more, take-append-le, take-take}
 use Rattle.std.proofs.lemmas.Nat.{be_bytes_4}
 use Rattle.std.proofs.lemmas.Slice.{drop-put_mid, take-put_mid_below}
 use Rattle.std.specs.Int.{rotate_right, to_be_bytes, w16}
@@ -229,6 +229,19 @@ head_is head i long small =
     }
 
 -- ---- a value written into a row
+
+-- the values of a row's front
+pub value_in_front : (row front rest : List ℕ) (n i : ℕ) → front ≡ take n row → n ≤ length row → 32 * i + 32 ≤ n
+    → value_at (front ++ rest) i ≡ value_at row i
+unfolding value_at
+value_in_front row front rest n i is fits lt =
+    let long : length front ≡ n = ap length is ∙ length-take-le n row fits in
+    sym (drop-take (32 * i) 32 (front ++ rest))
+    ∙ ap (drop (32 * i)) (
+    take-append-le (32 * i + 32) front rest (omega (arith, long))
+    ∙ ap (take (32 * i + 32)) is ∙ take-take (32 * i + 32) n row lt
+    )
+    ∙ drop-take (32 * i) 32 row
 
 pub put_value : (row v : List ℕ) (i k : ℕ) → k ≡ 32 → 32 * i + 32 ≤ length row → length v ≡ 32
     → (value_at (put_mid (32 * i) k row v) i ≡ v) × ((m : ℕ) → m ≢ i → value_at (put_mid (32 * i) k row v) m ≡ value_at row m)

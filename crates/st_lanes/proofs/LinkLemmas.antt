@@ -1,10 +1,11 @@
 -- The block of a message of 55 bytes.
-use Rattle.std.proofs.Common.{◌≡◌, ℕ, List, [], ◌∷◌, ◌++◌, ◌/◌, length, take, length-append, arith, refl, ap, ◌∙◌, zero, suc, ◌+◌, ◌-◌, ◌*◌, ◌%◌, ◌^◌, ◌<◌, slice_index, mod-lt, pow_pos, sym, ◌≤◌, slice_index_or, add-one}
-use Rattle.std.proofs.lemmas.List.{take_all, append_assoc, get_or_append_left, get_or-append_right, get_or-take, get_or_default}
+use Rattle.std.proofs.Common.{◌≡◌, ℕ, List, [], ◌∷◌, ◌++◌, ◌/◌, length, take, length-append, arith, refl, ap, ◌∙◌, zero, suc, ◌+◌, ◌-◌, ◌*◌, ◌%◌, ◌^◌, ◌<◌, slice_index, mod-lt, pow_pos, sym, ◌≤◌, slice_index_or, add-one, ◌⊎◌, inl, inr, set, subst}
+use Rattle.std.proofs.lemmas.Bool.{cases_eq}
+use Rattle.std.proofs.lemmas.List.{take_all, append_assoc, get_or_append_left, get_or-append_right, get_or-set_other, get_or-set_same, get_or-take, get_or_default}
 use Rattle.std.specs.Int.{from_be_bytes, to_be_bytes, w32}
 use Rattle.sha2.specs.Sha256.{compress, digest_bytes, hash_after, initial_hash_256, sha256, padded_message, add32, add_state, first_words, word_at}
 use Rattle.st_lanes.specs.Chains.{steps}
-use Rattle.st_lanes.specs.inside.Lanes.{IsAt, AreWords, IsHead, joined, link_words}
+use Rattle.st_lanes.specs.inside.Lanes.{Has, IsAt, Moves, AreWords, IsHead, joined, link_words}
 
 -- the bytes after the message
 abbrev pub after : List ℕ
@@ -102,12 +103,77 @@ pub at_next : (p v w : List ℕ) (k n : ℕ) → AreWords w
 unfolding steps
 at_next p v w k n words hashed = record { words = words; value = rw add-one hashed }
 
--- all steps are done
-pub at_end : (w p v : List ℕ) (k n count : ℕ) → IsAt w p k v n → count ≡ n → digest_bytes w 8 ≡ steps p k count v
-at_end w p v k n count now is = now.value ∙ ap (λ m. steps p k m v) (sym is)
+-- steps, and more of them
+steps_more : (p : List ℕ) (k n m : ℕ) (v : List ℕ) → steps p k (n + m) v ≡ steps p (k + n) m (steps p k n v)
+unfolding steps
+steps_more p k n zero v = let none : n + 0 ≡ n = omega arith in ap (λ m. steps p k m v) none
+steps_more p k n (suc m) v =
+    let place : k + (n + m) ≡ k + n + m = omega arith in
+    let one_more : n + suc m ≡ suc (n + m) = omega arith in
+    ap (λ j. steps p k j v) one_more
+    ∙ ap (λ j. sha256 (p ++ ((j + 255) % 256) ∷ steps p k (n + m) v)) place
+    ∙ ap (λ w. sha256 (p ++ ((k + n + m + 255) % 256) ∷ w)) (steps_more p k n m v)
+
+-- some of the steps to a place, and the others
+pub steps_on : (p v : List ℕ) (was now to : ℕ) → was ≤ now → now - was ≤ to - was
+    → steps p now (to - now) (steps p was (now - was) v) ≡ steps p was (to - was) v
+steps_on p v was now to later fits =
+    let here : now ≡ was + (now - was) = omega (arith, later) in
+    let all : now - was + (to - now) ≡ to - was = omega (arith, later, fits) in
+    ap (λ k. steps p k (to - now) (steps p was (now - was) v)) here ∙ sym (steps_more p was (now - was) (to - now) v) ∙ ap (λ n. steps p was n v) all
 
 -- the numbers in order
 pub numbered : (numbers : List ℕ) (count k d : ℕ) → length numbers ≡ 265 → ((i : ℕ) → i < 265 → slice_index numbers i ≡ i) → count ≤ 265 → k < count
     → slice_index_or (take count numbers) k d ≡ k
 numbered numbers count k d long is fits lt =
     get_or-take count numbers k d lt ∙ get_or_default numbers k d 0 (omega arith) ∙ is k (omega arith)
+
+-- ---- Which chains the lanes have.
+
+module _ (numbers was : List ℕ) (count : ℕ) where
+  -- no lane has moved its chain
+  pub moves_none : (i : ℕ) → Moves numbers 0 count (slice_index was i) (slice_index was i) i
+  moves_none i = inr (refl, λ found. omega (arith, found.1))
+
+  -- the next lane moves its chain
+  pub moves_more : (now : List ℕ) (k x i : ℕ) → slice_index numbers k < length now → x ≡ slice_index was (slice_index numbers k) + count
+      → Moves numbers k count (slice_index was i) (slice_index now i) i
+      → Moves numbers (k + 1) count (slice_index was i) (slice_index (set now (slice_index numbers k) x) i) i
+  moves_more now k x i fits is before = elim (cases_eq (slice_index numbers k) i) [
+    | inl same ↦
+        let here : x ≡ slice_index was i + count = is ∙ ap (λ m. slice_index was m + count) same in
+        inl (ap (slice_index (set now (slice_index numbers k) x)) (sym same) ∙ get_or-set_same now (slice_index numbers k) x 0 fits ∙ here, (k, omega arith, same))
+    | inr other ↦
+        let stays = get_or-set_other now (slice_index numbers k) i x 0 (λ same. other (sym same)) in
+        elim before [
+          | inl moved ↦ inl (stays ∙ moved.0, (moved.1.0, omega (arith, moved.1.1), moved.1.2))
+          | inr stayed ↦ inr (
+            stays ∙ stayed.0,
+            λ found. elim (cases_eq found.0 k) [
+              | inl last ↦ other (ap (slice_index numbers) (sym last) ∙ found.2)
+              | inr less ↦ stayed.1 (found.0, omega (arith, found.1, less), found.2)
+            ],
+          )
+        ]
+  ]
+
+module _ (E : ℕ → Type 0) (order : List ℕ) where
+  -- the chain at place k has ended, and the last one takes its place
+  pub has_rest : (n k : ℕ) → k < n → n ≤ length order → E (slice_index order k) → (i : ℕ) → E i ⊎ Has order n i
+      → E i ⊎ Has (set order k (slice_index order (n - 1))) (n - 1) i
+  has_rest n k lt fits ended i before = elim before [
+    | inl done ↦ inl done
+    | inr found ↦ elim (cases_eq found.0 k) [
+      | inl same ↦ inl (subst E (ap (slice_index order) (sym same) ∙ found.2) ended)
+      | inr other ↦ elim (cases_eq found.0 (n - 1)) [
+        | inl last ↦
+            let here = get_or-set_same order k (slice_index order (n - 1)) 0 (omega (arith, lt, fits)) in
+            inr (k, omega (arith, lt, last, other), here ∙ ap (slice_index order) (sym last) ∙ found.2)
+        | inr less ↦ inr (
+          found.0,
+          omega (arith, found.1, less),
+          get_or-set_other order k found.0 (slice_index order (n - 1)) 0 other ∙ found.2,
+        )
+      ]
+    ]
+  ]

@@ -1,10 +1,11 @@
-ghost use Rattle.std.specs.Prelude.{◌≡◌, ℕ, ◌<◌, ◌++◌, ◌∷◌, List, slice_index, ◌+◌, ◌-◌, ◌*◌, ◌%◌, ◌≤◌, All, Contains, length, take};
+ghost use Rattle.std.specs.Prelude.{◌≡◌, ℕ, ◌<◌, ◌++◌, ◌∷◌, List, slice_index, ◌+◌, ◌-◌, ◌*◌, ◌%◌, ◌^◌, ◌≤◌, length};
+ghost use Rattle.std.specs.Int.{to_be_bytes, w16};
 ghost use Rattle.sha2.specs.Sha256.{digest_bytes, sha256};
-ghost use Rattle.st_lanes.specs.Chains.{end_of, value_at};
-ghost use Rattle.st_lanes.specs.inside.Lanes.{lane, AreWords, IsHead, joined, link_words};
+ghost use Rattle.st_lanes.specs.Chains.{end_of, steps, value_at};
+ghost use Rattle.st_lanes.specs.inside.Lanes.{Has, Moves, lane, AreWords, IsHead, joined, link_words};
 
 use crate::block::{compress, initial_hash};
-use crate::rows::{heads, keep_ends, values};
+use crate::rows::{heads, put_values, values};
 use crate::words::{add, and, shift_left, shift_right};
 use std::simd::u32x8;
 
@@ -71,35 +72,35 @@ fn pick(table: &[u16; 265], numbers: &[u32; 8]) -> [u32; 8]
     picked
 }
 
-// How many steps each lane's chain has.
+// The steps that chain `i` has left.
 #[inline(always)]
-#[tactic(auto, using(crate::proofs::Lanes::filled_none, crate::proofs::Lanes::filled_more))]
-fn count_steps(from: &[u32; 8], to: &[u32; 8]) -> [u32; 8]
-    ensures { (k : ℕ) → k < 8 → slice_index result k ≡ slice_index to.now k - slice_index from.now k }
+fn steps_left(places: &[u16; 265], to: &[u16; 265], i: usize) -> u16
+    requires { i < 265 }
+    ensures { result ≡ slice_index to.now i - slice_index places.now i }
 {
-    let mut counts = [0u32; 8];
-    'lanes: for k in 0..8 {
-        counts[k] = to[k].saturating_sub(from[k]);
-    }
-    counts
+    to[i].saturating_sub(places[i])
 }
 
-fn larger(x: u32, y: u32) -> u32
-    ensures first { x ≤ result }
-    ensures second { y ≤ result }
-{
-    if x < y { y } else { x }
-}
-
+// The lane whose chain has the fewest steps left.
 #[inline(always)]
-fn most(counts: &[u32; 8]) -> u32
-    ensures { (k : ℕ) → k < 8 → slice_index counts.now k ≤ result }
+fn shortest(places: &[u16; 265], to: &[u16; 265], numbers: &[u32; 8]) -> usize
+    requires { (k : ℕ) → k < 8 → slice_index numbers.now k < 265 }
+    ensures lane { result < 8 }
+    ensures shortest { (k : ℕ) → k < 8
+        → slice_index to.now (slice_index numbers.now result) - slice_index places.now (slice_index numbers.now result)
+        ≤ slice_index to.now (slice_index numbers.now k) - slice_index places.now (slice_index numbers.now k) }
 {
-    let mut most = 0u32;
+    let mut shortest = 0;
     'lanes: for k in 0..8 {
-        most = larger(most, counts[k]);
+        let steps = steps_left(places, to, numbers[k] as usize);
+        if steps == 0 {
+            return k;
+        }
+        if steps < steps_left(places, to, numbers[shortest] as usize) {
+            shortest = k;
+        }
     }
-    most
+    shortest
 }
 
 // The bytes of the steps after `done` of them.
@@ -111,33 +112,44 @@ fn bytes_after(from: u32x8, done: u32) -> u32x8
     and(add(places, u32x8::splat(255)), u32x8::splat(255))
 }
 
-// Puts the ends of the lanes' chains into a row.
-fn walk_eight(
-    ends: &mut [u8; 8480],
+// Moves the places of the lanes' chains.
+#[inline(always)]
+fn move_places(places: &mut [u16; 265], numbers: &[u32; 8], first: &[u32; 8], count: u16)
+    requires numbers { (k : ℕ) → k < 8 → slice_index numbers.now k < 265 }
+    requires first { (k : ℕ) → k < 8
+        → slice_index first.now k ≡ slice_index places.old (slice_index numbers.now k) }
+    requires fits { (k : ℕ) → k < 8 → slice_index first.now k + count < 2 ^ 16 }
+    ensures { (i : ℕ) → Moves numbers.now 8 count (slice_index places.old i) (slice_index places.new i) i }
+{
+    'lanes: for k in 0..8 {
+        places[numbers[k] as usize] = first[k] as u16 + count;
+    }
+}
+
+// Takes `count` steps with each of the lanes' chains. The row has the values of all chains.
+fn advance(
+    row: &mut [u8; 8480],
+    places: &mut [u16; 265],
     head: &[u8; 20],
-    from: &[u16; 265],
-    to: &[u16; 265],
-    starts: &[u8],
     numbers: &[u32; 8],
+    count: u16,
 )
     requires numbers { (k : ℕ) → k < 8 → slice_index numbers.now k < 265 }
-    requires starts { (k : ℕ) → k < 8 → 32 * slice_index numbers.now k + 32 ≤ length starts.now }
-    ensures ended { (k : ℕ) → k < 8 → value_at ends.new (slice_index numbers.now k)
-        ≡ end_of head.now from.now to.now starts.now (slice_index numbers.now k) }
-    ensures others { (i : ℕ) → value_at ends.old i ≡ end_of head.now from.now to.now starts.now i
-        → value_at ends.new i ≡ end_of head.now from.now to.now starts.now i }
+    requires fits { (k : ℕ) → k < 8
+        → slice_index places.old (slice_index numbers.now k) + count < 2 ^ 16 }
+    ensures places { (i : ℕ) → Moves numbers.now 8 count (slice_index places.old i) (slice_index places.new i) i }
+    ensures values { (i : ℕ) → value_at row.new i ≡ steps (head.now ++ to_be_bytes w16 i) (slice_index places.old i)
+        (slice_index places.new i - slice_index places.old i) (value_at row.old i) }
 {
     let heads = heads(head, numbers);
-    let first = pick(from, numbers);
-    let counts = count_steps(&first, &pick(to, numbers));
-    let first = u32x8::from_array(first);
-    let mut value = values(starts, numbers);
-    keep_ends(ends, &value, numbers, &counts, 0);
-    'steps: for done in 0..most(&counts) {
-        let next = step(&heads, &value, bytes_after(first, done));
-        keep_ends(ends, &next, numbers, &counts, done + 1);
-        value = next;
+    let first = pick(places, numbers);
+    let mut value = values(row, numbers);
+    'steps: for done in 0..count {
+        let bytes = bytes_after(u32x8::from_array(first), done as u32);
+        value = step(&heads, &value, bytes);
     }
+    put_values(row, numbers, &value);
+    move_places(places, numbers, &first, count);
 }
 
 // All numbers of chains in order.
@@ -153,13 +165,12 @@ fn all_numbers() -> [u16; 265]
     numbers
 }
 
-// The numbers of the first chains, those with few steps first: eight side by side take as long as
-// the longest.
+// The numbers of the first chains, those with few steps first.
 fn by_steps(from: &[u16; 265], to: &[u16; 265], count: usize) -> [u16; 265]
     requires { count ≤ 265 }
-    ensures long { length (take count result) ≡ count }
-    ensures all { (i : ℕ) → i < count → Contains (take count result) i }
-    ensures chains { All (λ i. i < count) (take count result) }
+    ensures long { length result ≡ 265 }
+    ensures all { (i : ℕ) → i < count → Has result count i }
+    ensures chains { (k : ℕ) → k < count → slice_index result k < count }
 {
     let mut numbers = all_numbers();
     numbers[..count].sort_unstable_by_key(|i| {
@@ -184,10 +195,16 @@ fn eight_before(order: &[u16], end: usize) -> [u32; 8]
     numbers
 }
 
-fn blank() -> [u8; 8480]
-    ensures { length result ≡ 8480 }
+// A row that begins with the first values of another.
+fn copied(starts: &[u8], count: usize) -> [u8; 8480]
+    requires count { count ≤ 265 }
+    requires starts { 32 * count ≤ length starts.now }
+    ensures long { length result ≡ 8480 }
+    ensures values { (i : ℕ) → i < count → value_at result i ≡ value_at starts.now i }
 {
-    [0; 8480]
+    let mut row = [0; 8480];
+    row[..32 * count].copy_from_slice(&starts[..32 * count]);
+    row
 }
 
 /// The ends of the first `count` chains, in a row. Chain `i` begins at place `from[i]` with value
@@ -205,12 +222,20 @@ pub fn walk(
     ensures ends { (i : ℕ) → i < count
         → value_at result i ≡ end_of head.now from.now to.now starts.now i }
 {
-    let order = by_steps(from, to, count);
-    let mut ends = blank();
-    // The longest chains are first, so the chains that fill the last lanes are short.
-    'groups: for group in 0..(count + 7) / 8 {
-        let numbers = eight_before(&order[..count], count - 8 * group);
-        walk_eight(&mut ends, head, from, to, starts, &numbers);
+    let mut order = by_steps(from, to, count);
+    let mut places = *from;
+    let mut row = copied(starts, count);
+    // The lanes have the last eight of the chains that go on. The one that ends first makes room
+    // for the longest that waits.
+    'chains: for ended in 0..count {
+        let left = count - ended;
+        let numbers = eight_before(&order, left);
+        let lane = shortest(&places, to, &numbers);
+        let steps = steps_left(&places, to, numbers[lane] as usize);
+        if steps > 0 {
+            advance(&mut row, &mut places, head, &numbers, steps);
+        }
+        order[(left + lane).saturating_sub(8)] = order[left - 1];
     }
-    ends
+    row
 }

@@ -1,7 +1,8 @@
 -- Eight computations side by side: each word is a vector with a lane for each of them.
-use Rattle.std.specs.Prelude.{ℕ, List, map, slice_index, ◌≡◌, ◌+◌, ◌*◌, ◌/◌, ◌%◌, ◌^◌, ◌<◌, ◌≤◌, [], ◌∷◌, length, ◌-◌}
+use Rattle.std.specs.Prelude.{ℕ, List, map, slice_index, ◌≡◌, ◌+◌, ◌*◌, ◌/◌, ◌%◌, ◌^◌, ◌<◌, ◌≤◌, [], ◌∷◌, length, ◌-◌, ◌++◌, ◌⊎◌}
+use Rattle.std.specs.Int.{to_be_bytes, w16}
 use Rattle.sha2.specs.Sha256.{add32, word_at, digest_bytes}
-use Rattle.st_lanes.specs.Chains.{steps}
+use Rattle.st_lanes.specs.Chains.{steps, value_at}
 
 -- the words of computation j
 abbrev pub lane : ℕ → List (List ℕ) → List ℕ
@@ -40,7 +41,21 @@ pub record IsAt (w p : List ℕ) (k : ℕ) (v : List ℕ) (n : ℕ) : Type 0 whe
   pub words : AreWords w
   pub value : digest_bytes w 8 ≡ steps p k n v
 
--- each lane whose chain has n steps holds the end of that chain
-abbrev pub HoldEnds : (ℕ → List ℕ) → List (List ℕ) → List ℕ → List ℕ → ℕ → Type 0
-HoldEnds end value numbers counts n =
-    (k : ℕ) → k < 8 → slice_index counts k ≡ n → digest_bytes (lane k value) 8 ≡ end (slice_index numbers k)
+-- the lanes hold the values `end` of their chains
+abbrev pub AreValues : (ℕ → List ℕ) → List (List ℕ) → List ℕ → Type 0
+AreValues end value numbers = (k : ℕ) → k < 8 → digest_bytes (lane k value) 8 ≡ end (slice_index numbers k)
+
+-- ---- The walk of all chains.
+
+-- one of the first n numbers is i
+abbrev pub Has : List ℕ → ℕ → ℕ → Type 0
+Has numbers n i = (k : ℕ) × (k < n) × (slice_index numbers k ≡ i)
+
+-- chain i was at place `was` and is now at place `now`, some steps on if one of the first n lanes has it
+abbrev pub Moves : List ℕ → ℕ → ℕ → ℕ → ℕ → ℕ → Type 0
+Moves numbers n count was now i = ((now ≡ was + count) × Has numbers n i) ⊎ ((now ≡ was) × (¬ Has numbers n i))
+
+-- the steps that chain i has left lead from its value in a row to its end
+abbrev pub Leads : List ℕ → List ℕ → (ℕ → List ℕ) → List ℕ → List ℕ → ℕ → Type 0
+Leads head to end row places i =
+    steps (head ++ to_be_bytes w16 i) (slice_index places i) (slice_index to i - slice_index places i) (value_at row i) ≡ end i
